@@ -1,0 +1,58 @@
+//! The command line.
+
+use clap::{Arg, ArgAction, Command, value_parser};
+use std::alloc::{AllocError, Global};
+
+/// The steps of a run, where no option says more.
+const STEPS: &str = "100000000";
+/// The words of a run's heap, where no option says more.
+const HEAP_WORDS: &str = "1048576";
+
+/// The command line of f3: `check FILE...`, `run [--steps N] [--heap WORDS] FILE...` and `names FILE...`.
+pub fn command<'a>(alloc: Global) -> Result<Command<'a>, AllocError> {
+    let check = Command::new(alloc, "check")
+        .about("Checks the sources, and refuses them in one line or accepts them")
+        .arg(files(alloc))?;
+    let run = Command::new(alloc, "run")
+        .about("Checks the sources and runs their program")
+        .arg(steps(alloc))?
+        .arg(heap(alloc))?
+        .arg(files(alloc))?;
+    let names = Command::new(alloc, "names")
+        .about("Checks the names of the sources, and shows what each program unit sees")
+        .arg(files(alloc))?;
+    Command::new(alloc, "f3")
+        .about("Checks, compiles and runs libraries of Fortran modules")
+        .subcommand_required(true)
+        .subcommand(check)?
+        .subcommand(run)?
+        .subcommand(names)
+}
+
+fn files<'a>(alloc: Global) -> Arg<'a> {
+    Arg::new(alloc, "FILE")
+        .required(true)
+        .num_args(1..)
+        .action(ArgAction::Append)
+        .help("The sources, in order")
+}
+
+fn steps<'a>(alloc: Global) -> Arg<'a> {
+    Arg::new(alloc, "steps")
+        .long("steps")
+        .value_name("N")
+        .value_parser(value_parser!(u64).range(0..=1_000_000_000_000))
+        .default_value(STEPS)
+        .action(ArgAction::Set)
+        .help("Ends the run after so many steps")
+}
+
+fn heap<'a>(alloc: Global) -> Arg<'a> {
+    Arg::new(alloc, "heap")
+        .long("heap")
+        .value_name("WORDS")
+        .value_parser(value_parser!(usize).range(0..=134_217_728))
+        .default_value(HEAP_WORDS)
+        .action(ArgAction::Set)
+        .help("The size of the run's heap")
+}

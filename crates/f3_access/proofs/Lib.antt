@@ -1,0 +1,11 @@
+pub mod Members
+pub mod Steps
+pub mod Walks
+pub mod Chosen
+pub mod Modules
+pub mod Standing
+pub mod Visibles
+pub mod Meanings
+pub mod Answering
+pub mod LoneModules
+pub mod Laws

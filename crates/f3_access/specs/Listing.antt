@@ -1,0 +1,133 @@
+-- The order of the names that a scope has (own rule).
+use Rattle.std.specs.Prelude.{ℕ, ◌+◌, List, [], ◌∷◌, ◌++◌, Bool, true, false, Option, None, Some, ◌||◌, ◌&&◌, ◌==◌, not, nat_eq, if◌then◌else◌, map, filter, length}
+use Rattle.std.specs.List.{flat_map, list_any}
+use Rattle.indexmap.specs.IndexSet.{insert_all}
+use Rattle.f3_tree.specs.declared.declaration.Accessibility.{Accessibility}
+use Rattle.f3_tree.specs.declared.declaration.Accessibility.TheVariants.{Public, Private}
+use Rattle.f3_tree.specs.declared.expression.Name.{Name}
+use Rattle.f3_scopes.specs.declared.outline.ScopeKind.{ScopeKind}
+use Rattle.f3_scopes.specs.declared.outline.ScopeKind.TheVariants.{Module, Program, Subroutine, Function}
+use Rattle.f3_scopes.specs.declared.outline.UseItem.{UseItem}
+use Rattle.f3_scopes.specs.Outlines.{Scope, Own, Using, Listed}
+use Rattle.f3_access.specs.declared.table.Visible.{Visible}
+use Rattle.f3_access.specs.Access.{first_entity}
+
+abbrev pub same_pair : Visible → Visible → Bool
+same_pair a b = (a.symbol == b.symbol) && (a.entity == b.entity)
+
+abbrev pub pair : ℕ → ℕ → Visible
+pair symbol entity = record { symbol = symbol; entity = entity }
+
+-- what a scope declares, where its first entity has this number
+abbrev pub numbered : ℕ → List Own → List Visible
+numbered number [] = []
+numbered number (d ∷ ds) = pair d.name.symbol number ∷ numbered (number + 1) ds
+
+abbrev pub is_module : ScopeKind → Bool
+is_module Module = true
+is_module Program = false
+is_module Subroutine = false
+is_module Function = false
+
+-- the number of the module of this name, among the scopes from a number on
+abbrev pub module_from : Option ℕ → ℕ → List Scope → ℕ → Option ℕ
+module_from found number [] symbol = found
+module_from found number (s ∷ ss) symbol = module_from (if is_module s.kind && (s.name.symbol == symbol) then Some number else found) (number + 1) ss symbol
+
+abbrev pub module_named : List Scope → ℕ → Option ℕ
+module_named scopes symbol = module_from None 0 scopes symbol
+
+-- the names of modules in the order of their first USE
+abbrev pub modules_of : List Using → List ℕ
+modules_of uses = insert_all nat_eq [] (map (λ u. u.from.symbol) uses)
+
+-- the items of all USE statements of a module, in order
+abbrev pub items_of : List Using → ℕ → List UseItem
+items_of [] m = []
+items_of (u ∷ us) m = (if u.from.symbol == m then u.items else []) ++ items_of us m
+
+-- a USE of this module without ONLY
+abbrev pub is_open : ℕ → Using → Bool
+is_open m u = (u.from.symbol == m) && not u.has_only
+
+abbrev pub names_alone : ℕ → UseItem → Bool
+names_alone x i = not i.is_rename && (i.original.symbol == x)
+
+abbrev pub renames : ℕ → UseItem → Bool
+renames x i = i.is_rename && (i.original.symbol == x)
+
+-- the local names that renames give a name of a module, in order of place
+abbrev pub locals_of : List Using → ℕ → ℕ → List ℕ
+locals_of uses m x = map (λ i. i.local.symbol) (filter (renames x) (items_of uses m))
+
+-- whether the scope keeps a name of a module
+abbrev pub is_kept : List Using → ℕ → ℕ → Bool
+is_kept uses m x = list_any (names_alone x) (items_of uses m) || (list_any (is_open m) uses && not (list_any (renames x) (items_of uses m)))
+
+-- what one export of a module gives: its name first where the scope keeps it, then the renames of that name
+abbrev pub called : List Using → ℕ → Visible → List Visible
+called uses m e = (if is_kept uses m e.symbol then e ∷ [] else []) ++ map (λ n. pair n e.entity) (locals_of uses m e.symbol)
+
+-- what a module exports, where there is one
+abbrev pub exports_of : (ℕ → List Visible) → Option ℕ → List Visible
+exports_of exports None = []
+exports_of exports (Some source) = exports source
+
+-- what USE brings into a scope, where each module exports this
+abbrev pub used_pairs : List Scope → (ℕ → List Visible) → Scope → List Visible
+used_pairs scopes exports scope = flat_map (λ m. flat_map (called scope.uses m) (exports_of exports (module_named scopes m))) (modules_of scope.uses)
+
+-- What the scope of this number has of its own: what USE brings, then what it declares; each pair once, at its first place.
+abbrev pub own_listed : List Scope → (ℕ → List Visible) → ℕ → Scope → List Visible
+own_listed scopes exports number scope = insert_all same_pair [] (used_pairs scopes exports scope ++ numbered (first_entity scopes number) scope.declared)
+
+-- Access -------------------------------------------------------------------------------------
+
+abbrev pub same_access : Accessibility → Accessibility → Bool
+same_access Public Public = true
+same_access Public Private = false
+same_access Private Public = false
+same_access Private Private = true
+
+abbrev pub listed_names : Accessibility → Listed → List ℕ
+listed_names access l = if same_access access l.accessibility then map (λ n. n.symbol) l.names else []
+
+abbrev pub given_name : Accessibility → Own → List ℕ
+given_name access d = if list_any (same_access access) d.accesses then d.name.symbol ∷ [] else []
+
+-- the names that a PUBLIC or PRIVATE names, in statements and then as an attribute
+abbrev pub named : Accessibility → Scope → List ℕ
+named access scope = flat_map (listed_names access) scope.accesses ++ flat_map (given_name access) scope.declared
+
+abbrev pub is_nil : List Name → Bool
+is_nil [] = true
+is_nil (n ∷ ns) = false
+
+-- a PRIVATE without a list
+abbrev pub is_default : Listed → Bool
+is_default l = same_access Private l.accessibility && is_nil l.names
+
+abbrev pub is_private : Scope → ℕ → Bool
+is_private scope n = list_any (nat_eq n) (named Private scope) || (not (list_any (nat_eq n) (named Public scope)) && list_any is_default scope.accesses)
+
+-- what a scope with these pairs exports
+abbrev pub exported : Scope → List Visible → List Visible
+exported scope vs = if is_module scope.kind then filter (λ v. not (is_private scope v.symbol)) vs else []
+
+-- What is visible in a procedure: its own, then what its module has under names that none of its own has, in their order.
+abbrev pub hides : List Visible → ℕ → Bool
+hides own n = list_any (λ v. v.symbol == n) own
+
+abbrev pub with_host : List Visible → List Visible → List Visible
+with_host own host = own ++ filter (λ v. not (hides own v.symbol)) host
+
+-- what each scope declares, where the first entity of the first has this number
+abbrev pub lists_from : ℕ → List Scope → List (List Visible)
+lists_from number [] = []
+lists_from number (s ∷ ss) = numbered number s.declared ∷ lists_from (number + length s.declared) ss
+
+abbrev pub is_unit : ScopeKind → Bool
+is_unit Module = true
+is_unit Program = true
+is_unit Subroutine = false
+is_unit Function = false

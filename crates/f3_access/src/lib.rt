@@ -1,0 +1,16 @@
+//! Which names each scope sees, and what each module exports.
+#![tactic(auto)]
+
+mod bringing;
+mod building;
+mod choosing;
+mod filling;
+mod reading;
+pub mod selecting;
+pub mod table;
+
+pub use filling::tables;
+pub use reading::{exports, is_private, lookup, module, own, used, visible, visible_is_declared};
+
+#[cfg(test)]
+mod tests;

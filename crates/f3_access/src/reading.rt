@@ -1,0 +1,149 @@
+//! What tables say.
+
+ghost use Rattle.std.specs.Prelude.{◌≡◌, OnOk, IfOk, nat_eq, ◌++◌, filter, slice_get};
+ghost use Rattle.std.specs.List.{list_any};
+ghost use Rattle.f3_access.specs.Access.{VisibleIsDeclared};
+ghost use Rattle.f3_access.specs.Tables.{own_of, exports_of, used_of, visible_of, lookup_of, lookup_in, host_in, is_nothing, private_of, module_of};
+
+use crate::choosing;
+use crate::table::{Lookup, Tables, Visible};
+use std::alloc::{AllocError, Global};
+
+/// What a scope has of its own, each entity once under each name: what its USE statements bring, in the order of the
+/// modules' first USE and of what they export, then what it declares (own rule). In a unit that is all that is visible.
+/// Where there is no scope of this number it is empty.
+pub fn own(tables: &Tables, scope: usize) -> &[Visible]
+    ensures { result.now ≡ own_of tables.now scope }
+{
+    match tables.scopes.get(scope) {
+        Some(table) => table.own.as_slice(),
+        None => &[],
+    }
+}
+
+/// What the module of this number exports, in the order of `own`. A scope that is no module exports nothing.
+pub fn exports(tables: &Tables, scope: usize) -> &[Visible]
+    ensures { result.now ≡ exports_of tables.now scope }
+{
+    match tables.scopes.get(scope) {
+        Some(table) => &table.exports,
+        None => &[],
+    }
+}
+
+/// Whether a USE of the scope brings an entity under this name.
+pub fn used(tables: &Tables, scope: usize, symbol: usize) -> bool
+    ensures { result ≡ list_any (nat_eq symbol) (used_of tables.now scope) }
+{
+    match tables.scopes.get(scope) {
+        Some(table) => table.used.contains(&symbol),
+        None => false,
+    }
+}
+
+/// Whether the name is private in the scope of this number: a PRIVATE names it, or no access does and there is a PRIVATE
+/// without a list.
+pub fn is_private(tables: &Tables, scope: usize, symbol: usize) -> bool
+    ensures { result ≡ private_of tables.now scope symbol }
+{
+    match tables.accesses.get(scope) {
+        Some(accesses) => choosing::is_private(accesses, symbol),
+        None => false,
+    }
+}
+
+/// The number of the module of this name among the scopes.
+pub fn module(tables: &Tables, symbol: usize) -> Option<usize>
+    ensures { result ≡ module_of tables.now symbol }
+{
+    tables.modules.get(&symbol).copied()
+}
+
+/// What the scope of this number has of its own under a name.
+fn own_lookup(tables: &Tables, scope: usize, symbol: usize) -> Lookup
+    ensures { result ≡ lookup_in (slice_get tables.now.scopes.items scope) symbol }
+{
+    match tables.scopes.get(scope) {
+        Some(table) => table
+            .lookups
+            .get(&symbol)
+            .copied()
+            .unwrap_or(Lookup::Nothing),
+        None => Lookup::Nothing,
+    }
+}
+
+/// The number of the module of a procedure.
+fn host_of(tables: &Tables, scope: usize) -> Option<usize>
+    ensures { result ≡ host_in (slice_get tables.now.scopes.items scope) }
+{
+    match tables.scopes.get(scope) {
+        Some(table) => table.host,
+        None => None,
+    }
+}
+
+/// What is visible in a scope under a name, by the number of the name among the program's.
+///
+/// It takes no memory, and looks the name up in hashed tables: first in that of the scope, then in that of its module.
+/// Where there is no scope of this number nothing is visible.
+pub fn lookup(tables: &Tables, scope: usize, symbol: usize) -> Lookup
+    ensures { result ≡ lookup_of tables.now scope symbol }
+{
+    match own_lookup(tables, scope, symbol) {
+        Lookup::One(entity) => Lookup::One(entity),
+        Lookup::Several => Lookup::Several,
+        Lookup::Nothing => match host_of(tables, scope) {
+            Some(host) => own_lookup(tables, host, symbol),
+            None => Lookup::Nothing,
+        },
+    }
+}
+
+fn is_nothing(lookup: Lookup) -> bool
+    ensures { result ≡ is_nothing lookup }
+{
+    match lookup {
+        Lookup::Nothing => true,
+        Lookup::One(_) => false,
+        Lookup::Several => false,
+    }
+}
+
+/// Adds those of the pairs whose names the scope does not hide.
+fn add_unhidden(
+    visible: &mut Vec<Visible>,
+    tables: &Tables,
+    scope: usize,
+    pairs: &[Visible],
+) -> Result<(), AllocError>
+    ensures { OnOk result (visible.new.items ≡ visible.old.items ++ filter (λ v. is_nothing (lookup_in (slice_get tables.now.scopes.items scope) v.symbol)) pairs.now) }
+{
+    for pair in pairs {
+        if is_nothing(own_lookup(tables, scope, pair.symbol)) {
+            visible.push(*pair)?;
+        }
+    }
+    Ok(())
+}
+
+/// What is visible in a scope, each entity once under each name: its own, and in a procedure then what its module has
+/// under names that none of its own has, in their order (own rule). It is made anew, since procedures of one module see
+/// the same names of it.
+///
+/// Memory: a growth of the host's memory was refused.
+pub fn visible(alloc: Global, tables: &Tables, scope: usize) -> Result<Vec<Visible>, AllocError>
+    ensures { IfOk result (λ v. v.items ≡ visible_of tables.now scope) }
+{
+    let mut visible = Vec::new(alloc);
+    visible.extend_from_slice(own(tables, scope))?;
+    if let Some(host) = host_of(tables, scope) {
+        add_unhidden(&mut visible, tables, scope, own(tables, host))?;
+    }
+    Ok(visible)
+}
+
+/// What is visible under a name is a declaration of some scope, by its number among the declarations of all scopes.
+pub fn visible_is_declared()
+    ensures { VisibleIsDeclared }
+{}

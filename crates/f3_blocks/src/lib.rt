@@ -1,0 +1,6 @@
+//! Blocks: executable statements and constructs in one another.
+#![tactic(auto)]
+
+pub mod builder;
+#[cfg(test)]
+mod tests;

@@ -1,0 +1,5 @@
+pub mod References
+pub mod UseBreaks
+pub mod Times
+pub mod Rows
+pub mod Refusals

@@ -1,0 +1,8 @@
+//! All rules together: what is accepted, and the first break of what is not.
+#![tactic(auto)]
+
+pub mod check;
+pub mod rows;
+#[cfg(test)]
+mod tests;
+mod times;

@@ -1,0 +1,3 @@
+pub mod Parts
+pub mod Specifications
+pub mod Views

@@ -1,0 +1,11 @@
+//! The statements of specification parts, and the headers of procedures, read from tokens.
+#![tactic(auto)]
+
+pub mod access;
+pub mod attributes;
+pub mod declarations;
+pub mod names;
+pub mod procedures;
+pub mod shapes;
+pub mod signs;
+pub mod uses;

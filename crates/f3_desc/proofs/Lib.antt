@@ -1,0 +1,10 @@
+pub mod Congruences
+pub mod Walk
+pub mod Counts
+pub mod Progressions
+pub mod Members
+pub mod Spots
+pub mod Sections
+pub mod CutWalk
+pub mod Orders
+pub mod Shapes

@@ -1,0 +1,143 @@
+//! Signs at the front.
+
+ghost use Rattle.f3_words.specs.declared.item.Word.TheVariants.{Close, Colon, Comma, Equals, Open, Percent};
+ghost use Rattle.f3_words.specs.Reads.{IsFront};
+ghost use Rattle.f3_words.specs.Lists.{starts};
+ghost use Rattle.std.specs.Prelude.{◌≡◌};
+ghost use Rattle.f3_expressions.specs.Readings.{HasKeyword, HasNot, HasCloser, ends_bound};
+
+use f3_rules::source::Place;
+use f3_tree::expression::Name;
+use f3_words::item::{Item, Word};
+use f3_words::reading::{front, name_front};
+
+/// What stands behind a `,` at the front.
+pub fn behind_comma(items: &[Item]) -> Option<&[Item]>
+    ensures { IsFront Comma result items.now }
+{
+    match front(items) {
+        Some((item, tail)) => match item.word {
+            Word::Comma => Some(tail),
+            _ => None,
+        },
+        None => None,
+    }
+}
+
+/// What stands behind a `(` at the front.
+pub fn behind_open(items: &[Item]) -> Option<&[Item]>
+    ensures { IsFront Open result items.now }
+{
+    match front(items) {
+        Some((item, tail)) => match item.word {
+            Word::Open => Some(tail),
+            _ => None,
+        },
+        None => None,
+    }
+}
+
+/// What stands behind a `)` at the front.
+pub fn behind_close(items: &[Item]) -> Option<&[Item]>
+    ensures { IsFront Close result items.now }
+{
+    match front(items) {
+        Some((item, tail)) => match item.word {
+            Word::Close => Some(tail),
+            _ => None,
+        },
+        None => None,
+    }
+}
+
+/// What stands behind a `:` at the front.
+pub fn behind_colon(items: &[Item]) -> Option<&[Item]>
+    ensures { IsFront Colon result items.now }
+{
+    match front(items) {
+        Some((item, tail)) => match item.word {
+            Word::Colon => Some(tail),
+            _ => None,
+        },
+        None => None,
+    }
+}
+
+/// What stands behind a `%` at the front.
+pub fn behind_percent(items: &[Item]) -> Option<&[Item]>
+    ensures { IsFront Percent result items.now }
+{
+    match front(items) {
+        Some((item, tail)) => match item.word {
+            Word::Percent => Some(tail),
+            _ => None,
+        },
+        None => None,
+    }
+}
+
+/// What stands behind a `=` at the front.
+pub fn behind_equals(items: &[Item]) -> Option<&[Item]>
+    ensures { IsFront Equals result items.now }
+{
+    match front(items) {
+        Some((item, tail)) => match item.word {
+            Word::Equals => Some(tail),
+            _ => None,
+        },
+        None => None,
+    }
+}
+
+/// What stands behind the sign that closes an array constructor, opened by this one.
+pub fn behind_closer(opener: Word, items: &[Item]) -> Option<&[Item]>
+    ensures { HasCloser opener result items.now }
+{
+    match front(items) {
+        Some((item, tail)) => match (opener, item.word) {
+            (Word::OpenBracket, Word::CloseBracket) => Some(tail),
+            (Word::OpenSlash, Word::CloseSlash) => Some(tail),
+            _ => None,
+        },
+        None => None,
+    }
+}
+
+/// The `.NOT.` at the front, and what stands behind it.
+pub fn not_front(items: &[Item]) -> Option<(Item, &[Item])>
+    ensures { HasNot result items.now }
+{
+    match front(items) {
+        Some((item, tail)) => match item.word {
+            Word::Not => Some((item, tail)),
+            _ => None,
+        },
+        None => None,
+    }
+}
+
+/// The keyword of an argument at the front, and what stands behind its `=`.
+pub fn keyword_front(items: &[Item]) -> Option<(Name, &[Item])>
+    ensures { HasKeyword result items.now }
+{
+    match name_front(items) {
+        Some((item, tail)) => match behind_equals(tail) {
+            Some(rest) => Some((item.name(), rest)),
+            None => None,
+        },
+        None => None,
+    }
+}
+
+/// Whether a sign stands at the front that ends a bound.
+pub fn bound_ends(items: &[Item]) -> bool
+    ensures { result ≡ starts ends_bound items.now }
+{
+    match front(items) {
+        Some((item, _)) => match item.word {
+            Word::Colon | Word::Comma | Word::Close => true,
+            _ => false,
+        },
+        None => false,
+    }
+}

@@ -1,0 +1,4 @@
+pub mod Forms
+pub mod Views
+pub mod Actions
+pub mod Grammar

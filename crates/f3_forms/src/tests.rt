@@ -1,0 +1,310 @@
+//! Statements read from short texts, whose tokens stand between blanks.
+
+use crate::form::{Ended, Form};
+use crate::statements::statement;
+use f3_rules::source::Place;
+use f3_tree::expression::Operator;
+use f3_tree::statement::{Action, Control, Selector};
+use f3_words::error::ReadError;
+use f3_words::item::{Item, Keyword, Word};
+use std::alloc::{AllocError, Global};
+use std::test::Fail;
+
+/// The sign that a part of a test's text is; the names of a test are short and in lower case.
+fn sign(part: &str) -> Word {
+    match part {
+        "(" => Word::Open,
+        ")" => Word::Close,
+        "," => Word::Comma,
+        ":" => Word::Colon,
+        "::" => Word::Colons,
+        "=" => Word::Equals,
+        "=>" => Word::Arrow,
+        "%" => Word::Percent,
+        "*" => Word::Operator(Operator::Multiply),
+        "1" | "2" | "3" => Word::ShortInteger,
+        "123456" => Word::LongInteger,
+        _ => Word::Name(Keyword::Plain),
+    }
+}
+
+/// The keywords of specification parts and of units.
+fn specification_word(part: &str) -> Word {
+    match part {
+        "MODULE" => Word::Name(Keyword::Module),
+        "PROGRAM" => Word::Name(Keyword::Program),
+        "CONTAINS" => Word::Name(Keyword::Contains),
+        "SUBROUTINE" => Word::Name(Keyword::Subroutine),
+        "FUNCTION" => Word::Name(Keyword::Function),
+        "PURE" => Word::Name(Keyword::Pure),
+        "RECURSIVE" => Word::Name(Keyword::Recursive),
+        "RESULT" => Word::Name(Keyword::ResultWord),
+        "USE" => Word::Name(Keyword::Use),
+        "ONLY" => Word::Name(Keyword::Only),
+        "IMPLICIT" => Word::Name(Keyword::Implicit),
+        "NONE" => Word::Name(Keyword::NoneWord),
+        "PUBLIC" => Word::Name(Keyword::Public),
+        "PRIVATE" => Word::Name(Keyword::Private),
+        "PROTECTED" => Word::Name(Keyword::Protected),
+        "SAVE" => Word::Name(Keyword::Save),
+        "INTEGER" => Word::Name(Keyword::Integer),
+        "LOGICAL" => Word::Name(Keyword::Logical),
+        "TYPE" => Word::Name(Keyword::Type),
+        "ALLOCATABLE" => Word::Name(Keyword::Allocatable),
+        "INTENT" => Word::Name(Keyword::Intent),
+        "IN" => Word::Name(Keyword::In),
+        "OUT" => Word::Name(Keyword::Out),
+        "INOUT" => Word::Name(Keyword::InOut),
+        "FINAL" => Word::Name(Keyword::Final),
+        _ => sign(part),
+    }
+}
+
+/// The word of a part of a test's text.
+fn word(part: &str) -> Word {
+    match part {
+        "END" => Word::Name(Keyword::End),
+        "ENDMODULE" => Word::Name(Keyword::EndModule),
+        "ENDDO" => Word::Name(Keyword::EndDo),
+        "CALL" => Word::Name(Keyword::Call),
+        "ALLOCATE" => Word::Name(Keyword::Allocate),
+        "DEALLOCATE" => Word::Name(Keyword::Deallocate),
+        "STAT" => Word::Name(Keyword::Stat),
+        "PRINT" => Word::Name(Keyword::Print),
+        "STOP" => Word::Name(Keyword::Stop),
+        "RETURN" => Word::Name(Keyword::Return),
+        "CYCLE" => Word::Name(Keyword::Cycle),
+        "EXIT" => Word::Name(Keyword::Exit),
+        "CONTINUE" => Word::Name(Keyword::Continue),
+        "IF" => Word::Name(Keyword::If),
+        "THEN" => Word::Name(Keyword::Then),
+        "ELSE" => Word::Name(Keyword::Else),
+        "ELSEIF" => Word::Name(Keyword::ElseIf),
+        "SELECT" => Word::Name(Keyword::Select),
+        "CASE" => Word::Name(Keyword::Case),
+        "SELECTCASE" => Word::Name(Keyword::SelectCase),
+        "DEFAULT" => Word::Name(Keyword::Default),
+        "DO" => Word::Name(Keyword::Do),
+        "WHILE" => Word::Name(Keyword::While),
+        _ => specification_word(part),
+    }
+}
+
+/// The tokens of a test's text: each at the column that counts it, with that count as its symbol and its value.
+fn items(alloc: Global, text: &str) -> Result<Vec<Item>, AllocError> {
+    let mut items = Vec::new(alloc);
+    let mut count = 0u16;
+    for part in text.split(' ') {
+        count = count.saturating_add(1);
+        items.push(Item {
+            word: word(part),
+            symbol: count as usize,
+            value: count as i32,
+            place: Place {
+                file: 1,
+                line: 1,
+                column: count as u32,
+            },
+        })?;
+    }
+    Ok(items)
+}
+
+/// What an action is called in these tests.
+fn action_kind(action: &Action) -> &'static str {
+    match action {
+        Action::Assign(_, _) => "assign",
+        Action::Call(_, _) => "call",
+        Action::Allocate(_, None) => "allocate",
+        Action::Allocate(_, Some(_)) => "allocate status",
+        Action::Deallocate(_, _) => "deallocate",
+        Action::Print(_) => "print",
+        Action::Stop(None) => "stop",
+        Action::Stop(Some(_)) => "stop digits",
+        Action::Return => "return",
+        Action::Cycle => "cycle",
+        Action::Exit => "exit",
+        Action::Continue => "continue",
+    }
+}
+
+/// What a form is called in these tests.
+fn kind(form: &Form) -> &'static str {
+    match form {
+        Form::Unit(_, _) => "unit",
+        Form::Contains => "contains",
+        Form::End(None, _) => "end",
+        Form::End(Some(Ended::If), _) => "end if",
+        Form::End(Some(_), None) => "end what",
+        Form::End(Some(_), Some(_)) => "end what name",
+        Form::Procedure(_) => "procedure",
+        Form::Use(_) => "use",
+        Form::ImplicitNone => "implicit none",
+        Form::Access(_) => "access",
+        Form::Protected(_) => "protected",
+        Form::Save => "save",
+        Form::Declare(_) => "declare",
+        Form::Type(None, _) => "type",
+        Form::Type(Some(_), _) => "type access",
+        Form::Final(_) => "final",
+        Form::Act(action) => action_kind(action),
+        Form::LogicalIf(_, _, _) => "logical if",
+        Form::IfThen(_) => "if then",
+        Form::ElseIf(_) => "else if",
+        Form::Else => "else",
+        Form::Select(_) => "select",
+        Form::Case(Selector::Default) => "case default",
+        Form::Case(Selector::Values(_)) => "case",
+        Form::Do(Control::Forever) => "do",
+        Form::Do(Control::Counted(_, _, _, _)) => "do counted",
+        Form::Do(Control::While(_)) => "do while",
+    }
+}
+
+/// What the statement of a text is called; "none" where it has no form.
+fn read(alloc: Global, text: &str) -> Result<&'static str, AllocError> {
+    let items = items(alloc, text)?;
+    match statement(alloc, &items) {
+        Ok(form) => Ok(kind(&form)),
+        Err(ReadError::NoForm) => Ok("none"),
+        Err(ReadError::Memory) => Err(AllocError),
+    }
+}
+
+/// The first of these texts that is read as something else than what stands beside it.
+fn first_wrong<'a>(
+    alloc: Global,
+    cases: &[(&'a str, &str)],
+) -> Result<Option<&'a str>, AllocError> {
+    for (text, expected) in cases {
+        if read(alloc, text)? != *expected {
+            return Ok(Some(*text));
+        }
+    }
+    Ok(None)
+}
+
+#[test]
+fn units(rt: HostRuntime) -> Result<(), Fail> {
+    let cases = [
+        ("MODULE m", "unit"),
+        ("PROGRAM p", "unit"),
+        ("MODULE m n", "none"),
+        ("CONTAINS", "contains"),
+        ("END", "end"),
+        ("END MODULE m", "end what name"),
+        ("ENDMODULE", "end what"),
+        ("END IF", "end if"),
+        ("END IF x", "none"),
+        ("END x", "none"),
+    ];
+    assert_eq!(rt; first_wrong(rt.alloc(), &cases)?, None);
+    Ok(())
+}
+
+#[test]
+fn procedures(rt: HostRuntime) -> Result<(), Fail> {
+    let cases = [
+        ("SUBROUTINE s", "procedure"),
+        ("PURE RECURSIVE SUBROUTINE s ( a , b )", "procedure"),
+        ("PURE PURE SUBROUTINE s", "none"),
+        ("INTEGER SUBROUTINE s", "none"),
+        ("RECURSIVE INTEGER PURE FUNCTION f ( )", "procedure"),
+        ("TYPE ( t ) FUNCTION f ( a ) RESULT ( r )", "procedure"),
+        ("FUNCTION f", "none"),
+    ];
+    assert_eq!(rt; first_wrong(rt.alloc(), &cases)?, None);
+    Ok(())
+}
+
+#[test]
+fn specifications(rt: HostRuntime) -> Result<(), Fail> {
+    let cases = [
+        ("USE :: m , ONLY : a , b => c", "use"),
+        ("USE m , ONLY :", "use"),
+        ("USE m , ONLY => a , b => c", "use"),
+        ("USE m , a", "none"),
+        ("IMPLICIT NONE", "implicit none"),
+        ("PUBLIC", "access"),
+        ("PRIVATE :: a , b", "access"),
+        ("PUBLIC ::", "none"),
+        ("PROTECTED a", "protected"),
+        ("PROTECTED", "none"),
+        ("SAVE", "save"),
+        ("SAVE a", "none"),
+        ("TYPE t", "type"),
+        ("TYPE , PRIVATE :: t", "type access"),
+        ("TYPE , PRIVATE t", "none"),
+        ("FINAL a , b", "final"),
+    ];
+    assert_eq!(rt; first_wrong(rt.alloc(), &cases)?, None);
+    Ok(())
+}
+
+#[test]
+fn declarations(rt: HostRuntime) -> Result<(), Fail> {
+    let cases = [
+        ("INTEGER n , PURE", "declare"),
+        ("INTEGER n = 1", "none"),
+        ("INTEGER :: n = 1 , m", "declare"),
+        ("LOGICAL , SAVE n", "none"),
+        ("TYPE ( t ) , INTENT ( IN OUT ) :: n", "declare"),
+        ("INTEGER , INTENT ( INOUT ) , SAVE :: n", "declare"),
+        ("INTEGER a ( 1 : 2 , n )", "declare"),
+        ("INTEGER , ALLOCATABLE :: a ( : , 1 : )", "declare"),
+        ("INTEGER a ( 1 , : )", "none"),
+    ];
+    assert_eq!(rt; first_wrong(rt.alloc(), &cases)?, None);
+    Ok(())
+}
+
+#[test]
+fn actions(rt: HostRuntime) -> Result<(), Fail> {
+    let cases = [
+        ("a % b ( 1 ) = 1", "assign"),
+        ("END = 1", "assign"),
+        ("IF ( 1 ) = 2", "assign"),
+        ("CALL s", "call"),
+        ("CALL s ( 1 , a = 2 )", "call"),
+        ("CALL s ( ) x", "none"),
+        ("ALLOCATE ( a , b , STAT = c )", "allocate status"),
+        ("ALLOCATE ( a , STAT )", "allocate"),
+        ("ALLOCATE ( STAT = c )", "none"),
+        ("DEALLOCATE ( a , STAT = c , b )", "none"),
+        ("DEALLOCATE ( a )", "deallocate"),
+        ("PRINT *", "print"),
+        ("PRINT * , 1 , a", "print"),
+        ("PRINT * 1", "none"),
+        ("STOP", "stop"),
+        ("STOP 1", "stop digits"),
+        ("STOP 123456", "none"),
+        ("RETURN 1", "none"),
+        ("CONTINUE", "continue"),
+    ];
+    assert_eq!(rt; first_wrong(rt.alloc(), &cases)?, None);
+    Ok(())
+}
+
+#[test]
+fn constructs(rt: HostRuntime) -> Result<(), Fail> {
+    let cases = [
+        ("IF ( a ) THEN", "if then"),
+        ("IF ( a ) THEN = 3", "logical if"),
+        ("IF ( a ) IF ( a ) CYCLE", "none"),
+        ("ELSE", "else"),
+        ("ELSE IF ( a ) THEN", "else if"),
+        ("ELSEIF ( a ) THEN", "else if"),
+        ("SELECT CASE ( a )", "select"),
+        ("SELECTCASE ( a )", "select"),
+        ("CASE ( 1 , 2 : , : 3 , 1 : 2 )", "case"),
+        ("CASE ( : )", "none"),
+        ("CASE DEFAULT", "case default"),
+        ("DO", "do"),
+        ("DO i = 1 , 2", "do counted"),
+        ("DO WHILE = 1 , 2 , 3", "do counted"),
+        ("DO WHILE ( a )", "do while"),
+        ("DO i = 1", "none"),
+    ];
+    assert_eq!(rt; first_wrong(rt.alloc(), &cases)?, None);
+    Ok(())
+}

@@ -1,0 +1,11 @@
+-- A live block in the region.
+use Rattle.std.proofs.Common.{◌∙◌, arith}
+use Rattle.f3_raw.specs.Region.{region_words, region_size}
+use Rattle.f3_heap_laws.proofs.RawReads.{block-room, head-is}
+use Rattle.f3_heap.proofs.raw.RawHeapBlocks.length.Goals as goal
+
+pub link-requires : goal.link-requires
+link-requires c = omega (arith, block-room (region_words c.self.inside.region) (region_size c.self.inside.region) c.self.inside.size c.self.inside.first c.self.inside.end c.self.inside.used c.self.invariant c.args.self.now c.self.view_is c.place.result c.args.block c.place.ensures c.requires)
+
+pub returns : goal.returns
+returns c = c.link.ensures ∙ head-is (region_words c.self.inside.region) (region_size c.self.inside.region) c.self.inside.size c.self.inside.first c.self.inside.end c.self.inside.used c.self.invariant c.args.self.now c.self.view_is c.place.result c.args.block c.place.ensures c.requires

@@ -1,0 +1,11 @@
+-- A live block in the region.
+use Rattle.std.proofs.Common.{◌∙◌, ap, sym}
+use Rattle.f3_raw.specs.Region.{region_words}
+use Rattle.f3_heap_laws.specs.Account.{used_by}
+use Rattle.f3_heap_laws.specs.Blocks.{Heap}
+use Rattle.f3_heap_laws.specs.Segments.{segments}
+use Rattle.f3_heap_laws.proofs.LiveSegs.{used-segments}
+use Rattle.f3_heap.proofs.raw.RawHeapBlocks.used.Goals as goal
+
+pub returns : goal.returns
+returns c = c.self.invariant.account ∙ sym (used-segments (segments (region_words c.self.inside.region) c.self.inside.end)) ∙ ap (λ (h : Heap). used_by h.blocks) c.self.view_is

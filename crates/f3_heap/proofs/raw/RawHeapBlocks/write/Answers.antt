@@ -1,0 +1,36 @@
+-- A live block in the region.
+use Rattle.std.proofs.Common.{◌≡◌, ◌+◌, ◌∙◌, length, set, ap, refl, arith, w64}
+use Rattle.f3_raw.specs.Region.{region_words, region_size}
+use Rattle.f3_heap_laws.proofs.RawReads.{block-small, content-is, word-in}
+use Rattle.f3_heap.proofs.raw.RawHeapBlocks.write.Goals as goal
+use Rattle.f3_heap.proofs.raw.RawHeapBlocks.write.Goals.{After-put}
+use mir.Val.{SFits}
+use Rattle.std.proofs.lemmas.Int.{to_z-of_z}
+use Rattle.f3_heap_laws.specs.Segments.{segments, live_segments}
+use Rattle.f3_heap_laws.proofs.Puts.{put-set}
+use Rattle.f3_heap_laws.proofs.BlockLaws.{heap-at}
+use Rattle.f3_heap_laws.proofs.RawWrites.{write-heap, write-view}
+
+put_word : (c : After-put) → region_words c.put.new.self ≡ set (region_words c.self.inside.region) (c.place.result + 2 + c.args.at) c.args.value
+put_word c =
+    let fits : SFits w64 c.args.value = c.ranges.value in
+    c.put.ensures.words ∙ put-set (region_words c.self.inside.region) (c.place.result + 2 + c.args.at) _ (word-in (region_words c.self.inside.region) (region_size c.self.inside.region) c.self.inside.size c.self.inside.first c.self.inside.end c.self.inside.used c.self.invariant c.args.self.now c.self.view_is c.place.result c.args.block c.place.ensures c.requires.live c.args.at c.requires.within) ∙ ap (set (region_words c.self.inside.region) (c.place.result + 2 + c.args.at)) (to_z-of_z w64 c.args.value fits)
+
+pub overflow_add-place : goal.overflow_add-place
+overflow_add-place c = let w = block-small (region_words c.self.inside.region) (region_size c.self.inside.region) c.self.inside.size c.self.inside.first c.self.inside.end c.self.inside.used c.self.invariant c.args.self.now c.self.view_is c.place.result c.args.block c.place.ensures c.requires.live in record { fits = omega (arith, w) }
+
+pub overflow_add-place-2 : goal.overflow_add-place-2
+overflow_add-place-2 c = let w = block-small (region_words c.self.inside.region) (region_size c.self.inside.region) c.self.inside.size c.self.inside.first c.self.inside.end c.self.inside.used c.self.invariant c.args.self.now c.self.view_is c.place.result c.args.block c.place.ensures c.requires.live in let n = content-is (region_words c.self.inside.region) (region_size c.self.inside.region) c.self.inside.size c.self.inside.first c.self.inside.end c.self.inside.used c.self.invariant c.args.self.now c.self.view_is c.place.result c.args.block c.place.ensures c.requires.live in record { fits = omega (arith, w, ap length n, c.requires.within) }
+
+pub put-requires : goal.put-requires
+put-requires c = word-in (region_words c.self.inside.region) (region_size c.self.inside.region) c.self.inside.size c.self.inside.first c.self.inside.end c.self.inside.used c.self.invariant c.args.self.now c.self.view_is c.place.result c.args.block c.place.ensures c.requires.live c.args.at c.requires.within
+
+pub invariant_of-self : goal.invariant_of-self
+invariant_of-self c =
+    let fits : SFits w64 c.args.value = c.ranges.value in
+    heap-at _ _ _ _ c.self.inside.size _ _ _ _ _ _ (write-heap (region_words c.self.inside.region) (region_size c.self.inside.region) c.self.inside.size c.self.inside.first c.self.inside.end c.self.inside.used c.self.invariant c.args.self.now c.self.view_is c.place.result c.args.block c.place.ensures c.requires.live c.args.at c.args.value c.requires.within _ refl)
+    (put_word c) c.put.ensures.size refl refl refl
+
+pub returns-clause-written : goal.returns-clause-written
+returns-clause-written c =
+    ap (λ z. live_segments (segments z c.self.inside.end)) (put_word c) ∙ write-view (region_words c.self.inside.region) (region_size c.self.inside.region) c.self.inside.size c.self.inside.first c.self.inside.end c.self.inside.used c.self.invariant c.args.self.now c.self.view_is c.place.result c.args.block c.place.ensures c.requires.live c.args.at c.args.value c.requires.within _ refl

@@ -1,0 +1,4 @@
+pub mod Plain
+pub use Rattle.f3_heap_laws.specs.Account
+pub use Rattle.f3_heap_laws.specs.Blocks
+pub use Rattle.f3_heap_laws.specs.Gaps

@@ -1,0 +1,118 @@
+//! What a heap of blocks is.
+
+ghost use Rattle.std.specs.Prelude.{◌≡◌, ◌≢◌, ◌↔◌, ◌<◌, ◌+◌, ◌-◌, ℕ, ℤ, pos, Bool, true, false, List, length, replicate, IfOk, OnOk, OnErr, IsOk, slice_set, slice_index_or};
+ghost use Rattle.std.specs.FinMap.{get, remove};
+ghost use Rattle.std.specs.Borrow.{sem, Lends, Array, i64 as word_type};
+ghost use Rattle.f3_heap_laws.specs.Blocks.{Live, IsLive, words_of, pins_of, with_taken, with_words, with_pins, written_over};
+ghost use Rattle.f3_heap_laws.specs.Account.{used_by};
+
+use crate::block_id::BlockId;
+
+/// Why a block could not be taken.
+#[derive(Clone, Copy, Debug, PartialEq, Eq)]
+pub enum TakeFault {
+    /// The heap has no room for it.
+    Full,
+    /// The host refused memory.
+    Memory,
+}
+
+/// A pinned block cannot be given back.
+#[derive(Clone, Copy, Debug, PartialEq, Eq)]
+pub struct Pinned;
+
+/// A heap: a finite map from its live blocks to their words and how often they are pinned.
+///
+/// Words are 64 bits, and a block's words are counted from 0.
+pub trait Blocks {
+    ghost blocks: { Self → Live };
+
+    ghost size: { Self → ℕ };
+
+    ghost has_room: { Self → ℕ → Bool };
+
+    ghost after_pair: { Self → ℕ → List ℤ → Self };
+
+    /// Takes a new block of so many words, all zero, with no pins.
+    ///
+    /// # Errors
+    ///
+    /// `Full` exactly where `room` is false for the request, and `Memory` where the host refused
+    /// memory. The blocks are then unchanged.
+    fn take(&mut self, words: usize) -> Result<BlockId, TakeFault>
+        ensures full { (result ≡ Err TakeFault.Full) ↔ (has_room self.old words ≡ false) }
+        ensures fresh { IfOk result (λ b. get (blocks self.old) b ≡ None) }
+        ensures taken { IfOk result (λ b. blocks self.new ≡ with_taken (blocks self.old) b words) }
+        ensures refused { OnErr result (blocks self.new ≡ blocks self.old) }
+        ensures size { size self.new ≡ size self.old };
+
+    /// Gives a block back.
+    ///
+    /// # Errors
+    ///
+    /// `Pinned` exactly where the block has pins. The blocks are then unchanged.
+    fn give(&mut self, block: BlockId) -> Result<(), Pinned>
+        requires { IsLive (blocks self.old) block }
+        ensures unpinned { IsOk result ↔ (pins_of (blocks self.old) block ≡ 0) }
+        ensures given { OnOk result (blocks self.new ≡ remove (blocks self.old) block) }
+        ensures refused { OnErr result (blocks self.new ≡ blocks self.old) }
+        ensures size { size self.new ≡ size self.old };
+
+    /// The number of words of a block.
+    fn length(&self, block: BlockId) -> usize
+        requires { IsLive (blocks self.now) block }
+        ensures { result ≡ length (words_of (blocks self.now) block) };
+
+    /// The word at a place of a block.
+    fn read(&self, block: BlockId, at: usize) -> i64
+        requires live { IsLive (blocks self.now) block }
+        requires within { at < length (words_of (blocks self.now) block) }
+        ensures { result ≡ slice_index_or (words_of (blocks self.now) block) at (pos 0) };
+
+    /// Writes the word at a place of a block.
+    fn write(&mut self, block: BlockId, at: usize, value: i64)
+        requires live { IsLive (blocks self.old) block }
+        requires within { at < length (words_of (blocks self.old) block) }
+        ensures written { blocks self.new ≡ with_words (blocks self.old) block (slice_set (words_of (blocks self.old) block) at value) }
+        ensures size { size self.new ≡ size self.old };
+
+    /// The words of one block to read, and those of another to write.
+    fn pair(&mut self, from: BlockId, to: BlockId) -> (&[i64], &mut [i64])
+        requires from_live { IsLive (blocks self.old) from }
+        requires to_live { IsLive (blocks self.old) to }
+        requires different { from ≢ to }
+        ensures* writes_back { sem 𝓛 (Lends Self.row (Array word_type 0) self.entry result.1 (after_pair self.old to)) }
+        ensures source { result.0.now ≡ words_of (blocks self.old) from }
+        ensures target { result.1.now ≡ words_of (blocks self.old) to };
+
+    /// Pins a block once more, so that it cannot be given back.
+    fn pin(&mut self, block: BlockId)
+        requires live { IsLive (blocks self.old) block }
+        requires below { pins_of (blocks self.old) block < u64.MAX }
+        ensures counted { blocks self.new ≡ with_pins (blocks self.old) block (pins_of (blocks self.old) block + 1) }
+        ensures size { size self.new ≡ size self.old };
+
+    /// Takes one pin of a block away.
+    fn unpin(&mut self, block: BlockId)
+        requires live { IsLive (blocks self.old) block }
+        requires pinned { 0 < pins_of (blocks self.old) block }
+        ensures counted { blocks self.new ≡ with_pins (blocks self.old) block (pins_of (blocks self.old) block - 1) }
+        ensures size { size self.new ≡ size self.old };
+
+    /// How often a block is pinned.
+    fn pins(&self, block: BlockId) -> u64
+        requires { IsLive (blocks self.now) block }
+        ensures { result ≡ pins_of (blocks self.now) block };
+
+    /// The words that the live blocks take together, each with its length, pin count and tag.
+    fn used(&self) -> usize
+        ensures { result ≡ used_by (blocks self.now) };
+
+    /// Whether a block of so many words can be taken.
+    fn room(&self, words: usize) -> bool
+        ensures { result ≡ has_room self.now words };
+
+    ghost pair_keeps_size: { (s : Self) (b : ℕ) (ws : List ℤ) → size (after_pair s b ws) ≡ size s };
+
+    ghost pair_writes: { (s : Self) (b : ℕ) (ws : List ℤ) → blocks (after_pair s b ws) ≡ with_words (blocks s) b (written_over (words_of (blocks s) b) ws) };
+}

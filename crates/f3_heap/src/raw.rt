@@ -1,0 +1,167 @@
+//! The heap in one region of words.
+
+#![tactic(auto)]
+
+ghost use Rattle.std.specs.Prelude.{◌≡◌, ◌≢◌, ◌↔◌, ◌-◌, ◌*◌, ◌/◌, Some, None, false, IfOk, OnErr, IsOk};
+ghost use Rattle.std.specs.List.{list_any};
+ghost use Rattle.std.specs.FinMap.{get, empty};
+ghost use Rattle.f3_heap_laws.specs.Blocks.{with_taken, with_words, words_of, written_over};
+ghost use Rattle.std.proofs.Common.{refl};
+ghost use Rattle.f3_heap_laws.specs.Gaps.{gaps, places, is_wide, first_wide};
+
+use crate::block_id::BlockId;
+use crate::blocks::{Blocks, Pinned, TakeFault};
+use crate::heap_blocks::{give_block, take_block};
+use crate::segments::{first_fit, link, pin_count, put_pin_count};
+use f3_heap_laws::{fits, size_of_block};
+use f3_raw::Region;
+use std::alloc::{AllocError, Global};
+use std::marker::Model;
+
+/// A heap in one region of words. Only `new` takes memory.
+///
+/// A block is its length, its pin count, its content, and its length again at its end. A free
+/// block is linked to the next and the previous one by place, and tells its size at both ends.
+/// The words behind the last block are the last run of the free ones.
+#[derive(Drop)]
+pub struct RawHeap {
+    region: Region,
+    size: usize,
+    first: usize,
+    end: usize,
+    used: usize,
+}
+
+impl Model for RawHeap {
+    ghost use Rattle.f3_heap_laws.specs.Blocks.{Heap, heap_code};
+
+    ghost Value = { Heap };
+
+    ghost coded = { heap_code };
+
+    ghost use Rattle.f3_raw.specs.Region.{region_words, region_size};
+    ghost use Rattle.f3_heap_laws.specs.Segments.{live_segments, segments, IsHeap};
+
+    ghost view = { λ s. record { blocks = live_segments (segments (region_words s.region) s.end); size = s.size } };
+
+    ghost invariant = { λ s. IsHeap (region_words s.region) (region_size s.region) s.size s.first s.end s.used };
+}
+
+impl RawHeap {
+    /// A heap of so many words, cut down to whole fours.
+    ///
+    /// # Errors
+    ///
+    /// `AllocError` where the host refused the memory.
+    pub fn new(alloc: Global, words: usize) -> Result<RawHeap, AllocError>
+        ensures { IfOk result (λ h. h ≡ record { blocks = empty; size = words / 4 * 4 }) }
+    {
+        let region = Region::new(alloc, words)?;
+        let size = words / 4 * 4;
+        Ok(RawHeap {
+            region,
+            size,
+            first: size,
+            end: 0,
+            used: 0,
+        })
+    }
+}
+
+impl Blocks for RawHeap {
+    ghost blocks = { λ h. h.blocks };
+
+    ghost size = { λ h. h.size };
+
+    ghost has_room = { λ h w. list_any (is_wide w) (gaps (places h.blocks) h.size) };
+
+    ghost after_pair = { λ h b ws. record h { blocks = with_words h.blocks b (written_over (words_of h.blocks b) ws) } };
+
+    fn take(&mut self, words: usize) -> Result<BlockId, TakeFault>
+        ensures full { (result ≡ Err TakeFault.Full) ↔ (list_any (is_wide words) (gaps (places self.old.blocks) self.old.size) ≡ false) }
+        ensures fresh { IfOk result (λ b. get self.old.blocks b ≡ None) }
+        ensures taken { IfOk result (λ b. self.new.blocks ≡ with_taken self.old.blocks b words) }
+        ensures refused { OnErr result (self.new ≡ self.old) }
+        ensures size { self.new.size ≡ self.old.size }
+        ensures first { IfOk result (λ b. first_wide words (gaps (places self.old.blocks) self.old.size) ≡ Some (b - 1)) }
+        ensures without_memory { result ≢ Err TakeFault.Memory }
+    {
+        let at = take_block(
+            &mut self.region,
+            &mut self.first,
+            &mut self.end,
+            &mut self.used,
+            self.size,
+            words,
+        );
+        match at {
+            Some(at) => Ok(BlockId::at(at)),
+            None => Err(TakeFault::Full),
+        }
+    }
+
+    fn give(&mut self, block: BlockId) -> Result<(), Pinned> {
+        let at = block.place();
+        if pin_count(&self.region, at + 1) != 0 {
+            return Err(Pinned);
+        }
+        give_block(
+            &mut self.region,
+            &mut self.first,
+            &mut self.end,
+            &mut self.used,
+            self.size,
+            at,
+        );
+        Ok(())
+    }
+
+    fn length(&self, block: BlockId) -> usize {
+        link(&self.region, block.place())
+    }
+
+    fn read(&self, block: BlockId, at: usize) -> i64 {
+        self.region.get(block.place() + 2 + at)
+    }
+
+    fn write(&mut self, block: BlockId, at: usize, value: i64) {
+        self.region.put(block.place() + 2 + at, value);
+    }
+
+    fn pair(&mut self, from: BlockId, to: BlockId) -> (&[i64], &mut [i64]) {
+        let n = self.length(from);
+        let m = self.length(to);
+        self.region.pair(from.place() + 2, n, to.place() + 2, m)
+    }
+
+    fn pin(&mut self, block: BlockId) {
+        let count = pin_count(&self.region, block.place() + 1) + 1;
+        put_pin_count(&mut self.region, block.place() + 1, count);
+    }
+
+    fn unpin(&mut self, block: BlockId) {
+        let count = pin_count(&self.region, block.place() + 1) - 1;
+        put_pin_count(&mut self.region, block.place() + 1, count);
+    }
+
+    fn pins(&self, block: BlockId) -> u64 {
+        pin_count(&self.region, block.place() + 1)
+    }
+
+    fn used(&self) -> usize {
+        self.used
+    }
+
+    fn room(&self, words: usize) -> bool {
+        if !fits(words, self.size) {
+            return false;
+        }
+        let size = size_of_block(words);
+        size <= self.size - self.end
+            || first_fit(&self.region, self.first, self.size, self.end, size) != self.size
+    }
+
+    ghost pair_keeps_size = { λ h b ws. refl };
+
+    ghost pair_writes = { λ h b ws. refl };
+}

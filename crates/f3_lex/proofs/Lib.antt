@@ -1,0 +1,10 @@
+pub mod Apart
+pub mod Broken
+pub mod Chain
+pub mod Fronts
+pub mod Laws
+pub mod Lengths
+pub mod Longest
+pub mod Scans
+pub mod Spelled
+pub mod Values

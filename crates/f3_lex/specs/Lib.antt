@@ -1,0 +1,4 @@
+pub mod Tokens
+pub mod Faults
+pub mod Laws
+pub mod Examples

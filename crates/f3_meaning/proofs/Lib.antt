@@ -1,0 +1,5 @@
+pub mod Behind
+pub mod Growth
+pub mod Changes
+pub mod Beginning
+pub mod Agreeing

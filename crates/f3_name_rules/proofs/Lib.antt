@@ -1,0 +1,4 @@
+pub mod Steps
+pub mod Places
+pub mod Said
+pub mod Walk

@@ -1,0 +1,3 @@
+pub mod Intrinsics
+pub mod NameBreaks
+pub mod Rows

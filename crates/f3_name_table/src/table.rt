@@ -1,0 +1,42 @@
+//! From sources to the table of their names.
+
+ghost use Rattle.std.specs.Prelude.{◌≡◌};
+ghost use Rattle.f3_name_table.specs.Answers.{Answers, fault_of_text};
+
+use crate::lines::table_text;
+use f3_graph::{CheckFault, order};
+use f3_names::names;
+use f3_parse::parser::parse;
+use f3_rules::source::Source;
+use f3_text::statement::TextFault;
+use std::alloc::Global;
+
+/// For each program unit in the order of their places its name, and a line for each name that is visible there: what it
+/// means, the unit that holds that and its name there, whether it is protected, and in a module whether the name is
+/// public or private (own rule).
+///
+/// Refused with the first break of phases 1 to 4; Memory where a growth of the host's memory was refused.
+pub fn name_table(alloc: Global, sources: &[Source]) -> Result<String, CheckFault>
+    ensures { Answers result sources.now }
+{
+    let program = match parse(alloc, sources) {
+        Ok(program) => program,
+        Err(fault) => return Err(of_text(fault)),
+    };
+    let order = order(alloc, &program)?;
+    let names = names(alloc, &program, &order)?;
+    match table_text(alloc, &program, &names) {
+        Ok(text) => Ok(text),
+        Err(_) => Err(CheckFault::Memory),
+    }
+}
+
+/// A fault of the text, as one of the check.
+fn of_text(fault: TextFault) -> CheckFault
+    ensures { result ≡ fault_of_text fault }
+{
+    match fault {
+        TextFault::Refused(refusal) => CheckFault::Refused(refusal),
+        TextFault::Memory => CheckFault::Memory,
+    }
+}

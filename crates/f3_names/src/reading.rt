@@ -1,0 +1,108 @@
+//! What is visible in a scope, and what an entity is.
+
+ghost use Rattle.std.specs.Prelude.{◌≡◌, ℕ, ◌<◌, Some, IfOk, option_map, length, map, slice_get, string_bytes};
+ghost use Rattle.f3_access.specs.Lookups.{Resolves};
+ghost use Rattle.f3_access.specs.Tables.{own_of, visible_of, private_of};
+ghost use Rattle.f3_name_rules.specs.NameBreaks.{text_of};
+ghost use Rattle.f3_names.specs.Entities.{VisibleIsEntity};
+ghost use Rattle.f3_names.specs.Tables.{AreNames, lookup_at, exports_at, IsVisibleAs};
+ghost use Rattle.f3_names.specs.Texts.{lowered};
+ghost use Rattle.f3_tree.specs.Tree.{Tree};
+
+use crate::entity::Entity;
+use crate::table::{Names, ScopeId};
+use crate::texts::symbol_of;
+use f3_access::table::{EntityId, Lookup, Visible};
+use f3_graph::UnitId;
+use std::alloc::{AllocError, Global};
+
+/// What is visible in a scope under a name, by the number of the name among the program's.
+///
+/// It takes no memory, and looks the name up in hashed tables. In a scope that is none of the program's nothing is visible.
+pub fn lookup(names: &Names, scope: ScopeId, symbol: usize) -> Lookup
+    ensures { result ≡ lookup_at names.now scope.number symbol }
+{
+    f3_access::lookup(&names.tables, scope.number, symbol)
+}
+
+/// What is visible in a scope under a name, by its text; letters count without their case (3.1.1).
+///
+/// It takes no memory, and looks a name of the language's length up in hashed tables. In a scope that is none of the
+/// program's nothing is visible.
+pub fn resolve(names: &Names, scope: ScopeId, name: &str) -> Lookup
+    ensures { (t : Tree) → AreNames t names.now → Resolves result (IsVisibleAs t scope.number (lowered name.now)) }
+{
+    match symbol_of(&names.texts, name) {
+        Some(symbol) => lookup(names, scope, symbol),
+        None => Lookup::Nothing,
+    }
+}
+
+impl Names {
+    /// An entity by its number.
+    pub fn entity(&self, entity: EntityId) -> &Entity
+        requires { entity < length self.now.entities.items }
+        ensures { slice_get self.now.entities.items entity ≡ Some result.now }
+    {
+        &self.entities[entity]
+    }
+
+    /// What a unit exports: of a module the names that are public there, each with its entity, in the order of `own`.
+    pub fn exports(&self, unit: UnitId) -> &[Visible]
+        ensures { result.now ≡ exports_at self.now unit.number }
+    {
+        match self.unit_scope(unit) {
+            Some(scope) => f3_access::exports(&self.tables, scope.number),
+            None => &[],
+        }
+    }
+
+    /// What is visible in a scope, each entity once under each name: its own, and in a procedure then what its module has
+    /// under names that none of its own has, in their order (own rule).
+    ///
+    /// AllocError: a growth of the host's memory was refused.
+    pub fn visible(&self, alloc: Global, scope: ScopeId) -> Result<Vec<Visible>, AllocError>
+        ensures { IfOk result (λ v. v.items ≡ visible_of self.now.tables scope.number) }
+    {
+        f3_access::visible(alloc, &self.tables, scope.number)
+    }
+
+    /// What a scope has of its own, each entity once under each name: what its USE statements bring, then what it declares
+    /// (own rule). In a unit that is all that is visible.
+    pub fn own(&self, scope: ScopeId) -> &[Visible]
+        ensures { result.now ≡ own_of self.now.tables scope.number }
+    {
+        f3_access::own(&self.tables, scope.number)
+    }
+
+    /// The text of a name in lower case, by its number; empty where there is no such name.
+    pub fn text(&self, symbol: usize) -> &str
+        ensures { result.now ≡ text_of (map string_bytes self.now.texts.keys) symbol }
+    {
+        match self.texts.get_index(symbol) {
+            Some(text) => text.as_str(),
+            None => "",
+        }
+    }
+
+    /// The scope of a unit.
+    pub fn unit_scope(&self, unit: UnitId) -> Option<ScopeId>
+        ensures { option_map (λ s. s.number) result ≡ slice_get self.now.units.items unit.number }
+    {
+        let number = *self.units.get(unit.number)?;
+        Some(ScopeId { number })
+    }
+
+    /// Whether a name is private in a scope: a PRIVATE names it, or no access does and there is a PRIVATE without a list
+    /// (5.2.1).
+    pub fn is_private(&self, scope: ScopeId, symbol: usize) -> bool
+        ensures { result ≡ private_of self.now.tables scope.number symbol }
+    {
+        f3_access::is_private(&self.tables, scope.number, symbol)
+    }
+}
+
+/// What is visible in a scope is an entity of the program, by its number.
+pub fn visible_is_entity()
+    ensures { VisibleIsEntity }
+{}

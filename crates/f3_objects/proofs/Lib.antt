@@ -1,0 +1,13 @@
+pub mod Trees
+pub mod Spans
+pub mod Changes
+pub mod Holders
+pub mod Freeing
+pub mod Writes
+pub mod Blanks
+pub mod Linking
+pub mod Copying
+pub mod Sharing
+pub mod Emptying
+pub mod Shifts
+pub mod Used

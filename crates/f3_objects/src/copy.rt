@@ -1,0 +1,229 @@
+//! Copying an object with all blocks beneath it.
+
+ghost use Rattle.std.specs.Prelude.{◌≡◌, ◌<◌, ◌+◌, ◌*◌, ◌^◌, ℕ, true, false, None, Err, OnOk, OnErr, IfOk, is_ok, map, length};
+ghost use Rattle.std.specs.FinMap.{get};
+ghost use Rattle.std.specs.List.{All};
+ghost use Rattle.f3_heap_laws.specs.Blocks.{IsLive, words_of, with_taken};
+ghost use Rattle.f3_heap_laws.specs.Account.{used_by};
+ghost use Rattle.f3_desc.specs.Shape.{width, whole, row, shape_at, Holder, Times};
+ghost use Rattle.f3_desc.specs.Layout.{pieces_of, shapes, shape_in, piece_count};
+ghost use Rattle.f3_objects.specs.Tree.{Tree, words};
+ghost use Rattle.f3_objects.specs.Holds.{Holds};
+ghost use Rattle.f3_objects.specs.Copies.{Ready, Copies, Empties, Lacks, Reaches};
+
+use crate::free::free_piece;
+use crate::holder::block_at;
+use crate::words::{copy_words, link_copy};
+use f3_desc::{Layout, Piece};
+use f3_heap::{BlockId, Blocks, TakeFault};
+
+/// Why an object could not be copied.
+#[derive(Clone, Copy, Debug, PartialEq, Eq)]
+pub enum TreeFault {
+    /// The heap has no room for a block of the copy.
+    Full,
+    /// The host refused memory.
+    Memory,
+}
+
+/// Copies the object at a place, with all blocks beneath it, to a place where nothing is allocated.
+/// The copy has the same values and bounds, in new blocks. The object itself is unchanged.
+///
+/// # Errors
+///
+/// `Full` only where the heap had no room for a block as long as one beneath the object, at the
+/// time when it was asked for, and `Memory` where the host refused memory. The blocks that were
+/// taken are then given back, and nothing is allocated at the target.
+pub fn copy_tree<B: Blocks>(
+    heap: &mut B,
+    from: BlockId,
+    from_at: usize,
+    to: BlockId,
+    to_at: usize,
+    layout: &Layout,
+) -> Result<(), TreeFault>
+    requires { (t : Tree) × (u : Tree) × Ready (B.blocks heap.old) from from_at to to_at (whole (pieces_of layout.now)) t u }
+    ensures copied { OnOk result ((t u : Tree) → Ready (B.blocks heap.old) from from_at to to_at (whole (pieces_of layout.now)) t u → Copies (B.blocks heap.old) (B.blocks heap.new) to to_at (whole (pieces_of layout.now)) t u true) }
+    ensures emptied { OnErr result ((t u : Tree) → Ready (B.blocks heap.old) from from_at to to_at (whole (pieces_of layout.now)) t u → Empties (B.blocks heap.old) (B.blocks heap.new) to to_at (whole (pieces_of layout.now))) }
+    ensures used { OnErr result (used_by (B.blocks heap.new) ≡ used_by (B.blocks heap.old)) }
+    ensures source { (t u : Tree) → Ready (B.blocks heap.old) from from_at to to_at (whole (pieces_of layout.now)) t u → Holds (B.blocks heap.new) from from_at (whole (pieces_of layout.now)) t }
+    ensures full { result ≡ Err TreeFault.Full → (t u : Tree) → Ready (B.blocks heap.old) from from_at to to_at (whole (pieces_of layout.now)) t u → Reaches B.blocks B.has_room (B.blocks heap.old) to to_at (whole (pieces_of layout.now)) t u }
+    ensures size { B.size heap.new ≡ B.size heap.old }
+{
+    prove!(from_at <= heap.length(from));
+    prove!(to_at <= heap.length(to));
+    let last = layout.last();
+    let copied = copy_piece(heap, from, from_at, to, to_at, layout, last);
+    if copied.is_err() {
+        let given = free_piece(heap, to, to_at, layout, last).is_ok();
+        prove!(given);
+    }
+    copied
+}
+
+/// Copies a piece of an object. After a fault what was copied stands.
+#[cycle(copy)]
+fn copy_piece<B: Blocks>(
+    heap: &mut B,
+    from: BlockId,
+    from_at: usize,
+    to: BlockId,
+    to_at: usize,
+    layout: &Layout,
+    piece: usize,
+) -> Result<(), TreeFault>
+    requires numbered { piece < piece_count layout.now }
+    requires ready { (t : Tree) × (u : Tree) × Ready (B.blocks heap.old) from from_at to to_at (shape_in layout.now piece) t u }
+    requires from_bound { from_at + width (shape_in layout.now piece) < 2 ^ 64 }
+    requires to_bound { to_at + width (shape_in layout.now piece) < 2 ^ 64 }
+    ensures copied { (t u : Tree) → Ready (B.blocks heap.old) from from_at to to_at (shape_in layout.now piece) t u → Copies (B.blocks heap.old) (B.blocks heap.new) to to_at (shape_in layout.now piece) t u (is_ok result) }
+    ensures full { result ≡ Err TreeFault.Full → (t u : Tree) → Ready (B.blocks heap.old) from from_at to to_at (shape_in layout.now piece) t u → Lacks B.blocks B.has_room (B.blocks heap.old) (B.blocks heap.new) t }
+    ensures size { B.size heap.new ≡ B.size heap.old }
+{
+    if !layout.holds_allocatable(piece) {
+        copy_words(heap, from, from_at, to, to_at, layout.words_of(piece));
+        return Ok(());
+    }
+    match layout.piece(piece) {
+        Piece::Word => Ok(()),
+        Piece::Allocatable { rank, of } => {
+            copy_allocatable(heap, from, from_at, to, to_at, layout, *rank, *of)
+        }
+        Piece::Record(parts) => copy_parts(heap, from, from_at, to, to_at, layout, piece, parts),
+        Piece::Array { count, of } => {
+            copy_elements(heap, from, from_at, to, to_at, layout, *count, *of)
+        }
+    }
+}
+
+/// Copies parts that stand one after another.
+#[cycle(copy)]
+fn copy_parts<B: Blocks>(
+    heap: &mut B,
+    from: BlockId,
+    from_at: usize,
+    to: BlockId,
+    to_at: usize,
+    layout: &Layout,
+    piece: usize,
+    parts: &[usize],
+) -> Result<(), TreeFault>
+    requires numbered { piece < piece_count layout.now }
+    requires earlier { All (λ p. p < piece) parts.now }
+    requires ready { (t : Tree) × (u : Tree) × Ready (B.blocks heap.old) from from_at to to_at (row (map (shape_at (shapes layout.now)) parts.now)) t u }
+    requires from_bound { from_at + width (row (map (shape_at (shapes layout.now)) parts.now)) < 2 ^ 64 }
+    requires to_bound { to_at + width (row (map (shape_at (shapes layout.now)) parts.now)) < 2 ^ 64 }
+    ensures copied { (t u : Tree) → Ready (B.blocks heap.old) from from_at to to_at (row (map (shape_at (shapes layout.now)) parts.now)) t u → Copies (B.blocks heap.old) (B.blocks heap.new) to to_at (row (map (shape_at (shapes layout.now)) parts.now)) t u (is_ok result) }
+    ensures full { result ≡ Err TreeFault.Full → (t u : Tree) → Ready (B.blocks heap.old) from from_at to to_at (row (map (shape_at (shapes layout.now)) parts.now)) t u → Lacks B.blocks B.has_room (B.blocks heap.old) (B.blocks heap.new) t }
+    ensures size { B.size heap.new ≡ B.size heap.old }
+{
+    let mut from_place = from_at;
+    let mut to_place = to_at;
+    for part in parts {
+        copy_piece(heap, from, from_place, to, to_place, layout, *part)?;
+        let size = layout.words_of(*part);
+        from_place += size;
+        to_place += size;
+    }
+    Ok(())
+}
+
+/// Copies so many elements.
+#[cycle(copy)]
+fn copy_elements<B: Blocks>(
+    heap: &mut B,
+    from: BlockId,
+    from_at: usize,
+    to: BlockId,
+    to_at: usize,
+    layout: &Layout,
+    count: usize,
+    of: usize,
+) -> Result<(), TreeFault>
+    requires numbered { of < piece_count layout.now }
+    requires ready { (t : Tree) × (u : Tree) × Ready (B.blocks heap.old) from from_at to to_at (Times count (shape_in layout.now of)) t u }
+    requires from_bound { from_at + width (Times count (shape_in layout.now of)) < 2 ^ 64 }
+    requires to_bound { to_at + width (Times count (shape_in layout.now of)) < 2 ^ 64 }
+    ensures copied { (t u : Tree) → Ready (B.blocks heap.old) from from_at to to_at (Times count (shape_in layout.now of)) t u → Copies (B.blocks heap.old) (B.blocks heap.new) to to_at (Times count (shape_in layout.now of)) t u (is_ok result) }
+    ensures full { result ≡ Err TreeFault.Full → (t u : Tree) → Ready (B.blocks heap.old) from from_at to to_at (Times count (shape_in layout.now of)) t u → Lacks B.blocks B.has_room (B.blocks heap.old) (B.blocks heap.new) t }
+    ensures size { B.size heap.new ≡ B.size heap.old }
+{
+    let size = layout.words_of(of);
+    let mut from_place = from_at;
+    let mut to_place = to_at;
+    for _i in 0..count {
+        copy_piece(heap, from, from_place, to, to_place, layout, of)?;
+        from_place += size;
+        to_place += size;
+    }
+    Ok(())
+}
+
+/// Copies the elements that one block holds into another of its length.
+#[cycle(copy)]
+fn copy_contents<B: Blocks>(
+    heap: &mut B,
+    from: BlockId,
+    to: BlockId,
+    layout: &Layout,
+    of: usize,
+) -> Result<(), TreeFault>
+    requires numbered { of < piece_count layout.now }
+    requires ready { (n : ℕ) × (t : Tree) × (u : Tree) × Ready (B.blocks heap.old) from 0 to 0 (Times n (shape_in layout.now of)) t u × (words_of (B.blocks heap.old) from ≡ words t) }
+    ensures copied { (n : ℕ) (t u : Tree) → Ready (B.blocks heap.old) from 0 to 0 (Times n (shape_in layout.now of)) t u → words_of (B.blocks heap.old) from ≡ words t → Copies (B.blocks heap.old) (B.blocks heap.new) to 0 (Times n (shape_in layout.now of)) t u (is_ok result) }
+    ensures full { result ≡ Err TreeFault.Full → (n : ℕ) (t u : Tree) → Ready (B.blocks heap.old) from 0 to 0 (Times n (shape_in layout.now of)) t u → words_of (B.blocks heap.old) from ≡ words t → Lacks B.blocks B.has_room (B.blocks heap.old) (B.blocks heap.new) t }
+    ensures size { B.size heap.new ≡ B.size heap.old }
+{
+    let length = heap.length(from);
+    if !layout.holds_allocatable(of) {
+        copy_words(heap, from, 0, to, 0, length);
+        return Ok(());
+    }
+    let count = length / layout.words_of(of);
+    copy_elements(heap, from, 0, to, 0, layout, count, of)
+}
+
+/// Copies an allocatable: its bounds, and its block with what stands beneath.
+#[cycle(copy)]
+fn copy_allocatable<B: Blocks>(
+    heap: &mut B,
+    from: BlockId,
+    from_at: usize,
+    to: BlockId,
+    to_at: usize,
+    layout: &Layout,
+    rank: usize,
+    of: usize,
+) -> Result<(), TreeFault>
+    requires numbered { of < piece_count layout.now }
+    requires ready { (t : Tree) × (u : Tree) × Ready (B.blocks heap.old) from from_at to to_at (Holder rank (shape_in layout.now of)) t u }
+    requires from_bound { from_at + width (Holder rank (shape_in layout.now of)) < 2 ^ 64 }
+    requires to_bound { to_at + width (Holder rank (shape_in layout.now of)) < 2 ^ 64 }
+    ensures copied { (t u : Tree) → Ready (B.blocks heap.old) from from_at to to_at (Holder rank (shape_in layout.now of)) t u → Copies (B.blocks heap.old) (B.blocks heap.new) to to_at (Holder rank (shape_in layout.now of)) t u (is_ok result) }
+    ensures full { result ≡ Err TreeFault.Full → (t u : Tree) → Ready (B.blocks heap.old) from from_at to to_at (Holder rank (shape_in layout.now of)) t u → Lacks B.blocks B.has_room (B.blocks heap.old) (B.blocks heap.new) t }
+    ensures size { B.size heap.new ≡ B.size heap.old }
+{
+    let Some(inner) = block_at(heap, from, from_at) else {
+        return Ok(());
+    };
+    let copy = take_same(heap, inner)?;
+    link_copy(heap, from, from_at, to, to_at, copy, rank);
+    copy_contents(heap, inner, copy, layout, of)
+}
+
+/// Takes a block of zeros, as long as another.
+fn take_same<B: Blocks>(heap: &mut B, block: BlockId) -> Result<BlockId, TreeFault>
+    requires { IsLive (B.blocks heap.old) block }
+    ensures fresh { IfOk result (λ b. get (B.blocks heap.old) b ≡ None) }
+    ensures taken { IfOk result (λ b. B.blocks heap.new ≡ with_taken (B.blocks heap.old) b (length (words_of (B.blocks heap.old) block))) }
+    ensures refused { OnErr result (B.blocks heap.new ≡ B.blocks heap.old) }
+    ensures full { result ≡ Err TreeFault.Full → B.has_room heap.old (length (words_of (B.blocks heap.old) block)) ≡ false }
+    ensures size { B.size heap.new ≡ B.size heap.old }
+{
+    let length = heap.length(block);
+    match heap.take(length) {
+        Ok(taken) => Ok(taken),
+        Err(TakeFault::Full) => Err(TreeFault::Full),
+        Err(TakeFault::Memory) => Err(TreeFault::Memory),
+    }
+}

@@ -1,0 +1,16 @@
+//! Objects in blocks.
+#![tactic(auto)]
+
+mod copy;
+mod free;
+mod holder;
+mod shift;
+#[cfg(test)]
+mod tests;
+mod words;
+mod zeros;
+
+pub use copy::{TreeFault, copy_tree};
+pub use free::free_tree;
+pub use shift::move_tree;
+pub use zeros::clear;

@@ -1,0 +1,17 @@
+//! Random objects, copied, moved and given back in both heaps.
+#![tactic(auto)]
+
+mod dice;
+mod growth;
+mod holders;
+mod object;
+#[cfg(test)]
+mod rounds;
+#[cfg(test)]
+mod tests;
+mod towers;
+
+pub use dice::Dice;
+pub use growth::grow;
+pub use object::{blank_object, free_object, random_object};
+pub use towers::tower;

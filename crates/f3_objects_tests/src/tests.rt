@@ -1,0 +1,78 @@
+//! Random objects in both heaps, and in heaps that refuse once.
+#![tactic(auto)]
+
+use crate::rounds::round;
+use crate::{Dice, tower};
+use f3_desc::{Layout, Piece};
+use f3_heap::{FullAt, PlainBlocks, RawHeap};
+use std::alloc::{AllocError, Global};
+use std::process::Abort;
+
+/// An integer, an array of objects of an integer and an allocatable of integers, and an
+/// allocatable array of such objects.
+fn nested(alloc: Global) -> Result<Layout, AllocError> {
+    let leaf = vec![in alloc; 0, 1]?;
+    let whole = vec![in alloc; 0, 3, 4, 5]?;
+    let pieces = vec![in alloc;
+        Piece::Word,
+        Piece::Allocatable { rank: 1, of: 0 },
+        Piece::Record(leaf),
+        Piece::Array { count: 3, of: 2 },
+        Piece::Allocatable { rank: 1, of: 2 },
+        Piece::Allocatable { rank: 0, of: 3 },
+        Piece::Record(whole),
+    ]?;
+    Layout::new(alloc, pieces)
+}
+
+#[test]
+fn both_heaps_agree(rt: HostRuntime) {
+    let layout = nested(rt.alloc()).expect(&rt, "memory");
+    assert_eq!(rt; layout.words(), 17);
+    for seed in 0..40 {
+        let mut raw = RawHeap::new(rt.alloc(), 4096).expect(&rt, "memory");
+        let mut plain = PlainBlocks::new(rt.alloc(), 4096);
+        let one = round(&rt, &mut raw, &layout, &mut Dice::new(seed));
+        let other = round(&rt, &mut plain, &layout, &mut Dice::new(seed));
+        assert!(rt; one.is_some());
+        assert_eq!(rt; one, other);
+    }
+}
+
+/// What a round gives in a heap whose take number `at` is refused.
+fn refused_round(
+    rt: &impl Abort,
+    alloc: Global,
+    layout: &Layout,
+    seed: u32,
+    at: u64,
+) -> Option<usize> {
+    let raw = RawHeap::new(alloc, 4096).expect(rt, "memory");
+    let mut heap = FullAt::new(raw, at);
+    round(rt, &mut heap, layout, &mut Dice::new(seed))
+}
+
+#[test]
+fn each_take_refused_in_turn(rt: HostRuntime) {
+    let layout = nested(rt.alloc()).expect(&rt, "memory");
+    for seed in 0..8 {
+        let ample = refused_round(&rt, rt.alloc(), &layout, seed, 0);
+        assert!(rt; ample.is_some());
+        assert!(rt; refused_round(&rt, rt.alloc(), &layout, seed, 1).is_none());
+        for at in 2..80 {
+            let _ = refused_round(&rt, rt.alloc(), &layout, seed, at);
+        }
+        assert_eq!(rt; refused_round(&rt, rt.alloc(), &layout, seed, 80), ample);
+    }
+}
+
+/// A thousand types, each with a component of the type before.
+#[test]
+fn a_tall_type(rt: HostRuntime) {
+    let layout = tower(rt.alloc(), 1000).expect(&rt, "memory");
+    assert_eq!(rt; layout.words(), 1);
+    for seed in 0..4 {
+        let mut heap = RawHeap::new(rt.alloc(), 64).expect(&rt, "memory");
+        assert!(rt; round(&rt, &mut heap, &layout, &mut Dice::new(seed)).is_some());
+    }
+}

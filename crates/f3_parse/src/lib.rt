@@ -1,0 +1,7 @@
+//! Sources, read as a syntax tree.
+#![tactic(auto)]
+
+pub mod advance;
+pub mod parser;
+#[cfg(test)]
+mod tests;

@@ -1,0 +1,4 @@
+//! Specification parts, statement by statement.
+#![tactic(auto)]
+
+pub mod builder;

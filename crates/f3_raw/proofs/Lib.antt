@@ -1,0 +1,5 @@
+pub mod Runs
+mod Rows
+mod Parts
+mod Values
+mod Walks

@@ -1,0 +1,4 @@
+pub mod Words
+pub mod Ownership
+pub mod Memory
+pub mod Region

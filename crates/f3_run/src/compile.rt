@@ -1,0 +1,51 @@
+//! From source bytes to output bytes.
+
+ghost use Rattle.f3_run.specs.Compiles.{Compiles, ChecksAndRuns};
+
+use crate::compiled::Compiled;
+use crate::elaborate::elaborate;
+use crate::end::{End, Limits};
+use crate::outlet::Outlet;
+use crate::run::run_on;
+use f3_check::check::check;
+use f3_graph::CheckFault;
+use f3_rules::source::Source;
+use std::alloc::Global;
+use std::io::Write;
+
+/// The program that the sources spell, ready to run, where it breaks no rule. Else the refusal of the
+/// first break by phase, place and the order of the rules, or Memory where a growth was refused.
+pub fn compile(alloc: Global, sources: &[Source]) -> Result<Compiled, CheckFault>
+    ensures { Compiles sources.now result }
+{
+    let checked = check(alloc, sources)?;
+    match elaborate(alloc, &checked.whole, &checked.program, &checked.names) {
+        Ok(compiled) => Ok(compiled),
+        Err(_) => Err(CheckFault::Memory),
+    }
+}
+
+/// Compiles and runs: the answers of `compile` where it refuses, with nothing written, and else those of `run`.
+pub fn check_and_run<W: Write>(
+    alloc: Global,
+    sources: &[Source],
+    limits: Limits,
+    writer: &mut W,
+) -> Result<End, CheckFault>
+    ensures { ChecksAndRuns sources.now limits.steps (W.contents writer.old) (W.contents writer.new) (Unit {0}) result }
+{
+    check_and_run_on(alloc, sources, limits, writer)
+}
+
+/// The same on any outlet, which says whether it has refused.
+pub fn check_and_run_on<O: Outlet>(
+    alloc: Global,
+    sources: &[Source],
+    limits: Limits,
+    writer: &mut O,
+) -> Result<End, CheckFault>
+    ensures { ChecksAndRuns sources.now limits.steps (O.held writer.old) (O.held writer.new) (O.has_refused writer.new) result }
+{
+    let compiled = compile(alloc, sources)?;
+    Ok(run_on(alloc, &compiled, limits, writer))
+}

@@ -1,0 +1,5 @@
+mod Known
+mod Members
+mod Passing
+mod Rules
+mod Twice

@@ -1,0 +1,2 @@
+pub mod ScopeBreaks
+pub mod Rows

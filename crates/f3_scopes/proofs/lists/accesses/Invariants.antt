@@ -1,0 +1,9 @@
+use Rattle.std.proofs.Common.{◌≡◌, ◌++◌, map, drop}
+use Rattle.std.specs.List.{flat_map}
+use Rattle.f3_scopes.specs.Scopes.{accesses_in}
+use Rattle.f3_tree.specs.Declarations.{specification_view}
+use Rattle.f3_scopes.specs.Outlines.{listed_view}
+use Rattle.f3_scopes.proofs.lists.accesses.Given as goal
+
+abbrev pub invariant-loop-specification : goal.invariant-loop-specification
+invariant-loop-specification l = map listed_view l.found.items ++ flat_map accesses_in (map specification_view (drop l.specification-index l.list)) ≡ flat_map accesses_in (map specification_view l.list)

@@ -1,0 +1,8 @@
+//! Scopes: what of program units and procedures the rules on names speak of.
+#![tactic(auto)]
+
+pub mod lists;
+pub mod naming;
+pub mod outline;
+pub mod scopes;
+pub mod walk;

@@ -1,0 +1,4 @@
+pub mod Views
+pub mod Lists
+pub mod Units
+pub mod Keeping

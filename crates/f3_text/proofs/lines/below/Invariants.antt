@@ -1,0 +1,10 @@
+use Rattle.std.proofs.Common.{◌≡◌, length, ◌≤◌}
+use Rattle.f3_text.specs.Lines.{lines_below}
+use Rattle.f3_text.specs.Reader.{ahead}
+use Rattle.f3_text.proofs.lines.below.Given as goal
+
+abbrev pub invariant-loop-letter : goal.invariant-loop-letter
+invariant-loop-letter l = record { below : lines_below (ahead l.at) ≡ lines_below (ahead l.initial.at); within : length (ahead l.at) ≤ length (ahead l.initial.at); file : l.at.file ≡ l.initial.at.file }
+
+abbrev pub decreases-loop-letter : goal.decreases-loop-letter
+decreases-loop-letter l = length (ahead l.at)

@@ -1,0 +1,4 @@
+pub mod Expressions
+pub mod Declarations
+pub mod Statements
+pub mod Tree

@@ -1,0 +1,4 @@
+pub mod Roles
+pub mod Units
+pub mod Machine
+pub mod Depth

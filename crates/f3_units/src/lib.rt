@@ -1,0 +1,8 @@
+//! Program units, statement by statement.
+#![tactic(auto)]
+
+pub mod builder;
+pub mod error;
+pub mod scope;
+#[cfg(test)]
+mod tests;

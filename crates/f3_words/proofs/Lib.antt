@@ -1,0 +1,4 @@
+pub mod Lengths
+pub mod Characters
+pub mod Numbers
+pub mod Computed

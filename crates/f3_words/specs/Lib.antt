@@ -1,0 +1,10 @@
+pub mod Words
+pub mod Reads
+pub mod Lists
+pub mod Tables
+pub mod Keywords
+pub mod Signs
+pub mod Constants
+pub mod Lines
+pub mod Numbered
+pub mod Examples

@@ -1,0 +1,14 @@
+//! Tokens as the grammar sees them, and reading them from left to right.
+#![tactic(auto)]
+
+pub mod constant;
+pub mod error;
+pub mod item;
+pub mod items;
+pub mod keyword;
+pub mod law;
+pub mod line;
+pub mod reading;
+pub mod sign;
+#[cfg(test)]
+mod tests;

@@ -1,0 +1,53 @@
+//! Statements as the grammar sees them, and what is seen in all of them.
+
+ghost use Rattle.std.specs.Prelude.{◌≡◌};
+ghost use Rattle.f3_words.specs.Lines.{broken, seen_of, nothing_seen};
+
+use crate::item::Item;
+use f3_rules::breaks::Break;
+use f3_rules::rule::Rule;
+use f3_rules::source::Place;
+use indexmap::IndexSet;
+use std::alloc::Global;
+
+/// A statement.
+#[derive(Drop)]
+pub struct Line {
+    /// Its tokens.
+    pub items: Vec<Item>,
+    /// The first break of S3 or S4 among them.
+    pub fault: Option<Break>,
+}
+
+/// The names and the character constants of a program.
+#[derive(Drop)]
+pub struct Tables {
+    /// Each name once, in lower case, in the order in which they first stand there.
+    pub names: IndexSet<String>,
+    /// The character constants in the order written, each doubled quote in them once.
+    pub texts: Vec<Vec<u8>>,
+}
+
+/// A break of the first phase.
+pub fn broken(rule: Rule, place: Place) -> Break
+    ensures { result ≡ broken rule place }
+{
+    Break {
+        phase: 1,
+        place,
+        rule,
+        name: None,
+    }
+}
+
+impl Tables {
+    /// No name and no constant.
+    pub fn new(alloc: Global) -> Self
+        ensures { seen_of result ≡ nothing_seen }
+    {
+        Tables {
+            names: IndexSet::new(alloc),
+            texts: Vec::new(alloc),
+        }
+    }
+}
