@@ -116,6 +116,7 @@ fn tables_of_a(alloc: Global, is_private: bool) -> Result<Tables, AllocError> {
         used: IndexSet::new(alloc),
         lookups,
         exports: Vec::new(alloc),
+        places: IndexMap::new(alloc),
         host: None,
     })?;
     let mut accesses = Vec::new(alloc);
