@@ -7,5 +7,3 @@ pub mod constructs;
 pub mod ends;
 pub mod form;
 pub mod statements;
-#[cfg(test)]
-mod tests;

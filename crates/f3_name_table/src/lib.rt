@@ -7,4 +7,6 @@ mod table;
 pub use table::name_table;
 
 #[cfg(test)]
+mod order_tests;
+#[cfg(test)]
 mod tests;

@@ -9,7 +9,7 @@ use std::process::Abort;
 use std::test::Fail;
 
 /// Sources of these texts, the first of them named a.f90 and the others b.f90.
-fn sources(alloc: Global, texts: &[&str]) -> Result<Vec<Source>, AllocError> {
+pub fn sources(alloc: Global, texts: &[&str]) -> Result<Vec<Source>, AllocError> {
     let mut sources = Vec::new(alloc);
     for text in texts {
         let name = if sources.is_empty() { "a.f90" } else { "b.f90" };

@@ -2,6 +2,8 @@
 #![tactic(auto)]
 
 pub mod advance;
+#[cfg(test)]
+mod form_tests;
 pub mod parser;
 #[cfg(test)]
 mod tests;

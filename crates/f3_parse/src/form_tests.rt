@@ -1,114 +1,15 @@
-//! Statements read from short texts, whose tokens stand between blanks.
+//! Forms of statements, which are read from their texts.
 
-use crate::form::{Ended, Form};
-use crate::statements::statement;
-use f3_rules::source::Place;
-use f3_tree::expression::Operator;
+use f3_forms::form::{Ended, Form};
+use f3_forms::statements::statement;
+use f3_rules::source::Source;
+use f3_text::reader::Statements;
 use f3_tree::statement::{Action, Control, Selector};
 use f3_words::error::ReadError;
-use f3_words::item::{Item, Keyword, Word};
+use f3_words::items::line;
+use f3_words::line::Tables;
 use std::alloc::{AllocError, Global};
 use std::test::Fail;
-
-/// The sign that a part of a test's text is; the names of a test are short and in lower case.
-fn sign(part: &str) -> Word {
-    match part {
-        "(" => Word::Open,
-        ")" => Word::Close,
-        "," => Word::Comma,
-        ":" => Word::Colon,
-        "::" => Word::Colons,
-        "=" => Word::Equals,
-        "=>" => Word::Arrow,
-        "%" => Word::Percent,
-        "*" => Word::Operator(Operator::Multiply),
-        "1" | "2" | "3" => Word::ShortInteger,
-        "123456" => Word::LongInteger,
-        _ => Word::Name(Keyword::Plain),
-    }
-}
-
-/// The keywords of specification parts and of units.
-fn specification_word(part: &str) -> Word {
-    match part {
-        "MODULE" => Word::Name(Keyword::Module),
-        "PROGRAM" => Word::Name(Keyword::Program),
-        "CONTAINS" => Word::Name(Keyword::Contains),
-        "SUBROUTINE" => Word::Name(Keyword::Subroutine),
-        "FUNCTION" => Word::Name(Keyword::Function),
-        "PURE" => Word::Name(Keyword::Pure),
-        "RECURSIVE" => Word::Name(Keyword::Recursive),
-        "RESULT" => Word::Name(Keyword::ResultWord),
-        "USE" => Word::Name(Keyword::Use),
-        "ONLY" => Word::Name(Keyword::Only),
-        "IMPLICIT" => Word::Name(Keyword::Implicit),
-        "NONE" => Word::Name(Keyword::NoneWord),
-        "PUBLIC" => Word::Name(Keyword::Public),
-        "PRIVATE" => Word::Name(Keyword::Private),
-        "PROTECTED" => Word::Name(Keyword::Protected),
-        "SAVE" => Word::Name(Keyword::Save),
-        "INTEGER" => Word::Name(Keyword::Integer),
-        "LOGICAL" => Word::Name(Keyword::Logical),
-        "TYPE" => Word::Name(Keyword::Type),
-        "ALLOCATABLE" => Word::Name(Keyword::Allocatable),
-        "INTENT" => Word::Name(Keyword::Intent),
-        "IN" => Word::Name(Keyword::In),
-        "OUT" => Word::Name(Keyword::Out),
-        "INOUT" => Word::Name(Keyword::InOut),
-        "FINAL" => Word::Name(Keyword::Final),
-        _ => sign(part),
-    }
-}
-
-/// The word of a part of a test's text.
-fn word(part: &str) -> Word {
-    match part {
-        "END" => Word::Name(Keyword::End),
-        "ENDMODULE" => Word::Name(Keyword::EndModule),
-        "ENDDO" => Word::Name(Keyword::EndDo),
-        "CALL" => Word::Name(Keyword::Call),
-        "ALLOCATE" => Word::Name(Keyword::Allocate),
-        "DEALLOCATE" => Word::Name(Keyword::Deallocate),
-        "STAT" => Word::Name(Keyword::Stat),
-        "PRINT" => Word::Name(Keyword::Print),
-        "STOP" => Word::Name(Keyword::Stop),
-        "RETURN" => Word::Name(Keyword::Return),
-        "CYCLE" => Word::Name(Keyword::Cycle),
-        "EXIT" => Word::Name(Keyword::Exit),
-        "CONTINUE" => Word::Name(Keyword::Continue),
-        "IF" => Word::Name(Keyword::If),
-        "THEN" => Word::Name(Keyword::Then),
-        "ELSE" => Word::Name(Keyword::Else),
-        "ELSEIF" => Word::Name(Keyword::ElseIf),
-        "SELECT" => Word::Name(Keyword::Select),
-        "CASE" => Word::Name(Keyword::Case),
-        "SELECTCASE" => Word::Name(Keyword::SelectCase),
-        "DEFAULT" => Word::Name(Keyword::Default),
-        "DO" => Word::Name(Keyword::Do),
-        "WHILE" => Word::Name(Keyword::While),
-        _ => specification_word(part),
-    }
-}
-
-/// The tokens of a test's text: each at the column that counts it, with that count as its symbol and its value.
-fn items(alloc: Global, text: &str) -> Result<Vec<Item>, AllocError> {
-    let mut items = Vec::new(alloc);
-    let mut count = 0u16;
-    for part in text.split(' ') {
-        count = count.saturating_add(1);
-        items.push(Item {
-            word: word(part),
-            symbol: count as usize,
-            value: count as i32,
-            place: Place {
-                file: 1,
-                line: 1,
-                column: count as u32,
-            },
-        })?;
-    }
-    Ok(items)
-}
 
 /// What an action is called in these tests.
 fn action_kind(action: &Action) -> &'static str {
@@ -161,10 +62,20 @@ fn kind(form: &Form) -> &'static str {
     }
 }
 
-/// What the statement of a text is called; "none" where it has no form.
+/// What the statement of a text is called; "none" where it has no form, "nothing" where the text has no statement.
 fn read(alloc: Global, text: &str) -> Result<&'static str, AllocError> {
-    let items = items(alloc, text)?;
-    match statement(alloc, &items) {
+    let mut sources = Vec::new(alloc);
+    sources.push(Source {
+        name: String::from_str(alloc, "a.f90")?,
+        bytes: Vec::from_slice(alloc, text.as_bytes())?,
+    })?;
+    let mut reader = Statements::new(&sources);
+    let Ok(Some(raw)) = reader.next(alloc) else {
+        return Ok("nothing");
+    };
+    let mut tables = Tables::new(alloc);
+    let line = line(alloc, &mut tables, &raw)?;
+    match statement(alloc, &line.items) {
         Ok(form) => Ok(kind(&form)),
         Err(ReadError::NoForm) => Ok("none"),
         Err(ReadError::Memory) => Err(AllocError),
