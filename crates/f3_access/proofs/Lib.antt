@@ -7,5 +7,4 @@ pub mod Standing
 pub mod Visibles
 pub mod Meanings
 pub mod Answering
-pub mod LoneModules
 pub mod Laws

@@ -11,6 +11,3 @@ pub mod table;
 
 pub use filling::tables;
 pub use reading::{exports, is_private, lookup, module, own, used, visible, visible_is_declared};
-
-#[cfg(test)]
-mod tests;

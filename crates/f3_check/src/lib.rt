@@ -3,6 +3,4 @@
 
 pub mod check;
 pub mod rows;
-#[cfg(test)]
-mod tests;
 mod times;

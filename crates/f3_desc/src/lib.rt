@@ -4,11 +4,7 @@
 pub mod descriptor;
 pub mod laws;
 mod layout;
-#[cfg(test)]
-mod layout_tests;
 mod piece;
-#[cfg(test)]
-mod tests;
 mod widths;
 
 pub use layout::Layout;

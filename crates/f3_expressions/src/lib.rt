@@ -7,5 +7,3 @@ pub mod expressions;
 pub mod levels;
 pub mod marks;
 pub mod primaries;
-#[cfg(test)]
-mod tests;

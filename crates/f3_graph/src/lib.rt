@@ -5,8 +5,6 @@ mod breaks;
 mod levels;
 mod links;
 mod search;
-#[cfg(test)]
-mod tests;
 mod unit;
 mod walk;
 

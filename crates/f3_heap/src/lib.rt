@@ -8,8 +8,6 @@ mod heap_blocks;
 mod plain;
 mod raw;
 mod segments;
-#[cfg(test)]
-mod tests;
 
 pub use block_id::BlockId;
 pub use blocks::{Blocks, Pinned, TakeFault};

@@ -1,7 +1,11 @@
 //! Long lists of calls on heaps: against a filter of all words, and on two heaps side by side.
 #![tactic(auto)]
 
+#[cfg(test)]
+mod heap;
 mod notes;
+#[cfg(test)]
+mod raw;
 #[cfg(test)]
 mod tests;
 mod turns;

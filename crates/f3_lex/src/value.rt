@@ -36,25 +36,3 @@ pub fn lower_case(alloc: Global, name: &[u8]) -> Result<String, AllocError>
         Err(_) => Ok(String::new(alloc)),
     }
 }
-
-#[cfg(test)]
-mod tests {
-    use super::*;
-    use std::test::Fail;
-
-    #[test]
-    fn values(rt: HostRuntime) -> Result<(), Fail> {
-        assert_eq!(rt; integer(b"007"), Some(7));
-        assert_eq!(rt; integer(b"2147483647"), Some(2147483647));
-        assert_eq!(rt; integer(b"2147483648"), None);
-        assert_eq!(rt; integer(b"99999999999999999999999999"), None);
-        Ok(())
-    }
-
-    #[test]
-    fn names(rt: HostRuntime) -> Result<(), Fail> {
-        let name = lower_case(rt.alloc(), b"Move_Alloc2")?;
-        assert_eq!(rt; name.as_str(), "move_alloc2");
-        Ok(())
-    }
-}

@@ -24,9 +24,6 @@ use mentions::first_in_mentions;
 use std::alloc::{AllocError, Global};
 use uses::first_in_uses;
 
-#[cfg(test)]
-mod tests;
-
 /// Whether a name in lower case is that of an intrinsic procedure (13.7).
 #[tactic(auto, unfolding(crate::specs::Intrinsics::is_intrinsic))]
 pub fn is_intrinsic(name: &str) -> bool

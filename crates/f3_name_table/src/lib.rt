@@ -5,8 +5,3 @@ mod lines;
 mod table;
 
 pub use table::name_table;
-
-#[cfg(test)]
-mod order_tests;
-#[cfg(test)]
-mod tests;

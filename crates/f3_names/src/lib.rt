@@ -11,6 +11,3 @@ mod texts;
 
 pub use naming::names;
 pub use reading::{lookup, resolve, visible_is_entity};
-
-#[cfg(test)]
-mod tests;

@@ -5,8 +5,6 @@ mod copy;
 mod free;
 mod holder;
 mod shift;
-#[cfg(test)]
-mod tests;
 mod words;
 mod zeros;
 

@@ -1,9 +1,15 @@
 //! Random objects, copied, moved and given back in both heaps.
 #![tactic(auto)]
 
+#[cfg(test)]
+mod copies;
+#[cfg(test)]
+mod descriptors;
 mod dice;
 mod growth;
 mod holders;
+#[cfg(test)]
+mod layouts;
 mod object;
 #[cfg(test)]
 mod rounds;

@@ -2,8 +2,4 @@
 #![tactic(auto)]
 
 pub mod advance;
-#[cfg(test)]
-mod form_tests;
 pub mod parser;
-#[cfg(test)]
-mod tests;

@@ -3,7 +3,5 @@
 
 mod memory;
 mod region;
-#[cfg(test)]
-mod tests;
 
 pub use region::Region;

@@ -10,5 +10,3 @@ pub mod execute;
 pub mod laws;
 pub mod outlet;
 pub mod run;
-#[cfg(test)]
-mod tests;

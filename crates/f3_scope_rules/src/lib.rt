@@ -12,8 +12,6 @@ mod at;
 mod intent;
 mod names;
 mod protected;
-#[cfg(test)]
-mod tests;
 mod undeclared;
 
 use crate::access::{first_access_outside, first_access_twice};

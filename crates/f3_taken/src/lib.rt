@@ -6,5 +6,3 @@ pub mod laws;
 pub mod program;
 pub mod statement;
 pub mod take;
-#[cfg(test)]
-mod tests;

@@ -4,5 +4,3 @@
 pub mod builder;
 pub mod error;
 pub mod scope;
-#[cfg(test)]
-mod tests;

@@ -10,5 +10,3 @@ pub mod law;
 pub mod line;
 pub mod reading;
 pub mod sign;
-#[cfg(test)]
-mod tests;

@@ -1,0 +1,12 @@
+use Rattle.std.proofs.Common.{◌≡◌, List, [], ◌∷◌, ◌++◌, map, ap, sym, subst, ◌∙◌}
+use Rattle.f3_scopes.specs.declared.outline.Outline.{Outline}
+use Rattle.f3_scopes.specs.Outlines.{scope_view}
+use Rattle.f3_access.specs.Access.{IsUnitOrder}
+use Rattle.f3_name_tests.proofs.LoneModules.{lone_order}
+use Rattle.f3_name_tests.proofs.access.a_module_has_tables.Goals as goal
+
+pub tables-requires-clause-order : goal.tables-requires-clause-order
+tables-requires-clause-order g c =
+    let o = c.in_ok-module_of_two.field-0 in
+    let one : c.deref.result.now ≡ o ∷ [] = c.deref.ensures.value ∙ c.in_ok-push.ensures.items ∙ ap (λ (l : List Outline). l ++ o ∷ []) c.new-outlines.ensures.items in
+    subst (λ (l : List Outline). IsUnitOrder (map scope_view l) (0 ∷ [])) (sym one) (lone_order o c.in_ok-module_of_two.ensures.kind c.in_ok-module_of_two.ensures.uses)

@@ -1,0 +1,99 @@
+//! Tables of one module.
+
+ghost use Rattle.std.specs.Prelude.{◌≡◌, [], IfOk};
+ghost use Rattle.f3_scopes.specs.declared.outline.ScopeKind.TheVariants.{Module};
+
+use f3_access::table::{Lookup, Visible};
+use f3_access::{exports, is_private, lookup, module, own, tables, used, visible};
+use f3_rules::source::Place;
+use f3_scopes::outline::{Declared, EntityKind, Outline, ScopeKind};
+use f3_tree::declaration::Accessibility;
+use f3_tree::expression::Name;
+use std::alloc::{AllocError, Global};
+use std::test::Fail;
+
+// A name of one letter.
+fn name(letter: u8) -> Name {
+    Name {
+        symbol: letter as usize,
+        place: Place {
+            file: 1,
+            line: 1,
+            column: 1,
+        },
+    }
+}
+
+fn declared_of(
+    alloc: Global,
+    letter: u8,
+    accessibility: Option<Accessibility>,
+) -> Result<Declared, AllocError> {
+    let mut accesses = Vec::new(alloc);
+    if let Some(given) = accessibility {
+        accesses.push(given)?;
+    }
+    Ok(Declared {
+        name: name(letter),
+        kind: EntityKind::Variable,
+        accesses,
+        is_protected: false,
+        intents: Vec::new(alloc),
+    })
+}
+
+// A module a of two names: n, and o, which is private.
+fn module_of_two(alloc: Global) -> Result<Outline, AllocError>
+    ensures kind { IfOk result (λ o. o.kind ≡ Module) }
+    ensures uses { IfOk result (λ o. o.uses.items ≡ []) }
+{
+    let mut declared = Vec::new(alloc);
+    declared.push(declared_of(alloc, b'n', None)?)?;
+    declared.push(declared_of(alloc, b'o', Some(Accessibility::Private))?)?;
+    Ok(Outline {
+        kind: ScopeKind::Module,
+        name: name(b'a'),
+        host: None,
+        uses: Vec::new(alloc),
+        declared,
+        dummies: Vec::new(alloc),
+        outcome: None,
+        result: None,
+        is_typed: false,
+        accesses: Vec::new(alloc),
+        given: Vec::new(alloc),
+        access_attributes: Vec::new(alloc),
+        protects: Vec::new(alloc),
+        types: Vec::new(alloc),
+        references: Vec::new(alloc),
+    })
+}
+
+#[test]
+fn a_module_has_tables(rt: HostRuntime) -> Result<(), Fail> {
+    let alloc = rt.alloc();
+    let mut outlines = Vec::new(alloc);
+    outlines.push(module_of_two(alloc)?)?;
+    let made = tables(alloc, &outlines, &[0])?;
+    let first = Visible {
+        symbol: b'n' as usize,
+        entity: 0,
+    };
+    let second = Visible {
+        symbol: b'o' as usize,
+        entity: 1,
+    };
+    assert_eq!(rt; own(&made, 0), [first, second].as_slice());
+    assert_eq!(rt; exports(&made, 0), [first].as_slice());
+    assert_eq!(rt;
+        visible(alloc, &made, 0)?.as_slice(),
+        [first, second].as_slice()
+    );
+    assert_eq!(rt; lookup(&made, 0, b'o' as usize), Lookup::One(1));
+    assert_eq!(rt; used(&made, 0, b'n' as usize), false);
+    assert_eq!(rt; module(&made, b'a' as usize), Some(0));
+    assert_eq!(rt; module(&made, b'n' as usize), None);
+    assert_eq!(rt; is_private(&made, 0, b'n' as usize), false);
+    assert_eq!(rt; is_private(&made, 0, b'o' as usize), true);
+    Ok(())
+}
