@@ -1,3 +1,4 @@
+pub mod Answers
 pub mod Plain
 pub use Rattle.f3_heap_laws.specs.Account
 pub use Rattle.f3_heap_laws.specs.Blocks

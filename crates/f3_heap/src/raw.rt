@@ -9,6 +9,12 @@ ghost use Rattle.f3_heap_laws.specs.Blocks.{with_taken, with_words, words_of, wr
 ghost use Rattle.std.proofs.Common.{refl};
 ghost use Rattle.f3_heap_laws.specs.Gaps.{gaps, places, is_wide, first_wide};
 
+ghost use Rattle.f3_heap_laws.specs.Answers.{sizes};
+ghost use Rattle.f3_heap.specs.Answers.{answer_of};
+ghost use Rattle.f3_heap_laws.specs.Rules.{raw_allows};
+ghost use Rattle.f3_heap_laws.proofs.Refusals.{raw_refuses};
+ghost use Rattle.std.specs.Prelude.{ℕ};
+
 use crate::block_id::BlockId;
 use crate::blocks::{Blocks, Pinned, TakeFault};
 use crate::heap_blocks::{give_block, take_block};
@@ -71,7 +77,13 @@ impl RawHeap {
 impl Blocks for RawHeap {
     ghost blocks = { λ h. h.blocks };
 
-    ghost size = { λ h. h.size };
+    ghost Rest = { ℕ };
+
+    ghost kept = { λ h. h.size };
+
+    ghost allows = { raw_allows };
+
+    ghost spent = { λ n. n };
 
     ghost has_room = { λ h w. list_any (is_wide w) (gaps (places h.blocks) h.size) };
 
@@ -82,7 +94,8 @@ impl Blocks for RawHeap {
         ensures fresh { IfOk result (λ b. get self.old.blocks b ≡ None) }
         ensures taken { IfOk result (λ b. self.new.blocks ≡ with_taken self.old.blocks b words) }
         ensures refused { OnErr result (self.new ≡ self.old) }
-        ensures size { self.new.size ≡ self.old.size }
+        ensures kept { self.new.size ≡ self.old.size }
+        ensures allowed { raw_allows self.old.size (sizes self.old.blocks) words (answer_of result) }
         ensures first { IfOk result (λ b. first_wide words (gaps (places self.old.blocks) self.old.size) ≡ Some (b - 1)) }
         ensures without_memory { result ≢ Err TakeFault.Memory }
     {
@@ -161,7 +174,9 @@ impl Blocks for RawHeap {
             || first_fit(&self.region, self.first, self.size, self.end, size) != self.size
     }
 
-    ghost pair_keeps_size = { λ h b ws. refl };
+    ghost refuses = { λ h w. raw_refuses h.size h.blocks w };
+
+    ghost pair_keeps = { λ h b ws. refl };
 
     ghost pair_writes = { λ h b ws. refl };
 }
