@@ -1,3 +1,5 @@
+pub mod Answers
+pub mod Arena
 pub mod Plain
 pub use Rattle.f3_heap_laws.specs.Account
 pub use Rattle.f3_heap_laws.specs.Blocks

@@ -5,6 +5,8 @@ ghost use Rattle.std.specs.FinMap.{get, remove};
 ghost use Rattle.std.specs.Borrow.{sem, Lends, Array, i64 as word_type};
 ghost use Rattle.f3_heap_laws.specs.Blocks.{Live, IsLive, words_of, pins_of, with_taken, with_words, with_pins, written_over};
 ghost use Rattle.f3_heap_laws.specs.Account.{used_by};
+ghost use Rattle.f3_heap_laws.specs.Answers.{Answer, Full, Sizes, sizes};
+ghost use Rattle.f3_heap.specs.Answers.{answer_of};
 
 use crate::block_id::BlockId;
 
@@ -27,7 +29,13 @@ pub struct Pinned;
 pub trait Blocks {
     ghost blocks: { Self → Live };
 
-    ghost size: { Self → ℕ };
+    ghost Rest: { Type 0 };
+
+    ghost kept: { Self → Rest };
+
+    ghost allows: { Rest → Sizes → ℕ → Answer → Type 0 };
+
+    ghost spent: { Rest → Rest };
 
     ghost has_room: { Self → ℕ → Bool };
 
@@ -44,7 +52,8 @@ pub trait Blocks {
         ensures fresh { IfOk result (λ b. get (blocks self.old) b ≡ None) }
         ensures taken { IfOk result (λ b. blocks self.new ≡ with_taken (blocks self.old) b words) }
         ensures refused { OnErr result (blocks self.new ≡ blocks self.old) }
-        ensures size { size self.new ≡ size self.old };
+        ensures allowed { allows (kept self.old) (sizes (blocks self.old)) words (answer_of result) }
+        ensures kept { kept self.new ≡ spent (kept self.old) };
 
     /// Gives a block back.
     ///
@@ -56,7 +65,7 @@ pub trait Blocks {
         ensures unpinned { IsOk result ↔ (pins_of (blocks self.old) block ≡ 0) }
         ensures given { OnOk result (blocks self.new ≡ remove (blocks self.old) block) }
         ensures refused { OnErr result (blocks self.new ≡ blocks self.old) }
-        ensures size { size self.new ≡ size self.old };
+        ensures kept { kept self.new ≡ kept self.old };
 
     /// The number of words of a block.
     fn length(&self, block: BlockId) -> usize
@@ -74,7 +83,7 @@ pub trait Blocks {
         requires live { IsLive (blocks self.old) block }
         requires within { at < length (words_of (blocks self.old) block) }
         ensures written { blocks self.new ≡ with_words (blocks self.old) block (slice_set (words_of (blocks self.old) block) at value) }
-        ensures size { size self.new ≡ size self.old };
+        ensures kept { kept self.new ≡ kept self.old };
 
     /// The words of one block to read, and those of another to write.
     fn pair(&mut self, from: BlockId, to: BlockId) -> (&[i64], &mut [i64])
@@ -90,14 +99,14 @@ pub trait Blocks {
         requires live { IsLive (blocks self.old) block }
         requires below { pins_of (blocks self.old) block < u64.MAX }
         ensures counted { blocks self.new ≡ with_pins (blocks self.old) block (pins_of (blocks self.old) block + 1) }
-        ensures size { size self.new ≡ size self.old };
+        ensures kept { kept self.new ≡ kept self.old };
 
     /// Takes one pin of a block away.
     fn unpin(&mut self, block: BlockId)
         requires live { IsLive (blocks self.old) block }
         requires pinned { 0 < pins_of (blocks self.old) block }
         ensures counted { blocks self.new ≡ with_pins (blocks self.old) block (pins_of (blocks self.old) block - 1) }
-        ensures size { size self.new ≡ size self.old };
+        ensures kept { kept self.new ≡ kept self.old };
 
     /// How often a block is pinned.
     fn pins(&self, block: BlockId) -> u64
@@ -112,7 +121,9 @@ pub trait Blocks {
     fn room(&self, words: usize) -> bool
         ensures { result ≡ has_room self.now words };
 
-    ghost pair_keeps_size: { (s : Self) (b : ℕ) (ws : List ℤ) → size (after_pair s b ws) ≡ size s };
+    ghost refuses: { (s : Self) (w : ℕ) → allows (kept s) (sizes (blocks s)) w Full ↔ (has_room s w ≡ false) };
+
+    ghost pair_keeps: { (s : Self) (b : ℕ) (ws : List ℤ) → kept (after_pair s b ws) ≡ kept s };
 
     ghost pair_writes: { (s : Self) (b : ℕ) (ws : List ℤ) → blocks (after_pair s b ws) ≡ with_words (blocks s) b (written_over (words_of (blocks s) b) ws) };
 }

@@ -4,6 +4,13 @@ ghost use Rattle.std.specs.Prelude.{◌≡◌, ◌↔◌, ◌<◌, ◌+◌, ◌-
 ghost use Rattle.std.specs.FinMap.{get, remove};
 ghost use Rattle.f3_heap_laws.specs.Blocks.{IsLive, words_of, pins_of, with_taken, with_words, with_pins};
 
+ghost use Rattle.f3_heap_laws.specs.Answers.{sizes};
+ghost use Rattle.f3_heap.specs.Answers.{answer_of};
+ghost use Rattle.f3_heap_laws.specs.Rules.{FullAtAllows, full_at_spent};
+ghost use Rattle.f3_heap_laws.proofs.Refusals.{full_at_refuses};
+ghost use Rattle.std.specs.Prelude.{ℕ};
+ghost use Rattle.std.proofs.Common.{ap};
+
 use crate::block_id::BlockId;
 use crate::blocks::{Blocks, Pinned, TakeFault};
 
@@ -27,7 +34,13 @@ impl<B: Blocks> FullAt<B> {
 impl<B: Blocks> Blocks for FullAt<B> {
     ghost blocks = { λ s. B.blocks s.blocks };
 
-    ghost size = { λ s. B.size s.blocks };
+    ghost Rest = { ℕ × B.Rest };
+
+    ghost kept = { λ s. (s.at, B.kept s.blocks) };
+
+    ghost allows = { FullAtAllows B.allows };
+
+    ghost spent = { full_at_spent B.spent };
 
     ghost has_room = { λ s w. cond (nat_eq s.at 1) false (B.has_room s.blocks w) };
 
@@ -38,8 +51,8 @@ impl<B: Blocks> Blocks for FullAt<B> {
         ensures fresh { IfOk result (λ b. get (B.blocks self.old.blocks) b ≡ None) }
         ensures taken { IfOk result (λ b. B.blocks self.new.blocks ≡ with_taken (B.blocks self.old.blocks) b words) }
         ensures refused { OnErr result (B.blocks self.new.blocks ≡ B.blocks self.old.blocks) }
-        ensures size { B.size self.new.blocks ≡ B.size self.old.blocks }
-        ensures count { self.new.at ≡ self.old.at - 1 }
+        ensures allowed { FullAtAllows B.allows (self.old.at, B.kept self.old.blocks) (sizes (B.blocks self.old.blocks)) words (answer_of result) }
+        ensures kept { ◌≡◌ {A = ℕ × B.Rest} (self.new.at, B.kept self.new.blocks) (full_at_spent B.spent (self.old.at, B.kept self.old.blocks)) }
         ensures alone { self.old.at ≡ 1 → self.new.blocks ≡ self.old.blocks }
     {
         if self.at == 1 {
@@ -55,8 +68,7 @@ impl<B: Blocks> Blocks for FullAt<B> {
         ensures unpinned { IsOk result ↔ (pins_of (B.blocks self.old.blocks) block ≡ 0) }
         ensures given { OnOk result (B.blocks self.new.blocks ≡ remove (B.blocks self.old.blocks) block) }
         ensures refused { OnErr result (B.blocks self.new.blocks ≡ B.blocks self.old.blocks) }
-        ensures size { B.size self.new.blocks ≡ B.size self.old.blocks }
-        ensures count { self.new.at ≡ self.old.at }
+        ensures kept { ◌≡◌ {A = ℕ × B.Rest} (self.new.at, B.kept self.new.blocks) (self.old.at, B.kept self.old.blocks) }
     {
         self.blocks.give(block)
     }
@@ -73,8 +85,7 @@ impl<B: Blocks> Blocks for FullAt<B> {
         requires live { IsLive (B.blocks self.old.blocks) block }
         requires within { at < length (words_of (B.blocks self.old.blocks) block) }
         ensures written { B.blocks self.new.blocks ≡ with_words (B.blocks self.old.blocks) block (slice_set (words_of (B.blocks self.old.blocks) block) at value) }
-        ensures size { B.size self.new.blocks ≡ B.size self.old.blocks }
-        ensures count { self.new.at ≡ self.old.at }
+        ensures kept { ◌≡◌ {A = ℕ × B.Rest} (self.new.at, B.kept self.new.blocks) (self.old.at, B.kept self.old.blocks) }
     {
         self.blocks.write(block, at, value);
     }
@@ -87,8 +98,7 @@ impl<B: Blocks> Blocks for FullAt<B> {
         requires live { IsLive (B.blocks self.old.blocks) block }
         requires below { pins_of (B.blocks self.old.blocks) block < u64.MAX }
         ensures counted { B.blocks self.new.blocks ≡ with_pins (B.blocks self.old.blocks) block (pins_of (B.blocks self.old.blocks) block + 1) }
-        ensures size { B.size self.new.blocks ≡ B.size self.old.blocks }
-        ensures count { self.new.at ≡ self.old.at }
+        ensures kept { ◌≡◌ {A = ℕ × B.Rest} (self.new.at, B.kept self.new.blocks) (self.old.at, B.kept self.old.blocks) }
     {
         self.blocks.pin(block);
     }
@@ -97,8 +107,7 @@ impl<B: Blocks> Blocks for FullAt<B> {
         requires live { IsLive (B.blocks self.old.blocks) block }
         requires pinned { 0 < pins_of (B.blocks self.old.blocks) block }
         ensures counted { B.blocks self.new.blocks ≡ with_pins (B.blocks self.old.blocks) block (pins_of (B.blocks self.old.blocks) block - 1) }
-        ensures size { B.size self.new.blocks ≡ B.size self.old.blocks }
-        ensures count { self.new.at ≡ self.old.at }
+        ensures kept { ◌≡◌ {A = ℕ × B.Rest} (self.new.at, B.kept self.new.blocks) (self.old.at, B.kept self.old.blocks) }
     {
         self.blocks.unpin(block);
     }
@@ -115,7 +124,9 @@ impl<B: Blocks> Blocks for FullAt<B> {
         self.at != 1 && self.blocks.room(words)
     }
 
-    ghost pair_keeps_size = { λ s b ws. B.pair_keeps_size s.blocks b ws };
+    ghost refuses = { λ s w. full_at_refuses B.allows s.at (B.kept s.blocks) (sizes (B.blocks s.blocks)) w (B.has_room s.blocks w) (B.refuses s.blocks w) };
+
+    ghost pair_keeps = { λ s b ws. ap (λ (x : B.Rest). (s.at, x)) (B.pair_keeps s.blocks b ws) };
 
     ghost pair_writes = { λ s b ws. B.pair_writes s.blocks b ws };
 }

@@ -7,6 +7,9 @@ ghost use Rattle.f3_heap_laws.specs.Account.{r, used_by};
 ghost use Rattle.std.specs.FinMap.{empty};
 ghost use Rattle.f3_heap.specs.Plain.{live_slots, IsPut};
 
+ghost use Rattle.f3_heap_laws.specs.Rules.{plain_allows};
+ghost use Rattle.f3_heap_laws.proofs.Refusals.{plain_refuses};
+
 use crate::block_id::BlockId;
 use crate::blocks::{Blocks, Pinned, TakeFault};
 use f3_heap_laws::{fits, size_of_block};
@@ -133,7 +136,13 @@ fn slot_of(slots: &[Slot], block: BlockId) -> &Slot
 impl Blocks for PlainBlocks {
     ghost blocks = { λ h. h.blocks };
 
-    ghost size = { λ h. h.size };
+    ghost Rest = { ℕ };
+
+    ghost kept = { λ h. h.size };
+
+    ghost allows = { plain_allows };
+
+    ghost spent = { λ n. n };
 
     ghost has_room = { λ h w. nat_le (used_by h.blocks + r w) h.size };
 
@@ -217,7 +226,9 @@ impl Blocks for PlainBlocks {
         fits(words, self.size - self.used)
     }
 
-    ghost pair_keeps_size = { λ h b ws. refl };
+    ghost refuses = { λ h w. plain_refuses h.size h.blocks w };
+
+    ghost pair_keeps = { λ h b ws. refl };
 
     ghost pair_writes = { λ h b ws. refl };
 }

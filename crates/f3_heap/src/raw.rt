@@ -8,10 +8,17 @@ ghost use Rattle.std.specs.FinMap.{get, empty};
 ghost use Rattle.f3_heap_laws.specs.Blocks.{with_taken, with_words, words_of, written_over};
 ghost use Rattle.std.proofs.Common.{refl};
 ghost use Rattle.f3_heap_laws.specs.Gaps.{gaps, places, is_wide, first_wide};
+ghost use Rattle.f3_heap_laws.specs.Answers.{sizes};
+ghost use Rattle.f3_heap.specs.Answers.{answer_of};
+ghost use Rattle.f3_heap_laws.specs.Rules.{raw_allows};
+ghost use Rattle.f3_heap_laws.proofs.Refusals.{raw_refuses};
+ghost use Rattle.std.specs.Prelude.{ℕ};
 
+use crate::arena::Arena;
 use crate::block_id::BlockId;
 use crate::blocks::{Blocks, Pinned, TakeFault};
 use crate::heap_blocks::{give_block, take_block};
+use crate::hints::{CLASSES, class_of};
 use crate::segments::{first_fit, link, pin_count, put_pin_count};
 use f3_heap_laws::{fits, size_of_block};
 use f3_raw::Region;
@@ -25,11 +32,7 @@ use std::marker::Model;
 /// The words behind the last block are the last run of the free ones.
 #[derive(Drop)]
 pub struct RawHeap {
-    region: Region,
-    size: usize,
-    first: usize,
-    end: usize,
-    used: usize,
+    arena: Arena,
 }
 
 impl Model for RawHeap {
@@ -39,12 +42,11 @@ impl Model for RawHeap {
 
     ghost coded = { heap_code };
 
-    ghost use Rattle.f3_raw.specs.Region.{region_words, region_size};
-    ghost use Rattle.f3_heap_laws.specs.Segments.{live_segments, segments, IsHeap};
+    ghost use Rattle.f3_heap.specs.Arena.{IsArena, live_in};
 
-    ghost view = { λ s. record { blocks = live_segments (segments (region_words s.region) s.end); size = s.size } };
+    ghost view = { λ s. record { blocks = live_in s.arena; size = s.arena.size } };
 
-    ghost invariant = { λ s. IsHeap (region_words s.region) (region_size s.region) s.size s.first s.end s.used };
+    ghost invariant = { λ s. IsArena s.arena };
 }
 
 impl RawHeap {
@@ -59,11 +61,14 @@ impl RawHeap {
         let region = Region::new(alloc, words)?;
         let size = words / 4 * 4;
         Ok(RawHeap {
-            region,
-            size,
-            first: size,
-            end: 0,
-            used: 0,
+            arena: Arena {
+                region,
+                size,
+                first: size,
+                hints: [size; CLASSES],
+                end: 0,
+                used: 0,
+            },
         })
     }
 }
@@ -71,7 +76,13 @@ impl RawHeap {
 impl Blocks for RawHeap {
     ghost blocks = { λ h. h.blocks };
 
-    ghost size = { λ h. h.size };
+    ghost Rest = { ℕ };
+
+    ghost kept = { λ h. h.size };
+
+    ghost allows = { raw_allows };
+
+    ghost spent = { λ n. n };
 
     ghost has_room = { λ h w. list_any (is_wide w) (gaps (places h.blocks) h.size) };
 
@@ -82,19 +93,12 @@ impl Blocks for RawHeap {
         ensures fresh { IfOk result (λ b. get self.old.blocks b ≡ None) }
         ensures taken { IfOk result (λ b. self.new.blocks ≡ with_taken self.old.blocks b words) }
         ensures refused { OnErr result (self.new ≡ self.old) }
-        ensures size { self.new.size ≡ self.old.size }
+        ensures kept { self.new.size ≡ self.old.size }
+        ensures allowed { raw_allows self.old.size (sizes self.old.blocks) words (answer_of result) }
         ensures first { IfOk result (λ b. first_wide words (gaps (places self.old.blocks) self.old.size) ≡ Some (b - 1)) }
         ensures without_memory { result ≢ Err TakeFault.Memory }
     {
-        let at = take_block(
-            &mut self.region,
-            &mut self.first,
-            &mut self.end,
-            &mut self.used,
-            self.size,
-            words,
-        );
-        match at {
+        match take_block(&mut self.arena, words) {
             Some(at) => Ok(BlockId::at(at)),
             None => Err(TakeFault::Full),
         }
@@ -102,66 +106,65 @@ impl Blocks for RawHeap {
 
     fn give(&mut self, block: BlockId) -> Result<(), Pinned> {
         let at = block.place();
-        if pin_count(&self.region, at + 1) != 0 {
+        if pin_count(&self.arena.region, at + 1) != 0 {
             return Err(Pinned);
         }
-        give_block(
-            &mut self.region,
-            &mut self.first,
-            &mut self.end,
-            &mut self.used,
-            self.size,
-            at,
-        );
+        give_block(&mut self.arena, at);
         Ok(())
     }
 
     fn length(&self, block: BlockId) -> usize {
-        link(&self.region, block.place())
+        link(&self.arena.region, block.place())
     }
 
     fn read(&self, block: BlockId, at: usize) -> i64 {
-        self.region.get(block.place() + 2 + at)
+        self.arena.region.get(block.place() + 2 + at)
     }
 
     fn write(&mut self, block: BlockId, at: usize, value: i64) {
-        self.region.put(block.place() + 2 + at, value);
+        self.arena.region.put(block.place() + 2 + at, value);
     }
 
     fn pair(&mut self, from: BlockId, to: BlockId) -> (&[i64], &mut [i64]) {
         let n = self.length(from);
         let m = self.length(to);
-        self.region.pair(from.place() + 2, n, to.place() + 2, m)
+        self.arena
+            .region
+            .pair(from.place() + 2, n, to.place() + 2, m)
     }
 
     fn pin(&mut self, block: BlockId) {
-        let count = pin_count(&self.region, block.place() + 1) + 1;
-        put_pin_count(&mut self.region, block.place() + 1, count);
+        let count = pin_count(&self.arena.region, block.place() + 1) + 1;
+        put_pin_count(&mut self.arena.region, block.place() + 1, count);
     }
 
     fn unpin(&mut self, block: BlockId) {
-        let count = pin_count(&self.region, block.place() + 1) - 1;
-        put_pin_count(&mut self.region, block.place() + 1, count);
+        let count = pin_count(&self.arena.region, block.place() + 1) - 1;
+        put_pin_count(&mut self.arena.region, block.place() + 1, count);
     }
 
     fn pins(&self, block: BlockId) -> u64 {
-        pin_count(&self.region, block.place() + 1)
+        pin_count(&self.arena.region, block.place() + 1)
     }
 
     fn used(&self) -> usize {
-        self.used
+        self.arena.used
     }
 
     fn room(&self, words: usize) -> bool {
-        if !fits(words, self.size) {
+        let arena = &self.arena;
+        if !fits(words, arena.size) {
             return false;
         }
         let size = size_of_block(words);
-        size <= self.size - self.end
-            || first_fit(&self.region, self.first, self.size, self.end, size) != self.size
+        let from = arena.hints[class_of(size)];
+        size <= arena.size - arena.end
+            || first_fit(&arena.region, from, arena.size, arena.end, size) != arena.size
     }
 
-    ghost pair_keeps_size = { λ h b ws. refl };
+    ghost refuses = { λ h w. raw_refuses h.size h.blocks w };
+
+    ghost pair_keeps = { λ h b ws. refl };
 
     ghost pair_writes = { λ h b ws. refl };
 }

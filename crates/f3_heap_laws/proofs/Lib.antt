@@ -5,6 +5,8 @@ pub mod Relink
 pub mod BlockReads
 pub mod Surgery
 pub mod Giving
+pub mod HintHeaps
+pub mod HintLaws
 pub mod LiveSegs
 pub mod Neighbours
 pub mod GapLaws
@@ -14,7 +16,9 @@ pub mod Puts
 pub mod CarveLaws
 pub mod StepLeft
 pub mod EndBlock
+pub mod Answers
 pub mod AroundLaws
 pub mod BlockLaws
 pub mod RawReads
 pub mod RawWrites
+pub mod Refusals

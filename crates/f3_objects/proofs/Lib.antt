@@ -6,6 +6,7 @@ pub mod Freeing
 pub mod Writes
 pub mod Blanks
 pub mod Linking
+pub mod Taking
 pub mod Copying
 pub mod Sharing
 pub mod Emptying

@@ -1,6 +1,6 @@
 //! Copying an object with all blocks beneath it.
 
-ghost use Rattle.std.specs.Prelude.{◌≡◌, ◌<◌, ◌+◌, ◌*◌, ◌^◌, ℕ, true, false, None, Err, OnOk, OnErr, IfOk, is_ok, map, length};
+ghost use Rattle.std.specs.Prelude.{◌≡◌, ◌<◌, ◌+◌, ◌*◌, ◌^◌, ℕ, [], None, OnOk, OnErr, IfOk, map, length};
 ghost use Rattle.std.specs.FinMap.{get};
 ghost use Rattle.std.specs.List.{All};
 ghost use Rattle.f3_heap_laws.specs.Blocks.{IsLive, words_of, with_taken};
@@ -9,7 +9,8 @@ ghost use Rattle.f3_desc.specs.Shape.{width, whole, row, shape_at, Holder, Times
 ghost use Rattle.f3_desc.specs.Layout.{pieces_of, shapes, shape_in, piece_count};
 ghost use Rattle.f3_objects.specs.Tree.{Tree, words};
 ghost use Rattle.f3_objects.specs.Holds.{Holds};
-ghost use Rattle.f3_objects.specs.Copies.{Ready, Copies, Empties, Lacks, Reaches};
+ghost use Rattle.f3_heap_laws.specs.Answers.{Take, sizes, later, Allowed, Took};
+ghost use Rattle.f3_objects.specs.Copies.{Ready, Copies, Empties, Refuses, faults, one_take};
 
 use crate::free::free_piece;
 use crate::holder::block_at;
@@ -31,9 +32,9 @@ pub enum TreeFault {
 ///
 /// # Errors
 ///
-/// `Full` only where the heap had no room for a block as long as one beneath the object, at the
-/// time when it was asked for, and `Memory` where the host refused memory. The blocks that were
-/// taken are then given back, and nothing is allocated at the target.
+/// `Full` and `Memory` as the heap answered the first take that it refused. The takes ask for blocks
+/// as long as those beneath the object, a holder's block before those beneath it. What was taken is
+/// then given back, and nothing is allocated at the target.
 pub fn copy_tree<B: Blocks>(
     heap: &mut B,
     from: BlockId,
@@ -43,12 +44,11 @@ pub fn copy_tree<B: Blocks>(
     layout: &Layout,
 ) -> Result<(), TreeFault>
     requires { (t : Tree) × (u : Tree) × Ready (B.blocks heap.old) from from_at to to_at (whole (pieces_of layout.now)) t u }
-    ensures copied { OnOk result ((t u : Tree) → Ready (B.blocks heap.old) from from_at to to_at (whole (pieces_of layout.now)) t u → Copies (B.blocks heap.old) (B.blocks heap.new) to to_at (whole (pieces_of layout.now)) t u true) }
+    ensures copied { OnOk result ((t u : Tree) → Ready (B.blocks heap.old) from from_at to to_at (whole (pieces_of layout.now)) t u → Copies (B.blocks heap.old) (B.blocks heap.new) to to_at (whole (pieces_of layout.now)) t u [] (Took B.allows B.spent (B.kept heap.old) (B.kept heap.new) (B.blocks heap.old) (B.blocks heap.new))) }
     ensures emptied { OnErr result ((t u : Tree) → Ready (B.blocks heap.old) from from_at to to_at (whole (pieces_of layout.now)) t u → Empties (B.blocks heap.old) (B.blocks heap.new) to to_at (whole (pieces_of layout.now))) }
+    ensures refused { OnErr result ((t u : Tree) → Ready (B.blocks heap.old) from from_at to to_at (whole (pieces_of layout.now)) t u → Refuses t (faults result) (λ ks. Allowed B.allows B.spent (B.kept heap.old) (sizes (B.blocks heap.old)) ks × (B.kept heap.new ≡ later B.spent (B.kept heap.old) ks))) }
     ensures used { OnErr result (used_by (B.blocks heap.new) ≡ used_by (B.blocks heap.old)) }
     ensures source { (t u : Tree) → Ready (B.blocks heap.old) from from_at to to_at (whole (pieces_of layout.now)) t u → Holds (B.blocks heap.new) from from_at (whole (pieces_of layout.now)) t }
-    ensures full { result ≡ Err TreeFault.Full → (t u : Tree) → Ready (B.blocks heap.old) from from_at to to_at (whole (pieces_of layout.now)) t u → Reaches B.blocks B.has_room (B.blocks heap.old) to to_at (whole (pieces_of layout.now)) t u }
-    ensures size { B.size heap.new ≡ B.size heap.old }
 {
     prove!(from_at <= heap.length(from));
     prove!(to_at <= heap.length(to));
@@ -76,9 +76,7 @@ fn copy_piece<B: Blocks>(
     requires ready { (t : Tree) × (u : Tree) × Ready (B.blocks heap.old) from from_at to to_at (shape_in layout.now piece) t u }
     requires from_bound { from_at + width (shape_in layout.now piece) < 2 ^ 64 }
     requires to_bound { to_at + width (shape_in layout.now piece) < 2 ^ 64 }
-    ensures copied { (t u : Tree) → Ready (B.blocks heap.old) from from_at to to_at (shape_in layout.now piece) t u → Copies (B.blocks heap.old) (B.blocks heap.new) to to_at (shape_in layout.now piece) t u (is_ok result) }
-    ensures full { result ≡ Err TreeFault.Full → (t u : Tree) → Ready (B.blocks heap.old) from from_at to to_at (shape_in layout.now piece) t u → Lacks B.blocks B.has_room (B.blocks heap.old) (B.blocks heap.new) t }
-    ensures size { B.size heap.new ≡ B.size heap.old }
+    ensures { (t u : Tree) → Ready (B.blocks heap.old) from from_at to to_at (shape_in layout.now piece) t u → Copies (B.blocks heap.old) (B.blocks heap.new) to to_at (shape_in layout.now piece) t u (faults result) (Took B.allows B.spent (B.kept heap.old) (B.kept heap.new) (B.blocks heap.old) (B.blocks heap.new)) }
 {
     if !layout.holds_allocatable(piece) {
         copy_words(heap, from, from_at, to, to_at, layout.words_of(piece));
@@ -113,9 +111,7 @@ fn copy_parts<B: Blocks>(
     requires ready { (t : Tree) × (u : Tree) × Ready (B.blocks heap.old) from from_at to to_at (row (map (shape_at (shapes layout.now)) parts.now)) t u }
     requires from_bound { from_at + width (row (map (shape_at (shapes layout.now)) parts.now)) < 2 ^ 64 }
     requires to_bound { to_at + width (row (map (shape_at (shapes layout.now)) parts.now)) < 2 ^ 64 }
-    ensures copied { (t u : Tree) → Ready (B.blocks heap.old) from from_at to to_at (row (map (shape_at (shapes layout.now)) parts.now)) t u → Copies (B.blocks heap.old) (B.blocks heap.new) to to_at (row (map (shape_at (shapes layout.now)) parts.now)) t u (is_ok result) }
-    ensures full { result ≡ Err TreeFault.Full → (t u : Tree) → Ready (B.blocks heap.old) from from_at to to_at (row (map (shape_at (shapes layout.now)) parts.now)) t u → Lacks B.blocks B.has_room (B.blocks heap.old) (B.blocks heap.new) t }
-    ensures size { B.size heap.new ≡ B.size heap.old }
+    ensures { (t u : Tree) → Ready (B.blocks heap.old) from from_at to to_at (row (map (shape_at (shapes layout.now)) parts.now)) t u → Copies (B.blocks heap.old) (B.blocks heap.new) to to_at (row (map (shape_at (shapes layout.now)) parts.now)) t u (faults result) (Took B.allows B.spent (B.kept heap.old) (B.kept heap.new) (B.blocks heap.old) (B.blocks heap.new)) }
 {
     let mut from_place = from_at;
     let mut to_place = to_at;
@@ -130,7 +126,7 @@ fn copy_parts<B: Blocks>(
 
 /// Copies so many elements.
 #[cycle(copy)]
-fn copy_elements<B: Blocks>(
+pub fn copy_elements<B: Blocks>(
     heap: &mut B,
     from: BlockId,
     from_at: usize,
@@ -144,9 +140,7 @@ fn copy_elements<B: Blocks>(
     requires ready { (t : Tree) × (u : Tree) × Ready (B.blocks heap.old) from from_at to to_at (Times count (shape_in layout.now of)) t u }
     requires from_bound { from_at + width (Times count (shape_in layout.now of)) < 2 ^ 64 }
     requires to_bound { to_at + width (Times count (shape_in layout.now of)) < 2 ^ 64 }
-    ensures copied { (t u : Tree) → Ready (B.blocks heap.old) from from_at to to_at (Times count (shape_in layout.now of)) t u → Copies (B.blocks heap.old) (B.blocks heap.new) to to_at (Times count (shape_in layout.now of)) t u (is_ok result) }
-    ensures full { result ≡ Err TreeFault.Full → (t u : Tree) → Ready (B.blocks heap.old) from from_at to to_at (Times count (shape_in layout.now of)) t u → Lacks B.blocks B.has_room (B.blocks heap.old) (B.blocks heap.new) t }
-    ensures size { B.size heap.new ≡ B.size heap.old }
+    ensures { (t u : Tree) → Ready (B.blocks heap.old) from from_at to to_at (Times count (shape_in layout.now of)) t u → Copies (B.blocks heap.old) (B.blocks heap.new) to to_at (Times count (shape_in layout.now of)) t u (faults result) (Took B.allows B.spent (B.kept heap.old) (B.kept heap.new) (B.blocks heap.old) (B.blocks heap.new)) }
 {
     let size = layout.words_of(of);
     let mut from_place = from_at;
@@ -161,7 +155,7 @@ fn copy_elements<B: Blocks>(
 
 /// Copies the elements that one block holds into another of its length.
 #[cycle(copy)]
-fn copy_contents<B: Blocks>(
+pub fn copy_contents<B: Blocks>(
     heap: &mut B,
     from: BlockId,
     to: BlockId,
@@ -170,9 +164,7 @@ fn copy_contents<B: Blocks>(
 ) -> Result<(), TreeFault>
     requires numbered { of < piece_count layout.now }
     requires ready { (n : ℕ) × (t : Tree) × (u : Tree) × Ready (B.blocks heap.old) from 0 to 0 (Times n (shape_in layout.now of)) t u × (words_of (B.blocks heap.old) from ≡ words t) }
-    ensures copied { (n : ℕ) (t u : Tree) → Ready (B.blocks heap.old) from 0 to 0 (Times n (shape_in layout.now of)) t u → words_of (B.blocks heap.old) from ≡ words t → Copies (B.blocks heap.old) (B.blocks heap.new) to 0 (Times n (shape_in layout.now of)) t u (is_ok result) }
-    ensures full { result ≡ Err TreeFault.Full → (n : ℕ) (t u : Tree) → Ready (B.blocks heap.old) from 0 to 0 (Times n (shape_in layout.now of)) t u → words_of (B.blocks heap.old) from ≡ words t → Lacks B.blocks B.has_room (B.blocks heap.old) (B.blocks heap.new) t }
-    ensures size { B.size heap.new ≡ B.size heap.old }
+    ensures { (n : ℕ) (t u : Tree) → Ready (B.blocks heap.old) from 0 to 0 (Times n (shape_in layout.now of)) t u → words_of (B.blocks heap.old) from ≡ words t → Copies (B.blocks heap.old) (B.blocks heap.new) to 0 (Times n (shape_in layout.now of)) t u (faults result) (Took B.allows B.spent (B.kept heap.old) (B.kept heap.new) (B.blocks heap.old) (B.blocks heap.new)) }
 {
     let length = heap.length(from);
     if !layout.holds_allocatable(of) {
@@ -199,9 +191,7 @@ fn copy_allocatable<B: Blocks>(
     requires ready { (t : Tree) × (u : Tree) × Ready (B.blocks heap.old) from from_at to to_at (Holder rank (shape_in layout.now of)) t u }
     requires from_bound { from_at + width (Holder rank (shape_in layout.now of)) < 2 ^ 64 }
     requires to_bound { to_at + width (Holder rank (shape_in layout.now of)) < 2 ^ 64 }
-    ensures copied { (t u : Tree) → Ready (B.blocks heap.old) from from_at to to_at (Holder rank (shape_in layout.now of)) t u → Copies (B.blocks heap.old) (B.blocks heap.new) to to_at (Holder rank (shape_in layout.now of)) t u (is_ok result) }
-    ensures full { result ≡ Err TreeFault.Full → (t u : Tree) → Ready (B.blocks heap.old) from from_at to to_at (Holder rank (shape_in layout.now of)) t u → Lacks B.blocks B.has_room (B.blocks heap.old) (B.blocks heap.new) t }
-    ensures size { B.size heap.new ≡ B.size heap.old }
+    ensures { (t u : Tree) → Ready (B.blocks heap.old) from from_at to to_at (Holder rank (shape_in layout.now of)) t u → Copies (B.blocks heap.old) (B.blocks heap.new) to to_at (Holder rank (shape_in layout.now of)) t u (faults result) (Took B.allows B.spent (B.kept heap.old) (B.kept heap.new) (B.blocks heap.old) (B.blocks heap.new)) }
 {
     let Some(inner) = block_at(heap, from, from_at) else {
         return Ok(());
@@ -217,8 +207,7 @@ fn take_same<B: Blocks>(heap: &mut B, block: BlockId) -> Result<BlockId, TreeFau
     ensures fresh { IfOk result (λ b. get (B.blocks heap.old) b ≡ None) }
     ensures taken { IfOk result (λ b. B.blocks heap.new ≡ with_taken (B.blocks heap.old) b (length (words_of (B.blocks heap.old) block))) }
     ensures refused { OnErr result (B.blocks heap.new ≡ B.blocks heap.old) }
-    ensures full { result ≡ Err TreeFault.Full → B.has_room heap.old (length (words_of (B.blocks heap.old) block)) ≡ false }
-    ensures size { B.size heap.new ≡ B.size heap.old }
+    ensures took { Took B.allows B.spent (B.kept heap.old) (B.kept heap.new) (B.blocks heap.old) (B.blocks heap.new) (one_take (length (words_of (B.blocks heap.old) block)) result) }
 {
     let length = heap.length(block);
     match heap.take(length) {

@@ -30,7 +30,7 @@ pub fn free_tree<B: Blocks>(
     ensures freed { (t : Tree) → Holds (B.blocks heap.old) block at (whole (pieces_of layout.now)) t → Frees (B.blocks heap.old) (B.blocks heap.new) block at t (is_ok result) }
     ensures unpinned { (t : Tree) → Holds (B.blocks heap.old) block at (whole (pieces_of layout.now)) t → IsOk result ↔ NonePinned (pins_of (B.blocks heap.old)) t }
     ensures given { OnOk result ((t : Tree) → Holds (B.blocks heap.old) block at (whole (pieces_of layout.now)) t → (q : ℕ) → 0 < times q t → get (B.blocks heap.new) q ≡ None) }
-    ensures size { B.size heap.new ≡ B.size heap.old }
+    ensures kept { B.kept heap.new ≡ B.kept heap.old }
 {
     prove!(at <= heap.length(block));
     free_piece(heap, block, at, layout, layout.last())
@@ -49,7 +49,7 @@ pub(crate) fn free_piece<B: Blocks>(
     requires holds { (t : Tree) × Holds (B.blocks heap.old) block at (shape_in layout.now piece) t }
     requires bound { at + width (shape_in layout.now piece) < 2 ^ 64 }
     ensures freed { (t : Tree) → Holds (B.blocks heap.old) block at (shape_in layout.now piece) t → Frees (B.blocks heap.old) (B.blocks heap.new) block at t (is_ok result) }
-    ensures size { B.size heap.new ≡ B.size heap.old }
+    ensures kept { B.kept heap.new ≡ B.kept heap.old }
 {
     if !layout.holds_allocatable(piece) {
         return Ok(());
@@ -77,7 +77,7 @@ fn free_parts<B: Blocks>(
     requires holds { (t : Tree) × Holds (B.blocks heap.old) block at (row (map (shape_at (shapes layout.now)) parts.now)) t }
     requires bound { at + width (row (map (shape_at (shapes layout.now)) parts.now)) < 2 ^ 64 }
     ensures freed { (t : Tree) → Holds (B.blocks heap.old) block at (row (map (shape_at (shapes layout.now)) parts.now)) t → Frees (B.blocks heap.old) (B.blocks heap.new) block at t (is_ok result) }
-    ensures size { B.size heap.new ≡ B.size heap.old }
+    ensures kept { B.kept heap.new ≡ B.kept heap.old }
 {
     let mut place = at;
     for part in parts {
@@ -89,7 +89,7 @@ fn free_parts<B: Blocks>(
 
 /// Gives back the blocks beneath so many elements.
 #[cycle(free)]
-fn free_elements<B: Blocks>(
+pub fn free_elements<B: Blocks>(
     heap: &mut B,
     block: BlockId,
     at: usize,
@@ -101,7 +101,7 @@ fn free_elements<B: Blocks>(
     requires holds { (t : Tree) × Holds (B.blocks heap.old) block at (Times count (shape_in layout.now of)) t }
     requires bound { at + count * width (shape_in layout.now of) < 2 ^ 64 }
     ensures freed { (t : Tree) → Holds (B.blocks heap.old) block at (Times count (shape_in layout.now of)) t → Frees (B.blocks heap.old) (B.blocks heap.new) block at t (is_ok result) }
-    ensures size { B.size heap.new ≡ B.size heap.old }
+    ensures kept { B.kept heap.new ≡ B.kept heap.old }
 {
     let size = layout.words_of(of);
     let mut place = at;
@@ -114,7 +114,7 @@ fn free_elements<B: Blocks>(
 
 /// Gives back the blocks beneath the elements that a block holds.
 #[cycle(free)]
-fn free_contents<B: Blocks>(
+pub fn free_contents<B: Blocks>(
     heap: &mut B,
     block: BlockId,
     layout: &Layout,
@@ -123,7 +123,7 @@ fn free_contents<B: Blocks>(
     requires numbered { of < piece_count layout.now }
     requires holds { (n : ℕ) × (t : Tree) × IsContents (B.blocks heap.old) block (shape_in layout.now of) n t }
     ensures freed { (n : ℕ) (t : Tree) → IsContents (B.blocks heap.old) block (shape_in layout.now of) n t → Frees (B.blocks heap.old) (B.blocks heap.new) block 0 t (is_ok result) }
-    ensures size { B.size heap.new ≡ B.size heap.old }
+    ensures kept { B.kept heap.new ≡ B.kept heap.old }
 {
     if !layout.holds_allocatable(of) {
         return Ok(());
@@ -145,7 +145,7 @@ fn free_allocatable<B: Blocks>(
     requires numbered { of < piece_count layout.now }
     requires holds { (t : Tree) × Holds (B.blocks heap.old) block at (Holder rank (shape_in layout.now of)) t }
     ensures freed { (t : Tree) → Holds (B.blocks heap.old) block at (Holder rank (shape_in layout.now of)) t → Frees (B.blocks heap.old) (B.blocks heap.new) block at t (is_ok result) }
-    ensures size { B.size heap.new ≡ B.size heap.old }
+    ensures kept { B.kept heap.new ≡ B.kept heap.old }
 {
     let Some(inner) = block_at(heap, block, at) else {
         return Ok(());

@@ -30,7 +30,7 @@ pub fn move_tree<B: Blocks>(
     ensures moved { OnOk result ((s : Shape) (t : Tree) → Holds (B.blocks heap.old) from from_at (Holder rank s) t → times to t ≡ 0 → Moves (B.blocks heap.old) (B.blocks heap.new) from from_at to to_at rank s t) }
     ensures unpinned { (s : Shape) (t : Tree) → Holds (B.blocks heap.old) from from_at (Holder rank s) t → IsOk result ↔ IfSome (first_block t) (λ b. pins_of (B.blocks heap.old) b ≡ 0) }
     ensures refused { OnErr result (B.blocks heap.new ≡ B.blocks heap.old) }
-    ensures size { B.size heap.new ≡ B.size heap.old }
+    ensures kept { B.kept heap.new ≡ B.kept heap.old }
 {
     if let Some(inner) = block_at(heap, from, from_at)
         && heap.pins(inner) > 0

@@ -157,7 +157,7 @@ free_elements-overflow_add-place g t c =
 pub free_elements-loop-i-init : goal.free_elements-loop-i-init
 free_elements-loop-i-init g t c = record {
   freed = λ x h. freed_none (g.B.Blocks.blocks c.args.heap.now) c.args.block c.args.at (Repeats (c.args.count - 0) (Fits (shape_in c.args.layout.now c.args.of))) x h.stands (let e : c.args.count ≡ c.args.count - 0 = omega arith in let P : ℕ → Type 0 = λ k. Repeats k (Fits (shape_in c.args.layout.now c.args.of)) x in subst P e h.fits);
-  size = refl;
+  kept = refl;
 }
 
 pub free_elements-loop-i-preserved : goal.free_elements-loop-i-preserved
@@ -172,19 +172,19 @@ free_elements-loop-i-preserved g t c =
           let st = first_part old now new c.args.block c.args.at c.loop-i.place (Fits s) (Repeats (c.args.count - (c.loop-i._i + 1)) (Fits s)) x h.stands f in
           let more = freed_more old now new c.args.block c.args.at c.loop-i.place (Fits s) (Repeats (c.args.count - (c.loop-i._i + 1)) (Fits s)) x h.stands f c.words_of-size.result (size-fits s f.has.front f.has.first ∙ sym c.words_of-size.ensures) (c.in_ok-free_piece.ensures.freed f.has.front (record { stands = st; fits = f.has.first })) in
           more;
-      size = c.free_piece.ensures.size ∙ c.loop-i.invariant.size;
+      kept = c.free_piece.ensures.kept ∙ c.loop-i.invariant.kept;
     }
 
 pub free_elements-returns-clause-freed : goal.free_elements-returns-clause-freed
 free_elements-returns-clause-freed g t c = λ x h.
     freed_elements (g.B.Blocks.blocks c.args.heap.now) (g.B.Blocks.blocks c.loop-i.heap) c.args.block c.args.at c.loop-i.place c.args.count c.loop-i._i (Fits (shape_in c.args.layout.now c.args.of)) x c.loop-i-test.false (c.loop-i.invariant.freed x h)
 
-pub free_elements-returns-clause-size : goal.free_elements-returns-clause-size
-free_elements-returns-clause-size g t c = c.loop-i.invariant.size
+pub free_elements-returns-clause-kept : goal.free_elements-returns-clause-kept
+free_elements-returns-clause-kept g t c = c.loop-i.invariant.kept
 
-pub free_elements-returns-in_err-free_piece-clause-size :
-    goal.free_elements-returns-in_err-free_piece-clause-size
-free_elements-returns-in_err-free_piece-clause-size g t c = c.free_piece.ensures.size ∙ c.loop-i.invariant.size
+pub free_elements-returns-in_err-free_piece-clause-kept :
+    goal.free_elements-returns-in_err-free_piece-clause-kept
+free_elements-returns-in_err-free_piece-clause-kept g t c = c.free_piece.ensures.kept ∙ c.loop-i.invariant.kept
 
 pub free_parts-free_piece-requires : goal.free_parts-free_piece-requires
 free_parts-free_piece-requires g t c κs within =
@@ -217,9 +217,9 @@ free_parts-returns-in_err-free_piece-clause-freed g t c = λ x h.
     let w = err_from_is_err_and c.from_residual.result c.from_residual.ensures.1 in
     rw (w.1) (freed_stop old now new c.args.block c.args.at c.loop-part.place (Fits (shape_at ss k)) (Fits rest) x h.stands f (c.in_err-free_piece.ensures.freed f.has.front (record { stands = st; fits = f.has.first })))
 
-pub free_parts-returns-in_err-free_piece-clause-size :
-    goal.free_parts-returns-in_err-free_piece-clause-size
-free_parts-returns-in_err-free_piece-clause-size g t c = c.free_piece.ensures.size ∙ c.loop-part.invariant.size
+pub free_parts-returns-in_err-free_piece-clause-kept :
+    goal.free_parts-returns-in_err-free_piece-clause-kept
+free_parts-returns-in_err-free_piece-clause-kept g t c = c.free_piece.ensures.kept ∙ c.loop-part.invariant.kept
 
 pub free_parts-overflow_add-place : goal.free_parts-overflow_add-place
 free_parts-overflow_add-place g t c =
@@ -238,7 +238,7 @@ free_parts-overflow_add-place g t c =
 pub free_parts-loop-part-init : goal.free_parts-loop-part-init
 free_parts-loop-part-init g t c = record {
   freed = λ x h. freed_none (g.B.Blocks.blocks c.args.heap.now) c.args.block c.args.at (Fits (row (map (shape_at (shapes c.args.layout.now)) c.args.parts.now))) x h.stands h.fits;
-  size = refl;
+  kept = refl;
 }
 
 pub free_parts-loop-part-preserved : goal.free_parts-loop-part-preserved
@@ -254,15 +254,15 @@ free_parts-loop-part-preserved g t c =
           let f = freed_part old now c.args.block c.args.at c.loop-part.place c.loop-part.part-index ss c.args.parts.now x c.loop-part-test.true (c.loop-part.invariant.freed x h) in
           let st = first_part old now new c.args.block c.args.at c.loop-part.place (Fits (shape_at ss k)) (Fits rest) x h.stands f in
           freed_more old now new c.args.block c.args.at c.loop-part.place (Fits (shape_at ss k)) (Fits rest) x h.stands f c.words_of-place.result (size-fits (shape_at ss k) f.has.front f.has.first ∙ sym c.words_of-place.ensures) (c.in_ok-free_piece.ensures.freed f.has.front (record { stands = st; fits = f.has.first }));
-      size = c.free_piece.ensures.size ∙ c.loop-part.invariant.size;
+      kept = c.free_piece.ensures.kept ∙ c.loop-part.invariant.kept;
     }
 
 pub free_parts-returns-clause-freed : goal.free_parts-returns-clause-freed
 free_parts-returns-clause-freed g t c = λ x h.
     freed_parts (g.B.Blocks.blocks c.args.heap.now) (g.B.Blocks.blocks c.loop-part.heap) c.args.block c.args.at c.loop-part.place c.loop-part.part-index (shapes c.args.layout.now) c.args.parts.now x c.loop-part-test.false (c.loop-part.invariant.freed x h)
 
-pub free_parts-returns-clause-size : goal.free_parts-returns-clause-size
-free_parts-returns-clause-size g t c = c.loop-part.invariant.size
+pub free_parts-returns-clause-kept : goal.free_parts-returns-clause-kept
+free_parts-returns-clause-kept g t c = c.loop-part.invariant.kept
 
 pub free_piece-returns-then-not-holds_allocatable-clause-freed :
     goal.free_piece-returns-then-not-holds_allocatable-clause-freed

@@ -26,12 +26,12 @@ decreases-free_allocatable g l = 4 * l.of + 6
 abbrev pub invariant-free_elements-loop-i : goal.invariant-free_elements-loop-i
 invariant-free_elements-loop-i g l = record {
   freed : (t : Tree) → Holds (g.B.Blocks.blocks l.initial.heap) l.block l.at (Times l.count (shape_in l.layout l.of)) t → Freed (g.B.Blocks.blocks l.initial.heap) (g.B.Blocks.blocks l.heap) l.block l.at l.place (Repeats (l.count - l._i) (Fits (shape_in l.layout l.of))) t;
-  size : g.B.Blocks.size l.heap ≡ g.B.Blocks.size l.initial.heap;
+  kept : g.B.Blocks.kept l.heap ≡ g.B.Blocks.kept l.initial.heap;
 }
 
 -- the parts so far are freed, and the others stand
 abbrev pub invariant-free_parts-loop-part : goal.invariant-free_parts-loop-part
 invariant-free_parts-loop-part g l = record {
   freed : (t : Tree) → Holds (g.B.Blocks.blocks l.initial.heap) l.block l.at (row (map (shape_at (shapes l.layout)) l.parts)) t → Freed (g.B.Blocks.blocks l.initial.heap) (g.B.Blocks.blocks l.heap) l.block l.at l.place (Fits (row (map (shape_at (shapes l.layout)) (drop l.part-index l.parts)))) t;
-  size : g.B.Blocks.size l.heap ≡ g.B.Blocks.size l.initial.heap;
+  kept : g.B.Blocks.kept l.heap ≡ g.B.Blocks.kept l.initial.heap;
 }

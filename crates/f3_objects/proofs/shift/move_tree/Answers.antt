@@ -34,7 +34,7 @@ overflow_add-i-end g c =
     omega (arith, c.length.ensures, c.length.type_inv)
 
 pub loop-i-init : goal.loop-i-init
-loop-i-init g c = record { wrote = wrote_none (g.B.Blocks.blocks c.args.heap.now) c.args.to c.args.to_at c.requires.target.2.stands.live; size = refl }
+loop-i-init g c = record { wrote = wrote_none (g.B.Blocks.blocks c.args.heap.now) c.args.to c.args.to_at c.requires.target.2.stands.live; kept = refl }
 
 pub overflow_add-from_at : goal.overflow_add-from_at
 overflow_add-from_at g c =
@@ -105,7 +105,7 @@ loop-i-preserved g c =
     let fits : SFits w64 c.read-word.result = search rules in
     record {
       wrote = moved_more old (g.B.Blocks.blocks c.loop-i.heap) (g.B.Blocks.blocks c.write.new.self) c.args.from c.args.from_at c.args.to c.args.to_at (1 + 2 * c.args.rank) c.loop-i.i _ c.loop-i.invariant.wrote c.loop-i-test.true la lb c.requires.apart (to_z-of_z w64 c.read-word.result fits ∙ c.read-word.ensures) c.write.ensures.written;
-      size = c.write.ensures.size ∙ c.loop-i.invariant.size;
+      kept = c.write.ensures.kept ∙ c.loop-i.invariant.kept;
     }
 
 pub write-requires-2-clause-live : goal.write-requires-2-clause-live
