@@ -8,7 +8,7 @@ ghost use Rattle.f3_heap_laws.specs.Answers.{sizes};
 ghost use Rattle.f3_heap_laws.specs.Rules.{FullAtAllows, full_at_spent};
 ghost use Rattle.f3_heap_laws.proofs.Refusals.{full_at_refuses};
 ghost use Rattle.f3_heap.specs.Answers.{answer_of};
-ghost use Rattle.f3_heap.specs.FullAt.{behind, refused_take};
+ghost use Rattle.f3_heap.specs.FullAt.{behind, refused_take, with_behind};
 
 use crate::block_id::BlockId;
 use crate::blocks::{Blocks, Pinned, TakeFault};
@@ -43,7 +43,7 @@ impl<B: Blocks> Blocks for FullAt<B> {
 
     ghost has_room = { λ s w. cond (nat_eq (refused_take s) 1) false (B.has_room (behind s) w) };
 
-    ghost after_pair = { λ s b ws. record s { blocks = B.after_pair s.blocks b ws } };
+    ghost after_pair = { λ s b ws. with_behind s (B.after_pair (behind s) b ws) };
 
     fn take(&mut self, words: usize) -> Result<BlockId, TakeFault>
         ensures full { (result ≡ Err TakeFault.Full) ↔ (cond (nat_eq (refused_take self.old) 1) false (B.has_room (behind self.old) words) ≡ false) }

@@ -160,7 +160,6 @@ module _ (old mid : Live) (from from_at from_place to to_at to_place : ℕ) (P Q
     bare = bare_front f.takes.front f.takes.back takes_bare;
   }
 
-
   module _ (new : Live) (faults : List Answer) {V : List Take → Type 0} (c : Copies mid new to to_place s f.has.front f.takes.front faults V) where
     part_size : length (words c.copy) ≡ length (words f.takes.front)
     part_size = size-fits s c.copy c.fits ∙ sym (size-fits s f.takes.front f.takes.first)
@@ -225,7 +224,7 @@ module _ (old mid : Live) (from from_at from_place to to_at to_place : ℕ) (P Q
       takes = f.takes.second;
       fits = more_fits;
       asked = asked_more f.done f.has.front (takings f.copy) (takings c.copy) f.asked
-        (c.asked ∙ (ap (λ l. asked_of (takings c.copy ++ c.refused) ++ l) (c.all o) ∙ (nil-append (asked_of (takings c.copy ++ c.refused)) ∙ ap asked_of (none_left o)))) ∙ ap asked_of (sym (takes-append f.copy c.copy));
+          (c.asked ∙ (ap (λ l. asked_of (takings c.copy ++ c.refused) ++ l) (c.all o) ∙ (nil-append (asked_of (takings c.copy ++ c.refused)) ∙ ap asked_of (none_left o)))) ∙ ap asked_of (sym (takes-append f.copy c.copy));
       took = subst X (sym (takes-append f.copy c.copy)) (join (takings f.copy) (takings c.copy) f.took (subst V (none_left o) c.took));
     }
       where

@@ -8,7 +8,7 @@ mod shift;
 mod words;
 mod zeros;
 
-pub use copy::{TreeFault, copy_contents, copy_elements, copy_tree};
-pub use free::{free_contents, free_elements, free_tree};
+pub use copy::{TreeFault, copy_tree};
+pub use free::free_tree;
 pub use shift::move_tree;
 pub use zeros::clear;

@@ -150,6 +150,6 @@ returns-else-is_err-clause-copied g c =
     let X = Took g.B.Blocks.allows g.B.Blocks.spent (g.B.Blocks.kept c.args.heap.now) (g.B.Blocks.kept c.copy_piece-copied.new.heap) old mid in
     let F : List Answer → Type 0 = λ fs. (t u : Tree) → Ready old c.args.from c.args.from_at c.args.to c.args.to_at all t u → Copies old mid c.args.to c.args.to_at all t u fs X in
     on_ok c.copy_piece-copied.result F (λ t u ready.
-      let P : Shape → Type 0 = λ s. Ready old c.args.from c.args.from_at c.args.to c.args.to_at s t u in
-      let Q : Shape → Type 0 = λ s. Copies old mid c.args.to c.args.to_at s t u (faults c.copy_piece-copied.result) X in
-      subst Q c.last-last.ensures.shape (c.copy_piece-copied.ensures t u (subst P (sym c.last-last.ensures.shape) ready)))
+    let P : Shape → Type 0 = λ s. Ready old c.args.from c.args.from_at c.args.to c.args.to_at s t u in
+    let Q : Shape → Type 0 = λ s. Copies old mid c.args.to c.args.to_at s t u (faults c.copy_piece-copied.result) X in
+    subst Q c.last-last.ensures.shape (c.copy_piece-copied.ensures t u (subst P (sym c.last-last.ensures.shape) ready)))
