@@ -2,7 +2,7 @@
 use Rattle.std.specs.Prelude.{ℕ, ◌≡◌, ◌≢◌, ◌≤◌, List, [], ◌∷◌, ◌++◌, map, length, Result, Ok, Err}
 use Rattle.f3_heap_laws.specs.Blocks.{Live, words_of, with_words}
 use Rattle.f3_heap_laws.specs.Answers.{Answer, Full, Memory, Taken, Take}
-use Rattle.f3_desc.specs.Shape.{Shape}
+use Rattle.f3_desc.specs.Shape.{Shape, Times}
 use Rattle.f3_objects.specs.Tree.{Tree, End, Word, Unallocated, Allocated, words, times, value, Fits, IsBare}
 use Rattle.f3_objects.specs.Holds.{Holds, Replaces, with_words_at}
 use Rattle.f3_objects.specs.declared.copy.TreeFault.{TreeFault}
@@ -15,6 +15,12 @@ pub record Ready (m : Live) (from from_at to to_at : ℕ) (s : Shape) (t u : Tre
   pub apart : to ≢ from
   pub beneath : times to t ≡ 0
   pub bare : IsBare u
+
+-- n objects of this shape are all that a block holds, and another block of its length is ready for their copies
+pub record Refills (m : Live) (from to : ℕ) (s : Shape) (n : ℕ) (t u : Tree) : Type 0 where
+  pub ready : Ready m from 0 to 0 (Times n s) t u
+  pub source : words_of m from ≡ words t
+  pub target : words_of m to ≡ words u
 
 -- the answer of the heap that a fault tells of
 abbrev pub fault_of : TreeFault → Answer

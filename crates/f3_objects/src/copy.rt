@@ -5,10 +5,10 @@ ghost use Rattle.std.specs.FinMap.{get};
 ghost use Rattle.std.specs.List.{All};
 ghost use Rattle.f3_heap_laws.specs.Blocks.{IsLive, words_of, with_taken};
 ghost use Rattle.f3_heap_laws.specs.Account.{used_by};
-ghost use Rattle.f3_heap_laws.specs.Answers.{Take, sizes, later, Allowed, Took};
+ghost use Rattle.f3_heap_laws.specs.Answers.{sizes, Took, Tried};
 ghost use Rattle.f3_desc.specs.Shape.{width, whole, row, shape_at, Holder, Times};
 ghost use Rattle.f3_desc.specs.Layout.{pieces_of, shapes, shape_in, piece_count};
-ghost use Rattle.f3_objects.specs.Tree.{Tree, words};
+ghost use Rattle.f3_objects.specs.Tree.{Tree, words, footprint};
 ghost use Rattle.f3_objects.specs.Holds.{Holds};
 ghost use Rattle.f3_objects.specs.Copies.{Ready, Copies, Empties, Refuses, faults};
 ghost use Rattle.f3_objects.specs.OneTake.{one_take};
@@ -56,10 +56,11 @@ pub fn copy_tree<B: Blocks>(
         → Empties (B.blocks heap.old) (B.blocks heap.new) to to_at s) }
     ensures refused { let s = whole (pieces_of layout.now) in
         OnErr result ((t u : Tree) → Ready (B.blocks heap.old) from from_at to to_at s t u
-        → Refuses t (faults result)
-        (λ ks. Allowed B.allows B.spent (B.kept heap.old) (sizes (B.blocks heap.old)) ks
-        × (B.kept heap.new ≡ later B.spent (B.kept heap.old) ks))) }
-    ensures used { OnErr result (used_by (B.blocks heap.new) ≡ used_by (B.blocks heap.old)) }
+        → Refuses t (faults result) (Tried B.allows B.spent (B.kept heap.old) (B.kept heap.new) (sizes (B.blocks heap.old)))) }
+    ensures used { let s = whole (pieces_of layout.now) in
+        OnOk result ((t u : Tree) → Ready (B.blocks heap.old) from from_at to to_at s t u
+        → used_by (B.blocks heap.new) ≡ used_by (B.blocks heap.old) + footprint t) }
+    ensures used_before { OnErr result (used_by (B.blocks heap.new) ≡ used_by (B.blocks heap.old)) }
     ensures source { let s = whole (pieces_of layout.now) in
         (t u : Tree) → Ready (B.blocks heap.old) from from_at to to_at s t u → Holds (B.blocks heap.new) from from_at s t }
 {
@@ -145,7 +146,7 @@ fn copy_parts<B: Blocks>(
 
 /// Copies so many elements. After a fault what was copied stands.
 #[cycle(copy)]
-fn copy_repeats<B: Blocks>(
+pub(crate) fn copy_repeats<B: Blocks>(
     heap: &mut B,
     from: BlockId,
     from_at: usize,
@@ -175,9 +176,10 @@ fn copy_repeats<B: Blocks>(
     Ok(())
 }
 
-/// Copies the elements that one block holds into another of its length.
+/// Copies the elements that one block holds into another of its length. After a fault what was copied
+/// stands.
 #[cycle(copy)]
-fn copy_inner<B: Blocks>(
+pub(crate) fn copy_inner<B: Blocks>(
     heap: &mut B,
     from: BlockId,
     to: BlockId,

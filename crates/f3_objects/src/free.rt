@@ -3,11 +3,12 @@
 ghost use Rattle.std.specs.Prelude.{◌≡◌, ◌↔◌, ◌<◌, ◌+◌, ◌*◌, ◌^◌, ℕ, None, IsOk, OnOk, is_ok, map};
 ghost use Rattle.std.specs.FinMap.{get};
 ghost use Rattle.f3_heap_laws.specs.Blocks.{pins_of};
+ghost use Rattle.f3_heap_laws.specs.Account.{used_by};
 ghost use Rattle.std.specs.List.{All};
 ghost use Rattle.f3_desc.specs.Shape.{width, whole, row, shape_at, Holder, Times};
 ghost use Rattle.f3_desc.specs.Layout.{pieces_of, shapes, shape_in, piece_count};
-ghost use Rattle.f3_objects.specs.Tree.{Tree, times};
-ghost use Rattle.f3_objects.specs.Holds.{Holds, Frees, NonePinned, IsContents};
+ghost use Rattle.f3_objects.specs.Tree.{Tree, times, footprint};
+ghost use Rattle.f3_objects.specs.Holds.{Holds, Frees, NonePinned, IsContents, left};
 
 use crate::holder::block_at;
 use f3_desc::{Layout, Piece};
@@ -33,6 +34,12 @@ pub fn free_tree<B: Blocks>(
         (t : Tree) → Holds (B.blocks heap.old) block at s t → IsOk result ↔ NonePinned (pins_of (B.blocks heap.old)) t }
     ensures given { let s = whole (pieces_of layout.now) in
         OnOk result ((t : Tree) → Holds (B.blocks heap.old) block at s t → (q : ℕ) → 0 < times q t → get (B.blocks heap.new) q ≡ None) }
+    ensures used { let s = whole (pieces_of layout.now) in
+        OnOk result ((t : Tree) → Holds (B.blocks heap.old) block at s t
+        → used_by (B.blocks heap.new) + footprint t ≡ used_by (B.blocks heap.old)) }
+    ensures used_left { let s = whole (pieces_of layout.now) in
+        (t : Tree) → Holds (B.blocks heap.old) block at s t
+        → used_by (B.blocks heap.new) + footprint t ≡ used_by (B.blocks heap.old) + footprint (left (pins_of (B.blocks heap.old)) t) }
     ensures kept { B.kept heap.new ≡ B.kept heap.old }
 {
     prove!(at <= heap.length(block));
@@ -94,7 +101,7 @@ fn free_parts<B: Blocks>(
 
 /// Gives back the blocks beneath so many elements.
 #[cycle(free)]
-fn free_repeats<B: Blocks>(
+pub(crate) fn free_repeats<B: Blocks>(
     heap: &mut B,
     block: BlockId,
     at: usize,
@@ -120,7 +127,7 @@ fn free_repeats<B: Blocks>(
 
 /// Gives back the blocks beneath the elements that a block holds.
 #[cycle(free)]
-fn free_inner<B: Blocks>(
+pub(crate) fn free_inner<B: Blocks>(
     heap: &mut B,
     block: BlockId,
     layout: &Layout,
