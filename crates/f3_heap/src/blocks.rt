@@ -1,6 +1,7 @@
 //! What a heap of blocks is.
 
-ghost use Rattle.std.specs.Prelude.{◌≡◌, ◌≢◌, ◌↔◌, ◌<◌, ◌+◌, ◌-◌, ℕ, ℤ, pos, Bool, true, false, List, length, replicate, IfOk, OnOk, OnErr, IsOk, slice_set, slice_index_or};
+ghost use Rattle.std.specs.Prelude.{◌≡◌, ◌≢◌, ◌↔◌, ◌<◌, ◌+◌, ◌-◌, ℕ, ℤ, pos, Bool, false, List, length};
+ghost use Rattle.std.specs.Prelude.{IfOk, OnOk, OnErr, IsOk, slice_set, slice_index_or};
 ghost use Rattle.std.specs.FinMap.{get, remove};
 ghost use Rattle.std.specs.Borrow.{sem, Lends, Array, i64 as word_type};
 ghost use Rattle.f3_heap_laws.specs.Blocks.{Live, IsLive, words_of, pins_of, with_taken, with_words, with_pins, written_over};
@@ -25,20 +26,28 @@ pub struct Pinned;
 
 /// A heap: a finite map from its live blocks to their words and how often they are pinned.
 ///
-/// Words are 64 bits, and a block's words are counted from 0.
+/// Words are 64 bits, and a block's words are counted from 0. Each kind of heap has a rule of its own
+/// which answers `take` may give. The rule sees what the heap keeps besides its blocks, the names and
+/// lengths of the live blocks, and the words asked for, and nothing else.
 pub trait Blocks {
+    // the live blocks
     ghost blocks: { Self → Live };
 
+    // what is kept besides them
     ghost Rest: { Type 0 };
 
     ghost kept: { Self → Rest };
 
+    // the rule: whether this answer to a take of so many words is allowed
     ghost allows: { Rest → Sizes → ℕ → Answer → Type 0 };
 
+    // what is kept after a take
     ghost spent: { Rest → Rest };
 
+    // whether there is room for a block of so many words
     ghost has_room: { Self → ℕ → Bool };
 
+    // the heap once these words were written to a block through `pair`
     ghost after_pair: { Self → ℕ → List ℤ → Self };
 
     /// Takes a new block of so many words, all zero, with no pins.
@@ -46,7 +55,7 @@ pub trait Blocks {
     /// # Errors
     ///
     /// `Full` exactly where `room` is false for the request, and `Memory` where the host refused
-    /// memory. The blocks are then unchanged.
+    /// memory, in a heap whose rule allows that. The blocks are then unchanged.
     fn take(&mut self, words: usize) -> Result<BlockId, TakeFault>
         ensures full { (result ≡ Err TakeFault.Full) ↔ (has_room self.old words ≡ false) }
         ensures fresh { IfOk result (λ b. get (blocks self.old) b ≡ None) }
@@ -121,8 +130,10 @@ pub trait Blocks {
     fn room(&self, words: usize) -> bool
         ensures { result ≡ has_room self.now words };
 
+    // Full is allowed exactly where there is no room
     ghost refuses: { (s : Self) (w : ℕ) → allows (kept s) (sizes (blocks s)) w Full ↔ (has_room s w ≡ false) };
 
+    // words that are written through `pair` change that block's words, and nothing that is kept
     ghost pair_keeps: { (s : Self) (b : ℕ) (ws : List ℤ) → kept (after_pair s b ws) ≡ kept s };
 
     ghost pair_writes: { (s : Self) (b : ℕ) (ws : List ℤ) → blocks (after_pair s b ws) ≡ with_words (blocks s) b (written_over (words_of (blocks s) b) ws) };

@@ -7,6 +7,7 @@ mod blocks;
 mod full_at;
 mod heap_blocks;
 mod hints;
+pub mod laws;
 mod plain;
 mod raw;
 mod segments;

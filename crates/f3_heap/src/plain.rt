@@ -1,14 +1,14 @@
 //! The plain finite map of blocks: slow, for reference.
 
-ghost use Rattle.std.specs.Prelude.{◌≡◌, ◌≤◌, ◌<◌, ◌+◌, ◌-◌, ◌^◌, ℕ, pos, nat_le, length, replicate, take, IfOk, OnOk, OnErr, ◌++◌, ◌∷◌, [], true, false, get_or};
+ghost use Rattle.std.specs.Prelude.{◌≡◌, ◌≤◌, ◌<◌, ◌+◌, ◌-◌, ◌^◌, ℕ, pos, nat_le, length, replicate, take};
+ghost use Rattle.std.specs.Prelude.{IfOk, OnOk, OnErr, false, get_or};
 ghost use Rattle.std.proofs.Common.{refl};
 ghost use Rattle.f3_heap_laws.specs.Blocks.{with_words, words_of, pins_of, written_over, IsLive};
 ghost use Rattle.f3_heap_laws.specs.Account.{r, used_by};
 ghost use Rattle.std.specs.FinMap.{empty};
-ghost use Rattle.f3_heap.specs.Plain.{live_slots, IsPut};
-
 ghost use Rattle.f3_heap_laws.specs.Rules.{plain_allows};
 ghost use Rattle.f3_heap_laws.proofs.Refusals.{plain_refuses};
+ghost use Rattle.f3_heap.specs.Plain.{live_slots, IsPut};
 
 use crate::block_id::BlockId;
 use crate::blocks::{Blocks, Pinned, TakeFault};
@@ -25,6 +25,9 @@ struct Slot {
 }
 
 /// The finite map itself, as a list by `word`. It is slow, and only its `take` can answer `Memory`.
+///
+/// `take` answers `Full` exactly where the live blocks and the new one would take more words than
+/// the heap has. Else it answers any new block, or `Memory` where a growth of the list was refused.
 #[derive(Drop)]
 pub struct PlainBlocks {
     alloc: Global,

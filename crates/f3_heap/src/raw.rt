@@ -2,17 +2,16 @@
 
 #![tactic(auto)]
 
-ghost use Rattle.std.specs.Prelude.{◌≡◌, ◌≢◌, ◌↔◌, ◌-◌, ◌*◌, ◌/◌, Some, None, false, IfOk, OnErr, IsOk};
+ghost use Rattle.std.specs.Prelude.{◌≡◌, ◌≢◌, ◌↔◌, ℕ, ◌-◌, ◌*◌, ◌/◌, Some, None, false, IfOk, OnErr, IsOk};
 ghost use Rattle.std.specs.List.{list_any};
 ghost use Rattle.std.specs.FinMap.{get, empty};
 ghost use Rattle.f3_heap_laws.specs.Blocks.{with_taken, with_words, words_of, written_over};
 ghost use Rattle.std.proofs.Common.{refl};
 ghost use Rattle.f3_heap_laws.specs.Gaps.{gaps, places, is_wide, first_wide};
 ghost use Rattle.f3_heap_laws.specs.Answers.{sizes};
-ghost use Rattle.f3_heap.specs.Answers.{answer_of};
 ghost use Rattle.f3_heap_laws.specs.Rules.{raw_allows};
 ghost use Rattle.f3_heap_laws.proofs.Refusals.{raw_refuses};
-ghost use Rattle.std.specs.Prelude.{ℕ};
+ghost use Rattle.f3_heap.specs.Answers.{answer_of};
 
 use crate::arena::Arena;
 use crate::block_id::BlockId;
@@ -26,6 +25,9 @@ use std::alloc::{AllocError, Global};
 use std::marker::Model;
 
 /// A heap in one region of words. Only `new` takes memory.
+///
+/// `take` answers `Full` exactly where no gap of the region is wide enough for the block, else the
+/// block at the front of the first gap that is. So it never answers `Memory`.
 ///
 /// A block is its length, its pin count, its content, and its length again at its end. A free
 /// block is linked to the next and the previous one by place, and tells its size at both ends.

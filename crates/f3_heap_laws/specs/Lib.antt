@@ -1,6 +1,7 @@
 pub mod Account
 pub mod Answers
 pub mod Blocks
+pub mod FreeRuns
 pub mod Gaps
 pub mod Hints
 pub mod Placed

@@ -103,3 +103,14 @@ fn what_is_written_through_a_pair_stands(rt: HostRuntime) -> Result<(), Fail> {
     assert_eq!(rt; words.as_slice(), [1, 2, 2, 8, 5, 1, 2, 8].as_slice());
     Ok(())
 }
+
+// Two hundred terabytes in all, more than a process has addresses for.
+#[test]
+fn a_region_gives_its_memory_back(rt: HostRuntime) -> Result<(), Fail> {
+    for _ in 0..200000 {
+        let mut region = Region::new(rt.alloc(), 134217728)?;
+        region.clear(0, 512);
+        assert_eq!(rt; region.frontier(), 512);
+    }
+    Ok(())
+}

@@ -55,7 +55,7 @@ pub record Emptied (old new : Live) (from from_at to to_at : ℕ) (s : Shape) (t
   pub source : Holds new from from_at s t
 
 module _ (old mid : Live) (from from_at to to_at : ℕ) (s : Shape) (t u : Tree) (faults : List Answer) (r : Ready old from from_at to to_at s t u) {W : List Take → Type 0} (c : Copies old mid to to_at s t u faults W) where
-  copy_size : length (words c.copy) ≡ length (words u)
+  pub copy_size : length (words c.copy) ≡ length (words u)
   copy_size = size-fits s c.copy c.fits ∙ sym (size-fits s u r.target.fits)
 
   -- the copy stands where it was to be
@@ -87,3 +87,7 @@ module _ (old mid : Live) (from from_at to to_at : ℕ) (s : Shape) (t u : Tree)
         used = ap used_by is ∙ used-with_words old to _ r.target.stands.live (length-written (words_of old to) to_at (words (left p c.copy)) fit);
         source = record { stands = stands_elsewhere old new from from_at t to to_at u (left p c.copy) r.source.stands all r.apart r.beneath r.bare; fits = r.source.fits };
       }
+
+  -- whatever giving it back answers, since none of its blocks is pinned
+  pub emptied_by : (new : Live) (ok : Bool) → Frees mid new to to_at c.copy ok → Emptied old new from from_at to to_at s t
+  emptied_by new ok f = let F : Bool → Type 0 = λ b. Frees mid new to to_at c.copy b in empties new (subst F (f.answered ∙ copy_free) f)

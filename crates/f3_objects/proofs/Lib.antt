@@ -12,3 +12,6 @@ pub mod Sharing
 pub mod Emptying
 pub mod Shifts
 pub mod Used
+pub mod Account
+pub mod Ending
+pub mod Unboxing

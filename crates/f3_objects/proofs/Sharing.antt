@@ -1,5 +1,5 @@
 -- Laws on the copy of an allocatable: a block of its own, and then its contents.
-use Rattle.std.proofs.Common.{◌≡◌, ◌≢◌, ℕ, ℤ, pos, ◌+◌, ◌*◌, ◌<◌, ◌≤◌, ◌/◌, inl, inr, true, false, Bool, List, [], ◌∷◌, ◌++◌, length, take, drop, replicate, refl, ap, sym, subst, ◌∙◌, arith, length-append, is_some}
+use Rattle.std.proofs.Common.{◌≡◌, ◌≢◌, ℕ, ℤ, pos, ◌+◌, ◌*◌, ◌<◌, ◌≤◌, ◌/◌, inl, inr, List, [], ◌∷◌, ◌++◌, length, take, drop, replicate, refl, ap, sym, subst, ◌∙◌, arith, length-append, is_some}
 use Rattle.std.specs.Prelude.{None, Some}
 use Rattle.std.specs.FinMap.{get}
 use Rattle.std.proofs.Math.Nat.{mul-div_cancel}
@@ -50,9 +50,9 @@ copies_unchanged old new from from_at to to_at b n s whole t u r a len e fault W
       told = refl;
       more = asked_of (takings a.contents ++ []);
       asked =
-        ap asks a.is
-        ∙ (ap (λ (k : ℕ). k ∷ asked_of (takings a.contents ++ [])) (sym (len ∙ ap length a.inside.exact))
-        ∙ ap (λ (l : List Take). asked_of (l ++ record { asked = n; answer = fault } ∷ []) ++ asked_of (takings a.contents ++ [])) (sym none));
+          ap asks a.is
+          ∙ (ap (λ (k : ℕ). k ∷ asked_of (takings a.contents ++ [])) (sym (len ∙ ap length a.inside.exact))
+          ∙ ap (λ (l : List Take). asked_of (l ++ record { asked = n; answer = fault } ∷ []) ++ asked_of (takings a.contents ++ [])) (sym none));
       all = λ o. cc;
       took = subst W (ap (λ (l : List Take). l ++ record { asked = n; answer = fault } ∷ []) (sym none)) took;
     }
@@ -256,11 +256,11 @@ module _ (old mid now : Live) (from from_at to to_at rank b k : ℕ) (s : Shape)
         told = c.told;
         more = c.more;
         asked =
-          ap asks a.is
-          ∙ (ap (λ (l : List Take). length (words a.contents) ∷ asked_of l) (nil-append (takings a.contents))
-          ∙ (ap (λ (l : List ℕ). length (words a.contents) ∷ l) c.asked
-          ∙ (ap (λ (n : ℕ). n ∷ (asked_of (takings c.copy ++ c.refused) ++ c.more)) (sym (ap length a.inside.exact))
-          ∙ ap (λ (l : List Take). asked_of l ++ c.more) all_takings)));
+            ap asks a.is
+            ∙ (ap (λ (l : List Take). length (words a.contents) ∷ asked_of l) (nil-append (takings a.contents))
+            ∙ (ap (λ (l : List ℕ). length (words a.contents) ∷ l) c.asked
+            ∙ (ap (λ (n : ℕ). n ∷ (asked_of (takings c.copy ++ c.refused) ++ c.more)) (sym (ap length a.inside.exact))
+            ∙ ap (λ (l : List Take). asked_of l ++ c.more) all_takings)));
         all = c.all;
         took = subst W all_takings (join (takings c.copy ++ c.refused) c.took);
       }

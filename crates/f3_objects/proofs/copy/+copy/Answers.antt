@@ -6,7 +6,7 @@ use Rattle.f3_desc.specs.Shape.{width, row, shape_at, has_holder, Holder, Times}
 use Rattle.f3_desc.specs.Layout.{shapes, shape_in, piece_count}
 use Rattle.f3_objects.specs.Tree.{elements, Repeats, Fits, blank}
 use Rattle.f3_objects.specs.Copies.{Ready, Copies, faults}
-use Rattle.f3_heap_laws.specs.Answers.{Answer, Taken, Take, Took}
+use Rattle.f3_heap_laws.specs.Answers.{Taken, Take, Took}
 use Rattle.f3_heap_laws.proofs.Answers.{took_none, took_then}
 use Rattle.f3_objects.proofs.Trees.{size-fits, holder-positive}
 use Rattle.f3_objects.proofs.Holders.{allocation}
@@ -39,8 +39,8 @@ copy_allocatable-link_copy-requires g t c =
     let k = room_taken old now c.args.from c.args.from_at c.args.to c.args.to_at c.args.rank s r.0 r.1 r.2 c.in_ok-copy.copy _ c.in_ok-copy.ensures.fresh c.in_ok-copy.ensures.taken in
     record { from_live = k.0; to_live = k.1; different = λ e. r.2.apart (sym e); from_within = k.2; to_within = k.3 }
 
-pub copy_allocatable-copy_contents-requires : goal.copy_allocatable-copy_contents-requires
-copy_allocatable-copy_contents-requires g t c κs within =
+pub copy_allocatable-copy_inner-requires : goal.copy_allocatable-copy_inner-requires
+copy_allocatable-copy_inner-requires g t c κs within =
     let s = shape_in c.args.layout.now c.args.of in
     let r = c.requires.ready in
     let old = g.B.Blocks.blocks c.args.heap.now in
@@ -63,11 +63,11 @@ copy_allocatable-returns g t c = λ x u r.
     let one : (Took g.B.Blocks.allows g.B.Blocks.spent (g.B.Blocks.kept c.args.heap.now) (g.B.Blocks.kept c.take_same.new.heap) (g.B.Blocks.blocks c.args.heap.now) (g.B.Blocks.blocks c.take_same.new.heap)) (record { asked = length (words_of old c.in-Some.inner); answer = Taken c.in_ok-copy.copy } ∷ []) = c.in_ok-copy.ensures.took in
     let links = linked_sizes old mid now c.args.from c.args.from_at c.args.to c.args.to_at c.args.rank c.in-Some.inner c.in_ok-copy.copy s x u r a c.link_copy.ensures.positive c.in_ok-copy.ensures.fresh c.in_ok-copy.ensures.taken c.link_copy.ensures.written in
     let taken = (took_then g.B.Blocks.allows g.B.Blocks.spent (g.B.Blocks.kept c.args.heap.now) (g.B.Blocks.kept c.take_same.new.heap) (g.B.Blocks.kept c.link_copy.new.heap) (g.B.Blocks.blocks c.args.heap.now) (g.B.Blocks.blocks c.take_same.new.heap) (g.B.Blocks.blocks c.link_copy.new.heap)) (record { asked = length (words_of old c.in-Some.inner); answer = Taken c.in_ok-copy.copy } ∷ []) [] one (took_none g.B.Blocks.allows g.B.Blocks.spent (g.B.Blocks.kept c.take_same.new.heap) (g.B.Blocks.kept c.link_copy.new.heap) (g.B.Blocks.blocks c.take_same.new.heap) (g.B.Blocks.blocks c.link_copy.new.heap) c.link_copy.ensures.kept links) in
-    copies_shared old mid now c.args.from c.args.from_at c.args.to c.args.to_at c.args.rank c.in-Some.inner c.in_ok-copy.copy s x u r a c.link_copy.ensures.positive c.in_ok-copy.ensures.fresh c.in_ok-copy.ensures.taken c.link_copy.ensures.written (g.B.Blocks.blocks c.copy_contents.new.heap) (faults c.copy_contents.result) (c.copy_contents.ensures (elements a.dims) a.contents (blank (Times (elements a.dims) s)) ready same) (Took g.B.Blocks.allows g.B.Blocks.spent (g.B.Blocks.kept c.args.heap.now) (g.B.Blocks.kept c.copy_contents.new.heap) (g.B.Blocks.blocks c.args.heap.now) (g.B.Blocks.blocks c.copy_contents.new.heap)) (λ ks v. (took_then g.B.Blocks.allows g.B.Blocks.spent (g.B.Blocks.kept c.args.heap.now) (g.B.Blocks.kept c.link_copy.new.heap) (g.B.Blocks.kept c.copy_contents.new.heap) (g.B.Blocks.blocks c.args.heap.now) (g.B.Blocks.blocks c.link_copy.new.heap) (g.B.Blocks.blocks c.copy_contents.new.heap)) (record { asked = length (words_of old c.in-Some.inner); answer = Taken c.in_ok-copy.copy } ∷ []) ks taken v)
+    copies_shared old mid now c.args.from c.args.from_at c.args.to c.args.to_at c.args.rank c.in-Some.inner c.in_ok-copy.copy s x u r a c.link_copy.ensures.positive c.in_ok-copy.ensures.fresh c.in_ok-copy.ensures.taken c.link_copy.ensures.written (g.B.Blocks.blocks c.copy_inner.new.heap) (faults c.copy_inner.result) (c.copy_inner.ensures (elements a.dims) a.contents (blank (Times (elements a.dims) s)) ready same) (Took g.B.Blocks.allows g.B.Blocks.spent (g.B.Blocks.kept c.args.heap.now) (g.B.Blocks.kept c.copy_inner.new.heap) (g.B.Blocks.blocks c.args.heap.now) (g.B.Blocks.blocks c.copy_inner.new.heap)) (λ ks v. (took_then g.B.Blocks.allows g.B.Blocks.spent (g.B.Blocks.kept c.args.heap.now) (g.B.Blocks.kept c.link_copy.new.heap) (g.B.Blocks.kept c.copy_inner.new.heap) (g.B.Blocks.blocks c.args.heap.now) (g.B.Blocks.blocks c.link_copy.new.heap) (g.B.Blocks.blocks c.copy_inner.new.heap)) (record { asked = length (words_of old c.in-Some.inner); answer = Taken c.in_ok-copy.copy } ∷ []) ks taken v)
 
-pub copy_contents-copy_words-requires-clause-to_within :
-    goal.copy_contents-copy_words-requires-clause-to_within
-copy_contents-copy_words-requires-clause-to_within g t c =
+pub copy_inner-copy_words-requires-clause-to_within :
+    goal.copy_inner-copy_words-requires-clause-to_within
+copy_inner-copy_words-requires-clause-to_within g t c =
     let s = shape_in c.args.layout.now c.args.of in
     let m = g.B.Blocks.blocks c.args.heap.now in
     let h = c.requires.ready in
@@ -75,23 +75,23 @@ copy_contents-copy_words-requires-clause-to_within g t c =
     let w = contents_within m c.args.from c.args.to (Times h.0 s) h.1 h.2 h.3 h.4 in
     omega arith
 
-pub copy_contents-returns-then-not-holds_allocatable :
-    goal.copy_contents-returns-then-not-holds_allocatable
-copy_contents-returns-then-not-holds_allocatable g t c = λ n x u r same.
+pub copy_inner-returns-then-not-holds_allocatable :
+    goal.copy_inner-returns-then-not-holds_allocatable
+copy_inner-returns-then-not-holds_allocatable g t c = λ n x u r same.
     let s = shape_in c.args.layout.now c.args.of in
     let e : has_holder s ≡ false = cc in
     let m = g.B.Blocks.blocks c.args.heap.now in
     let size : c.length-length.result ≡ width (Times n s) = c.length-length.ensures ∙ (ap length same ∙ size-fits (Times n s) x r.source.fits) in
     copies_plain m (g.B.Blocks.blocks c.copy_words.new.heap) c.args.from 0 c.args.to 0 c.length-length.result (Times n s) x u (Took g.B.Blocks.allows g.B.Blocks.spent (g.B.Blocks.kept c.args.heap.now) (g.B.Blocks.kept c.copy_words.new.heap) (g.B.Blocks.blocks c.args.heap.now) (g.B.Blocks.blocks c.copy_words.new.heap)) (times_plain n s e) size r c.copy_words.ensures.written (λ z. (took_none g.B.Blocks.allows g.B.Blocks.spent (g.B.Blocks.kept c.args.heap.now) (g.B.Blocks.kept c.copy_words.new.heap) (g.B.Blocks.blocks c.args.heap.now) (g.B.Blocks.blocks c.copy_words.new.heap) c.copy_words.ensures.kept z))
 
-pub copy_contents-nonzero_div-count : goal.copy_contents-nonzero_div-count
-copy_contents-nonzero_div-count g t c =
+pub copy_inner-nonzero_div-count : goal.copy_inner-nonzero_div-count
+copy_inner-nonzero_div-count g t c =
     let e : has_holder (shape_in c.args.layout.now c.args.of) ≡ true = cc in
     let p = holder-positive (shape_in c.args.layout.now c.args.of) e in
     omega (arith, c.words_of.ensures)
 
-pub copy_contents-copy_elements-requires : goal.copy_contents-copy_elements-requires
-copy_contents-copy_elements-requires g t c κs within =
+pub copy_inner-copy_repeats-requires : goal.copy_inner-copy_repeats-requires
+copy_inner-copy_repeats-requires g t c κs within =
     let s = shape_in c.args.layout.now c.args.of in
     let m = g.B.Blocks.blocks c.args.heap.now in
     let e : has_holder s ≡ true = cc in
@@ -103,19 +103,19 @@ copy_contents-copy_elements-requires g t c κs within =
     let Q : ℕ → Type 0 = λ k. 0 + k * width s < 2 ^ 64 in
     (search rules, (search rules, (c.requires.numbered, ((h.1, h.2, subst P (sym n) h.3), (subst Q (sym n) (omega arith), subst Q (sym n) (omega arith))))))
 
-pub copy_contents-returns : goal.copy_contents-returns
-copy_contents-returns g t c = λ n x u r same.
+pub copy_inner-returns : goal.copy_inner-returns
+copy_inner-returns g t c = λ n x u r same.
     let s = shape_in c.args.layout.now c.args.of in
     let m = g.B.Blocks.blocks c.args.heap.now in
-    let new = g.B.Blocks.blocks c.copy_elements.new.heap in
+    let new = g.B.Blocks.blocks c.copy_repeats.new.heap in
     let e : has_holder s ≡ true = cc in
     let k : c.length-length.result / c.words_of.result ≡ n = elements_count c.length-length.result c.words_of.result m c.args.from 0 c.args.to 0 s n x u (holder-positive s e) c.length-length.ensures c.words_of.ensures r same in
     let P : ℕ → Type 0 = λ k. Ready m c.args.from 0 c.args.to 0 (Times k s) x u in
-    let Q : ℕ → Type 0 = λ k. Copies m new c.args.to 0 (Times k s) x u (faults c.copy_elements.result) (Took g.B.Blocks.allows g.B.Blocks.spent (g.B.Blocks.kept c.args.heap.now) (g.B.Blocks.kept c.copy_elements.new.heap) (g.B.Blocks.blocks c.args.heap.now) (g.B.Blocks.blocks c.copy_elements.new.heap)) in
-    subst Q k (c.copy_elements.ensures x u (subst P (sym k) r))
+    let Q : ℕ → Type 0 = λ k. Copies m new c.args.to 0 (Times k s) x u (faults c.copy_repeats.result) (Took g.B.Blocks.allows g.B.Blocks.spent (g.B.Blocks.kept c.args.heap.now) (g.B.Blocks.kept c.copy_repeats.new.heap) (g.B.Blocks.blocks c.args.heap.now) (g.B.Blocks.blocks c.copy_repeats.new.heap)) in
+    subst Q k (c.copy_repeats.ensures x u (subst P (sym k) r))
 
-pub copy_elements-loop-i-init : goal.copy_elements-loop-i-init
-copy_elements-loop-i-init g t c = record {
+pub copy_repeats-loop-i-init : goal.copy_repeats-loop-i-init
+copy_repeats-loop-i-init g t c = record {
   copied = λ x u r.
       let s = shape_in c.args.layout.now c.args.of in
       let m = g.B.Blocks.blocks c.args.heap.now in
@@ -125,8 +125,8 @@ copy_elements-loop-i-init g t c = record {
       subst P e (copying_none m c.args.from c.args.from_at c.args.to c.args.to_at (Times c.args.count s) x u W r (took_none g.B.Blocks.allows g.B.Blocks.spent (g.B.Blocks.kept c.args.heap.now) (g.B.Blocks.kept c.args.heap.now) (g.B.Blocks.blocks c.args.heap.now) (g.B.Blocks.blocks c.args.heap.now) refl refl));
 }
 
-pub copy_elements-copy_piece-requires : goal.copy_elements-copy_piece-requires
-copy_elements-copy_piece-requires g t c κs within =
+pub copy_repeats-copy_piece-requires : goal.copy_repeats-copy_piece-requires
+copy_repeats-copy_piece-requires g t c κs within =
     let s = shape_in c.args.layout.now c.args.of in
     let P = Repeats (c.args.count - (c.loop-i._i + 1)) (Fits s) in
     let old = g.B.Blocks.blocks c.args.heap.now in
@@ -141,8 +141,8 @@ copy_elements-copy_piece-requires g t c κs within =
     let n = copying_within old now c.args.from_at c.loop-i.from_place c.args.to c.args.to_at c.loop-i.to_place P (Fits (Times c.args.count s)) s r.0 r.1 f (2 ^ 64) (omega arith) (omega arith) in
     (search rules, (search rules, (c.requires.numbered, ((f.has.front, f.takes.front, ready), (n.0, n.1)))))
 
-pub copy_elements-returns-in_err-copy_piece : goal.copy_elements-returns-in_err-copy_piece
-copy_elements-returns-in_err-copy_piece g t c = λ x u r.
+pub copy_repeats-returns-in_err-copy_piece : goal.copy_repeats-returns-in_err-copy_piece
+copy_repeats-returns-in_err-copy_piece g t c = λ x u r.
     let s = shape_in c.args.layout.now c.args.of in
     let P = Repeats (c.args.count - (c.loop-i._i + 1)) (Fits s) in
     let old = g.B.Blocks.blocks c.args.heap.now in
@@ -154,8 +154,8 @@ copy_elements-returns-in_err-copy_piece g t c = λ x u r.
     let X = (Took g.B.Blocks.allows g.B.Blocks.spent (g.B.Blocks.kept c.args.heap.now) (g.B.Blocks.kept c.copy_piece.new.heap) (g.B.Blocks.blocks c.args.heap.now) (g.B.Blocks.blocks c.copy_piece.new.heap)) in
     rw (w.1, w.2) (copies_stop old now new c.args.from c.args.from_at c.loop-i.from_place c.args.to c.args.to_at c.loop-i.to_place P (Times c.args.count s) s x u r f _ (c.in_err-copy_piece.ensures f.has.front f.takes.front ready) X (took_then g.B.Blocks.allows g.B.Blocks.spent (g.B.Blocks.kept c.args.heap.now) (g.B.Blocks.kept c.loop-i.heap) (g.B.Blocks.kept c.copy_piece.new.heap) (g.B.Blocks.blocks c.args.heap.now) (g.B.Blocks.blocks c.loop-i.heap) (g.B.Blocks.blocks c.copy_piece.new.heap)))
 
-pub copy_elements-overflow_add-from_place : goal.copy_elements-overflow_add-from_place
-copy_elements-overflow_add-from_place g t c =
+pub copy_repeats-overflow_add-from_place : goal.copy_repeats-overflow_add-from_place
+copy_repeats-overflow_add-from_place g t c =
     let s = shape_in c.args.layout.now c.args.of in
     let P = Repeats (c.args.count - (c.loop-i._i + 1)) (Fits s) in
     let old = g.B.Blocks.blocks c.args.heap.now in
@@ -169,8 +169,8 @@ copy_elements-overflow_add-from_place g t c =
     let n = copying_within old now c.args.from_at c.loop-i.from_place c.args.to c.args.to_at c.loop-i.to_place P (Fits (Times c.args.count s)) s r.0 r.1 f (2 ^ 64) (omega arith) (omega arith) in
     omega (arith, n.0, c.words_of-size.ensures)
 
-pub copy_elements-overflow_add-to_place : goal.copy_elements-overflow_add-to_place
-copy_elements-overflow_add-to_place g t c =
+pub copy_repeats-overflow_add-to_place : goal.copy_repeats-overflow_add-to_place
+copy_repeats-overflow_add-to_place g t c =
     let s = shape_in c.args.layout.now c.args.of in
     let P = Repeats (c.args.count - (c.loop-i._i + 1)) (Fits s) in
     let old = g.B.Blocks.blocks c.args.heap.now in
@@ -184,8 +184,8 @@ copy_elements-overflow_add-to_place g t c =
     let n = copying_within old now c.args.from_at c.loop-i.from_place c.args.to c.args.to_at c.loop-i.to_place P (Fits (Times c.args.count s)) s r.0 r.1 f (2 ^ 64) (omega arith) (omega arith) in
     omega (arith, n.1, c.words_of-size.ensures)
 
-pub copy_elements-loop-i-preserved : goal.copy_elements-loop-i-preserved
-copy_elements-loop-i-preserved g t c =
+pub copy_repeats-loop-i-preserved : goal.copy_repeats-loop-i-preserved
+copy_repeats-loop-i-preserved g t c =
     let s = shape_in c.args.layout.now c.args.of in
     let P = Repeats (c.args.count - (c.loop-i._i + 1)) (Fits s) in
     let old = g.B.Blocks.blocks c.args.heap.now in
@@ -198,8 +198,8 @@ copy_elements-loop-i-preserved g t c =
           copying_more old now c.args.from c.args.from_at c.loop-i.from_place c.args.to c.args.to_at c.loop-i.to_place P (Fits (Times c.args.count s)) s x u r.source.stands r.target.stands r.apart r.beneath r.bare f new [] (c.in_ok-copy_piece.ensures f.has.front f.takes.front ready) c.words_of-size.result c.words_of-size.ensures refl (Took g.B.Blocks.allows g.B.Blocks.spent (g.B.Blocks.kept c.args.heap.now) (g.B.Blocks.kept c.copy_piece.new.heap) (g.B.Blocks.blocks c.args.heap.now) (g.B.Blocks.blocks c.copy_piece.new.heap)) (took_then g.B.Blocks.allows g.B.Blocks.spent (g.B.Blocks.kept c.args.heap.now) (g.B.Blocks.kept c.loop-i.heap) (g.B.Blocks.kept c.copy_piece.new.heap) (g.B.Blocks.blocks c.args.heap.now) (g.B.Blocks.blocks c.loop-i.heap) (g.B.Blocks.blocks c.copy_piece.new.heap));
     }
 
-pub copy_elements-returns : goal.copy_elements-returns
-copy_elements-returns g t c = λ x u r.
+pub copy_repeats-returns : goal.copy_repeats-returns
+copy_repeats-returns g t c = λ x u r.
     copied_elements (g.B.Blocks.blocks c.args.heap.now) (g.B.Blocks.blocks c.loop-i.heap) c.args.from_at c.loop-i.from_place c.args.to c.args.to_at c.loop-i.to_place c.args.count c.loop-i._i (Fits (shape_in c.args.layout.now c.args.of)) (Times c.args.count (shape_in c.args.layout.now c.args.of)) x u c.loop-i-test.false (c.loop-i.invariant.copied x u r)
 
 pub copy_parts-loop-part-init : goal.copy_parts-loop-part-init

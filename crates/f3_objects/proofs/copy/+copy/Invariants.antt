@@ -1,4 +1,4 @@
-use Rattle.std.proofs.Common.{◌≡◌, ◌+◌, ◌-◌, ◌*◌, map, drop}
+use Rattle.std.proofs.Common.{◌+◌, ◌-◌, ◌*◌, map, drop}
 use Rattle.f3_desc.specs.Shape.{row, shape_at, Times}
 use Rattle.f3_desc.specs.Layout.{shapes, shape_in}
 use Rattle.f3_objects.specs.Tree.{Tree, Repeats, Fits}
@@ -14,18 +14,18 @@ decreases-copy_piece g l = 4 * l.piece + 3
 abbrev pub decreases-copy_parts : goal.decreases-copy_parts
 decreases-copy_parts g l = 4 * l.piece + 2
 
-abbrev pub decreases-copy_elements : goal.decreases-copy_elements
-decreases-copy_elements g l = 4 * l.of + 4
+abbrev pub decreases-copy_repeats : goal.decreases-copy_repeats
+decreases-copy_repeats g l = 4 * l.of + 4
 
-abbrev pub decreases-copy_contents : goal.decreases-copy_contents
-decreases-copy_contents g l = 4 * l.of + 5
+abbrev pub decreases-copy_inner : goal.decreases-copy_inner
+decreases-copy_inner g l = 4 * l.of + 5
 
 abbrev pub decreases-copy_allocatable : goal.decreases-copy_allocatable
 decreases-copy_allocatable g l = 4 * l.of + 6
 
 -- the elements so far are copied
-abbrev pub invariant-copy_elements-loop-i : goal.invariant-copy_elements-loop-i
-invariant-copy_elements-loop-i g l = record {
+abbrev pub invariant-copy_repeats-loop-i : goal.invariant-copy_repeats-loop-i
+invariant-copy_repeats-loop-i g l = record {
   copied : (t u : Tree) → Ready (g.B.Blocks.blocks l.initial.heap) l.from l.from_at l.to l.to_at (Times l.count (shape_in l.layout l.of)) t u → Copying (g.B.Blocks.blocks l.initial.heap) (g.B.Blocks.blocks l.heap) l.from_at l.from_place l.to l.to_at l.to_place (Repeats (l.count - l._i) (Fits (shape_in l.layout l.of))) (Fits (Times l.count (shape_in l.layout l.of))) t u (Took g.B.Blocks.allows g.B.Blocks.spent (g.B.Blocks.kept l.initial.heap) (g.B.Blocks.kept l.heap) (g.B.Blocks.blocks l.initial.heap) (g.B.Blocks.blocks l.heap));
 }
 

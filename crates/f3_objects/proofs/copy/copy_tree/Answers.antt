@@ -1,28 +1,15 @@
-use Rattle.std.proofs.Common.{◌≡◌, ◌<◌, ◌+◌, ◌^◌, ℕ, false, Bool, Err, is_ok, refl, sym, subst, ◌∙◌, arith, length}
-use Rattle.std.specs.Prelude.{Result, Ok, List, [], OnOk, OnErr}
-use Rattle.f3_heap_laws.specs.Blocks.{Live, words_of}
+use Rattle.std.proofs.Common.{◌<◌, ◌+◌, ◌^◌, Bool, sym, subst, ◌∙◌}
+use Rattle.std.specs.Prelude.{List}
 use Rattle.f3_desc.specs.Shape.{Shape, width, whole}
 use Rattle.f3_desc.specs.Layout.{pieces_of, shape_in}
 use Rattle.f3_objects.specs.Tree.{Tree}
 use Rattle.f3_objects.specs.Holds.{Holds, Frees}
 use Rattle.f3_objects.specs.Copies.{Ready, Copies, faults}
-use Rattle.f3_objects.specs.declared.copy.TreeFault.{TreeFault}
 use Rattle.f3_heap_laws.specs.Answers.{Answer, Took}
-use Rattle.f3_objects.proofs.Trees.{size-fits}
 use Rattle.f3_objects.proofs.Emptying.{copy_holds, copy_free, source_stands, Emptied, empties, refuses}
+use Rattle.f3_objects.proofs.Ending.{ends, on_err, on_ok, when_ok}
+use Rattle.f3_objects.proofs.Account.{used_copied}
 use Rattle.f3_objects.proofs.copy.copy_tree.Goals as goal
-
--- the whole ends within its block
-ends : (m : Live) (block at : ℕ) (s : Shape) (t : Tree) (n k : ℕ) → Holds m block at s t → n ≡ length (words_of m block) → n < k → at + width s < k
-ends m block at s t n k h e l = let f = size-fits s t h.fits in let w = h.stands.within in omega arith
-
-on_err : {T E : Type 0} (r : Result T E) (P : Type 0) → (is_ok r ≡ false → P) → OnErr r P
-on_err (Ok x) P f = tt
-on_err (Err e) P f = f refl
-
-on_ok : {T : Type 0} (r : Result T TreeFault) (P : List Answer → Type 0) → P (faults r) → OnOk r (P [])
-on_ok (Ok x) P p = p
-on_ok (Err e) P p = tt
 
 pub copy_piece-copied-requires-clause-from_bound : goal.copy_piece-copied-requires-clause-from_bound
 copy_piece-copied-requires-clause-from_bound g c =
@@ -84,8 +71,8 @@ returns-then-is_err-clause-emptied g c = on_err c.copy_piece-copied.result _ (λ
     let e = subst Q c.last-last.ensures.shape (empties old mid c.args.from c.args.from_at c.args.to c.args.to_at s t u (faults c.copy_piece-copied.result) r k new (subst F (f.answered ∙ free) f)) in
     e.empty)
 
-pub returns-then-is_err-clause-used : goal.returns-then-is_err-clause-used
-returns-then-is_err-clause-used g c = on_err c.copy_piece-copied.result _ (λ o.
+pub returns-then-is_err-clause-used_before : goal.returns-then-is_err-clause-used_before
+returns-then-is_err-clause-used_before g c = on_err c.copy_piece-copied.result _ (λ o.
     let t = c.requires.0 in
     let u = c.requires.1 in
     let ready = c.requires.2 in
@@ -129,7 +116,7 @@ returns-then-is_err-clause-refused g c = on_err c.copy_piece-copied.result _ (λ
     let P : Shape → Type 0 = λ s. Ready old c.args.from c.args.from_at c.args.to c.args.to_at s t u in
     let r = subst P (sym c.last-last.ensures.shape) ready in
     let k = c.copy_piece-copied.ensures t u r in
-    refuses old mid c.args.from c.args.from_at c.args.to c.args.to_at s t u (faults c.copy_piece-copied.result) r k _ (λ ks w. (w.allowed, c.free_piece.ensures.kept ∙ w.turned)))
+    refuses old mid c.args.from c.args.from_at c.args.to c.args.to_at s t u (faults c.copy_piece-copied.result) r k _ (λ ks w. record { allowed = w.allowed; turned = c.free_piece.ensures.kept ∙ w.turned }))
 
 pub returns-else-is_err-clause-source : goal.returns-else-is_err-clause-source
 returns-else-is_err-clause-source g c = λ t u ready.
@@ -150,6 +137,18 @@ returns-else-is_err-clause-copied g c =
     let X = Took g.B.Blocks.allows g.B.Blocks.spent (g.B.Blocks.kept c.args.heap.now) (g.B.Blocks.kept c.copy_piece-copied.new.heap) old mid in
     let F : List Answer → Type 0 = λ fs. (t u : Tree) → Ready old c.args.from c.args.from_at c.args.to c.args.to_at all t u → Copies old mid c.args.to c.args.to_at all t u fs X in
     on_ok c.copy_piece-copied.result F (λ t u ready.
-      let P : Shape → Type 0 = λ s. Ready old c.args.from c.args.from_at c.args.to c.args.to_at s t u in
-      let Q : Shape → Type 0 = λ s. Copies old mid c.args.to c.args.to_at s t u (faults c.copy_piece-copied.result) X in
-      subst Q c.last-last.ensures.shape (c.copy_piece-copied.ensures t u (subst P (sym c.last-last.ensures.shape) ready)))
+    let P : Shape → Type 0 = λ s. Ready old c.args.from c.args.from_at c.args.to c.args.to_at s t u in
+    let Q : Shape → Type 0 = λ s. Copies old mid c.args.to c.args.to_at s t u (faults c.copy_piece-copied.result) X in
+    subst Q c.last-last.ensures.shape (c.copy_piece-copied.ensures t u (subst P (sym c.last-last.ensures.shape) ready)))
+
+pub returns-else-is_err-clause-used : goal.returns-else-is_err-clause-used
+returns-else-is_err-clause-used g c =
+    let s = shape_in c.args.layout.now c.last-last.result in
+    let old = g.B.Blocks.blocks c.args.heap.now in
+    let mid = g.B.Blocks.blocks c.copy_piece-copied.new.heap in
+    let X = Took g.B.Blocks.allows g.B.Blocks.spent (g.B.Blocks.kept c.args.heap.now) (g.B.Blocks.kept c.copy_piece-copied.new.heap) old mid in
+    when_ok c.copy_piece-copied.result _ (λ fine t u ready.
+    let P : Shape → Type 0 = λ s. Ready old c.args.from c.args.from_at c.args.to c.args.to_at s t u in
+    let r = subst P (sym c.last-last.ensures.shape) ready in
+    let F : List Answer → Type 0 = λ fs. Copies old mid c.args.to c.args.to_at s t u fs X in
+    used_copied old mid c.args.from c.args.from_at c.args.to c.args.to_at s t u r (subst F fine (c.copy_piece-copied.ensures t u r)))
