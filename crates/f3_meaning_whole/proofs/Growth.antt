@@ -20,6 +20,7 @@ use Rattle.f3_program.specs.declared.program.Intent.{Intent}
 use Rattle.f3_program.specs.declared.program.Intent.TheVariants as intent
 use Rattle.f3_program.specs.declared.program.Procedure.{Procedure}
 use Rattle.f3_program.specs.declared.program.Program.{Program}
+use Rattle.f3_meaning_whole.specs.declared.run_error.RunError.{RunError}
 use Rattle.f3_meaning_whole.specs.Value.{Value, Number, Truth, Composite, Array, Unallocated, Allocated, truth_of, conforms, spans_of}
 use Rattle.f3_meaning_whole.specs.Reference.{Reach, One, Many, Reference, spans, is_pinned}
 use Rattle.f3_meaning_whole.specs.Ran.{Event, End, Gives, Fails, Stops, Beyond, Outcome, Ran, behind, go_on, after, ◌>>=◌, beyond, each}
@@ -27,8 +28,8 @@ use Rattle.f3_meaning_whole.specs.Shape.{Shape, Whole, Logical, Record, Parts, n
 use Rattle.f3_meaning_whole.specs.Act.{Setting, Here, Passed, Calls, at, lending}
 use Rattle.f3_meaning_whole.specs.Eval.{by_reach, value, bounds, argument, arguments, locate, select, select_in_each, chosen, subscript}
 use Rattle.f3_meaning_whole.specs.Destroy.{deallocate_by, release_by, finish_by, finalize, destroy, destroy_parts, finish}
-use Rattle.f3_meaning_whole.specs.Exec.{Flow, Onward, Cycled, Left, Returned, onward, next_turn, turns, counted, where_out, overwrite, renew, assign, answer, dimensions, allocate_all, deallocate, deallocate_all, move_alloc, items, selectors, some_meets, exec, block, finish_locals, outs, called}
-use Rattle.f3_meaning_whole.specs.Run.{call_of, calls_of, setting_of, first_here, first_world, main_of, runs, prints}
+use Rattle.f3_meaning_whole.specs.Exec.{Flow, Onward, Cycled, Left, Returned, onward, next_turn, turns, counted, where_out, unless_failed, overwrite, renew, assign, answer, dimensions, allocate_all, deallocate, deallocate_all, move_alloc, items, selectors, some_meets, exec, block, finish_locals, outs, called}
+use Rattle.f3_meaning_whole.specs.Run.{call_of, calls_of, setting_of, first_here, first_world, main_of, runs, run_of}
 use Rattle.f3_meaning_whole.specs.Laws.{GrowsAs, Extends, Grows}
 
 pub itself : {A : Type 0} (r : Outcome A) → Extends r r
@@ -36,7 +37,7 @@ itself {A = A} r = record { as_said = by_end r.end }
   where
     by_end : (end : End A) → GrowsAs r.out r.out end end
     by_end (Gives x w) = (refl, refl)
-    by_end (Fails number place) = (refl, refl)
+    by_end (Fails error place) = (refl, refl)
     by_end (Stops code) = (refl, refl)
     by_end Beyond = ([], sym (append-nil r.out))
 
@@ -48,7 +49,7 @@ behind_extends {A = A} front r s g = record { as_said = by_end r.end g.as_said }
   where
     by_end : (end : End A) → GrowsAs r.out s.out end s.end → GrowsAs (front ++ r.out) (front ++ s.out) end s.end
     by_end (Gives x w) h = (ap (λ o. front ++ o) h.0, h.1)
-    by_end (Fails number place) h = (ap (λ o. front ++ o) h.0, h.1)
+    by_end (Fails error place) h = (ap (λ o. front ++ o) h.0, h.1)
     by_end (Stops code) h = (ap (λ o. front ++ o) h.0, h.1)
     by_end Beyond h = (h.0, ap (λ o. front ++ o) h.1 ∙ sym (append_assoc front r.out h.0))
 
@@ -57,13 +58,13 @@ after_extends {A = A} {B = B} r s f f' g h = by_end r.end g.as_said
   where
     longer : (out : List Event) (end : End A) → (rest : List Event) × ((go_on out end f').out ≡ out ++ rest)
     longer out (Gives x w) = (((f' x).from w).out, refl)
-    longer out (Fails number place) = ([], sym (append-nil out))
+    longer out (Fails error place) = ([], sym (append-nil out))
     longer out (Stops code) = ([], sym (append-nil out))
     longer out Beyond = ([], sym (append-nil out))
 
     by_end : (end : End A) → GrowsAs r.out s.out end s.end → Extends (go_on r.out end f) (go_on s.out s.end f')
     by_end (Gives x w) k = rw (k.0, k.1) (behind_extends r.out ((f x).from w) ((f' x).from w) ((h x).always w))
-    by_end (Fails number place) k = rw (k.0, k.1) (itself _)
+    by_end (Fails error place) k = rw (k.0, k.1) (itself _)
     by_end (Stops code) k = rw (k.0, k.1) (itself _)
     by_end Beyond k =
         let l = longer s.out s.end in
@@ -115,6 +116,10 @@ counted_grow (suc n) zero le (suc k) body body' next next' b x = absurd (omega a
 counted_grow (suc n) (suc m) le (suc k) body body' next next' b x =
     bind_grows b (λ flow. turn_grows flow (bind_grows x (λ done. counted_grow n m (omega arith) k body body' next next' b x)))
 
+failed_grows : (status : Option RunError) {r r' : Ran (Option RunError)} → Grows r r' → Grows (unless_failed status r) (unless_failed status r')
+failed_grows None g = g
+failed_grows (Some error) g = same _
+
 out_grows : (i : Intent) {r r' : Ran ⊤} → Grows r r' → Grows (where_out i r) (where_out i r')
 out_grows intent.In g = same _
 out_grows intent.Out g = g
@@ -158,7 +163,7 @@ module _ (g : Setting) (calls calls' : Calls) (c : (here : Here) (f : ℕ) (ps :
 
     pub locate_grows : (x : d.Designator) (here : Here) → Grows (locate g calls x here) (locate g calls' x here)
     locate_grows (d.Name x how) here = bind_grows (same _) (λ r. select_grows how r here)
-    locate_grows (d.Component' p x t k how) here =
+    locate_grows (d.Component' p x k how) here =
         bind_grows (locate_grows x here) (λ r. bind_grows (same _) (λ q. reach_grows r.reach (select_grows how q here) (in_each_grows how _ q here)))
 
     select_grows : (how : l.Selection) (r : Reference) (here : Here) → Grows (select g calls how r here) (select g calls' how r here)
@@ -215,8 +220,9 @@ module _ (g : Setting) (calls calls' : Calls) (c : (here : Here) (f : ℕ) (ps :
     assign_grows : (k : Kind) (r : Reference) (v : Value) (here : Here) → Grows (assign g n calls k r v here) (assign g m calls' k r v here)
     assign_grows k r v here = if_grows k.is_allocatable (bind_grows (same _) (λ old. renew_grows k r old v here)) (if_grows (conforms (spans r.reach) v) (overwrite_grows k r v here) (same _))
 
-    answer_grows : (status : ℕ) (o : Option d.Designator) (here : Here) → Grows (answer g n calls status o here) (answer g m calls' status o here)
-    answer_grows status None here = same _
+    answer_grows : (status : Option RunError) (o : Option d.Designator) (here : Here) → Grows (answer g n calls status o here) (answer g m calls' status o here)
+    answer_grows None None here = same _
+    answer_grows (Some error) None here = same _
     answer_grows status (Some x) here = bind_grows (locate_grows x here) (λ r. same _)
 
     dimensions_grow : (bs : List Bounds) (here : Here) → Grows (dimensions g n calls bs here) (dimensions g m calls' bs here)
@@ -226,7 +232,7 @@ module _ (g : Setting) (calls calls' : Calls) (c : (here : Here) (f : ℕ) (ps :
     allocate_grows : (rs : List Request) (here : Here) → Grows (allocate_all g n calls rs here) (allocate_all g m calls' rs here)
     allocate_grows [] here = same _
     allocate_grows (r ∷ rs) here =
-        bind_grows (locate_grows r.object here) (λ h. bind_grows (dimensions_grow r.bounds.items here) (λ ss. bind_grows (same _) (λ status. if_grows (nat_eq status 0) (allocate_grows rs here) (same _))))
+        bind_grows (locate_grows r.object here) (λ h. bind_grows (dimensions_grow r.bounds.items here) (λ ss. bind_grows (same _) (λ status. failed_grows status (allocate_grows rs here))))
 
     one_grows : (k : Kind) (h : Reference) (here : Here) → Grows (deallocate g n calls k h here) (deallocate g m calls' k h here)
     one_grows k h here = bind_grows (same _) (λ b. if_grows b (if_grows (is_pinned h.path here.lent) (same _) (bind_grows (deallocate_grows _ _ (λ r here. destroy_grows _ r here) h here) (λ done. same _))) (same _))
@@ -234,7 +240,7 @@ module _ (g : Setting) (calls calls' : Calls) (c : (here : Here) (f : ℕ) (ps :
     deallocate_all_grow : (rs : List Request) (here : Here) → Grows (deallocate_all g n calls rs here) (deallocate_all g m calls' rs here)
     deallocate_all_grow [] here = same _
     deallocate_all_grow (r ∷ rs) here =
-        bind_grows (locate_grows r.object here) (λ h. bind_grows (one_grows r.kind h here) (λ status. if_grows (nat_eq status 0) (deallocate_all_grow rs here) (same _)))
+        bind_grows (locate_grows r.object here) (λ h. bind_grows (one_grows r.kind h here) (λ status. failed_grows status (deallocate_all_grow rs here)))
 
     move_grows : (k : Kind) (from to : Reference) (here : Here) → Grows (move_alloc g n calls k from to here) (move_alloc g m calls' k from to here)
     move_grows k from to here = bind_grows (finish_grows k to (lending (from ∷ to ∷ []) here)) (λ done. same _)
@@ -247,7 +253,7 @@ module _ (g : Setting) (calls calls' : Calls) (c : (here : Here) (f : ℕ) (ps :
     selectors_grow : (xs : List Selector) (here : Here) → Grows (selectors g n calls xs here) (selectors g m calls' xs here)
     selectors_grow [] here = same _
     selectors_grow (selector.Variable x ∷ xs) here = bind_grows (locate_grows x here) (λ r. bind_grows (selectors_grow xs here) (λ ps. same _))
-    selectors_grow (selector.Value x ∷ xs) here = bind_grows (value_grows x here) (λ v. bind_grows (same _) (λ done. bind_grows (selectors_grow xs here) (λ ps. same _)))
+    selectors_grow (selector.Value k x ∷ xs) here = bind_grows (value_grows x here) (λ v. bind_grows (same _) (λ done. bind_grows (selectors_grow xs here) (λ ps. same _)))
 
     mutual
       pub exec_grows : (x : s.Statement) (here : Here) → Grows (exec g n calls x here) (exec g m calls' x here)
@@ -303,7 +309,7 @@ calls_grow (suc depth) g n m le here f ps = procedure_grows g _ _ (calls_grow de
 main_grows : (g : Setting) (calls calls' : Calls) → ((here : Here) (f : ℕ) (ps : List Passed) → Grows (calls here f ps) (calls' here f ps)) → (n m : ℕ) → n ≤ m → (here : Here) → Grows (main_of g n calls here) (main_of g m calls' here)
 main_grows g calls calls' c n m le here = bind_grows (same _) (λ done. bind_grows (same _) (λ done. bind_grows (exec_grows g calls calls' c n m le g.program.main.body here) (λ flow. same _)))
 
-pub runs_grow : (p : Program) (refused : List ℕ) (last : ℕ) (n m : ℕ) → n ≤ m → Extends (prints p n refused last) (prints p m refused last)
-unfolding prints runs
-runs_grow p refused last n m le =
-    (main_grows (setting_of p refused last) _ _ (calls_grow 1000 (setting_of p refused last) n m le) n m le (first_here (setting_of p refused last))).always (first_world (setting_of p refused last))
+pub runs_grow : (p : Program) (answers : ℕ → Bool) (n m : ℕ) → n ≤ m → Extends (run_of p n answers) (run_of p m answers)
+unfolding run_of runs
+runs_grow p answers n m le =
+    (main_grows (setting_of p) _ _ (calls_grow 1000 (setting_of p) n m le) n m le (first_here (setting_of p))).always (first_world (setting_of p) answers)

@@ -15,11 +15,11 @@ use Rattle.f3_meaning_whole.specs.Reference.{Reference}
 use Rattle.f3_meaning_whole.specs.Ran.{Ran, prints_bytes}
 use Rattle.f3_meaning_whole.specs.Arithmetic.{converted, value_fits, divided, is_zero, power, apply, change_of}
 use Rattle.f3_meaning_whole.specs.Shape.{Parts, nothing, and, spans_declared}
-use Rattle.f3_meaning_whole.specs.Act.{Setting, Here, Passed, Given, Lent, claim, claim_for, needs_storage, read, begins, enter, Chosen, some_zero_step, all_inside, places, fitted, fitted_contents, fitted_argument, structure, passed_at}
-use Rattle.f3_meaning_whole.specs.Eval.{result, asked}
-use Rattle.f3_meaning_whole.specs.Exec.{text_of, print_value, request, leave, unless_zero}
+use Rattle.f3_meaning_whole.specs.Act.{Here, Passed, Given, Lent, claim, claim_for, needs_storage, read, begins, enter, leave, Chosen, some_zero_step, all_inside, places, fitted, fitted_contents, fitted_argument, structure, passed_at}
+use Rattle.f3_meaning_whole.specs.Eval.{result, built, asked}
+use Rattle.f3_meaning_whole.specs.Exec.{text_of, print_value, request, unless_zero}
 use Rattle.f3_meaning_whole.specs.Permitted.{Each}
-use Rattle.f3_meaning_whole.proofs.Keeping.{Keeps, bind_keeps, gives_safe, fails_keeps, looks_safe, does_safe, if_keeps, each_keeps, changes-printed}
+use Rattle.f3_meaning_whole.proofs.Keeping.{Keeps, bind_keeps, gives_safe, fails_keeps, looks_safe, does_safe, if_keeps, each_keeps, asks_safe, changes-printed, printed-stands}
 
 module _ (p : Program) where
   -- nothing is changed
@@ -28,15 +28,15 @@ module _ (p : Program) where
 
   pub converted_safe : (t : Base) (v : Value) (place : Place) → Safe (converted t v place)
   unfolding converted
-  converted_safe t v place = if_keeps p (value_fits t v) (gives_safe p v) (fails_keeps p 1 place)
+  converted_safe t v place = if_keeps p (value_fits t v) (gives_safe p v) (fails_keeps p _ place)
 
   divided_safe : (y : ℤ) (t : Base) (z : ℤ) (place : Place) → Safe (divided y t z place)
   unfolding divided
-  divided_safe y t z place = if_keeps p (is_zero y) (fails_keeps p 2 place) (converted_safe t _ place)
+  divided_safe y t z place = if_keeps p (is_zero y) (fails_keeps p _ place) (converted_safe t _ place)
 
   power_safe : (x y : ℤ) (t : Base) (place : Place) → Safe (power x y t place)
   power_safe x (pos n) t place = converted_safe t _ place
-  power_safe (pos zero) (negsuc n) t place = fails_keeps p 2 place
+  power_safe (pos zero) (negsuc n) t place = fails_keeps p _ place
   power_safe (pos (suc zero)) (negsuc n) t place = gives_safe p _
   power_safe (pos (suc (suc x))) (negsuc n) t place = gives_safe p _
   power_safe (negsuc zero) (negsuc n) t place = gives_safe p _
@@ -68,27 +68,30 @@ module _ (p : Program) where
   change_safe Absolute t x place = converted_safe t _ place
   change_safe Not t x place = gives_safe p _
 
-  pub claim_safe : (g : Setting) (here : Here) → Safe (claim g here)
-  claim_safe g here = bind_keeps p (looks_safe p _) (λ b u. if_keeps p b (fails_keeps p 6 here.place) (does_safe p _ _ (λ w. refl)))
+  pub claim_safe : (here : Here) → Safe (claim here)
+  claim_safe here = bind_keeps p (asks_safe p) (λ b u. if_keeps p b (fails_keeps p _ here.place) (gives_safe p tt))
 
-  pub claim_for_safe : (g : Setting) (v : Value) (here : Here) → Safe (claim_for g v here)
-  claim_for_safe g v here = if_keeps p (needs_storage v) (claim_safe g here) (gives_safe p tt)
+  pub claim_for_safe : (v : Value) (here : Here) → Safe (claim_for v here)
+  claim_for_safe v here = if_keeps p (needs_storage v) (claim_safe here) (gives_safe p tt)
 
-  pub read_safe : (g : Setting) (r : Reference) (here : Here) → Safe (read g r here)
-  read_safe g r here = bind_keeps p (looks_safe p _) (λ v u. bind_keeps p (claim_for_safe g v here) (λ done u. gives_safe p v))
+  pub built_safe : (v : Value) (here : Here) → Safe (built v here)
+  built_safe v here = bind_keeps p (claim_for_safe v here) (λ done u. gives_safe p v)
+
+  pub read_safe : (r : Reference) (here : Here) → Safe (read r here)
+  read_safe r here = bind_keeps p (looks_safe p _) (λ v u. bind_keeps p (claim_for_safe v here) (λ done u. gives_safe p v))
 
   pub begins_safe : (here : Here) → Safe (begins here)
-  begins_safe here = does_safe p _ _ (λ w. refl)
+  begins_safe here = does_safe p _ (λ s. refl) (λ s. (refl, tt))
 
   pub enter_safe : (vs : List Value) → Safe (enter vs)
-  enter_safe vs = does_safe p _ _ (λ w. refl)
+  enter_safe vs = does_safe p _ (λ s. refl) (λ s. (tt, tt))
 
   pub leave_safe : (level : ℕ) → Safe (leave level)
-  leave_safe level = does_safe p _ _ (λ w. refl)
+  leave_safe level = does_safe p _ (λ s. refl) (λ s. (tt, tt))
 
   pub printed_safe : (bytes : List ℕ) → Safe (prints_bytes bytes)
   unfolding prints_bytes
-  printed_safe bytes = does_safe p _ _ (λ w. changes-printed bytes)
+  printed_safe bytes = does_safe p _ (λ s. changes-printed bytes) (λ s. printed-stands bytes s)
 
   all_of : {A : Type 0} (xs : List A) → Each (λ x. ⊤) xs
   all_of [] = tt
@@ -103,25 +106,25 @@ module _ (p : Program) where
   print_safe (Allocated v) = printed_safe _
 
   pub places_keep : (ss : List Span) (cs : List Chosen) (here : Here) → Safe (places ss cs here)
-  places_keep ss cs here = if_keeps p (some_zero_step cs) (fails_keeps p 8 here.place) (if_keeps p (all_inside ss cs) (gives_safe p _) (fails_keeps p 3 here.place))
+  places_keep ss cs here = if_keeps p (some_zero_step cs) (fails_keeps p _ here.place) (if_keeps p (all_inside ss cs) (gives_safe p _) (fails_keeps p _ here.place))
 
   pub result_safe : (v : Value) (here : Here) → Safe (result v here)
   result_safe (Allocated v) here = gives_safe p _
-  result_safe Unallocated here = fails_keeps p 4 here.place
+  result_safe Unallocated here = fails_keeps p _ here.place
   result_safe (Number z) here = gives_safe p _
   result_safe (Truth b) here = gives_safe p _
   result_safe (Composite vs) here = gives_safe p _
   result_safe (Array ss vs) here = gives_safe p _
 
   pub asked_safe : (q : Query) (ss : List Span) (z : ℤ) (here : Here) → Safe (asked q ss z here)
-  asked_safe q [] z here = fails_keeps p 3 here.place
-  asked_safe q (s ∷ ss) z here = if_keeps p (int_le z (pos 0)) (fails_keeps p 3 here.place) (if_keeps p (int_le z (pos 1)) (converted_safe _ _ here.place) (asked_safe q ss (z -ℤ pos 1) here))
+  asked_safe q [] z here = fails_keeps p _ here.place
+  asked_safe q (s ∷ ss) z here = if_keeps p (int_le z (pos 0)) (fails_keeps p _ here.place) (if_keeps p (int_le z (pos 1)) (converted_safe _ _ here.place) (asked_safe q ss (z -ℤ pos 1) here))
 
   fitted_safe : (d : Declared) (v : Value) (here : Here) → Safe (fitted d v here)
   unfolding fitted
   fitted_safe d v here =
       if_keeps p d.kind.is_allocatable (bind_keeps p (converted_safe d.kind.of v here.place) (λ v u. gives_safe p _))
-      (if_keeps p (conforms (spans_declared d.dimensions.items) v) (bind_keeps p (converted_safe d.kind.of v here.place) (λ v u. gives_safe p _)) (fails_keeps p 7 here.place))
+      (if_keeps p (conforms (spans_declared d.dimensions.items) v) (bind_keeps p (converted_safe d.kind.of v here.place) (λ v u. gives_safe p _)) (fails_keeps p _ here.place))
 
   fitted_contents_safe : (d : Declared) (v : Value) (here : Here) → Safe (fitted_contents d v here)
   fitted_contents_safe d (Allocated (Array ss vs)) here = fitted_safe d (Array (shown ss) vs) here
@@ -144,10 +147,10 @@ module _ (p : Program) where
   pub structure_safe : (xs : Parts) (k : ℕ) (ps : List Passed) (here : Here) → Safe (structure xs k ps here)
   structure_safe nothing k ps here = gives_safe p _
   structure_safe (and c s rest) k ps here =
-      bind_keeps p (fitted_argument_safe c.declared _ (passed_at k ps) here) (λ v u. bind_keeps p (structure_safe rest (suc k) ps here) (λ vs u. gives_safe p _))
+      bind_keeps p (fitted_argument_safe c.declared _ (passed_at k ps) here) (λ v u. bind_keeps p (claim_for_safe v here) (λ done u. bind_keeps p (structure_safe rest (suc k) ps here) (λ vs u. gives_safe p _)))
 
-  pub request_safe : (g : Setting) → Safe (request g)
-  request_safe g = bind_keeps p (looks_safe p _) (λ b u. bind_keeps p (does_safe p _ _ (λ w. refl)) (λ done u. gives_safe p _))
+  pub request_safe : Safe request
+  request_safe = bind_keeps p (asks_safe p) (λ b u. bind_keeps p (does_safe p _ (λ s. refl) (λ s. (tt, tt))) (λ done u. gives_safe p _))
 
   pub unless_safe : (z : ℤ) (here : Here) → Safe (unless_zero z here)
-  unless_safe z here = if_keeps p (is_zero z) (fails_keeps p 8 here.place) (gives_safe p tt)
+  unless_safe z here = if_keeps p (is_zero z) (fails_keeps p _ here.place) (gives_safe p tt)

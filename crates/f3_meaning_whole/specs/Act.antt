@@ -1,32 +1,36 @@
 -- What statements and expressions do to objects.
 use Rattle.std.specs.Prelude.{⊤, ℕ, zero, suc, ◌+◌, ◌*◌, ℤ, pos, ◌+ℤ◌, ◌-ℤ◌, Bool, true, false, ◌&&◌, nat_eq, int_lt, int_le, nat_abs, if◌then◌else◌, List, [], ◌∷◌, ◌++◌, map, flat_map, length, Option, None, Some, unwrap_or, slice_index_or, slice_get}
 use Rattle.f3_rules.specs.declared.source.Place.{Place}
+use Rattle.f3_program.specs.declared.declarations.Base.{Base}
+use Rattle.f3_program.specs.declared.declarations.Base.TheVariants as base
+use Rattle.f3_program.specs.declared.declarations.Component as m
 use Rattle.f3_program.specs.declared.declarations.Declared.{Declared}
+use Rattle.f3_program.specs.declared.declarations.Derived.{Derived}
 use Rattle.f3_program.specs.declared.expression.Name.{Name}
 use Rattle.f3_program.specs.declared.expression.Name.TheVariants as n
 use Rattle.f3_program.specs.declared.program.Static as x
 use Rattle.f3_program.specs.declared.program.Program.{Program}
 use Rattle.f3_meaning_whole.specs.Value.{Span, Value, Composite, Array, Unallocated, Allocated, Values, none, more, joined, cleared, count, shown, from_one, conforms, spread}
-use Rattle.f3_meaning_whole.specs.Store.{Store, Path, Component, Element, Contents, within, get}
-use Rattle.f3_meaning_whole.specs.Reference.{Right, Define, Read, Maker, Reach, One, Many, Reference, reach_of, paths, held_at, put_all}
-use Rattle.f3_meaning_whole.specs.Ran.{Event, Changed, Began, World, Ran, ◌>>=◌, gives, fails, looks, does}
+use Rattle.f3_meaning_whole.specs.Store.{Store, Root, Static, Local, Path, Component, Element, Contents, within, get}
+use Rattle.f3_meaning_whole.specs.Reference.{Right, Define, Read, Maker, Reach, One, Many, Reference, reach_of, paths, held_at}
+use Rattle.f3_meaning_whole.specs.declared.run_error.RunError.TheVariants.{SubscriptOutOfBounds, NotAllocated, HeapHasNoRoom, ShapesDiffer, StepIsZero}
+use Rattle.f3_meaning_whole.specs.Ran.{Event, Changed, Began, Entered, Ended, Ran, ◌>>=◌, gives, fails, looks, does, asks}
 use Rattle.f3_meaning_whole.specs.Arithmetic.{trips, converted}
 use Rattle.f3_meaning_whole.specs.Shape.{Shape, Parts, nothing, and, initial_of, initial_declared, spans_declared}
 
--- What a run is of: the program, its types as trees, the ordinals of the ALLOCATE requests that are refused, and the
--- ordinal of the first claim for other storage that is (0: none).
+-- what a run is of: the program, and its types as trees
 pub record Setting : Type 0 where
   pub program : Program
   pub shapes : List Shape
-  pub refused : List ℕ
-  pub last : ℕ
 
--- Where a statement is executed: its place, its unit, the level of its activation, the objects of dummies and
--- associate names, all that is lent, and the value of the SELECT CASE around it.
+-- Where a statement is executed: its place (an error's is the first token of the innermost statement at work), its unit, the
+-- level of its activation, what is declared of the variables there, the objects of dummies and associate names, all that
+-- is lent, and the value of the SELECT CASE around it.
 pub record Here : Type 0 where
   pub place : Place
   pub unit : ℕ
   pub level : ℕ
+  pub variables : List Declared
   pub names : List Reference
   pub lent : List Reference
   pub selected : Value
@@ -42,48 +46,57 @@ Calls = Here → ℕ → List Passed → Ran Value
 
 -- ---- the store
 
-abbrev pub with_store : World → Store → World
-with_store w store = record { store = store; requests = w.requests; claims = w.claims }
-
-abbrev pub change : Reference → Here → List Event
-change r here = Changed (record { reference = r; executing = here.unit }) ∷ []
+-- the objects of a reference take these values, by a statement of a unit
+abbrev pub change : Reference → Here → List Value → List Event
+change r here vs = Changed (record { reference = r; executing = here.unit }) vs ∷ []
 
 -- the objects of a reference take a value: an array's elements in order, or one for all
 abbrev pub set : Reference → Value → Here → Ran ⊤
-set r v here = does (λ w. change r here) (λ w. with_store w (put_all (paths r) (spread (length (paths r)) v) w.store))
+set r v here = does (λ store. change r here (spread (length (paths r)) v))
 
 -- what is allocated beneath is freed
 abbrev pub clear : Reference → Here → Ran ⊤
-clear r here = does (λ w. change r here) (λ w. with_store w (put_all (paths r) (map (λ p. cleared (get w.store p)) (paths r)) w.store))
+clear r here = does (λ store. change r here (map (λ p. cleared (get store p)) (paths r)))
 
 -- a statement, or an END, begins
 abbrev pub begins : Here → Ran ⊤
-begins here = does (λ w. Began (record { store = w.store; lent = here.lent }) ∷ []) (λ w. w)
+begins here = does (λ store. Began (record { store = store; lent = here.lent }) ∷ [])
 
 -- a new level
 abbrev pub enter : List Value → Ran ⊤
-enter vs = does (λ w. []) (λ w. with_store w (w.store ++ vs ∷ []))
+enter vs = does (λ store. Entered vs ∷ [])
 
--- Storage is claimed for a copy, a held value, an activation or an assignment: error 6 where it is refused (own rule).
-abbrev pub claim : Setting → Here → Ran ⊤
-claim g here = do
-  refused ← looks (λ w. nat_eq (suc w.claims) g.last)
-  if refused then fails 6 here.place else does (λ w. []) (λ w. record { store = w.store; requests = w.requests; claims = suc w.claims })
+-- a level and all behind it end
+abbrev pub leave : ℕ → Ran ⊤
+leave level = does (λ store. Ended level ∷ [])
+
+-- Storage is claimed for a copy, a held value, an activation or an assignment; the run ends where it is refused (own rule).
+abbrev pub claim : Here → Ran ⊤
+claim here = asks >>= λ refused. if refused then fails HeapHasNoRoom here.place else gives tt
 
 abbrev pub needs_storage : Value → Bool
 needs_storage (Composite vs) = true
 needs_storage (Array ss vs) = true
+needs_storage (Allocated v) = true
 needs_storage v = false
 
--- storage for a value of array or derived type
-abbrev pub claim_for : Setting → Value → Here → Ran ⊤
-claim_for g v here = if needs_storage v then claim g here else gives tt
+-- storage for a value of array or derived type, or for an allocated object
+abbrev pub claim_for : Value → Here → Ran ⊤
+claim_for v here = if needs_storage v then claim here else gives tt
 
 abbrev pub at : Place → Here → Here
-at place here = record { place = place; unit = here.unit; level = here.level; names = here.names; lent = here.lent; selected = here.selected }
+at place here = record { place = place; unit = here.unit; level = here.level; variables = here.variables; names = here.names; lent = here.lent; selected = here.selected }
 
 abbrev pub lending : List Reference → Here → Here
-lending rs here = record { place = here.place; unit = here.unit; level = here.level; names = here.names; lent = rs ++ here.lent; selected = here.selected }
+lending rs here = record { place = here.place; unit = here.unit; level = here.level; variables = here.variables; names = here.names; lent = rs ++ here.lent; selected = here.selected }
+
+-- in a SELECT CASE with this value
+abbrev pub selecting : Value → Here → Here
+selecting v here = record { place = here.place; unit = here.unit; level = here.level; variables = here.variables; names = here.names; lent = here.lent; selected = v }
+
+-- in an ASSOCIATE with these names, which lend their objects
+abbrev pub associating : List Reference → Here → Here
+associating rs here = record { place = here.place; unit = here.unit; level = here.level; variables = here.variables; names = here.names ++ rs; lent = rs ++ here.lent; selected = here.selected }
 
 -- ---- references
 
@@ -92,18 +105,49 @@ abbrev pub right_to : ℕ → Option x.Static → Right
 right_to unit None = Define
 right_to unit (Some y) = if y.is_protected then (if nat_eq y.home unit then Define else Read) else Define
 
-abbrev pub root : ℕ → ℕ → Path
-root level slot = record { root = record { level = level; slot = slot }; steps = [] }
+abbrev pub whole : Root → Path
+whole t = record { root = t; steps = [] }
 
--- the reference to a root that holds a value
-abbrev pub to_root : Path → Right → ℕ → Value → Reference
-to_root p right unit v = record { path = p; reach = reach_of p v; right = right; origin = unit; makers = [] }
+-- the reference to a root of a type that holds a value, by a statement of a unit
+abbrev pub to_root : Root → Base → Right → ℕ → Value → Reference
+to_root t of right unit v = record { path = whole t; reach = reach_of (whole t) v; of = of; right = right; origin = unit; makers = [] }
+
+-- the type that is declared; checked programs declare each variable that they name
+abbrev pub type_of : Option Declared → Base
+type_of None = base.Integer
+type_of (Some d) = d.kind.of
+
+abbrev pub static_type : Option x.Static → Base
+static_type None = base.Integer
+static_type (Some y) = y.declared.kind.of
 
 -- what a name means in a statement of a unit
 abbrev pub named : Setting → Name → Here → Ran Reference
-named g (n.Static i) here = looks (λ w. to_root (root 0 i) (right_to here.unit (slice_get g.program.statics.items i)) here.unit (get w.store (root 0 i)))
-named g (n.Local i) here = looks (λ w. to_root (root here.level i) Define here.unit (get w.store (root here.level i)))
-named g (n.Lent i) here = gives (slice_index_or here.names i (to_root (root 0 0) Read 0 Unallocated))
+named g (n.Static i) here = looks (λ store. to_root (Static i) (static_type (slice_get g.program.statics.items i)) (right_to here.unit (slice_get g.program.statics.items i)) here.unit (get store (whole (Static i))))
+named g (n.Local i) here = looks (λ store. to_root (Local here.level i) (type_of (slice_get here.variables i)) Define here.unit (get store (whole (Local here.level i))))
+named g (n.Lent i) here = gives (slice_index_or here.names i (to_root (Local 0 0) base.Integer Read 0 Unallocated))
+
+-- the component of a number of a type
+abbrev pub component_in : Option Derived → ℕ → Option m.Component
+component_in None k = None
+component_in (Some t) k = slice_get t.components.items k
+
+abbrev pub derived_of : List Derived → Base → Option Derived
+derived_of types (base.Derived t) = slice_get types t
+derived_of types base.Integer = None
+derived_of types base.Long = None
+derived_of types base.Logical = None
+
+abbrev pub component_of : List Derived → Base → ℕ → Option m.Component
+component_of types of k = component_in (derived_of types of) k
+
+abbrev pub base_of : Option m.Component → Base
+base_of None = base.Integer
+base_of (Some c) = c.declared.kind.of
+
+-- the type of a component of an object of a type
+abbrev pub component_type : List Derived → Base → ℕ → Base
+component_type types of k = base_of (component_of types of k)
 
 abbrev pub component_reach : Reach → Path → ℕ → Store → Reach
 component_reach One p k store = reach_of (within p (Component k)) (get store (within p (Component k)))
@@ -115,36 +159,37 @@ component_path One p k = within p (Component k)
 component_path (Many ss ps) p k = p
 
 -- a component of an object, or of each element of an array (6.1.2)
-abbrev pub component : ℕ → ℕ → Maker → Reference → Ran Reference
-component t k maker r = looks (λ w. record {
+abbrev pub component : Setting → ℕ → Maker → Reference → Ran Reference
+component g k maker r = looks (λ store. record {
   path = component_path r.reach r.path k;
-  reach = component_reach r.reach r.path k w.store;
+  reach = component_reach r.reach r.path k store;
+  of = component_type g.program.types.items r.of k;
   right = r.right;
   origin = r.origin;
-  makers = r.makers ++ record { type = t; component = k; maker = maker } ∷ [];
+  makers = r.makers ++ record { of = r.of; component = k; maker = maker } ∷ [];
 })
 
--- a reference by the same root and components to another part
+-- a reference by the same root and components to another part of the same type
 abbrev pub moved : Reference → Path → Reach → Reference
-moved r p reach = record { path = p; reach = reach; right = r.right; origin = r.origin; makers = r.makers }
+moved r p reach = record { path = p; reach = reach; of = r.of; right = r.right; origin = r.origin; makers = r.makers }
 
--- what an allocatable holds (own rule: error 4 where it is unallocated)
+-- what an allocatable holds (6.3.1.1; own rule: an error where it is unallocated)
 abbrev pub opened : Reference → Value → Here → Ran Reference
 opened r (Allocated v) here = gives (moved r (within r.path Contents) (reach_of (within r.path Contents) v))
-opened r v here = fails 4 here.place
+opened r v here = fails NotAllocated here.place
 
 abbrev pub contents_by : Reach → Reference → Here → Ran Reference
-contents_by One r here = looks (λ w. get w.store r.path) >>= λ v. opened r v here
-contents_by (Many ss ps) r here = fails 4 here.place
+contents_by One r here = looks (λ store. get store r.path) >>= λ v. opened r v here
+contents_by (Many ss ps) r here = fails NotAllocated here.place
 
 abbrev pub contents : Reference → Here → Ran Reference
 contents r here = contents_by r.reach r here
 
 -- what stands at a reference: a copy, where it is of array or derived type
-abbrev pub read : Setting → Reference → Here → Ran Value
-read g r here = do
-  v ← looks (λ w. held_at w.store r.path r.reach)
-  done ← claim_for g v here
+abbrev pub read : Reference → Here → Ran Value
+read r here = do
+  v ← looks (λ store. held_at store r.path r.reach)
+  done ← claim_for v here
   gives v
 
 -- ---- elements and sections
@@ -193,9 +238,9 @@ spans_in (s ∷ ss) (At z ∷ cs) = spans_in ss cs
 spans_in (s ∷ ss) (Range lower upper step ∷ cs) = record { lower = pos 1; extent = length (subscripts_in s (Range lower upper step)) } ∷ spans_in ss cs
 spans_in ss cs = []
 
--- A step of zero is error 8, then a subscript out of bounds error 3 (own rules).
+-- A step of zero is found before a subscript out of bounds (own rules).
 abbrev pub places : List Span → List Chosen → Here → Ran (List ℕ)
-places ss cs here = if some_zero_step cs then fails 8 here.place else (if all_inside ss cs then gives (places_in ss cs) else fails 3 here.place)
+places ss cs here = if some_zero_step cs then fails StepIsZero here.place else (if all_inside ss cs then gives (places_in ss cs) else fails SubscriptOutOfBounds here.place)
 
 abbrev pub added : Option Path → List Path → List Path
 added None ps = ps
@@ -243,7 +288,7 @@ laid_out (suc rank) ss v = Array ss (joined (spread (count ss) v))
 unfoldable pub fitted : Declared → Value → Here → Ran Value
 fitted d v here =
     if d.kind.is_allocatable then (converted d.kind.of v here.place >>= λ v. gives (Allocated v))
-    else (if conforms (spans_declared d.dimensions.items) v then (converted d.kind.of v here.place >>= λ v. gives (laid_out d.kind.rank (spans_declared d.dimensions.items) v)) else fails 7 here.place)
+    else (if conforms (spans_declared d.dimensions.items) v then (converted d.kind.of v here.place >>= λ v. gives (laid_out d.kind.rank (spans_declared d.dimensions.items) v)) else fails ShapesDiffer here.place)
 
 -- an unallocated whole allocatable leaves the component unallocated
 abbrev pub fitted_contents : Declared → Value → Here → Ran Value
@@ -254,13 +299,14 @@ fitted_contents d v here = gives Unallocated
 abbrev pub fitted_argument : Declared → Value → Option Passed → Here → Ran Value
 fitted_argument d initial None here = gives initial
 fitted_argument d initial (Some (Given k v)) here = fitted d v here
-fitted_argument d initial (Some (Lent k r)) here = looks (λ w. get w.store r.path) >>= λ v. fitted_contents d v here
+fitted_argument d initial (Some (Lent k r)) here = looks (λ store. get store r.path) >>= λ v. fitted_contents d v here
 
 -- the values of components in the order of their definition; one that is left out has its initial value
 abbrev pub structure : Parts → ℕ → List Passed → Here → Ran Values
 structure nothing k ps here = gives none
 structure (and c s rest) k ps here = do
   v ← fitted_argument c.declared (initial_declared c.declared (initial_of s)) (passed_at k ps) here
+  done ← claim_for v here
   vs ← structure rest (suc k) ps here
   gives (more v vs)
 

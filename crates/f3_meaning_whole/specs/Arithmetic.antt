@@ -12,6 +12,7 @@ use Rattle.f3_program.specs.declared.statement.Range.TheVariants as range
 use Rattle.f3_program.specs.declared.declarations.Constant.{Constant}
 use Rattle.f3_program.specs.declared.declarations.Constant.TheVariants as constant
 use Rattle.f3_meaning_whole.specs.Value.{Value, Number, Truth, Array, Values, none, more, number_of, truth_of}
+use Rattle.f3_meaning_whole.specs.declared.run_error.RunError.TheVariants.{Overflow, DivisionByZero}
 use Rattle.f3_meaning_whole.specs.Ran.{Ran, gives, fails}
 
 abbrev pub fits_below : ℕ → ℤ → Bool
@@ -37,17 +38,17 @@ value_fits t (Number z) = fits t z
 value_fits t (Array ss vs) = all_fit t vs
 value_fits t v = true
 
--- the value as one of the type, or error 1 (own rule: integer overflow)
+-- the value as one of the type, or an overflow (own rule)
 unfoldable pub converted : Base → Value → Place → Ran Value
-converted t v place = if value_fits t v then gives v else fails 1 place
+converted t v place = if value_fits t v then gives v else fails Overflow place
 
 abbrev pub is_zero : ℤ → Bool
 is_zero (pos n) = nat_eq n 0
 is_zero (negsuc n) = false
 
--- what needs a divisor: error 2 (own rule: division by zero)
+-- what needs a divisor that is not zero (own rule)
 unfoldable pub divided : ℤ → Base → ℤ → Place → Ran Value
-divided y t z place = if is_zero y then fails 2 place else converted t (Number z) place
+divided y t z place = if is_zero y then fails DivisionByZero place else converted t (Number z) place
 
 -- a remainder with the sign of the divisor (13.7.80)
 abbrev pub floor_rem : ℤ → ℤ → ℤ
@@ -64,7 +65,7 @@ raised (negsuc x) n = if is_even n then pos (suc x ^ n) else neg_ℤ (pos (suc x
 -- The power (7.1.4): 1 at exponent 0; at a negative one 1 divided by the power, over whole numbers (own rule).
 abbrev pub power : ℤ → ℤ → Base → Place → Ran Value
 power x (pos n) t place = converted t (Number (raised x n)) place
-power (pos zero) (negsuc n) t place = fails 2 place
+power (pos zero) (negsuc n) t place = fails DivisionByZero place
 power (pos (suc zero)) (negsuc n) t place = gives (Number (pos 1))
 power (pos (suc (suc x))) (negsuc n) t place = gives (Number (pos 0))
 power (negsuc zero) (negsuc n) t place = gives (Number (raised (negsuc 0) (suc n)))

@@ -5,18 +5,19 @@ use Rattle.f3_program.specs.declared.declarations.Kind.{Kind}
 use Rattle.f3_meaning_whole.specs.Value.{Unallocated, is_allocated}
 use Rattle.f3_meaning_whole.specs.Store.{get}
 use Rattle.f3_meaning_whole.specs.Reference.{Language, One, Reference, paths, spans, is_pinned}
+use Rattle.f3_meaning_whole.specs.declared.run_error.RunError.TheVariants.{InUse}
 use Rattle.f3_meaning_whole.specs.Ran.{Ran, ◌>>=◌, gives, fails, looks, each}
 use Rattle.f3_meaning_whole.specs.Shape.{Shape, Whole, Logical, Record, Parts, nothing, and, shape_in, final_for}
 use Rattle.f3_meaning_whole.specs.Act.{Setting, Here, Lent, Calls, set, clear, lending, component, moved, contents}
 
--- Deallocating: error 9 where it is in use; then what it holds is destroyed, and it is unallocated (own rule for
--- ISO/IEC 1539-1:2004, 6.3.3).
+-- Deallocating (ISO/IEC 1539-1:2004, 6.3.3; own order): an error where it is in use; then what it holds is destroyed, and it
+-- is unallocated.
 abbrev pub deallocate_by : (Reference → Here → Ran ⊤) → Reference → Here → Ran ⊤
-deallocate_by destroy r here = if is_pinned r.path here.lent then fails 9 here.place else (contents r here >>= λ inner. destroy inner here >>= λ done. set r Unallocated here)
+deallocate_by destroy r here = if is_pinned r.path here.lent then fails InUse here.place else (contents r here >>= λ inner. destroy inner here >>= λ done. set r Unallocated here)
 
 -- deallocating what is allocated
 abbrev pub release_by : (Reference → Here → Ran ⊤) → Reference → Here → Ran ⊤
-release_by destroy r here = looks (λ w. is_allocated (get w.store r.path)) >>= λ allocated. if allocated then deallocate_by destroy r here else gives tt
+release_by destroy r here = looks (λ store. is_allocated (get store r.path)) >>= λ allocated. if allocated then deallocate_by destroy r here else gives tt
 
 -- an allocatable object is deallocated, another destroyed
 abbrev pub finish_by : (Reference → Here → Ran ⊤) → Kind → Reference → Here → Ran ⊤
@@ -45,7 +46,7 @@ module _ (g : Setting) (calls : Calls) where
     pub destroy_parts : Parts → ℕ → ℕ → Reference → Here → Ran ⊤
     destroy_parts nothing t k r here = gives tt
     destroy_parts (and c s rest) t k r here = do
-      q ← component t k Language r
+      q ← component g k Language r
       done ← finish_by (destroy s) c.declared.kind q here
       destroy_parts rest t (suc k) r here
 

@@ -13,15 +13,16 @@ use Rattle.f3_program.specs.declared.expression.Query.TheVariants as query
 use Rattle.f3_meaning_whole.specs.Value.{Span, Value, Number, Truth, Composite, Array, Unallocated, Allocated, joined, number_of, is_allocated, count, shown, plain, spans_of}
 use Rattle.f3_meaning_whole.specs.Store.{get}
 use Rattle.f3_meaning_whole.specs.Reference.{Selected, Reach, One, Many, Reference, spans}
+use Rattle.f3_meaning_whole.specs.declared.run_error.RunError.TheVariants.{SubscriptOutOfBounds, NotAllocated}
 use Rattle.f3_meaning_whole.specs.Ran.{Ran, ◌>>=◌, gives, fails, looks}
 use Rattle.f3_meaning_whole.specs.Arithmetic.{apply, change_of, converted, constant_value}
 use Rattle.f3_meaning_whole.specs.Shape.{Whole, spans_declared}
-use Rattle.f3_meaning_whole.specs.Act.{Setting, Here, Passed, Given, Lent, Calls, claim_for, named, component, contents, read, Chosen, At, Range, picks, picks_in_each, structure, components_of, given}
+use Rattle.f3_meaning_whole.specs.Act.{Setting, Here, Passed, Given, Lent, Calls, claim_for, named, component_of, component, contents, read, Chosen, At, Range, picks, picks_in_each, structure, components_of, given}
 
--- the result of a function (own rule: error 4 where it is unallocated)
+-- the value of a function's result, which is no variable (own rule: an error where it is unallocated)
 abbrev pub result : Value → Here → Ran Value
 result (Allocated v) here = gives (plain v)
-result Unallocated here = fails 4 here.place
+result Unallocated here = fails NotAllocated here.place
 result v here = gives (plain v)
 
 -- the bounds of a component of explicit shape
@@ -29,19 +30,20 @@ abbrev pub spans_of_component : Option Component → List Span
 spans_of_component None = []
 spans_of_component (Some c) = spans_declared c.declared.dimensions.items
 
-abbrev pub component_in : Option Derived → ℕ → Option Component
-component_in None k = None
-component_in (Some t) k = slice_get t.components.items k
-
 abbrev pub ask : Query → Span → ℤ
 ask query.Extent s = pos s.extent
 ask query.Lower s = s.lower
 ask query.Upper s = (s.lower +ℤ pos s.extent) -ℤ pos 1
 
--- SIZE, LBOUND and UBOUND in a dimension from 1 on; error 3 outside of the rank (own rule for 13.7)
+-- SIZE, LBOUND and UBOUND in a dimension from 1 on, of default kind (13.7.112, 13.7.60, 13.7.121; own rule: an error outside
+-- of the rank)
 abbrev pub asked : Query → List Span → ℤ → Here → Ran Value
-asked q [] z here = fails 3 here.place
-asked q (s ∷ ss) z here = if int_le z (pos 0) then fails 3 here.place else (if int_le z (pos 1) then converted base.Integer (Number (ask q s)) here.place else asked q ss (z -ℤ pos 1) here)
+asked q [] z here = fails SubscriptOutOfBounds here.place
+asked q (s ∷ ss) z here = if int_le z (pos 0) then fails SubscriptOutOfBounds here.place else (if int_le z (pos 1) then converted base.Integer (Number (ask q s)) here.place else asked q ss (z -ℤ pos 1) here)
+
+-- a value that is built, or that leaves an activation
+abbrev pub built : Value → Here → Ran Value
+built v here = claim_for v here >>= λ done. gives v
 
 -- for one object the first, for elements of an array the second
 abbrev pub by_reach : {A : Type 0} → Reach → A → A → A
@@ -54,7 +56,7 @@ module _ (g : Setting) (calls : Calls) where
     value (e.Literal c) here = gives (constant_value c)
     value (e.Variable' p x) here = do
       r ← locate x here
-      read g r here
+      read r here
     value (e.Group' p x) here = do
       v ← value x here
       gives (plain v)
@@ -67,7 +69,7 @@ module _ (g : Setting) (calls : Calls) where
       apply o t v w here.place
     value (e.Array' k xs) here = do
       ps ← arguments xs here
-      gives (Array (record { lower = pos 1; extent = length (given ps) } ∷ []) (joined (given ps)))
+      built (Array (record { lower = pos 1; extent = length (given ps) } ∷ []) (joined (given ps))) here
     value (e.Structure' t k xs) here = do
       ps ← arguments xs here
       vs ← structure (components_of (slice_index_or g.shapes t Whole)) 0 ps here
@@ -75,10 +77,11 @@ module _ (g : Setting) (calls : Calls) where
     value (e.Call' f k xs) here = do
       ps ← arguments xs here
       v ← calls here f ps
-      result v here
+      v ← result v here
+      built v here
     value (e.Allocated' p x) here = do
       r ← locate x here
-      looks (λ w. Truth (is_allocated (get w.store r.path)))
+      looks (λ store. Truth (is_allocated (get store r.path)))
     value (e.Size' p x) here = do
       ss ← bounds x here
       converted base.Integer (Number (pos (count ss))) here.place
@@ -99,7 +102,7 @@ module _ (g : Setting) (calls : Calls) where
     pub argument : a.Argument → Here → Ran Passed
     argument (a.Value' k p x) here = do
       v ← value x here
-      done ← claim_for g v here
+      done ← claim_for v here
       gives (Given k v)
     argument (a.Variable' k p x) here = do
       r ← locate x here
@@ -119,10 +122,10 @@ module _ (g : Setting) (calls : Calls) where
     locate (d.Name x how) here = do
       r ← named g x here
       select how r here
-    locate (d.Component' p x t k how) here = do
+    locate (d.Component' p x k how) here = do
       r ← locate x here
-      q ← component t k (Selected here.unit) r
-      by_reach r.reach (select how q here) (select_in_each how (spans_of_component (component_in (slice_get g.program.types.items t) k)) q here)
+      q ← component g k (Selected here.unit) r
+      by_reach r.reach (select how q here) (select_in_each how (spans_of_component (component_of g.program.types.items r.of k)) q here)
 
     pub select : s.Selection → Reference → Here → Ran Reference
     select s.Whole r here = gives r

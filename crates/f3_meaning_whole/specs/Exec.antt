@@ -2,6 +2,7 @@
 use Rattle.std.specs.Prelude.{⊤, ℕ, zero, suc, ◌^◌, ℤ, pos, ◌+ℤ◌, Bool, true, false, ◌||◌, nat_eq, nat_lt, if◌then◌else◌, List, [], ◌∷◌, ◌++◌, map, length, replicate, take, Option, None, Some}
 use Rattle.std.specs.Fmt.{signed_decimal}
 use Rattle.f3_rules.specs.declared.source.Place.{Place}
+use Rattle.f3_program.specs.declared.declarations.Base.{Base}
 use Rattle.f3_program.specs.declared.declarations.Declared.{Declared}
 use Rattle.f3_program.specs.declared.declarations.Kind.{Kind}
 use Rattle.f3_program.specs.declared.expression.Designator.{Designator}
@@ -18,12 +19,15 @@ use Rattle.f3_program.specs.declared.program.Intent.{Intent}
 use Rattle.f3_program.specs.declared.program.Intent.TheVariants as intent
 use Rattle.f3_program.specs.declared.program.Procedure.{Procedure}
 use Rattle.f3_meaning_whole.specs.Value.{Span, Value, Number, Truth, Array, Unallocated, Allocated, joined, listed, number_of, truth_of, is_allocated, count, shown, conforms, spans_of}
-use Rattle.f3_meaning_whole.specs.Store.{get}
+use Rattle.f3_meaning_whole.specs.Store.{Static, Local, get}
 use Rattle.f3_meaning_whole.specs.Reference.{Right, Define, Read, Reach, One, Many, Reference, spans, is_pinned}
-use Rattle.f3_meaning_whole.specs.Ran.{Ran, ◌>>=◌, gives, fails, stops, beyond, looks, does, prints_bytes, each}
+use Rattle.f3_meaning_whole.specs.declared.run_error.RunError.{RunError}
+use Rattle.f3_meaning_whole.specs.declared.run_error.RunError.TheVariants.{NotAllocated, AlreadyAllocated, HeapHasNoRoom, ShapesDiffer, StepIsZero, InUse, ArrayTooLarge}
+use Rattle.f3_meaning_whole.specs.Error.{error_number}
+use Rattle.f3_meaning_whole.specs.Ran.{Asked, Ran, ◌>>=◌, gives, fails, stops, beyond, looks, does, asks, prints_bytes, each}
 use Rattle.f3_meaning_whole.specs.Arithmetic.{converted, is_zero, meets, trips}
 use Rattle.f3_meaning_whole.specs.Shape.{initial_of, initial_declared, shape_in}
-use Rattle.f3_meaning_whole.specs.Act.{Setting, Here, Passed, Given, Lent, Calls, set, begins, enter, claim, claim_for, at, lending, root, to_root, with_store, contents, moved}
+use Rattle.f3_meaning_whole.specs.Act.{Setting, Here, Passed, Given, Lent, Calls, set, begins, enter, leave, claim, claim_for, at, lending, selecting, associating, whole, to_root, contents, moved}
 use Rattle.f3_meaning_whole.specs.Eval.{value, locate}
 use Rattle.f3_meaning_whole.specs.Destroy.{deallocate_by, destroy, finish}
 
@@ -53,9 +57,9 @@ abbrev pub turns : ℕ → Ran Bool → Ran Flow → Ran Flow
 turns zero test body = test >>= λ b. if b then beyond else gives Onward
 turns (suc n) test body = test >>= λ b. if b then (body >>= λ flow. next_turn flow (turns n test body)) else gives Onward
 
--- a step of zero is error 8 (own rule)
+-- a step of zero is an error (own rule)
 abbrev pub unless_zero : ℤ → Here → Ran ⊤
-unless_zero z here = if is_zero z then fails 8 here.place else gives tt
+unless_zero z here = if is_zero z then fails StepIsZero here.place else gives tt
 
 -- at most so many of the turns that are left, each with what follows it
 abbrev pub counted : ℕ → ℕ → Ran Flow → Ran ⊤ → Ran Flow
@@ -84,26 +88,23 @@ vacant (suc rank) ss v = Array ss (joined (replicate (count ss) v))
 abbrev pub new_value : Setting → Kind → List Span → Value
 new_value g k ss = Allocated (vacant k.rank ss (initial_of (shape_in g.shapes k.of)))
 
-abbrev pub is_among : List ℕ → ℕ → Bool
-is_among [] n = false
-is_among (m ∷ ms) n = if nat_eq m n then true else is_among ms n
-
--- an ALLOCATE request, which has the next ordinal: whether it is refused
-abbrev pub request : Setting → Ran Bool
-request g = do
-  refused ← looks (λ w. is_among g.refused (suc w.requests))
-  done ← does (λ w. []) (λ w. record { store = w.store; requests = suc w.requests; claims = w.claims })
+-- a request of an ALLOCATE: whether the heap refuses it
+abbrev pub request : Ran Bool
+request = do
+  refused ← asks
+  done ← does (λ store. Asked refused ∷ [])
   gives refused
 
 abbrev pub too_many : List Span → Bool
 too_many [] = false
 too_many (s ∷ ss) = if nat_lt s.extent (2 ^ 63) then too_many ss else true
 
--- already allocated is 5, more than 16,777,216 elements 11, a refused request 6; 0 is a success (own numbers for 6.3.1)
-abbrev pub allocate : Setting → Kind → Reference → List Span → Here → Ran ℕ
+-- Already allocated, then more than 16,777,216 elements, then a request that is refused; else there is a new object (own
+-- errors for 6.3.1).
+abbrev pub allocate : Setting → Kind → Reference → List Span → Here → Ran (Option RunError)
 allocate g k h ss here = do
-  already ← looks (λ w. is_allocated (get w.store h.path))
-  if already then gives 5 else (if too_many ss || nat_lt 16777216 (count ss) then gives 11 else (request g >>= λ refused. if refused then gives 6 else (set h (new_value g k ss) here >>= λ done. gives 0)))
+  already ← looks (λ store. is_allocated (get store h.path))
+  if already then gives (Some AlreadyAllocated) else (if too_many ss || nat_lt 16777216 (count ss) then gives (Some ArrayTooLarge) else (request >>= λ refused. if refused then gives (Some HeapHasNoRoom) else (set h (new_value g k ss) here >>= λ done. gives None)))
 
 -- ---- calls
 
@@ -113,11 +114,12 @@ held [] = []
 held (Given k v ∷ ps) = v ∷ held ps
 held (Lent k r ∷ ps) = held ps
 
--- the argument of a number, where the values that are held from a slot on stand on a level; checked programs lack none
-abbrev pub argument_at : ℕ → List Passed → ℕ → ℕ → ℕ → Reference
-argument_at k [] level slot unit = to_root (root (suc level) 0) Define unit Unallocated
-argument_at k (Given i v ∷ ps) level slot unit = if nat_eq i k then to_root (root level slot) Read unit v else argument_at k ps level (suc slot) unit
-argument_at k (Lent i r ∷ ps) level slot unit = if nat_eq i k then r else argument_at k ps level slot unit
+-- the argument of a number for a dummy of a type, where the values that are held from a slot on stand on a level; checked
+-- programs lack none
+abbrev pub argument_at : ℕ → Base → List Passed → ℕ → ℕ → ℕ → Reference
+argument_at k of [] level slot unit = to_root (Local (suc level) 0) of Define unit Unallocated
+argument_at k of (Given i v ∷ ps) level slot unit = if nat_eq i k then to_root (Local level slot) of Read unit v else argument_at k of ps level (suc slot) unit
+argument_at k of (Lent i r ∷ ps) level slot unit = if nat_eq i k then r else argument_at k of ps level slot unit
 
 -- an INTENT(IN) dummy may only be read (5.1.2.7)
 abbrev pub right_of : Intent → Right → Right
@@ -136,11 +138,11 @@ based_reach ls (Many ss ps) = Many (based ls ss) ps
 
 -- what a dummy is for an actual argument (12.4.1.2)
 abbrev pub bound : Dummy → Reference → Reference
-bound d r = record { path = r.path; reach = based_reach d.lowers.items r.reach; right = right_of d.intent r.right; origin = r.origin; makers = r.makers }
+bound d r = record { path = r.path; reach = based_reach d.lowers.items r.reach; of = r.of; right = right_of d.intent r.right; origin = r.origin; makers = r.makers }
 
 abbrev pub dummies : ℕ → List Dummy → List Passed → ℕ → ℕ → List Reference
 dummies k [] ps level unit = []
-dummies k (d ∷ ds) ps level unit = bound d (argument_at k ps level 0 unit) ∷ dummies (suc k) ds ps level unit
+dummies k (d ∷ ds) ps level unit = bound d (argument_at k d.kind.of ps level 0 unit) ∷ dummies (suc k) ds ps level unit
 
 abbrev pub shown_reach : Reach → Reach
 shown_reach One = One
@@ -150,10 +152,21 @@ shown_reach (Many ss ps) = Many (shown ss) ps
 abbrev pub associated : Reference → Reference
 associated r = moved r r.path (shown_reach r.reach)
 
-abbrev pub associates : List Passed → ℕ → ℕ → ℕ → List Reference
+-- what an associate name is for: a value of a type that is held, or an object (8.1.4.3)
+pub data Association : Type 0 where
+  Holds : Base → Value → Association
+  Means : Reference → Association
+
+abbrev pub held_by : List Association → List Value
+held_by [] = []
+held_by (Holds of v ∷ xs) = v ∷ held_by xs
+held_by (Means r ∷ xs) = held_by xs
+
+-- the objects of associate names, where the values that are held from a slot on stand on a level
+abbrev pub associates : List Association → ℕ → ℕ → ℕ → List Reference
 associates [] level slot unit = []
-associates (Given k v ∷ ps) level slot unit = to_root (root level slot) Read unit v ∷ associates ps level (suc slot) unit
-associates (Lent k r ∷ ps) level slot unit = associated r ∷ associates ps level slot unit
+associates (Holds of v ∷ xs) level slot unit = to_root (Local level slot) of Read unit v ∷ associates xs level (suc slot) unit
+associates (Means r ∷ xs) level slot unit = associated r ∷ associates xs level slot unit
 
 abbrev pub initial_value : Setting → Declared → Value
 initial_value g d = initial_declared d (initial_of (shape_in g.shapes d.kind.of))
@@ -164,22 +177,22 @@ where_out intent.In m = gives tt
 where_out intent.Out m = m
 where_out intent.InOut m = gives tt
 
--- the result stands behind the other variables
+abbrev pub with_result : List Declared → Option Declared → List Declared
+with_result ds None = ds
+with_result ds (Some d) = ds ++ d ∷ []
+
+-- what is declared of the variables of an activation: the result stands behind the others
+abbrev pub declared_in : Procedure → List Declared
+declared_in p = with_result p.locals.items p.result
+
+-- the variables of an activation begin with their initial values
 abbrev pub variables : Setting → Procedure → List Value
-variables g p = map (initial_value g) p.locals.items ++ result_of p.result
-  where
-    result_of : Option Declared → List Value
-    result_of None = []
-    result_of (Some d) = initial_value g d ∷ []
+variables g p = map (initial_value g) (declared_in p)
 
 -- the result of a function, and some value of a subroutine
 abbrev pub result_in : Option Declared → Value → Value
 result_in None v = Truth false
 result_in (Some d) v = v
-
--- the level and all above it end
-abbrev pub leave : ℕ → Ran ⊤
-leave level = does (λ w. []) (λ w. with_store w (take level w.store))
 
 -- where an activation is left: the place of a RETURN, or of the END, which begins then
 abbrev pub left_at : Flow → Place → Here → Ran Place
@@ -187,6 +200,16 @@ left_at (Returned place) end here = gives place
 left_at Onward end here = begins (at end here) >>= λ done. gives end
 left_at Cycled end here = gives end
 left_at Left end here = gives end
+
+-- the number of an error, and 0 of none
+abbrev pub status_number : Option RunError → ℕ
+status_number None = 0
+status_number (Some error) = error_number error
+
+-- what follows where there was no error
+abbrev pub unless_failed : Option RunError → Ran (Option RunError) → Ran (Option RunError)
+unless_failed None rest = rest
+unless_failed (Some error) rest = gives (Some error)
 
 module _ (g : Setting) (n : ℕ) (calls : Calls) where
   abbrev pub initialize : Kind → Reference → Here → Ran ⊤
@@ -197,13 +220,13 @@ module _ (g : Setting) (n : ℕ) (calls : Calls) where
   overwrite k r v here = do
     done ← destroy g calls (shape_in g.shapes k.of) r here
     v ← converted k.of v here.place
-    done ← claim_for g v here
+    done ← claim_for v here
     set r v here
 
   -- a new object with the shape of the value and its bounds
   abbrev pub fill : Kind → Reference → Value → Here → Ran ⊤
   fill k h v here = do
-    done ← claim g here
+    done ← claim here
     done ← set h (new_value g k (spans_of v)) here
     r ← contents h here
     v ← converted k.of v here.place
@@ -211,20 +234,22 @@ module _ (g : Setting) (n : ℕ) (calls : Calls) where
 
   abbrev pub renew : Kind → Reference → Value → Value → Here → Ran ⊤
   renew k h (Allocated old) v here = if conforms (spans_of old) v then (contents h here >>= λ r. overwrite k r v here) else (deallocate_by (destroy g calls (shape_in g.shapes k.of)) h here >>= λ done. fill k h v here)
-  renew k h old v here = if nat_eq k.rank (length (spans_of v)) then fill k h v here else fails 4 here.place
+  renew k h old v here = if nat_eq k.rank (length (spans_of v)) then fill k h v here else fails NotAllocated here.place
 
   -- an assignment of a value (7.4.1.3), to a whole allocatable with allocation (own rule)
   abbrev pub assign : Kind → Reference → Value → Here → Ran ⊤
   assign k r v here =
-      if k.is_allocatable then (looks (λ w. get w.store r.path) >>= λ old. renew k r old v here)
-      else (if conforms (spans r.reach) v then overwrite k r v here else fails 7 here.place)
+      if k.is_allocatable then (looks (λ store. get store r.path) >>= λ old. renew k r old v here)
+      else (if conforms (spans r.reach) v then overwrite k r v here else fails ShapesDiffer here.place)
 
-  -- the status of an ALLOCATE or DEALLOCATE: into the STAT variable, or an error unless it is 0
-  abbrev pub answer : ℕ → Option Designator → Here → Ran ⊤
-  answer status None here = if nat_eq status 0 then gives tt else fails status here.place
+  -- How an ALLOCATE or DEALLOCATE ended: an error ends the run, or its number, 0 if there is none, is put into the STAT
+  -- variable (6.3.1.3, 6.3.3.3), which is located last (own rule).
+  abbrev pub answer : Option RunError → Option Designator → Here → Ran ⊤
+  answer None None here = gives tt
+  answer (Some error) None here = fails error here.place
   answer status (Some d) here = do
     r ← locate g calls d here
-    set r (Number (pos status)) here
+    set r (Number (pos (status_number status))) here
 
   abbrev pub dimensions : List Bounds → Here → Ran (List Span)
   dimensions [] here = gives []
@@ -234,37 +259,37 @@ module _ (g : Setting) (n : ℕ) (calls : Calls) where
     ss ← dimensions bs here
     gives (record { lower = number_of l; extent = trips (number_of l) (number_of u) (pos 1) } ∷ ss)
 
-  -- object by object, up to the first that fails (own rule)
-  abbrev pub allocate_all : List Request → Here → Ran ℕ
-  allocate_all [] here = gives 0
+  -- object by object, up to the first that fails (own rule): the earlier ones keep their new state
+  abbrev pub allocate_all : List Request → Here → Ran (Option RunError)
+  allocate_all [] here = gives None
   allocate_all (r ∷ rs) here = do
     h ← locate g calls r.object here
     ss ← dimensions r.bounds.items here
     status ← allocate g r.kind h ss here
-    if nat_eq status 0 then allocate_all rs here else gives status
+    unless_failed status (allocate_all rs here)
 
-  -- not allocated is 4, in use 9
-  abbrev pub deallocate : Kind → Reference → Here → Ran ℕ
+  -- not allocated, then in use (own errors for 6.3.3); else it is deallocated
+  abbrev pub deallocate : Kind → Reference → Here → Ran (Option RunError)
   deallocate k h here = do
-    allocated ← looks (λ w. is_allocated (get w.store h.path))
-    if allocated then (if is_pinned h.path here.lent then gives 9 else (deallocate_by (destroy g calls (shape_in g.shapes k.of)) h here >>= λ done. gives 0)) else gives 4
+    allocated ← looks (λ store. is_allocated (get store h.path))
+    if allocated then (if is_pinned h.path here.lent then gives (Some InUse) else (deallocate_by (destroy g calls (shape_in g.shapes k.of)) h here >>= λ done. gives None)) else gives (Some NotAllocated)
 
-  abbrev pub deallocate_all : List Request → Here → Ran ℕ
-  deallocate_all [] here = gives 0
+  abbrev pub deallocate_all : List Request → Here → Ran (Option RunError)
+  deallocate_all [] here = gives None
   deallocate_all (r ∷ rs) here = do
     h ← locate g calls r.object here
     status ← deallocate r.kind h here
-    if nat_eq status 0 then deallocate_all rs here else gives status
+    unless_failed status (deallocate_all rs here)
 
   abbrev pub take_over : Reference → Reference → Value → Here → Ran ⊤
-  take_over from to (Allocated v) here = if is_pinned from.path here.lent then fails 9 here.place else (set from Unallocated here >>= λ done. set to (Allocated v) here)
+  take_over from to (Allocated v) here = if is_pinned from.path here.lent then fails InUse here.place else (set from Unallocated here >>= λ done. set to (Allocated v) here)
   take_over from to v here = gives tt
 
   -- MOVE_ALLOC (13.7.82), with both lent: TO is deallocated, then takes what FROM holds
   abbrev pub move_alloc : Kind → Reference → Reference → Here → Ran ⊤
   move_alloc k from to here = do
     done ← finish g calls k to (lending (from ∷ to ∷ []) here)
-    v ← looks (λ w. get w.store from.path)
+    v ← looks (λ store. get store from.path)
     take_over from to v (lending (from ∷ to ∷ []) here)
 
   -- each item is printed before the next is evaluated (own rule)
@@ -279,23 +304,23 @@ module _ (g : Setting) (n : ℕ) (calls : Calls) where
     items xs here
 
   -- a variable gives its reference, any other selector a value that is held
-  abbrev pub selectors : List Selector → Here → Ran (List Passed)
+  abbrev pub selectors : List Selector → Here → Ran (List Association)
   selectors [] here = gives []
   selectors (selector.Variable d ∷ xs) here = do
     r ← locate g calls d here
-    ps ← selectors xs here
-    gives (Lent 0 r ∷ ps)
-  selectors (selector.Value e ∷ xs) here = do
+    found ← selectors xs here
+    gives (Means r ∷ found)
+  selectors (selector.Value k e ∷ xs) here = do
     v ← value g calls e here
-    done ← claim_for g v here
-    ps ← selectors xs here
-    gives (Given 0 v ∷ ps)
+    done ← claim_for v here
+    found ← selectors xs here
+    gives (Holds k.of v ∷ found)
 
   -- the DO variable goes on by the step (8.1.6.4.2); it is looked up each time
   abbrev pub increment : Designator → Kind → ℤ → Here → Ran ⊤
   increment d k step here = do
     r ← locate g calls d here
-    old ← looks (λ w. get w.store r.path)
+    old ← looks (λ store. get store r.path)
     v ← converted k.of (Number (number_of old +ℤ step)) here.place
     set r v here
 
@@ -348,7 +373,7 @@ module _ (g : Setting) (n : ℕ) (calls : Calls) where
       if truth_of v then exec x here else exec y here
     exec (s.Select' e p x) here = do
       v ← value g calls e here
-      exec x (record { place = here.place; unit = here.unit; level = here.level; names = here.names; lent = here.lent; selected = v })
+      exec x (selecting v here)
     exec (s.Case' rs p x q y) here = if some_meets rs.items here.selected then exec x here else exec y here
     exec (s.While' e p x) here = turns n (value g calls e here >>= λ v. gives (truth_of v)) (exec x here)
     exec (s.Count' d k e f h p x) here = do
@@ -363,10 +388,10 @@ module _ (g : Setting) (n : ℕ) (calls : Calls) where
       done ← set r first here
       counted n (trips (number_of first) (number_of last) (number_of step)) (exec x here) (increment d k (number_of step) here)
     exec (s.Associate' xs p x) here = do
-      ps ← selectors xs.items here
-      level ← looks (λ w. length w.store)
-      done ← enter (held ps)
-      flow ← exec x (record { place = here.place; unit = here.unit; level = here.level; names = here.names ++ associates ps level 0 here.unit; lent = associates ps level 0 here.unit ++ here.lent; selected = here.selected })
+      found ← selectors xs.items here
+      level ← looks (λ store. length store.levels)
+      done ← enter (held_by found)
+      flow ← exec x (associating (associates found level 0 here.unit) here)
       done ← leave level
       gives flow
 
@@ -380,7 +405,7 @@ module _ (g : Setting) (n : ℕ) (calls : Calls) where
   abbrev pub finish_locals : List Declared → ℕ → Here → Ran ⊤
   finish_locals [] i here = gives tt
   finish_locals (d ∷ ds) i here = do
-    r ← looks (λ w. to_root (root here.level i) Define here.unit (get w.store (root here.level i)))
+    r ← looks (λ store. to_root (Local here.level i) d.kind.of Define here.unit (get store (whole (Local here.level i))))
     done ← finish g calls d.kind r here
     finish_locals ds (suc i) here
 
@@ -394,16 +419,16 @@ module _ (g : Setting) (n : ℕ) (calls : Calls) where
   -- a call of a procedure by these arguments, from there (12.4)
   abbrev pub called : Procedure → List Passed → Here → Ran Value
   called p ps here = do
-    done ← claim g here
-    level ← looks (λ w. length w.store)
+    done ← claim here
+    level ← looks (λ store. length store.levels)
     done ← enter (held ps)
     done ← enter (variables g p)
     let rs : List Reference = dummies 0 p.dummies.items ps level here.unit
-    let inner : Here = record { place = here.place; unit = p.unit; level = suc level; names = rs; lent = rs ++ here.lent; selected = Unallocated }
+    let inner : Here = record { place = here.place; unit = p.unit; level = suc level; variables = declared_in p; names = rs; lent = rs ++ here.lent; selected = Unallocated }
     done ← outs p.dummies.items rs inner
     flow ← exec p.body inner
     place ← left_at flow p.end inner
     done ← finish_locals p.locals.items 0 (at place inner)
-    v ← looks (λ w. result_in p.result (get w.store (root (suc level) (length p.locals.items))))
+    v ← looks (λ store. result_in p.result (get store (whole (Local (suc level) (length p.locals.items)))))
     done ← leave level
     gives v

@@ -1,9 +1,10 @@
 -- References: how statements come to objects.
 use Rattle.std.specs.Prelude.{ℕ, suc, Bool, false, ◌||◌, List, [], ◌∷◌, map}
+use Rattle.f3_program.specs.declared.declarations.Base.{Base}
 use Rattle.f3_meaning_whole.specs.Value.{Span, Value, Array, Values, joined, shown}
-use Rattle.f3_meaning_whole.specs.Store.{Store, Path, Element, Contents, within, goes_through, get, put}
+use Rattle.f3_meaning_whole.specs.Store.{Store, Path, Element, Contents, within, goes_through, get}
 
--- what may be done through a reference
+-- what may be done through a reference (ISO/IEC 1539-1:2004, 5.1.2.7 and 5.1.2.12)
 pub data Right : Type 0 where
   Define : Right
   Read : Right
@@ -13,9 +14,9 @@ pub data Maker : Type 0 where
   Selected : (unit : ℕ) → Maker
   Language : Maker
 
--- a component that was selected: of a type, by its number, and who did
+-- a component that was selected: of an object of which type, by its number, and who did
 pub record Made : Type 0 where
-  pub type : ℕ
+  pub of : Base
   pub component : ℕ
   pub maker : Maker
 
@@ -24,11 +25,13 @@ pub data Reach : Type 0 where
   One : Reach
   Many : List Span → List Path → Reach
 
--- An object, what of it is meant, what may be done to it, the unit whose statement named the root, and the
--- components that were selected on the way.
+-- An object, what of it is meant, its type by the declarations on the way from the root, what may be done to it, the unit
+-- whose statement named the root, and the components that were selected on the way. An array's path stays where the array
+-- stands, also for a section: this is what a reference lends.
 pub record Reference : Type 0 where
   pub path : Path
   pub reach : Reach
+  pub of : Base
   pub right : Right
   pub origin : ℕ
   pub makers : List Made
@@ -59,11 +62,6 @@ spans (Many ss ps) = ss
 abbrev pub held_at : Store → Path → Reach → Value
 held_at store p One = get store p
 held_at store p (Many ss ps) = Array (shown ss) (joined (map (get store) ps))
-
--- each object takes its value
-abbrev pub put_all : List Path → List Value → Store → Store
-put_all (p ∷ ps) (v ∷ vs) store = put_all ps vs (put store p v)
-put_all ps vs store = store
 
 -- some lent reference goes through the contents of the allocatable object at a path (own rule: it is in use)
 abbrev pub is_pinned : Path → List Reference → Bool

@@ -1,8 +1,10 @@
 //! Expressions, designators and arguments.
+//!
+//! What the source leaves to its reader is written out: kinds of results, what of an allocatable is meant, absent bounds.
 
 use crate::declarations::{Base, Constant};
 
-/// The object that a name means.
+/// The object that a name means (16.4).
 #[derive(Clone, Copy, PartialEq, Eq, Debug)]
 pub enum Name {
     /// A variable that lives for the whole run, by its number.
@@ -14,7 +16,8 @@ pub enum Name {
     Lent(usize),
 }
 
-/// An operator on two operands, or an intrinsic function of two integers.
+/// An operator on two operands (ISO/IEC 1539-1:2004, 7.1.4 to 7.1.5), or an intrinsic function of two integers (13.7).
+/// MAX and MIN of more are nested to the left.
 #[derive(Clone, Copy, PartialEq, Eq, Debug)]
 pub enum BinaryOperator {
     Add,
@@ -38,7 +41,7 @@ pub enum BinaryOperator {
     NotEquivalent,
 }
 
-/// An operator on one operand, or an intrinsic function of one.
+/// An operator on one operand (7.1.4, 7.1.5), or the intrinsic function ABS (13.7.1).
 #[derive(Clone, Copy, PartialEq, Eq, Debug)]
 pub enum UnaryOperator {
     Negate,
@@ -46,7 +49,7 @@ pub enum UnaryOperator {
     Not,
 }
 
-/// What is asked of a dimension of an array.
+/// What SIZE, LBOUND and UBOUND ask of a dimension of an array (13.7.112, 13.7.60, 13.7.121).
 #[derive(Clone, Copy, PartialEq, Eq, Debug)]
 pub enum Query {
     Extent,
@@ -61,6 +64,7 @@ pub enum Expression {
     Literal(Constant),
     /// What a designator names holds.
     Variable(Box<Designator>),
+    /// An expression in parentheses (7.1.7.3): no variable, with lower bounds 1.
     Group(Box<Expression>),
     /// With the type of the result.
     Unary(UnaryOperator, Base, Box<Expression>),
@@ -73,15 +77,15 @@ pub enum Expression {
     Structure(usize, Vec<Argument>),
     /// A reference to a procedure (12.4), by its number, with the arguments in the order written.
     Call(usize, Vec<Argument>),
-    /// `ALLOCATED` of a whole allocatable.
+    /// ALLOCATED of a whole allocatable (13.7.9).
     Allocated(Box<Designator>),
-    /// `SIZE` of all of an array.
+    /// SIZE of all of an array.
     Size(Box<Argument>),
-    /// `SIZE`, `LBOUND` or `UBOUND` of an array and a dimension.
+    /// SIZE, LBOUND or UBOUND of an array and a dimension.
     Bound(Query, Box<Argument>, Box<Expression>),
 }
 
-/// A value or an object for a dummy or a component, whose number comes first.
+/// A value or an object for a dummy or a component (12.4.1), whose number comes first.
 #[cycle(expression)]
 #[derive(Drop)]
 pub enum Argument {
@@ -94,11 +98,11 @@ pub enum Argument {
 #[derive(Drop)]
 pub enum Designator {
     Name(Name, Selection),
-    /// A component of what stands before the `%`: the number of the type, and the component's in it.
-    Component(Box<Designator>, usize, usize, Selection),
+    /// A component of what stands before the `%` (6.1.2), by its number in the type of that.
+    Component(Box<Designator>, usize, Selection),
 }
 
-/// What of an object is meant.
+/// What of an object is meant (6.2).
 #[cycle(expression)]
 #[derive(Drop)]
 pub enum Selection {
