@@ -12,6 +12,7 @@ ghost use Rattle.f3_meaning_rows.specs.Rows8.{Rows8Show};
 ghost use Rattle.f3_meaning_rows.specs.Rows9.{Rows9Show};
 ghost use Rattle.f3_meaning_rows.specs.Others.{OthersShow};
 ghost use Rattle.f3_meaning_rows.specs.Corners.{CornersShow};
+ghost use Rattle.f3_meaning_rows.specs.More.{MoreShow};
 ghost use Rattle.f3_meaning_rows.specs.Stages.{StagesStand};
 
 /// These programs print this and end so.
@@ -77,4 +78,9 @@ pub fn corners_show()
 /// A run has these stages.
 pub fn stages_stand()
     ensures { StagesStand }
+{}
+
+/// These programs show in which order work is done, and where the heap is asked for storage.
+pub fn more_show()
+    ensures { MoreShow }
 {}
