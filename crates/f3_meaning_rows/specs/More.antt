@@ -17,7 +17,6 @@ use Rattle.f3_meaning_whole.specs.Run.{runs, run_of, changes, stages, requests}
 use Rattle.f3_meaning_rows.specs.Shown.{granted, refusing, Shown, shown, lines, Finished, Failed, Stopped, Unfinished}
 use Rattle.f3_meaning_rows.specs.Build.{vec, place, kind, dim, declared, comp, derived, final, num, truth, var, group, bin, array, struct, call, allocated, size, query as asks, val, ref, name, member, elements, sub, range as triplet, at, block, when, for, associate, bounds, request, text, dummy, static, procedure, program}
 
-
 --     program p; integer, allocatable :: a(:)
 --     allocate(a(2), stat=a(2)); print *, a; end
 abbrev pub stat_last : Global → Program

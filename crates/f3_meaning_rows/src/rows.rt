@@ -1,4 +1,6 @@
-//! Programs, and what they print.
+//! Programs and what they print, change and go through, computed from the meaning: nothing here is
+//! called by f3. The expected answers were worked out by hand from the language's rules, or are those of
+//! a compiler written apart from these definitions.
 
 ghost use Rattle.f3_meaning_rows.specs.Rows0.{Rows0Show};
 ghost use Rattle.f3_meaning_rows.specs.Rows1.{Rows1Show};
@@ -14,6 +16,15 @@ ghost use Rattle.f3_meaning_rows.specs.Others.{OthersShow};
 ghost use Rattle.f3_meaning_rows.specs.Corners.{CornersShow};
 ghost use Rattle.f3_meaning_rows.specs.More.{MoreShow};
 ghost use Rattle.f3_meaning_rows.specs.Stages.{StagesStand};
+ghost use Rattle.f3_meaning_rows.specs.Told.{
+  ChangesStand,
+  DestroyedLent,
+  ForgedAreNot,
+  FormsStand,
+  PryingShows,
+  ReadsShow,
+  StoresStand,
+};
 
 /// These programs print this and end so.
 pub fn rows0_show()
@@ -83,4 +94,39 @@ pub fn stages_stand()
 /// These programs show in which order work is done, and where the heap is asked for storage.
 pub fn more_show()
     ensures { MoreShow }
+{}
+
+/// This run makes these changes, and no others.
+pub fn changes_stand()
+    ensures { ChangesStand }
+{}
+
+/// This run goes through these stores, with this lent.
+pub fn stores_stand()
+    ensures { StoresStand }
+{}
+
+/// What is destroyed is lent, the parts and the whole.
+pub fn destroyed_lent()
+    ensures { DestroyedLent }
+{}
+
+/// These statements begin a stage, and no others.
+pub fn forms_stand()
+    ensures { FormsStand }
+{}
+
+/// These changes are not permitted: they are by the right to read.
+pub fn reads_show()
+    ensures { ReadsShow }
+{}
+
+/// This change is not permitted: another unit selected a private component.
+pub fn prying_shows()
+    ensures { PryingShows }
+{}
+
+/// These changes, which no run makes, are not permitted.
+pub fn forged_are_not()
+    ensures { ForgedAreNot }
 {}
