@@ -15,7 +15,7 @@ use Rattle.f3_meaning_whole.specs.Store as kept
 use Rattle.f3_meaning_whole.specs.Reference.{Right, Define, Read, Maker, Reach, One, Many, Reference, reach_of, elements_from, paths, paths_by, Made}
 use Rattle.f3_meaning_whole.specs.declared.run_error.RunError.{RunError}
 use Rattle.f3_meaning_whole.specs.Ran.{Event, Printed, Changed, Began, Entered, Ended, Asked, effect, replayed, World, End, Gives, Fails, Stops, Beyond, Ran, go_on, ◌>>=◌, gives, fails, stops, beyond, looks, does, asks, each}
-use Rattle.f3_meaning_whole.specs.Act.{Setting, Here, set, clear, in_each, picked, moved, component_path, component_reach, component, opened, contents, right_to, to_root, added, elements_at, first_of, contents_by, whole, static_type, derived_of, component_type}
+use Rattle.f3_meaning_whole.specs.Act.{Setting, Here, set, clear, in_each, picked, moved, component_path, component_reach, component, opened, contents, right_to, to_root, added, elements_at, first_of, contents_by, whole, static_type, component_type}
 use Rattle.f3_meaning_whole.specs.Run.{changes}
 use Rattle.f3_meaning_whole.specs.Permitted.{Each, FromHome, IsMadeWell, IsDeclared, IsTyped, Permitted, is_define, numbers, IsAt}
 use Rattle.f3_meaning_whole.specs.Laws.{Stands, along}

@@ -1,19 +1,18 @@
 -- What owners of modules rely on.
-use Rattle.std.proofs.Common.{◌≡◌, ℕ, zero, suc, Bool, true, false, List, [], ◌∷◌, ◌++◌, Some, refl, sym, ap, ◌∙◌}
-use Rattle.std.specs.Prelude.{⊤, T, ◌&&◌, nat_eq, slice_get}
+use Rattle.std.proofs.Common.{◌≡◌, ℕ, Bool, true, false, List, [], ◌∷◌, ◌++◌, Some, refl, sym, ap, ◌∙◌}
+use Rattle.std.specs.Prelude.{T, ◌&&◌, nat_eq, slice_get}
 use mathlib.Core.Path.{subst}
 use lib.Dec.{eqb→eq}
 use Rattle.f3_program.specs.declared.declarations.Base.{Base}
 use Rattle.f3_program.specs.declared.declarations.Component as m
 use Rattle.f3_program.specs.declared.declarations.Derived.{Derived}
-use Rattle.f3_program.specs.declared.program.Static as x
 use Rattle.f3_program.specs.declared.program.Program.{Program}
-use Rattle.f3_meaning_whole.specs.Store.{Root, Static, Local, Store, Path, Step, Component, Element, Contents, within, components, get, same_root, same_step, begins_with, goes_through}
+use Rattle.f3_meaning_whole.specs.Store.{Root, Static, Path, Step, Component, Element, Contents, within, components, get, same_root, same_step, begins_with, goes_through}
 use Rattle.f3_meaning_whole.specs.Reference.{Made, paths}
-use Rattle.f3_meaning_whole.specs.Ran.{Event, Printed, Changed, Began, Entered, Ended, Asked, Change, Stage, replayed}
+use Rattle.f3_meaning_whole.specs.Ran.{Event, Printed, Changed, Began, Entered, Ended, Asked, Change, Stage}
 use Rattle.f3_meaning_whole.specs.Act.{whole, derived_of, component_type}
 use Rattle.f3_meaning_whole.specs.Run.{run_of, changes, first_store, setting_of}
-use Rattle.f3_meaning_whole.specs.Permitted.{Each, IsMaker, IsMadeWell, IsDeclared, IsTyped, numbers, IsAt, Permitted, IsLawful}
+use Rattle.f3_meaning_whole.specs.Permitted.{Each, IsMadeWell, IsTyped, numbers, IsAt, Permitted, IsLawful}
 use Rattle.f3_meaning_whole.specs.Laws.{Apart, Outlives, Spares, IsThere, AreStages, along, IsNotOwn, ProtectedStays, IsNotAbove, IsNotBy, PrivateStays}
 use Rattle.f3_meaning_whole.proofs.Keeping.{no, changes-append}
 use Rattle.f3_meaning_whole.proofs.Changes.{changes_are_permitted, stages_stand}

@@ -1,5 +1,5 @@
 -- The trees of types are those of the types.
-use Rattle.std.proofs.Common.{◌≡◌, ℕ, zero, suc, ◌+◌, List, [], ◌∷◌, ◌++◌, Option, None, Some, refl, sym, ap, ◌∙◌, append_assoc, append-nil, arith, length}
+use Rattle.std.proofs.Common.{◌≡◌, ℕ, zero, suc, ◌+◌, List, [], ◌∷◌, ◌++◌, Some, refl, sym, ap, ◌∙◌, append_assoc, arith, length}
 use Rattle.std.specs.Prelude.{⊤, slice_get, slice_index_or}
 use mathlib.Core.Path.{subst}
 use Rattle.f3_program.specs.declared.declarations.Base.{Base}

@@ -1,5 +1,5 @@
 -- What statements mean.
-use Rattle.std.specs.Prelude.{⊤, ℕ, zero, suc, ◌^◌, ℤ, pos, ◌+ℤ◌, Bool, true, false, ◌||◌, nat_eq, nat_lt, if◌then◌else◌, List, [], ◌∷◌, ◌++◌, map, length, replicate, take, Option, None, Some}
+use Rattle.std.specs.Prelude.{⊤, ℕ, zero, suc, ◌^◌, ℤ, pos, ◌+ℤ◌, Bool, true, false, ◌||◌, nat_eq, nat_lt, if◌then◌else◌, List, [], ◌∷◌, ◌++◌, map, length, replicate, Option, None, Some}
 use Rattle.std.specs.Fmt.{signed_decimal}
 use Rattle.f3_rules.specs.declared.source.Place.{Place}
 use Rattle.f3_program.specs.declared.declarations.Base.{Base}
@@ -19,7 +19,7 @@ use Rattle.f3_program.specs.declared.program.Intent.{Intent}
 use Rattle.f3_program.specs.declared.program.Intent.TheVariants as intent
 use Rattle.f3_program.specs.declared.program.Procedure.{Procedure}
 use Rattle.f3_meaning_whole.specs.Value.{Span, Value, Number, Truth, Array, Unallocated, Allocated, joined, listed, number_of, truth_of, is_allocated, count, shown, conforms, spans_of}
-use Rattle.f3_meaning_whole.specs.Store.{Static, Local, get}
+use Rattle.f3_meaning_whole.specs.Store.{Local, get}
 use Rattle.f3_meaning_whole.specs.Reference.{Right, Define, Read, Reach, One, Many, Reference, spans, is_pinned}
 use Rattle.f3_meaning_whole.specs.declared.run_error.RunError.{RunError}
 use Rattle.f3_meaning_whole.specs.declared.run_error.RunError.TheVariants.{NotAllocated, AlreadyAllocated, HeapHasNoRoom, ShapesDiffer, StepIsZero, InUse, ArrayTooLarge}
