@@ -191,7 +191,8 @@ module _ (p : Program) where
   names_of_dummies bs k [] ps level unit a h = tt
   names_of_dummies bs k (x ∷ xs) ps level unit a h = (
     bound_known x (argument_at k x.kind.of ps level 0 unit) (slice_index_or bs k unknown) a.0 (argument_known bs k x.kind.of ps level 0 unit (sym (ap (λ (l : Lendable). l.of) a.0)) h),
-    names_of_dummies bs (suc k) xs ps level unit a.1 h)
+    names_of_dummies bs (suc k) xs ps level unit a.1 h,
+  )
 
 abbrev CallsKeep : Setting → Calls → Type 0
 CallsKeep g calls = (here : Here) (f : ℕ) (ps : List Passed) → Each (IsPassed g.program (names_in g.program f)) ps → Safe g.program (calls here f ps)

@@ -103,8 +103,8 @@ root_put s (Local l i) (Local m k) v = by (slice_put s.levels l m (slice_set (sl
     now = slice_index_or (slice_set s.levels l (slice_set (slice_index_or s.levels l []) i v)) m []
 
     by : Either (slice_index_or (slice_set s.levels l (slice_set (slice_index_or s.levels l []) i v)) m [] ≡ slice_index_or s.levels m []) ((m ≡ l) × (slice_index_or (slice_set s.levels l (slice_set (slice_index_or s.levels l []) i v)) m [] ≡ slice_set (slice_index_or s.levels l []) i v))
-       → Either (slice_index_or (slice_set (slice_index_or s.levels l []) i v) k Unallocated ≡ slice_index_or (slice_index_or s.levels l []) k Unallocated) ((k ≡ i) × (slice_index_or (slice_set (slice_index_or s.levels l []) i v) k Unallocated ≡ v))
-       → Either (at_root (with_root s (Local l i) v) (Local m k) ≡ at_root s (Local m k)) ((Local m k ≡ Local l i) × (at_root (with_root s (Local l i) v) (Local m k) ≡ v))
+        → Either (slice_index_or (slice_set (slice_index_or s.levels l []) i v) k Unallocated ≡ slice_index_or (slice_index_or s.levels l []) k Unallocated) ((k ≡ i) × (slice_index_or (slice_set (slice_index_or s.levels l []) i v) k Unallocated ≡ v))
+        → Either (at_root (with_root s (Local l i) v) (Local m k) ≡ at_root s (Local m k)) ((Local m k ≡ Local l i) × (at_root (with_root s (Local l i) v) (Local m k) ≡ v))
     by (Left e) f = Left (ap (λ vs. slice_index_or vs k Unallocated) e)
     by (Right e) (Left f) = Left (ap (λ vs. slice_index_or vs k Unallocated) e.1 ∙ f ∙ ap (λ n. slice_index_or (slice_index_or s.levels n []) k Unallocated) (sym e.0))
     by (Right e) (Right f) = Right (ap (λ n. Local n k) e.0 ∙ ap (Local l) f.0, ap (λ vs. slice_index_or vs k Unallocated) e.1 ∙ f.1)

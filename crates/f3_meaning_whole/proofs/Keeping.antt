@@ -187,7 +187,8 @@ module _ (p : Program) where
       by s out (Gives x w) a b q = (
         rw (changes-append out ((f x).from w).out) (each-append (Permitted p) _ _ a ((h x q.0).always w).0),
         stands-append out ((f x).from w).out s b (subst (λ t. Stands t ((f x).from w).out) q.1 ((h x q.0).always w).1),
-        later Q s w.store out ((f x).from w).out q.1 ((f x).from w).end ((h x q.0).always w).2)
+        later Q s w.store out ((f x).from w).out q.1 ((f x).from w).end ((h x q.0).always w).2,
+      )
       by s out (Fails error place) a b q = (a, b, tt)
       by s out (Stops code) a b q = (a, b, tt)
       by s out Beyond a b q = (a, b, tt)
