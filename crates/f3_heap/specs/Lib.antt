@@ -1,3 +1,6 @@
+pub mod Answers
+pub mod FullAt
+pub mod Laws
 pub mod Plain
 pub use Rattle.f3_heap_laws.specs.Account
 pub use Rattle.f3_heap_laws.specs.Blocks

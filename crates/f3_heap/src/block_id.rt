@@ -4,7 +4,8 @@ ghost use Rattle.std.specs.Prelude.{◌≡◌, ◌↔◌, ◌<◌, ◌+◌, ◌^
 
 use std::marker::Model;
 
-/// The name of a block in its heap: its place, counted from 0.
+/// The name of a block in its heap: a positive number. In one region of words it is the block's place
+/// plus 1.
 #[derive(Clone, Copy, Debug, PartialEq, Eq)]
 pub struct BlockId {
     word: usize,
@@ -23,7 +24,7 @@ impl Model for BlockId {
 }
 
 impl BlockId {
-    /// The word that stands for this name in other blocks: its place plus 1, so it is positive.
+    /// The word that stands for this name in other blocks. It is positive.
     pub fn word(self) -> i64
         ensures value { result ≡ pos self }
         ensures positive { 0 < self }

@@ -1,10 +1,13 @@
 //! What a heap of blocks is.
 
-ghost use Rattle.std.specs.Prelude.{◌≡◌, ◌≢◌, ◌↔◌, ◌<◌, ◌+◌, ◌-◌, ℕ, ℤ, pos, Bool, true, false, List, length, replicate, IfOk, OnOk, OnErr, IsOk, slice_set, slice_index_or};
+ghost use Rattle.std.specs.Prelude.{◌≡◌, ◌≢◌, ◌↔◌, ◌<◌, ◌+◌, ◌-◌, ℕ, ℤ, pos, Bool, false, List, length};
+ghost use Rattle.std.specs.Prelude.{IfOk, OnOk, OnErr, IsOk, slice_set, slice_index_or};
 ghost use Rattle.std.specs.FinMap.{get, remove};
 ghost use Rattle.std.specs.Borrow.{sem, Lends, Array, i64 as word_type};
 ghost use Rattle.f3_heap_laws.specs.Blocks.{Live, IsLive, words_of, pins_of, with_taken, with_words, with_pins, written_over};
 ghost use Rattle.f3_heap_laws.specs.Account.{used_by};
+ghost use Rattle.f3_heap_laws.specs.Answers.{Answer, Full, Sizes, sizes};
+ghost use Rattle.f3_heap.specs.Answers.{answer_of};
 
 use crate::block_id::BlockId;
 
@@ -23,14 +26,28 @@ pub struct Pinned;
 
 /// A heap: a finite map from its live blocks to their words and how often they are pinned.
 ///
-/// Words are 64 bits, and a block's words are counted from 0.
+/// Words are 64 bits, and a block's words are counted from 0. Each kind of heap has a rule of its own
+/// which answers `take` may give. The rule sees what the heap keeps besides its blocks, the names and
+/// lengths of the live blocks, and the words asked for, and nothing else.
 pub trait Blocks {
+    // the live blocks
     ghost blocks: { Self → Live };
 
-    ghost size: { Self → ℕ };
+    // what is kept besides them
+    ghost Rest: { Type 0 };
 
+    ghost kept: { Self → Rest };
+
+    // the rule: whether this answer to a take of so many words is allowed
+    ghost allows: { Rest → Sizes → ℕ → Answer → Type 0 };
+
+    // what is kept after a take
+    ghost spent: { Rest → Rest };
+
+    // whether there is room for a block of so many words
     ghost has_room: { Self → ℕ → Bool };
 
+    // the heap once these words were written to a block through `pair`
     ghost after_pair: { Self → ℕ → List ℤ → Self };
 
     /// Takes a new block of so many words, all zero, with no pins.
@@ -38,13 +55,14 @@ pub trait Blocks {
     /// # Errors
     ///
     /// `Full` exactly where `room` is false for the request, and `Memory` where the host refused
-    /// memory. The blocks are then unchanged.
+    /// memory, in a heap whose rule allows that. The blocks are then unchanged.
     fn take(&mut self, words: usize) -> Result<BlockId, TakeFault>
         ensures full { (result ≡ Err TakeFault.Full) ↔ (has_room self.old words ≡ false) }
         ensures fresh { IfOk result (λ b. get (blocks self.old) b ≡ None) }
         ensures taken { IfOk result (λ b. blocks self.new ≡ with_taken (blocks self.old) b words) }
         ensures refused { OnErr result (blocks self.new ≡ blocks self.old) }
-        ensures size { size self.new ≡ size self.old };
+        ensures allowed { allows (kept self.old) (sizes (blocks self.old)) words (answer_of result) }
+        ensures kept { kept self.new ≡ spent (kept self.old) };
 
     /// Gives a block back.
     ///
@@ -56,7 +74,7 @@ pub trait Blocks {
         ensures unpinned { IsOk result ↔ (pins_of (blocks self.old) block ≡ 0) }
         ensures given { OnOk result (blocks self.new ≡ remove (blocks self.old) block) }
         ensures refused { OnErr result (blocks self.new ≡ blocks self.old) }
-        ensures size { size self.new ≡ size self.old };
+        ensures kept { kept self.new ≡ kept self.old };
 
     /// The number of words of a block.
     fn length(&self, block: BlockId) -> usize
@@ -74,7 +92,7 @@ pub trait Blocks {
         requires live { IsLive (blocks self.old) block }
         requires within { at < length (words_of (blocks self.old) block) }
         ensures written { blocks self.new ≡ with_words (blocks self.old) block (slice_set (words_of (blocks self.old) block) at value) }
-        ensures size { size self.new ≡ size self.old };
+        ensures kept { kept self.new ≡ kept self.old };
 
     /// The words of one block to read, and those of another to write.
     fn pair(&mut self, from: BlockId, to: BlockId) -> (&[i64], &mut [i64])
@@ -90,14 +108,14 @@ pub trait Blocks {
         requires live { IsLive (blocks self.old) block }
         requires below { pins_of (blocks self.old) block < u64.MAX }
         ensures counted { blocks self.new ≡ with_pins (blocks self.old) block (pins_of (blocks self.old) block + 1) }
-        ensures size { size self.new ≡ size self.old };
+        ensures kept { kept self.new ≡ kept self.old };
 
     /// Takes one pin of a block away.
     fn unpin(&mut self, block: BlockId)
         requires live { IsLive (blocks self.old) block }
         requires pinned { 0 < pins_of (blocks self.old) block }
         ensures counted { blocks self.new ≡ with_pins (blocks self.old) block (pins_of (blocks self.old) block - 1) }
-        ensures size { size self.new ≡ size self.old };
+        ensures kept { kept self.new ≡ kept self.old };
 
     /// How often a block is pinned.
     fn pins(&self, block: BlockId) -> u64
@@ -112,7 +130,11 @@ pub trait Blocks {
     fn room(&self, words: usize) -> bool
         ensures { result ≡ has_room self.now words };
 
-    ghost pair_keeps_size: { (s : Self) (b : ℕ) (ws : List ℤ) → size (after_pair s b ws) ≡ size s };
+    // Full is allowed exactly where there is no room
+    ghost refuses: { (s : Self) (w : ℕ) → allows (kept s) (sizes (blocks s)) w Full ↔ (has_room s w ≡ false) };
+
+    // words that are written through `pair` change that block's words, and nothing that is kept
+    ghost pair_keeps: { (s : Self) (b : ℕ) (ws : List ℤ) → kept (after_pair s b ws) ≡ kept s };
 
     ghost pair_writes: { (s : Self) (b : ℕ) (ws : List ℤ) → blocks (after_pair s b ws) ≡ with_words (blocks s) b (written_over (words_of (blocks s) b) ws) };
 }

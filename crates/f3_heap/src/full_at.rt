@@ -1,8 +1,14 @@
 //! A heap that refuses once.
 
-ghost use Rattle.std.specs.Prelude.{◌≡◌, ◌↔◌, ◌<◌, ◌+◌, ◌-◌, pos, length, cond, nat_eq, true, false, IfOk, OnOk, OnErr, IsOk, slice_set};
-ghost use Rattle.std.specs.FinMap.{get, remove};
-ghost use Rattle.f3_heap_laws.specs.Blocks.{IsLive, words_of, pins_of, with_taken, with_words, with_pins};
+ghost use Rattle.std.specs.Prelude.{◌≡◌, ◌↔◌, ℕ, cond, nat_eq, false, IfOk, OnErr};
+ghost use Rattle.std.specs.FinMap.{get};
+ghost use Rattle.std.proofs.Common.{ap};
+ghost use Rattle.f3_heap_laws.specs.Blocks.{with_taken};
+ghost use Rattle.f3_heap_laws.specs.Answers.{sizes};
+ghost use Rattle.f3_heap_laws.specs.Rules.{FullAtAllows, full_at_spent};
+ghost use Rattle.f3_heap_laws.proofs.Refusals.{full_at_refuses};
+ghost use Rattle.f3_heap.specs.Answers.{answer_of};
+ghost use Rattle.f3_heap.specs.FullAt.{behind, refused_take, with_behind};
 
 use crate::block_id::BlockId;
 use crate::blocks::{Blocks, Pinned, TakeFault};
@@ -17,30 +23,38 @@ pub struct FullAt<B: Blocks> {
 impl<B: Blocks> FullAt<B> {
     /// Refuses take number `at` from now on, or none of its own where `at` is 0.
     pub fn new(blocks: B, at: u64) -> FullAt<B>
-        ensures heap { result.blocks ≡ blocks }
-        ensures count { result.at ≡ at }
+        ensures heap { behind result ≡ blocks }
+        ensures count { refused_take result ≡ at }
     {
         FullAt { blocks, at }
     }
 }
 
 impl<B: Blocks> Blocks for FullAt<B> {
-    ghost blocks = { λ s. B.blocks s.blocks };
+    ghost blocks = { λ s. B.blocks (behind s) };
 
-    ghost size = { λ s. B.size s.blocks };
+    ghost Rest = { ℕ × B.Rest };
 
-    ghost has_room = { λ s w. cond (nat_eq s.at 1) false (B.has_room s.blocks w) };
+    ghost kept = { λ s. (refused_take s, B.kept (behind s)) };
 
-    ghost after_pair = { λ s b ws. record s { blocks = B.after_pair s.blocks b ws } };
+    ghost allows = { FullAtAllows B.allows };
+
+    ghost spent = { full_at_spent B.spent };
+
+    ghost has_room = { λ s w. cond (nat_eq (refused_take s) 1) false (B.has_room (behind s) w) };
+
+    ghost after_pair = { λ s b ws. with_behind s (B.after_pair (behind s) b ws) };
 
     fn take(&mut self, words: usize) -> Result<BlockId, TakeFault>
-        ensures full { (result ≡ Err TakeFault.Full) ↔ (cond (nat_eq self.old.at 1) false (B.has_room self.old.blocks words) ≡ false) }
-        ensures fresh { IfOk result (λ b. get (B.blocks self.old.blocks) b ≡ None) }
-        ensures taken { IfOk result (λ b. B.blocks self.new.blocks ≡ with_taken (B.blocks self.old.blocks) b words) }
-        ensures refused { OnErr result (B.blocks self.new.blocks ≡ B.blocks self.old.blocks) }
-        ensures size { B.size self.new.blocks ≡ B.size self.old.blocks }
-        ensures count { self.new.at ≡ self.old.at - 1 }
-        ensures alone { self.old.at ≡ 1 → self.new.blocks ≡ self.old.blocks }
+        ensures full { (result ≡ Err TakeFault.Full) ↔ (cond (nat_eq (refused_take self.old) 1) false (B.has_room (behind self.old) words) ≡ false) }
+        ensures fresh { IfOk result (λ b. get (B.blocks (behind self.old)) b ≡ None) }
+        ensures taken { IfOk result (λ b. B.blocks (behind self.new) ≡ with_taken (B.blocks (behind self.old)) b words) }
+        ensures refused { OnErr result (B.blocks (behind self.new) ≡ B.blocks (behind self.old)) }
+        ensures allowed { FullAtAllows B.allows (refused_take self.old, B.kept (behind self.old)) (sizes (B.blocks (behind self.old))) words (answer_of result) }
+        ensures kept { ◌≡◌ {A = ℕ × B.Rest}
+            (refused_take self.new, B.kept (behind self.new))
+            (full_at_spent B.spent (refused_take self.old, B.kept (behind self.old))) }
+        ensures alone { refused_take self.old ≡ 1 → behind self.new ≡ behind self.old }
     {
         if self.at == 1 {
             self.at = 0;
@@ -50,14 +64,7 @@ impl<B: Blocks> Blocks for FullAt<B> {
         self.blocks.take(words)
     }
 
-    fn give(&mut self, block: BlockId) -> Result<(), Pinned>
-        requires { IsLive (B.blocks self.old.blocks) block }
-        ensures unpinned { IsOk result ↔ (pins_of (B.blocks self.old.blocks) block ≡ 0) }
-        ensures given { OnOk result (B.blocks self.new.blocks ≡ remove (B.blocks self.old.blocks) block) }
-        ensures refused { OnErr result (B.blocks self.new.blocks ≡ B.blocks self.old.blocks) }
-        ensures size { B.size self.new.blocks ≡ B.size self.old.blocks }
-        ensures count { self.new.at ≡ self.old.at }
-    {
+    fn give(&mut self, block: BlockId) -> Result<(), Pinned> {
         self.blocks.give(block)
     }
 
@@ -69,13 +76,7 @@ impl<B: Blocks> Blocks for FullAt<B> {
         self.blocks.read(block, at)
     }
 
-    fn write(&mut self, block: BlockId, at: usize, value: i64)
-        requires live { IsLive (B.blocks self.old.blocks) block }
-        requires within { at < length (words_of (B.blocks self.old.blocks) block) }
-        ensures written { B.blocks self.new.blocks ≡ with_words (B.blocks self.old.blocks) block (slice_set (words_of (B.blocks self.old.blocks) block) at value) }
-        ensures size { B.size self.new.blocks ≡ B.size self.old.blocks }
-        ensures count { self.new.at ≡ self.old.at }
-    {
+    fn write(&mut self, block: BlockId, at: usize, value: i64) {
         self.blocks.write(block, at, value);
     }
 
@@ -83,23 +84,11 @@ impl<B: Blocks> Blocks for FullAt<B> {
         self.blocks.pair(from, to)
     }
 
-    fn pin(&mut self, block: BlockId)
-        requires live { IsLive (B.blocks self.old.blocks) block }
-        requires below { pins_of (B.blocks self.old.blocks) block < u64.MAX }
-        ensures counted { B.blocks self.new.blocks ≡ with_pins (B.blocks self.old.blocks) block (pins_of (B.blocks self.old.blocks) block + 1) }
-        ensures size { B.size self.new.blocks ≡ B.size self.old.blocks }
-        ensures count { self.new.at ≡ self.old.at }
-    {
+    fn pin(&mut self, block: BlockId) {
         self.blocks.pin(block);
     }
 
-    fn unpin(&mut self, block: BlockId)
-        requires live { IsLive (B.blocks self.old.blocks) block }
-        requires pinned { 0 < pins_of (B.blocks self.old.blocks) block }
-        ensures counted { B.blocks self.new.blocks ≡ with_pins (B.blocks self.old.blocks) block (pins_of (B.blocks self.old.blocks) block - 1) }
-        ensures size { B.size self.new.blocks ≡ B.size self.old.blocks }
-        ensures count { self.new.at ≡ self.old.at }
-    {
+    fn unpin(&mut self, block: BlockId) {
         self.blocks.unpin(block);
     }
 
@@ -115,7 +104,9 @@ impl<B: Blocks> Blocks for FullAt<B> {
         self.at != 1 && self.blocks.room(words)
     }
 
-    ghost pair_keeps_size = { λ s b ws. B.pair_keeps_size s.blocks b ws };
+    ghost refuses = { λ s w. full_at_refuses B.allows (refused_take s) (B.kept (behind s)) (sizes (B.blocks (behind s))) w (B.has_room (behind s) w) (B.refuses (behind s) w) };
 
-    ghost pair_writes = { λ s b ws. B.pair_writes s.blocks b ws };
+    ghost pair_keeps = { λ s b ws. ap (λ (x : B.Rest). (refused_take s, x)) (B.pair_keeps (behind s) b ws) };
+
+    ghost pair_writes = { λ s b ws. B.pair_writes (behind s) b ws };
 }

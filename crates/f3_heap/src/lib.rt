@@ -5,6 +5,7 @@ mod block_id;
 mod blocks;
 mod full_at;
 mod heap_blocks;
+pub mod laws;
 mod plain;
 mod raw;
 mod segments;

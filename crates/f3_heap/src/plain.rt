@@ -1,10 +1,13 @@
 //! The plain finite map of blocks: slow, for reference.
 
-ghost use Rattle.std.specs.Prelude.{◌≡◌, ◌≤◌, ◌<◌, ◌+◌, ◌-◌, ◌^◌, ℕ, pos, nat_le, length, replicate, take, IfOk, OnOk, OnErr, ◌++◌, ◌∷◌, [], true, false, get_or};
+ghost use Rattle.std.specs.Prelude.{◌≡◌, ◌≤◌, ◌<◌, ◌+◌, ◌-◌, ◌^◌, ℕ, pos, nat_le, length, replicate, take};
+ghost use Rattle.std.specs.Prelude.{IfOk, OnOk, OnErr, false, get_or};
 ghost use Rattle.std.proofs.Common.{refl};
 ghost use Rattle.f3_heap_laws.specs.Blocks.{with_words, words_of, pins_of, written_over, IsLive};
 ghost use Rattle.f3_heap_laws.specs.Account.{r, used_by};
 ghost use Rattle.std.specs.FinMap.{empty};
+ghost use Rattle.f3_heap_laws.specs.Rules.{plain_allows};
+ghost use Rattle.f3_heap_laws.proofs.Refusals.{plain_refuses};
 ghost use Rattle.f3_heap.specs.Plain.{live_slots, IsPut};
 
 use crate::block_id::BlockId;
@@ -22,6 +25,9 @@ struct Slot {
 }
 
 /// The finite map itself, as a list by `word`. It is slow, and only its `take` can answer `Memory`.
+///
+/// `take` answers `Full` exactly where the live blocks and the new one would take more words than
+/// the heap has. Else it answers any new block, or `Memory` where a growth of the list was refused.
 #[derive(Drop)]
 pub struct PlainBlocks {
     alloc: Global,
@@ -133,7 +139,13 @@ fn slot_of(slots: &[Slot], block: BlockId) -> &Slot
 impl Blocks for PlainBlocks {
     ghost blocks = { λ h. h.blocks };
 
-    ghost size = { λ h. h.size };
+    ghost Rest = { ℕ };
+
+    ghost kept = { λ h. h.size };
+
+    ghost allows = { plain_allows };
+
+    ghost spent = { λ n. n };
 
     ghost has_room = { λ h w. nat_le (used_by h.blocks + r w) h.size };
 
@@ -217,7 +229,9 @@ impl Blocks for PlainBlocks {
         fits(words, self.size - self.used)
     }
 
-    ghost pair_keeps_size = { λ h b ws. refl };
+    ghost refuses = { λ h w. plain_refuses h.size h.blocks w };
+
+    ghost pair_keeps = { λ h b ws. refl };
 
     ghost pair_writes = { λ h b ws. refl };
 }

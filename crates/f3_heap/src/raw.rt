@@ -2,12 +2,16 @@
 
 #![tactic(auto)]
 
-ghost use Rattle.std.specs.Prelude.{◌≡◌, ◌≢◌, ◌↔◌, ◌-◌, ◌*◌, ◌/◌, Some, None, false, IfOk, OnErr, IsOk};
+ghost use Rattle.std.specs.Prelude.{◌≡◌, ◌≢◌, ◌↔◌, ℕ, ◌-◌, ◌*◌, ◌/◌, Some, None, false, IfOk, OnErr, IsOk};
 ghost use Rattle.std.specs.List.{list_any};
 ghost use Rattle.std.specs.FinMap.{get, empty};
 ghost use Rattle.f3_heap_laws.specs.Blocks.{with_taken, with_words, words_of, written_over};
 ghost use Rattle.std.proofs.Common.{refl};
 ghost use Rattle.f3_heap_laws.specs.Gaps.{gaps, places, is_wide, first_wide};
+ghost use Rattle.f3_heap_laws.specs.Answers.{sizes};
+ghost use Rattle.f3_heap_laws.specs.Rules.{raw_allows};
+ghost use Rattle.f3_heap_laws.proofs.Refusals.{raw_refuses};
+ghost use Rattle.f3_heap.specs.Answers.{answer_of};
 
 use crate::block_id::BlockId;
 use crate::blocks::{Blocks, Pinned, TakeFault};
@@ -19,6 +23,9 @@ use std::alloc::{AllocError, Global};
 use std::marker::Model;
 
 /// A heap in one region of words. Only `new` takes memory.
+///
+/// `take` answers `Full` exactly where no gap of the region is wide enough for the block, else the
+/// block at the front of the first gap that is. So it never answers `Memory`.
 ///
 /// A block is its length, its pin count, its content, and its length again at its end. A free
 /// block is linked to the next and the previous one by place, and tells its size at both ends.
@@ -71,7 +78,13 @@ impl RawHeap {
 impl Blocks for RawHeap {
     ghost blocks = { λ h. h.blocks };
 
-    ghost size = { λ h. h.size };
+    ghost Rest = { ℕ };
+
+    ghost kept = { λ h. h.size };
+
+    ghost allows = { raw_allows };
+
+    ghost spent = { λ n. n };
 
     ghost has_room = { λ h w. list_any (is_wide w) (gaps (places h.blocks) h.size) };
 
@@ -82,7 +95,8 @@ impl Blocks for RawHeap {
         ensures fresh { IfOk result (λ b. get self.old.blocks b ≡ None) }
         ensures taken { IfOk result (λ b. self.new.blocks ≡ with_taken self.old.blocks b words) }
         ensures refused { OnErr result (self.new ≡ self.old) }
-        ensures size { self.new.size ≡ self.old.size }
+        ensures kept { self.new.size ≡ self.old.size }
+        ensures allowed { raw_allows self.old.size (sizes self.old.blocks) words (answer_of result) }
         ensures first { IfOk result (λ b. first_wide words (gaps (places self.old.blocks) self.old.size) ≡ Some (b - 1)) }
         ensures without_memory { result ≢ Err TakeFault.Memory }
     {
@@ -161,7 +175,9 @@ impl Blocks for RawHeap {
             || first_fit(&self.region, self.first, self.size, self.end, size) != self.size
     }
 
-    ghost pair_keeps_size = { λ h b ws. refl };
+    ghost refuses = { λ h w. raw_refuses h.size h.blocks w };
+
+    ghost pair_keeps = { λ h b ws. refl };
 
     ghost pair_writes = { λ h b ws. refl };
 }

@@ -5,7 +5,7 @@ use mir.Syntax.{w64}
 use Rattle.std.specs.Int.{cast_signed, cast_unsigned}
 use Rattle.f3_heap_laws.specs.Account.{r}
 use Rattle.f3_heap_laws.specs.Placed.{extent}
-use Rattle.f3_heap_laws.specs.Segments.{Segment, Used, Free, seg_size, seg_block, first_free, last_free, cells, AreValid, Lays, NoneFits, FitsAt, Searches, free_size_of}
+use Rattle.f3_heap_laws.specs.Segments.{Segment, Used, Free, seg_size, seg_block, first_free, last_free, free_words, cells, AreValid, Lays, NoneFits, FitsAt, Searches, free_size_of}
 use Rattle.f3_heap_laws.proofs.Placed.{extent-append}
 use Rattle.f3_heap_laws.proofs.Segs.{seg_positive, length-cells, cells-append, AreValid-back}
 
@@ -26,6 +26,12 @@ read_at xs ys q n d e = ap (λ k. get_or (xs ++ ys) (k + n) d) (sym e) ∙ get_o
 
 pub read_first : (xs ys : List ℤ) (q : ℕ) (d : ℤ) → length xs ≡ q → get_or (xs ++ ys) q d ≡ get_or ys 0 d
 read_first xs ys q d e = ap (λ k. get_or (xs ++ ys) k d) (sym (add_nothing q)) ∙ read_at xs ys q 0 d e
+
+-- a free block's last word
+last_word : (junk more rest : List ℤ) (next prev : ℕ) → get_or ((free_words junk next prev ++ more) ++ rest) (length junk + 3) (pos 0) ≡ negsuc (length junk + 3)
+last_word junk more rest next prev =
+    ap (λ (l : List ℤ). get_or (negsuc (length junk + 3) ∷ pos next ∷ pos prev ∷ l) (length junk + 3) (pos 0)) (append_assoc (junk ++ negsuc (length junk + 3) ∷ []) more rest ∙ append_assoc junk (negsuc (length junk + 3) ∷ []) (more ++ rest))
+    ∙ read_first (negsuc (length junk + 3) ∷ pos next ∷ pos prev ∷ junk) (negsuc (length junk + 3) ∷ (more ++ rest)) (length junk + 3) (pos 0) (omega arith)
 
 module _ (none : ℕ) (segs : List Segment) (ws : List ℤ) (first end : ℕ) (h : Lays none segs ws first end) where
   pub end-within : end ≤ length ws
@@ -62,6 +68,10 @@ module _ (none : ℕ) (segs : List Segment) (ws : List ℤ) (first end : ℕ) (h
 
     pub free-prev : get_or ws (at + 2) (pos 0) ≡ pos (last_free none 0 front)
     free-prev = read-block front (Free junk ∷ back) at 2 (pos 0) split place
+
+    -- its last word tells what its first does
+    pub free-tail : get_or ws (at + (length junk + 3)) (pos 0) ≡ negsuc (length junk + 3)
+    free-tail = read-block front (Free junk ∷ back) at (length junk + 3) (pos 0) split place ∙ last_word junk _ h.rest _ _
 
     pub free-within : at + (length junk + 4) ≤ end
     free-within = omega (arith, split-ends front (Free junk ∷ back) split)

@@ -10,6 +10,7 @@ use Rattle.f3_heap_laws.specs.Blocks.{Block}
 use Rattle.f3_heap_laws.specs.Placed.{extent, named_from, live_from}
 use Rattle.f3_heap_laws.specs.Segments.{Segment, Used, Free, seg_size, seg_block, live_segments, AreApart, ends_free, NoneFits}
 use Rattle.f3_heap_laws.specs.Gaps.{places, lies_in, joined, runs_of, gaps, is_wide, first_word, first_wide}
+use Rattle.f3_heap_laws.specs.FreeRuns.{run_of, free_runs}
 use Rattle.f3_heap_laws.proofs.Placed.{named-sorted}
 use Rattle.f3_heap_laws.proofs.Segs.{seg_positive, r-above}
 
@@ -24,16 +25,6 @@ abbrev pub free_from : ℕ → List Segment → ℕ → List ℕ
 free_from p [] n = range_with_len p n
 free_from p (Used ws pins ∷ ss) n = free_from (p + r (length ws)) ss n
 free_from p (Free junk ∷ ss) n = range_with_len p (length junk + 4) ++ free_from (p + (length junk + 4)) ss n
-
-abbrev pub run_of : ℕ → ℕ → List (List ℕ)
-run_of p zero = []
-run_of p (suc n) = range_with_len p (suc n) ∷ []
-
--- the same as runs
-abbrev pub runs_from : ℕ → List Segment → ℕ → List (List ℕ)
-runs_from p [] n = run_of p n
-runs_from p (Used ws pins ∷ ss) n = runs_from (p + r (length ws)) ss n
-runs_from p (Free junk ∷ ss) n = range_with_len p (length junk + 4) ∷ runs_from (p + (length junk + 4)) ss n
 
 back_zero : (p : ℕ) → p ≡ p + 0
 back_zero p = omega arith
@@ -187,7 +178,7 @@ beyond p k n (Used ws pins ∷ ss) a c = above_more (p + (k + 3) + 2) (p + (k + 
 beyond p k n (Free junk ∷ ss) a c = absurd a
 
 -- and they fall into those runs
-pub free-runs : (b : Bool) (p n : ℕ) (segs : List Segment) → AreApart b segs → ends_free b segs ≡ false → runs_of (free_from p segs n) ≡ runs_from p segs n
+pub free-runs : (b : Bool) (p n : ℕ) (segs : List Segment) → AreApart b segs → ends_free b segs ≡ false → runs_of (free_from p segs n) ≡ free_runs p segs n
 free-runs b p zero [] a c = refl
 free-runs b p (suc n) [] a c = ap runs_of (sym (append-nil (range_with_len p (suc n)))) ∙ runs-range p n [] tt
 free-runs b p n (Used ws pins ∷ ss) a c = free-runs false (p + r (length ws)) n ss a c
@@ -198,7 +189,7 @@ free-runs false p n (Free junk ∷ ss) a c =
     ∙ (λ i. range_with_len p (sym (four_suc (length junk)) i) ∷ free-runs true (p + (length junk + 4)) n ss a c i)
 
 -- the gaps of a region with these segments in front
-pub gaps-segments : (segs : List Segment) (end size : ℕ) → end ≡ extent seg_block seg_size segs → end ≤ size → AreApart false segs → ends_free false segs ≡ false → gaps (places (live_segments segs)) size ≡ runs_from 0 segs (size - end)
+pub gaps-segments : (segs : List Segment) (end size : ℕ) → end ≡ extent seg_block seg_size segs → end ≤ size → AreApart false segs → ends_free false segs ≡ false → gaps (places (live_segments segs)) size ≡ free_runs 0 segs (size - end)
 gaps-segments segs end size e le a c =
     (λ i. gaps (places-live segs i) (let z : size ≡ extent seg_block seg_size segs + (size - end) = omega arith in z i))
     ∙ ap runs_of (free-words (places_from 0 segs) 0 (size - end) segs (λ i h. refl))
@@ -219,18 +210,18 @@ or_false true = refl
 or_false false = refl
 
 -- where no free block is wide enough, the last run decides
-pub lacking-any : (w p n : ℕ) (segs : List Segment) → NoneFits (r w) segs → list_any (is_wide w) (runs_from p segs n) ≡ nat_le (r w) n
+pub lacking-any : (w p n : ℕ) (segs : List Segment) → NoneFits (r w) segs → list_any (is_wide w) (free_runs p segs n) ≡ nat_le (r w) n
 lacking-any w p zero [] h = sym (le_false (r w) 0 (omega (arith, r-above w)))
 lacking-any w p (suc n) [] h = or_false _ ∙ wide_range w p (suc n)
 lacking-any w p n (Used ws pins ∷ ss) h = lacking-any w (p + r (length ws)) n ss h
-lacking-any w p n (Free junk ∷ ss) h = ap (λ t. t || list_any (is_wide w) (runs_from (p + (length junk + 4)) ss n)) (wide_range w p (length junk + 4) ∙ le_false (r w) (length junk + 4) h.0) ∙ lacking-any w (p + (length junk + 4)) n ss h.1
+lacking-any w p n (Free junk ∷ ss) h = ap (λ t. t || list_any (is_wide w) (free_runs (p + (length junk + 4)) ss n)) (wide_range w p (length junk + 4) ∙ le_false (r w) (length junk + 4) h.0) ∙ lacking-any w (p + (length junk + 4)) n ss h.1
 
-pub lacking-first : (w p n : ℕ) (segs : List Segment) → NoneFits (r w) segs → r w ≤ n → first_wide w (runs_from p segs n) ≡ Some (p + extent seg_block seg_size segs)
+pub lacking-first : (w p n : ℕ) (segs : List Segment) → NoneFits (r w) segs → r w ≤ n → first_wide w (free_runs p segs n) ≡ Some (p + extent seg_block seg_size segs)
 lacking-first w p zero [] h le = absurd (omega (arith, r-above w))
 lacking-first w p (suc n) [] h le = ap (λ t. cond t (Some p) None) (wide_range w p (suc n) ∙ le_true (r w) (suc n) le) ∙ ap Some (back_zero p)
 lacking-first w p n (Used ws pins ∷ ss) h le = lacking-first w (p + r (length ws)) n ss h le ∙ ap Some (regroup p (r (length ws)) (extent seg_block seg_size ss))
 lacking-first w p n (Free junk ∷ ss) h le =
-    ap (λ t. cond t (first_word (range_with_len p (length junk + 4))) (first_wide w (runs_from (p + (length junk + 4)) ss n))) (wide_range w p (length junk + 4) ∙ le_false (r w) (length junk + 4) h.0)
+    ap (λ t. cond t (first_word (range_with_len p (length junk + 4))) (first_wide w (free_runs (p + (length junk + 4)) ss n))) (wide_range w p (length junk + 4) ∙ le_false (r w) (length junk + 4) h.0)
     ∙ lacking-first w (p + (length junk + 4)) n ss h.1 le ∙ ap Some (regroup p (length junk + 4) (extent seg_block seg_size ss))
 
 or_true : (b : Bool) → (b || true) ≡ true
@@ -238,16 +229,16 @@ or_true true = refl
 or_true false = refl
 
 -- where one is, the first such decides
-pub fits-any : (w p n : ℕ) (front : List Segment) (junk : List ℤ) (back : List Segment) → r w ≤ length junk + 4 → list_any (is_wide w) (runs_from p (front ++ Free junk ∷ back) n) ≡ true
-fits-any w p n [] junk back le = ap (λ t. t || list_any (is_wide w) (runs_from (p + (length junk + 4)) back n)) (wide_range w p (length junk + 4) ∙ le_true (r w) (length junk + 4) le)
+pub fits-any : (w p n : ℕ) (front : List Segment) (junk : List ℤ) (back : List Segment) → r w ≤ length junk + 4 → list_any (is_wide w) (free_runs p (front ++ Free junk ∷ back) n) ≡ true
+fits-any w p n [] junk back le = ap (λ t. t || list_any (is_wide w) (free_runs (p + (length junk + 4)) back n)) (wide_range w p (length junk + 4) ∙ le_true (r w) (length junk + 4) le)
 fits-any w p n (Used ws pins ∷ front) junk back le = fits-any w (p + r (length ws)) n front junk back le
 fits-any w p n (Free more ∷ front) junk back le = ap (λ t. is_wide w (range_with_len p (length more + 4)) || t) (fits-any w (p + (length more + 4)) n front junk back le) ∙ or_true _
 
-pub fits-first : (w p n : ℕ) (front : List Segment) (junk : List ℤ) (back : List Segment) → NoneFits (r w) front → r w ≤ length junk + 4 → first_wide w (runs_from p (front ++ Free junk ∷ back) n) ≡ Some (p + extent seg_block seg_size front)
+pub fits-first : (w p n : ℕ) (front : List Segment) (junk : List ℤ) (back : List Segment) → NoneFits (r w) front → r w ≤ length junk + 4 → first_wide w (free_runs p (front ++ Free junk ∷ back) n) ≡ Some (p + extent seg_block seg_size front)
 fits-first w p n [] junk back h le =
-    ap (λ t. cond t (first_word (range_with_len p (length junk + 4))) (first_wide w (runs_from (p + (length junk + 4)) back n))) (wide_range w p (length junk + 4) ∙ le_true (r w) (length junk + 4) le)
+    ap (λ t. cond t (first_word (range_with_len p (length junk + 4))) (first_wide w (free_runs (p + (length junk + 4)) back n))) (wide_range w p (length junk + 4) ∙ le_true (r w) (length junk + 4) le)
     ∙ first_range p (length junk) ∙ ap Some (back_zero p)
 fits-first w p n (Used ws pins ∷ front) junk back h le = fits-first w (p + r (length ws)) n front junk back h le ∙ ap Some (regroup p (r (length ws)) (extent seg_block seg_size front))
 fits-first w p n (Free more ∷ front) junk back h le =
-    ap (λ t. cond t (first_word (range_with_len p (length more + 4))) (first_wide w (runs_from (p + (length more + 4)) (front ++ Free junk ∷ back) n))) (wide_range w p (length more + 4) ∙ le_false (r w) (length more + 4) h.0)
+    ap (λ t. cond t (first_word (range_with_len p (length more + 4))) (first_wide w (free_runs (p + (length more + 4)) (front ++ Free junk ∷ back) n))) (wide_range w p (length more + 4) ∙ le_false (r w) (length more + 4) h.0)
     ∙ fits-first w (p + (length more + 4)) n front junk back h.1 le ∙ ap Some (regroup p (length more + 4) (extent seg_block seg_size front))

@@ -16,7 +16,8 @@ use Rattle.f3_heap_laws.proofs.BlockReads.{seg-extent-append}
 use Rattle.f3_heap_laws.proofs.Surgery.{end-takes}
 use Rattle.f3_heap_laws.proofs.LiveSegs.{take-live, take-end, give-live, free-none, past-none}
 use Rattle.f3_heap_laws.proofs.Neighbours.{apart-append, apart-join, ends-append}
-use Rattle.f3_heap_laws.proofs.GapLaws.{runs_from, gaps-segments, lacking-any, lacking-first, fits-any, fits-first}
+use Rattle.f3_heap_laws.specs.FreeRuns.{free_runs}
+use Rattle.f3_heap_laws.proofs.GapLaws.{gaps-segments, lacking-any, lacking-first, fits-any, fits-first}
 use Rattle.f3_heap_laws.proofs.Giving.{give-free, give-laid, give-end, run-end, nothing-behind}
 
 from_zero : (n : ℕ) → 0 + n ≡ n
@@ -206,17 +207,17 @@ module _ (ws : List ℤ) (room size first end used block at run prev next : ℕ)
 
 -- the room, by the first fit and the words behind all
 module _ (ws : List ℤ) (room size first end used w : ℕ) (h : IsHeap ws room size first end used) where
-  heap-gaps : gaps (places (live_segments (segments ws end))) size ≡ runs_from 0 (segments ws end) (size - end)
+  pub heap-gaps : gaps (places (live_segments (segments ws end))) size ≡ free_runs 0 (segments ws end) (size - end)
   heap-gaps = gaps-segments (segments ws end) end size h.lays.ends h.within h.apart h.closed
 
   pub room-lacking : NoneFits (r w) (segments ws end) → list_any (is_wide w) (gaps (places (live_segments (segments ws end))) size) ≡ nat_le (r w) (size - end)
   room-lacking none = ap (list_any (is_wide w)) heap-gaps ∙ lacking-any w 0 (size - end) (segments ws end) none
 
   pub room-fits : (at : ℕ) → FitsAt (r w) (segments ws end) at → list_any (is_wide w) (gaps (places (live_segments (segments ws end))) size) ≡ true
-  room-fits at f = ap (list_any (is_wide w)) (heap-gaps ∙ ap (λ ss. runs_from 0 ss (size - end)) f.split) ∙ fits-any w 0 (size - end) f.front f.junk f.back f.wide
+  room-fits at f = ap (list_any (is_wide w)) (heap-gaps ∙ ap (λ ss. free_runs 0 ss (size - end)) f.split) ∙ fits-any w 0 (size - end) f.front f.junk f.back f.wide
 
   pub first-fits : (at : ℕ) → FitsAt (r w) (segments ws end) at → first_wide w (gaps (places (live_segments (segments ws end))) size) ≡ Some at
-  first-fits at f = ap (first_wide w) (heap-gaps ∙ ap (λ ss. runs_from 0 ss (size - end)) f.split) ∙ fits-first w 0 (size - end) f.front f.junk f.back f.smaller f.wide ∙ ap Some (from_zero _ ∙ sym f.place)
+  first-fits at f = ap (first_wide w) (heap-gaps ∙ ap (λ ss. free_runs 0 ss (size - end)) f.split) ∙ fits-first w 0 (size - end) f.front f.junk f.back f.smaller f.wide ∙ ap Some (from_zero _ ∙ sym f.place)
 
   pub first-lacking : NoneFits (r w) (segments ws end) → r w ≤ size - end → first_wide w (gaps (places (live_segments (segments ws end))) size) ≡ Some end
   first-lacking none le = ap (first_wide w) heap-gaps ∙ lacking-first w 0 (size - end) (segments ws end) none le ∙ ap Some (from_zero _ ∙ sym h.lays.ends)

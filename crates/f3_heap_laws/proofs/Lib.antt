@@ -14,7 +14,9 @@ pub mod Puts
 pub mod CarveLaws
 pub mod StepLeft
 pub mod EndBlock
+pub mod Answers
 pub mod AroundLaws
 pub mod BlockLaws
 pub mod RawReads
 pub mod RawWrites
+pub mod Refusals

@@ -148,3 +148,18 @@ fn four_blocks_in_a_region(rt: HostRuntime) {
     assert!(rt; !heap.room(6));
     give_both(&rt, &mut heap, b, d);
 }
+
+// The most words that a heap may be asked for: one block takes them all.
+#[test]
+fn the_largest_heap(rt: HostRuntime) {
+    let mut heap = RawHeap::new(rt.alloc(), 134217728).expect(&rt, "memory");
+    let block = heap.take(134217725).expect(&rt, "room for all");
+    assert_eq!(rt; heap.length(block), 134217725);
+    heap.write(block, 134217724, -7);
+    assert_eq!(rt; heap.read(block, 134217724), -7);
+    assert_eq!(rt; heap.used(), 134217728);
+    assert!(rt; !heap.room(0));
+    assert!(rt; heap.give(block).is_ok());
+    assert!(rt; heap.room(134217725));
+    assert!(rt; !heap.room(134217726));
+}

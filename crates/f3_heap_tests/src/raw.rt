@@ -103,3 +103,14 @@ fn what_is_written_through_a_pair_stands(rt: HostRuntime) -> Result<(), Fail> {
     assert_eq!(rt; words.as_slice(), [1, 2, 2, 8, 5, 1, 2, 8].as_slice());
     Ok(())
 }
+
+// A hundred gigabytes in all, of which no more than one region stands at a time.
+#[test]
+fn a_region_gives_its_memory_back(rt: HostRuntime) -> Result<(), Fail> {
+    for _ in 0..6400 {
+        let mut region = Region::new(rt.alloc(), 2097152)?;
+        region.clear(0, 2097152);
+        assert_eq!(rt; region.frontier(), 2097152);
+    }
+    Ok(())
+}

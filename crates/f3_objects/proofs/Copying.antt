@@ -1,5 +1,5 @@
 -- Laws on copies of objects, part by part.
-use Rattle.std.proofs.Common.{suc, ◌≡◌, ◌≢◌, ℕ, ◌+◌, ◌-◌, ◌<◌, ◌≤◌, inl, inr, true, false, Bool, List, length, take, drop, map, get_or, refl, ap, sym, subst, ◌∙◌, arith}
+use Rattle.std.proofs.Common.{suc, ◌≡◌, ◌≢◌, ℕ, ℤ, ◌+◌, ◌-◌, ◌<◌, ◌≤◌, inl, inr, false, List, [], ◌∷◌, ◌++◌, length, take, drop, map, get_or, refl, ap, sym, subst, ◌∙◌, arith}
 use Rattle.std.specs.Prelude.{None}
 use Rattle.std.specs.FinMap.{get}
 use Rattle.std.proofs.lemmas.List.{drop_more, drop_all}
@@ -8,7 +8,11 @@ use Rattle.f3_heap_laws.proofs.Laws.{get-insert_other, pins-insert_same}
 use Rattle.f3_desc.specs.Shape.{Shape, row, shape_at, width, has_holder}
 use Rattle.f3_objects.specs.Tree.{Tree, End, ◌⊕◌, words, times, value, Joins, Repeats, Fits, IsBare}
 use Rattle.f3_objects.specs.Holds.{Held, Stands, Replaces, with_words_at}
-use Rattle.f3_objects.specs.Copies.{Ready, Copies, IsLength}
+use Rattle.f3_heap_laws.specs.Answers.{Answer, Take, sizes}
+use Rattle.f3_heap_laws.proofs.Answers.{sizes-with_words}
+use Rattle.f3_objects.proofs.Spans.{length-written}
+use Rattle.f3_objects.specs.Copies.{Ready, Copies, takings, asked_of, asks}
+use Rattle.f3_objects.proofs.Taking.{nil-append, list-append, takes-append, takes-bare, none_refused, asked_all, asked_part, asked_more}
 use Rattle.f3_objects.proofs.Trees.{append-End, append-append, size-append, times-append, zero_or_more, value-append, ◌⊞◌, size-fits, plain-bare}
 use Rattle.f3_objects.proofs.Changes.{not_dead, same_words, held-live, stands_front, stands_back, stands_behind, stands_elsewhere, replaces_same, replaces_beside}
 use Rattle.f3_objects.proofs.Writes.{words-with, live-with}
@@ -30,26 +34,14 @@ untouched old mid block at t u r bare q h n = elim (zero_or_more (times q u)) [
   | inr z ↦ absurd (not_dead old q h ((r.taken q z (bare q)).0))
 ]
 
--- lengths of blocks beneath the object stay while its copy is made
-pub length_before : (old mid : Live) (block at : ℕ) (t u x : Tree) (n : ℕ) → Replaces old mid block at t u → IsBare t → Held old x → times block x ≡ 0 → IsLength mid x n → IsLength old x n
-length_before old mid block at t u x n r bare held apart l =
-    let ne : l.block ≢ block = λ is. let p : 0 < times block x = (let P : ℕ → Type 0 = λ y. 0 < times y x in subst P is l.beneath) in omega arith in
-    let same = same_words old mid l.block (untouched old mid block at t u r bare l.block (held-live old l.block x held l.beneath) ne) in
-    record { block = l.block; beneath = l.beneath; is = l.is ∙ ap length same }
-
-pub length_front : (m : Live) (t u : Tree) (n : ℕ) → IsLength m t n → IsLength m (t ⊕ u) n
-length_front m t u n l = record { block = l.block; beneath = let a = times-append l.block t u in let b = l.beneath in omega arith; is = l.is }
-
-pub length_back : (m : Live) (t u : Tree) (n : ℕ) → IsLength m u n → IsLength m (t ⊕ u) n
-length_back m t u n l = record { block = l.block; beneath = let a = times-append l.block t u in let b = l.beneath in omega arith; is = l.is }
-
 -- where no word tells of an allocation, the words are the object
-pub copies_plain : (old new : Live) (from from_at to to_at n : ℕ) (s : Shape) (t u : Tree) (ok : Bool) → has_holder s ≡ false → n ≡ width s → Ready old from from_at to to_at s t u → new ≡ with_words old to (with_words_at (words_of old to) to_at (take n (drop from_at (words_of old from)))) → Copies old new to to_at s t u ok
-copies_plain old new from from_at to to_at n s t u ok e size r is =
+pub copies_plain : (old new : Live) (from from_at to to_at n : ℕ) (s : Shape) (t u : Tree) (W : List Take → Type 0) → has_holder s ≡ false → n ≡ width s → Ready old from from_at to to_at s t u → new ≡ with_words old to (with_words_at (words_of old to) to_at (take n (drop from_at (words_of old from)))) → (sizes new ≡ sizes old → W []) → Copies old new to to_at s t u [] W
+copies_plain old new from from_at to to_at n s t u W e size r is took =
     let bare : IsBare t = plain-bare s e t r.source.fits in
     let len : n ≡ length (words t) = size ∙ sym (size-fits s t r.source.fits) in
     let there : take n (drop from_at (words_of old from)) ≡ words t = ap (λ (k : ℕ). take k (drop from_at (words_of old from))) len ∙ r.source.stands.there in
     let P : Live → Type 0 = λ m. IsLive m to in
+    let same_size : sizes new ≡ sizes old = ap sizes is ∙ sizes-with_words old to _ r.target.stands.live (ap (λ (l : List ℤ). length (with_words_at (words_of old to) to_at l)) there ∙ length-written (words_of old to) to_at (words t) (let a = size-fits s t r.source.fits in let b = size-fits s u r.target.fits in let w = r.target.stands.within in omega arith)) in
     record {
       copy = t;
       replaced = record {
@@ -65,10 +57,16 @@ copies_plain old new from from_at to to_at n s t u ok e size r is =
       fits = r.source.fits;
       once = λ q. let b = bare q in omega arith;
       equal = λ o. refl;
+      refused = [];
+      told = refl;
+      more = [];
+      asked = asked_all (asks t) (takings t) refl;
+      all = λ o. refl;
+      took = subst W (sym (nil-append (takings t) ∙ takes-bare t bare)) (took same_size);
     }
 
 -- the parts so far are copied, and the others have P on both sides
-pub record Copying (old now : Live) (from_at from_place to to_at to_place : ℕ) (P Q : Tree → Type 0) (t u : Tree) : Type 0 where
+pub record Copying (old now : Live) (from_at from_place to to_at to_place : ℕ) (P Q : Tree → Type 0) (t u : Tree) (W : List Take → Type 0) : Type 0 where
   pub done : Tree
   pub rest : Tree
   pub split : t ≡ done ⊕ rest
@@ -85,9 +83,11 @@ pub record Copying (old now : Live) (from_at from_place to to_at to_place : ℕ)
   pub has : P rest
   pub takes : P after
   pub fits : (v : Tree) → P v → Q (copy ⊕ v)
+  pub asked : asks done ≡ asked_of (takings copy)
+  pub took : W (takings copy)
 
-pub copying_none : (m : Live) (from from_at to to_at : ℕ) (s : Shape) (t u : Tree) → Ready m from from_at to to_at s t u → Copying m m from_at from_at to to_at to_at (Fits s) (Fits s) t u
-copying_none m from from_at to to_at s t u r = record {
+pub copying_none : (m : Live) (from from_at to to_at : ℕ) (s : Shape) (t u : Tree) (W : List Take → Type 0) → Ready m from from_at to to_at s t u → W [] → Copying m m from_at from_at to to_at to_at (Fits s) (Fits s) t u W
+copying_none m from from_at to to_at s t u W r took = record {
   done = End;
   rest = t;
   split = refl;
@@ -104,6 +104,8 @@ copying_none m from from_at to to_at s t u r = record {
   has = r.source.fits;
   takes = r.target.fits;
   fits = λ v p. p;
+  asked = refl;
+  took = took;
 }
 
 bare_front : (t u : Tree) → IsBare (t ⊕ u) → IsBare t
@@ -113,7 +115,7 @@ bare_back : (t u : Tree) → IsBare (t ⊕ u) → IsBare u
 bare_back t u b q = let a = times-append q t u in let c = b q in omega arith
 
 -- one part more
-module _ (old mid : Live) (from from_at from_place to to_at to_place : ℕ) (P Q : Tree → Type 0) (s : Shape) (t u : Tree) (source : Stands old from from_at t) (target : Stands old to to_at u) (apart : to ≢ from) (beneath : times to t ≡ 0) (bare : IsBare u) (f : Copying old mid from_at from_place to to_at to_place (Joins (Fits s) P) Q t u) where
+module _ (old mid : Live) (from from_at from_place to to_at to_place : ℕ) (P Q : Tree → Type 0) (s : Shape) (t u : Tree) (source : Stands old from from_at t) (target : Stands old to to_at u) (apart : to ≢ from) (beneath : times to t ≡ 0) (bare : IsBare u) {W : List Take → Type 0} (f : Copying old mid from_at from_place to to_at to_place (Joins (Fits s) P) Q t u W) where
   room_bare : IsBare f.room
   room_bare = let B : Tree → Type 0 = λ x. IsBare x in bare_front f.room f.after (subst B f.parted bare)
 
@@ -158,16 +160,7 @@ module _ (old mid : Live) (from from_at from_place to to_at to_place : ℕ) (P Q
     bare = bare_front f.takes.front f.takes.back takes_bare;
   }
 
-  -- the length of a block beneath the part is one beneath the whole
-  pub part_length : (n : ℕ) → IsLength mid f.has.front n → IsLength old t n
-  part_length n l =
-      let A : Tree → Type 0 = λ x. IsLength mid x n in
-      let B : Tree → Type 0 = λ x. IsLength mid x n in
-      let front : IsLength mid f.rest n = subst A (sym f.has.split) (length_front mid f.has.front f.has.back n l) in
-      let whole : IsLength mid t n = subst B (sym f.split) (length_back mid f.done f.rest n front) in
-      length_before old mid to to_at f.room f.copy t n f.replaced room_bare source.held beneath whole
-
-  module _ (new : Live) (ok : Bool) (c : Copies mid new to to_place s f.has.front f.takes.front ok) where
+  module _ (new : Live) (faults : List Answer) {V : List Take → Type 0} (c : Copies mid new to to_place s f.has.front f.takes.front faults V) where
     part_size : length (words c.copy) ≡ length (words f.takes.front)
     part_size = size-fits s c.copy c.fits ∙ sym (size-fits s f.takes.front f.takes.first)
 
@@ -212,8 +205,8 @@ module _ (old mid : Live) (from from_at from_place to to_at to_place : ℕ) (P Q
         let F : Tree → Type 0 = λ x. Q x in
         subst F (sym (append-append f.copy c.copy v)) (f.fits (c.copy ⊕ v) (record { front = c.copy; back = v; split = refl; first = c.fits; second = p }))
 
-    pub copying_more : (w : ℕ) → w ≡ width s → ok ≡ true → Copying old new from_at (from_place + w) to to_at (to_place + w) P Q t u
-    copying_more w e o = record {
+    pub copying_more : (w : ℕ) → w ≡ width s → faults ≡ [] → (X : List Take → Type 0) → ((ks ls : List Take) → W ks → V ls → X (ks ++ ls)) → Copying old new from_at (from_place + w) to to_at (to_place + w) P Q t u X
+    copying_more w e o X join = record {
       done = f.done ⊕ f.has.front;
       rest = f.has.back;
       split = f.split ∙ (ap (λ (x : Tree). f.done ⊕ x) f.has.split ∙ sym (append-append f.done f.has.front f.has.back));
@@ -230,7 +223,13 @@ module _ (old mid : Live) (from from_at from_place to to_at to_place : ℕ) (P Q
       has = f.has.second;
       takes = f.takes.second;
       fits = more_fits;
+      asked = asked_more f.done f.has.front (takings f.copy) (takings c.copy) f.asked
+          (c.asked ∙ (ap (λ l. asked_of (takings c.copy ++ c.refused) ++ l) (c.all o) ∙ (nil-append (asked_of (takings c.copy ++ c.refused)) ∙ ap asked_of (none_left o)))) ∙ ap asked_of (sym (takes-append f.copy c.copy));
+      took = subst X (sym (takes-append f.copy c.copy)) (join (takings f.copy) (takings c.copy) f.took (subst V (none_left o) c.took));
     }
+      where
+        none_left : faults ≡ [] → takings c.copy ++ c.refused ≡ takings c.copy
+        none_left o = ap (λ l. takings c.copy ++ l) (none_refused c.refused (c.told ∙ o)) ∙ nil-append (takings c.copy)
 
     -- the first fault ends it
     stopped_behind : Stands new to (to_at + length (words (f.room ⊕ f.takes.front))) f.takes.back
@@ -249,22 +248,40 @@ module _ (old mid : Live) (from from_at from_place to to_at to_place : ℕ) (P Q
         let d = bare_back f.takes.front f.takes.back takes_bare q in
         omega arith
 
+    pub stopped_asked : asks t ≡ asked_of ((takings f.copy ++ takings c.copy) ++ c.refused) ++ (c.more ++ asks f.has.back)
+    stopped_asked =
+        let split : t ≡ f.done ⊕ (f.has.front ⊕ f.has.back) = f.split ∙ ap (λ (x : Tree). f.done ⊕ x) f.has.split in
+        ap asks split ∙ asked_part f.done f.has.front f.has.back (takings f.copy) (takings c.copy) c.refused c.more f.asked c.asked
+
+    pub stopped_takings : takings ((f.copy ⊕ c.copy) ⊕ f.takes.back) ≡ takings f.copy ++ takings c.copy
+    stopped_takings =
+        takes-append (f.copy ⊕ c.copy) f.takes.back
+        ∙ (ap (λ l. takings (f.copy ⊕ c.copy) ++ l) (takes-bare f.takes.back (bare_back f.takes.front f.takes.back takes_bare)) ∙ (nil-append (takings (f.copy ⊕ c.copy)) ∙ takes-append f.copy c.copy))
+
     pub stopped_fits : Q ((f.copy ⊕ c.copy) ⊕ f.takes.back)
     stopped_fits = more_fits f.takes.back f.takes.second
 
 -- the copy stops at a fault
-pub copies_stop : (old mid new : Live) (from from_at from_place to to_at to_place : ℕ) (P : Tree → Type 0) (whole s : Shape) (t u : Tree) → Ready old from from_at to to_at whole t u → (f : Copying old mid from_at from_place to to_at to_place (Joins (Fits s) P) (Fits whole) t u) → (ok : Bool) → Copies mid new to to_place s f.has.front f.takes.front ok → Copies old new to to_at whole t u false
-copies_stop old mid new from from_at from_place to to_at to_place P whole s t u r f ok c = record {
-  copy = (f.copy ⊕ c.copy) ⊕ f.takes.back;
-  replaced = stopped_at old mid from from_at from_place to to_at to_place P (Fits whole) s t u r.source.stands r.target.stands r.apart r.beneath r.bare f new ok c;
-  fits = stopped_fits old mid from from_at from_place to to_at to_place P (Fits whole) s t u r.source.stands r.target.stands r.apart r.beneath r.bare f new ok c;
-  once = stopped_once old mid from from_at from_place to to_at to_place P (Fits whole) s t u r.source.stands r.target.stands r.apart r.beneath r.bare f new ok c;
-  equal = λ e. cc;
-}
+pub copies_stop : (old mid new : Live) (from from_at from_place to to_at to_place : ℕ) (P : Tree → Type 0) (whole s : Shape) (t u : Tree) → Ready old from from_at to to_at whole t u → {W V : List Take → Type 0} (f : Copying old mid from_at from_place to to_at to_place (Joins (Fits s) P) (Fits whole) t u W) → (fault : Answer) → Copies mid new to to_place s f.has.front f.takes.front (fault ∷ []) V → (X : List Take → Type 0) → ((ks ls : List Take) → W ks → V ls → X (ks ++ ls)) → Copies old new to to_at whole t u (fault ∷ []) X
+copies_stop old mid new from from_at from_place to to_at to_place P whole s t u r f fault c X join =
+    let whole_takings = stopped_takings old mid from from_at from_place to to_at to_place P (Fits whole) s t u r.source.stands r.target.stands r.apart r.beneath r.bare f new (fault ∷ []) c in
+    record {
+      copy = (f.copy ⊕ c.copy) ⊕ f.takes.back;
+      replaced = stopped_at old mid from from_at from_place to to_at to_place P (Fits whole) s t u r.source.stands r.target.stands r.apart r.beneath r.bare f new (fault ∷ []) c;
+      fits = stopped_fits old mid from from_at from_place to to_at to_place P (Fits whole) s t u r.source.stands r.target.stands r.apart r.beneath r.bare f new (fault ∷ []) c;
+      once = stopped_once old mid from from_at from_place to to_at to_place P (Fits whole) s t u r.source.stands r.target.stands r.apart r.beneath r.bare f new (fault ∷ []) c;
+      equal = λ e. cc;
+      refused = c.refused;
+      told = c.told;
+      more = c.more ++ asks f.has.back;
+      asked = stopped_asked old mid from from_at from_place to to_at to_place P (Fits whole) s t u r.source.stands r.target.stands r.apart r.beneath r.bare f new (fault ∷ []) c ∙ ap (λ l. asked_of (l ++ c.refused) ++ (c.more ++ asks f.has.back)) (sym whole_takings);
+      all = λ e. cc;
+      took = subst X (sym (list-append (takings f.copy) (takings c.copy) c.refused) ∙ ap (λ l. l ++ c.refused) (sym whole_takings)) (join (takings f.copy) (takings c.copy ++ c.refused) f.took c.took);
+    }
 
 -- all parts are copied
-pub copies_all : (old now : Live) (from_at from_place to to_at to_place : ℕ) (s : Shape) (t u : Tree) → Copying old now from_at from_place to to_at to_place (λ x. x ≡ End) (Fits s) t u → Copies old now to to_at s t u true
-copies_all old now from_at from_place to to_at to_place s t u f =
+pub copies_all : (old now : Live) (from_at from_place to to_at to_place : ℕ) (s : Shape) (t u : Tree) → {W : List Take → Type 0} → Copying old now from_at from_place to to_at to_place (λ x. x ≡ End) (Fits s) t u W → Copies old now to to_at s t u [] W
+copies_all old now from_at from_place to to_at to_place s t u {W} f =
     let room : u ≡ f.room = f.parted ∙ (ap (λ (x : Tree). f.room ⊕ x) f.takes ∙ append-End f.room) in
     let done : t ≡ f.done = f.split ∙ (ap (λ (x : Tree). f.done ⊕ x) f.has ∙ append-End f.done) in
     let R : Tree → Type 0 = λ x. Replaces old now to to_at x f.copy in
@@ -275,34 +292,40 @@ copies_all old now from_at from_place to to_at to_place s t u f =
       fits = subst F (append-End f.copy) (f.fits End refl);
       once = f.once;
       equal = λ o. f.equal ∙ ap value (sym done);
+      refused = [];
+      told = refl;
+      more = [];
+      asked = asked_all (asks t) (takings f.copy) (ap asks done ∙ f.asked);
+      all = λ o. refl;
+      took = subst W (sym (nil-append (takings f.copy))) f.took;
     }
 
 -- elements: at one of them, and behind the last
-pub copying_element : (old now : Live) (from_at from_place to to_at to_place n i : ℕ) (P Q : Tree → Type 0) (t u : Tree) → i < n → Copying old now from_at from_place to to_at to_place (Repeats (n - i) P) Q t u → Copying old now from_at from_place to to_at to_place (Joins P (Repeats (n - (i + 1)) P)) Q t u
-copying_element old now from_at from_place to to_at to_place n i P Q t u l f =
+pub copying_element : (old now : Live) (from_at from_place to to_at to_place n i : ℕ) (P Q : Tree → Type 0) (t u : Tree) {W : List Take → Type 0} → i < n → Copying old now from_at from_place to to_at to_place (Repeats (n - i) P) Q t u W → Copying old now from_at from_place to to_at to_place (Joins P (Repeats (n - (i + 1)) P)) Q t u W
+copying_element old now from_at from_place to to_at to_place n i P Q t u {W} l f =
     let e : n - i ≡ suc (n - (i + 1)) = omega arith in
-    let F : ℕ → Type 0 = λ k. Copying old now from_at from_place to to_at to_place (Repeats k P) Q t u in
+    let F : ℕ → Type 0 = λ k. Copying old now from_at from_place to to_at to_place (Repeats k P) Q t u W in
     subst F e f
 
-pub copied_elements : (old now : Live) (from_at from_place to to_at to_place n i : ℕ) (P : Tree → Type 0) (s : Shape) (t u : Tree) → n ≤ i → Copying old now from_at from_place to to_at to_place (Repeats (n - i) P) (Fits s) t u → Copies old now to to_at s t u true
-copied_elements old now from_at from_place to to_at to_place n i P s t u l f =
+pub copied_elements : (old now : Live) (from_at from_place to to_at to_place n i : ℕ) (P : Tree → Type 0) (s : Shape) (t u : Tree) {W : List Take → Type 0} → n ≤ i → Copying old now from_at from_place to to_at to_place (Repeats (n - i) P) (Fits s) t u W → Copies old now to to_at s t u [] W
+copied_elements old now from_at from_place to to_at to_place n i P s t u {W} l f =
     let e : n - i ≡ 0 = omega arith in
-    let F : ℕ → Type 0 = λ k. Copying old now from_at from_place to to_at to_place (Repeats k P) (Fits s) t u in
+    let F : ℕ → Type 0 = λ k. Copying old now from_at from_place to to_at to_place (Repeats k P) (Fits s) t u W in
     copies_all old now from_at from_place to to_at to_place s t u (subst F e f)
 
 -- parts: at one of them, and behind the last
-pub copying_part : (old now : Live) (from_at from_place to to_at to_place i : ℕ) (ss : List Shape) (parts : List ℕ) (Q : Tree → Type 0) (t u : Tree) → i < length parts → Copying old now from_at from_place to to_at to_place (Fits (row (map (shape_at ss) (drop i parts)))) Q t u → Copying old now from_at from_place to to_at to_place (Joins (Fits (shape_at ss (get_or parts i 0))) (Fits (row (map (shape_at ss) (drop (i + 1) parts))))) Q t u
-copying_part old now from_at from_place to to_at to_place i ss parts Q t u l f =
-    let F : List ℕ → Type 0 = λ k. Copying old now from_at from_place to to_at to_place (Fits (row (map (shape_at ss) k))) Q t u in
+pub copying_part : (old now : Live) (from_at from_place to to_at to_place i : ℕ) (ss : List Shape) (parts : List ℕ) (Q : Tree → Type 0) (t u : Tree) {W : List Take → Type 0} → i < length parts → Copying old now from_at from_place to to_at to_place (Fits (row (map (shape_at ss) (drop i parts)))) Q t u W → Copying old now from_at from_place to to_at to_place (Joins (Fits (shape_at ss (get_or parts i 0))) (Fits (row (map (shape_at ss) (drop (i + 1) parts))))) Q t u W
+copying_part old now from_at from_place to to_at to_place i ss parts Q t u {W} l f =
+    let F : List ℕ → Type 0 = λ k. Copying old now from_at from_place to to_at to_place (Fits (row (map (shape_at ss) k))) Q t u W in
     subst F (drop_more parts i 0 l) f
 
-pub copied_parts : (old now : Live) (from_at from_place to to_at to_place i : ℕ) (ss : List Shape) (parts : List ℕ) (s : Shape) (t u : Tree) → length parts ≤ i → Copying old now from_at from_place to to_at to_place (Fits (row (map (shape_at ss) (drop i parts)))) (Fits s) t u → Copies old now to to_at s t u true
-copied_parts old now from_at from_place to to_at to_place i ss parts s t u l f =
-    let F : List ℕ → Type 0 = λ k. Copying old now from_at from_place to to_at to_place (Fits (row (map (shape_at ss) k))) (Fits s) t u in
+pub copied_parts : (old now : Live) (from_at from_place to to_at to_place i : ℕ) (ss : List Shape) (parts : List ℕ) (s : Shape) (t u : Tree) {W : List Take → Type 0} → length parts ≤ i → Copying old now from_at from_place to to_at to_place (Fits (row (map (shape_at ss) (drop i parts)))) (Fits s) t u W → Copies old now to to_at s t u [] W
+copied_parts old now from_at from_place to to_at to_place i ss parts s t u {W} l f =
+    let F : List ℕ → Type 0 = λ k. Copying old now from_at from_place to to_at to_place (Fits (row (map (shape_at ss) k))) (Fits s) t u W in
     copies_all old now from_at from_place to to_at to_place s t u (subst F (drop_all i parts l) f)
 
 -- the next part ends where the whole does, or before
-pub copying_within : (old now : Live) (from_at from_place to to_at to_place : ℕ) (P Q : Tree → Type 0) (s : Shape) (t u : Tree) (f : Copying old now from_at from_place to to_at to_place (Joins (Fits s) P) Q t u) (n : ℕ) → from_at + length (words t) < n → to_at + length (words u) < n → (from_place + width s < n) × (to_place + width s < n)
+pub copying_within : (old now : Live) (from_at from_place to to_at to_place : ℕ) (P Q : Tree → Type 0) (s : Shape) (t u : Tree) {W : List Take → Type 0} (f : Copying old now from_at from_place to to_at to_place (Joins (Fits s) P) Q t u W) (n : ℕ) → from_at + length (words t) < n → to_at + length (words u) < n → (from_place + width s < n) × (to_place + width s < n)
 copying_within old now from_at from_place to to_at to_place P Q s t u f n l k =
     let a : length (words t) ≡ length (words f.done) + length (words f.rest) = ap (λ (x : Tree). length (words x)) f.split ∙ size-append f.done f.rest in
     let b : length (words f.rest) ≡ length (words f.has.front) + length (words f.has.back) = ap (λ (x : Tree). length (words x)) f.has.split ∙ size-append f.has.front f.has.back in

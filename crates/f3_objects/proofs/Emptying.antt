@@ -1,11 +1,12 @@
 -- Laws on a copy that is given back after a fault.
-use Rattle.std.proofs.Common.{zero, suc, ◌≡◌, ℕ, ◌+◌, ◌≤◌, cond, true, false, Bool, nat_eq, length, ap, sym, subst, ◌∙◌, arith}
+use Rattle.std.proofs.Common.{zero, suc, ◌≡◌, ℕ, ◌+◌, ◌≤◌, cond, true, false, Bool, nat_eq, List, ◌++◌, length, ap, sym, subst, ◌∙◌, arith}
 use Rattle.f3_heap_laws.specs.Blocks.{Live, words_of, pins_of}
 use Rattle.f3_heap_laws.specs.Account.{used_by}
 use Rattle.f3_desc.specs.Shape.{Shape, Nothing, Plain, Holder, Both, Times}
 use Rattle.f3_objects.specs.Tree.{Tree, End, Unallocated, Allocated, words, elements, Joins, Repeats, IsHolder, unallocated, allocated, Fits, IsBare}
 use Rattle.f3_objects.specs.Holds.{Holds, Replaces, Frees, is_free, left}
-use Rattle.f3_objects.specs.Copies.{Ready, Copies, Empties, Lacks, Reaches}
+use Rattle.f3_objects.specs.Copies.{Ready, Copies, Empties, Refuses, takings}
+use Rattle.f3_heap_laws.specs.Answers.{Answer, Take}
 use Rattle.f3_objects.proofs.Trees.{left-append, size-left, free-left, size-fits}
 use Rattle.f3_objects.proofs.Changes.{stands_replaced, stands_elsewhere, replaces_then}
 use Rattle.f3_objects.proofs.Spans.{length-written}
@@ -53,8 +54,8 @@ pub record Emptied (old new : Live) (from from_at to to_at : ℕ) (s : Shape) (t
   pub used : used_by new ≡ used_by old
   pub source : Holds new from from_at s t
 
-module _ (old mid : Live) (from from_at to to_at : ℕ) (s : Shape) (t u : Tree) (ok : Bool) (r : Ready old from from_at to to_at s t u) (c : Copies old mid to to_at s t u ok) where
-  copy_size : length (words c.copy) ≡ length (words u)
+module _ (old mid : Live) (from from_at to to_at : ℕ) (s : Shape) (t u : Tree) (faults : List Answer) (r : Ready old from from_at to to_at s t u) {W : List Take → Type 0} (c : Copies old mid to to_at s t u faults W) where
+  pub copy_size : length (words c.copy) ≡ length (words u)
   copy_size = size-fits s c.copy c.fits ∙ sym (size-fits s u r.target.fits)
 
   -- the copy stands where it was to be
@@ -69,13 +70,9 @@ module _ (old mid : Live) (from from_at to to_at : ℕ) (s : Shape) (t u : Tree)
   pub source_stands : Holds mid from from_at s t
   source_stands = record { stands = stands_elsewhere old mid from from_at t to to_at u c.copy r.source.stands c.replaced r.apart r.beneath r.bare; fits = r.source.fits }
 
-  pub copy_part : (now : Live) → now ≡ mid → Copies old now to to_at s t u false
-  copy_part now e =
-      let P : Live → Type 0 = λ m. Replaces old m to to_at u c.copy in
-      record { copy = c.copy; replaced = subst P (sym e) c.replaced; fits = c.fits; once = c.once; equal = λ o. cc }
-
-  pub reaches : {H : Type 0} (blocks : H → Live) (has_room : H → ℕ → Bool) → Lacks blocks has_room old mid t → Reaches blocks has_room old to to_at s t u
-  reaches blocks has_room l = record { state = l.state; size = l.size; refused = l.refused; among = l.among; part = copy_part (blocks l.state) l.same }
+  -- what it took tells why it ended
+  pub refuses : (V : List Take → Type 0) → ((ks : List Take) → W ks → V ks) → Refuses t faults V
+  refuses V weaker = record { part = c.copy; refused = c.refused; told = c.told; more = c.more; asked = c.asked; took = weaker (takings c.copy ++ c.refused) c.took }
 
   pub empties : (new : Live) → Frees mid new to to_at c.copy true → Emptied old new from from_at to to_at s t
   empties new f =
@@ -90,3 +87,7 @@ module _ (old mid : Live) (from from_at to to_at : ℕ) (s : Shape) (t u : Tree)
         used = ap used_by is ∙ used-with_words old to _ r.target.stands.live (length-written (words_of old to) to_at (words (left p c.copy)) fit);
         source = record { stands = stands_elsewhere old new from from_at t to to_at u (left p c.copy) r.source.stands all r.apart r.beneath r.bare; fits = r.source.fits };
       }
+
+  -- whatever giving it back answers, since none of its blocks is pinned
+  pub emptied_by : (new : Live) (ok : Bool) → Frees mid new to to_at c.copy ok → Emptied old new from from_at to to_at s t
+  emptied_by new ok f = let F : Bool → Type 0 = λ b. Frees mid new to to_at c.copy b in empties new (subst F (f.answered ∙ copy_free) f)

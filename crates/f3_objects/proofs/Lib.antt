@@ -6,8 +6,11 @@ pub mod Freeing
 pub mod Writes
 pub mod Blanks
 pub mod Linking
+pub mod Taking
 pub mod Copying
 pub mod Sharing
 pub mod Emptying
 pub mod Shifts
 pub mod Used
+pub mod Account
+pub mod Ending

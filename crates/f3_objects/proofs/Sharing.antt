@@ -8,15 +8,18 @@ use Rattle.f3_heap_laws.proofs.Laws.{get-insert_same, get-insert_other, pins-ins
 use Rattle.f3_desc.specs.Shape.{Shape, Holder, Times, width}
 use Rattle.f3_objects.specs.Tree.{Tree, End, Unallocated, Allocated, words, times, value, Value, Nil, Present, elements, first_block, IsHolder, unallocated, allocated, Fits, IsBare, blank}
 use Rattle.f3_objects.specs.Holds.{Stands, Replaces, with_words_at}
-use Rattle.f3_objects.specs.Copies.{Ready, Copies, IsLength}
+use Rattle.f3_heap_laws.specs.Answers.{Answer, Taken, Take, sizes}
+use Rattle.f3_heap_laws.proofs.Answers.{sizes-with_words}
+use Rattle.f3_objects.specs.Copies.{Ready, Copies, takings, asked_of, asks}
+use Rattle.f3_objects.proofs.Taking.{nil-append, takes-bare, asked_all}
 use Rattle.f3_objects.proofs.Trees.{times_own, zero_or_more, size-fits}
-use Rattle.f3_objects.proofs.Spans.{back_part}
+use Rattle.f3_objects.proofs.Spans.{back_part, length-written}
 use Rattle.f3_objects.proofs.Changes.{not_dead, same_live, same_words, same_pins, held-live, stands_replaced, stands_elsewhere, replaces_same, replaces_then}
 use Rattle.f3_objects.proofs.Holders.{own_or_other, Allocation, replaces_beneath, own_not_new}
 use Rattle.f3_objects.proofs.Freeing.{contents_length}
 use Rattle.f3_objects.proofs.Writes.{words-with, live-with}
 use Rattle.f3_objects.proofs.Blanks.{words-blank, blank-fits, blank-bare, held-bare}
-use Rattle.f3_objects.proofs.Copying.{length_before, untouched}
+use Rattle.f3_objects.proofs.Copying.{untouched}
 
 -- an allocatable with nothing allocated
 pub record IsRoom (rank : ℕ) (u : Tree) : Type 0 where
@@ -32,21 +35,31 @@ room_none : (rank : ℕ) (P : Tree → Type 0) (u : Tree) → IsHolder rank P u 
 room_none rank P u (unallocated d e) f = record { dims = d; is = refl; ranked = e }
 room_none rank P u (allocated b d c e r) f = cc
 
--- nothing is copied
-pub copies_unchanged : (old new : Live) (from from_at to to_at : ℕ) (s : Shape) (t u : Tree) → Ready old from from_at to to_at s t u → new ≡ old → Copies old new to to_at s t u false
-copies_unchanged old new from from_at to to_at s t u r e =
+-- nothing is copied: the first take is refused
+pub copies_unchanged : (old new : Live) (from from_at to to_at b n : ℕ) (s whole : Shape) (t u : Tree) → Ready old from from_at to to_at whole t u → Allocation old b s t → n ≡ length (words_of old b) → new ≡ old → (fault : Answer) (W : List Take → Type 0) → W (record { asked = n; answer = fault } ∷ []) → Copies old new to to_at whole t u (fault ∷ []) W
+copies_unchanged old new from from_at to to_at b n s whole t u r a len e fault W took =
     let P : Live → Type 0 = λ m. Replaces old m to to_at u u in
+    let none = takes-bare u r.bare in
     record {
       copy = u;
       replaced = subst P (sym e) (replaces_same old to to_at u r.target.stands);
       fits = r.target.fits;
       once = λ q. let b = r.bare q in omega arith;
       equal = λ o. cc;
+      refused = record { asked = n; answer = fault } ∷ [];
+      told = refl;
+      more = asked_of (takings a.contents ++ []);
+      asked =
+          ap asks a.is
+          ∙ (ap (λ (k : ℕ). k ∷ asked_of (takings a.contents ++ [])) (sym (len ∙ ap length a.inside.exact))
+          ∙ ap (λ (l : List Take). asked_of (l ++ record { asked = n; answer = fault } ∷ []) ++ asked_of (takings a.contents ++ [])) (sym none));
+      all = λ o. cc;
+      took = subst W (ap (λ (l : List Take). l ++ record { asked = n; answer = fault } ∷ []) (sym none)) took;
     }
 
 -- what is not allocated is not allocated in the copy
-pub copies_none : (m : Live) (from from_at to to_at rank : ℕ) (s : Shape) (t u : Tree) → Ready m from from_at to to_at (Holder rank s) t u → first_block t ≡ None → Copies m m to to_at (Holder rank s) t u true
-copies_none m from from_at to to_at rank s t u r e =
+pub copies_none : (m : Live) (from from_at to to_at rank : ℕ) (s : Shape) (t u : Tree) (W : List Take → Type 0) → Ready m from from_at to to_at (Holder rank s) t u → first_block t ≡ None → W [] → Copies m m to to_at (Holder rank s) t u [] W
+copies_none m from from_at to to_at rank s t u W r e took =
     let a = room_none rank (Fits s) t r.source.fits e in
     let b = room_in rank (Fits s) u r.target.fits r.bare in
     record {
@@ -55,13 +68,13 @@ copies_none m from from_at to to_at rank s t u r e =
       fits = r.target.fits;
       once = λ q. let b = r.bare q in omega arith;
       equal = λ o. ap value b.is ∙ sym (ap value a.is);
+      refused = [];
+      told = refl;
+      more = [];
+      asked = asked_all (asks t) (takings u) (ap asks a.is ∙ sym (ap asks b.is));
+      all = λ o. refl;
+      took = subst W (sym (nil-append (takings u) ∙ takes-bare u r.bare)) took;
     }
-
--- the block beneath, for which there was no room
-pub length_own : (m : Live) (b : ℕ) (s : Shape) (t : Tree) → Allocation m b s t → IsLength m t (length (words_of m b))
-length_own m b s t a =
-    let P : Tree → Type 0 = λ x. 0 < times b x in
-    record { block = b; beneath = subst P (sym a.is) (times_own b a.dims a.contents End); is = refl }
 
 -- the copy has a block of zeros and the bounds
 module _ (old mid now : Live) (from from_at to to_at rank b k : ℕ) (s : Shape) (t u : Tree) (r : Ready old from from_at to to_at (Holder rank s) t u) (a : Allocation old b s t) (positive : 0 < k) (fresh : get old k ≡ None) (taken : mid ≡ with_taken old k (length (words_of old b))) (linked : now ≡ with_words mid to (with_words_at (words_of mid to) to_at (pos k ∷ take (2 * rank) (drop (from_at + 1) (words_of mid from))))) where
@@ -211,17 +224,25 @@ module _ (old mid now : Live) (from from_at to to_at rank b k : ℕ) (s : Shape)
     | inr o ↦ let o1 = o.1 in let z = zeros_bare q in omega arith
   ])
 
-  pub length_beneath : (n : ℕ) → IsLength now a.contents n → IsLength old t n
-  length_beneath n l =
-      let h = length_before old now to to_at u shared a.contents n shared_replaces r.bare a.inside.holds.stands.held not_beneath l in
-      let P : Tree → Type 0 = λ x. 0 < times h.block x in
-      record { block = h.block; beneath = subst P (sym a.is) (let x = h.beneath in omega arith); is = h.is }
+  -- the links change no length
+  pub linked_sizes : sizes now ≡ sizes mid
+  linked_sizes =
+      let live : IsLive mid to = same_live old mid to to_stays r.target.stands.live in
+      let e = ap length (same_words old mid to to_stays) in
+      let x = size-fits (Holder rank s) u r.target.fits in
+      let w = r.target.stands.within in
+      let b = ap length bounds in
+      let l = length-append a.dims [] in
+      let n = ranked in
+      ap sizes linked ∙ sizes-with_words mid to _ live (length-written (words_of mid to) to_at (pos k ∷ take (2 * rank) (drop (from_at + 1) (words_of mid from))) (omega arith))
 
-  pub copies_shared : (new : Live) (ok : Bool) → Copies now new k 0 (Times (elements a.dims) s) a.contents (blank (Times (elements a.dims) s)) ok → Copies old new to to_at (Holder rank s) t u ok
-  copies_shared new ok c =
+  pub copies_shared : (new : Live) (faults : List Answer) {V : List Take → Type 0} → Copies now new k 0 (Times (elements a.dims) s) a.contents (blank (Times (elements a.dims) s)) faults V → (W : List Take → Type 0) → ((ks : List Take) → V ks → W (record { asked = length (words_of old b); answer = Taken k } ∷ ks)) → Copies old new to to_at (Holder rank s) t u faults W
+  copies_shared new faults c W join =
       let size : length (words c.copy) ≡ length (words zeros) = size-fits (Times (elements a.dims) s) c.copy c.fits ∙ sym (size-fits (Times (elements a.dims) s) zeros (blank-fits (Times (elements a.dims) s))) in
       let beneath = replaces_beneath now new to to_at k a.dims zeros c.copy shared_stands c.replaced size in
       let own = own_not_new now new to to_at k a.dims zeros c.copy shared_stands c.replaced in
+      let long : length (words c.copy) ≡ length (words_of old b) = size-fits (Times (elements a.dims) s) c.copy c.fits ∙ sym zeros_size in
+      let all_takings : (record { asked = length (words_of old b); answer = Taken k } ∷ (takings c.copy ++ c.refused)) ≡ takings (Allocated k a.dims c.copy End) ++ c.refused = ap (λ (n : ℕ). record { asked = n; answer = Taken k } ∷ (takings c.copy ++ c.refused)) (sym long) ∙ ap (λ (l : List Take). record { asked = length (words c.copy); answer = Taken k } ∷ (l ++ c.refused)) (sym (nil-append (takings c.copy))) in
       record {
         copy = Allocated k a.dims c.copy End;
         replaced = replaces_then old now new to to_at u shared (Allocated k a.dims c.copy End) r.target.stands.within r.target.stands.live shared_size refl shared_replaces beneath (λ q p z. absurd (let x = r.bare q in omega arith)) (r.bare to);
@@ -231,6 +252,17 @@ module _ (old mid now : Live) (from from_at to to_at rank b k : ℕ) (s : Shape)
           | inr o ↦ let o1 = o.1 in let x = c.once q in omega arith
         ];
         equal = λ o. ap (λ (x : Value). Present a.dims x Nil) (c.equal o) ∙ sym (ap value a.is);
+        refused = c.refused;
+        told = c.told;
+        more = c.more;
+        asked =
+            ap asks a.is
+            ∙ (ap (λ (l : List Take). length (words a.contents) ∷ asked_of l) (nil-append (takings a.contents))
+            ∙ (ap (λ (l : List ℕ). length (words a.contents) ∷ l) c.asked
+            ∙ (ap (λ (n : ℕ). n ∷ (asked_of (takings c.copy ++ c.refused) ++ c.more)) (sym (ap length a.inside.exact))
+            ∙ ap (λ (l : List Take). asked_of l ++ c.more) all_takings)));
+        all = c.all;
+        took = subst W all_takings (join (takings c.copy ++ c.refused) c.took);
       }
 
 -- once a block is taken, both places are as before

@@ -5,6 +5,7 @@ use Rattle.std.specs.FinMap.{get}
 use Rattle.std.proofs.lemmas.Bool.{cases_eq}
 use Rattle.std.proofs.lemmas.List.{length-set, take_more, get_or-drop, length-take-le, length-drop}
 use Rattle.f3_heap_laws.specs.Blocks.{Live, IsLive, words_of, with_words}
+use Rattle.f3_heap_laws.specs.Account.{used_by}
 use Rattle.f3_heap_laws.proofs.Laws.{get-insert_other, words-insert_other, live-insert}
 use Rattle.f3_desc.specs.Shape.{Shape, Holder}
 use Rattle.f3_objects.specs.Tree.{Tree, words, times, first_block, IsHolder, unallocated, allocated, Fits}
@@ -14,6 +15,7 @@ use Rattle.f3_objects.proofs.Spans.{length-written, written_there, written_same,
 use Rattle.f3_objects.proofs.Changes.{same_live, same_words, held-same}
 use Rattle.f3_objects.proofs.Holders.{first_word_is}
 use Rattle.f3_objects.proofs.Writes.{Wrote, words-with, wrote_words, wrote_live, wrote_length, wrote_more}
+use Rattle.f3_objects.proofs.Used.{used-with_words}
 
 -- two parts of one block are one and the same, or do not meet
 abbrev pub Apart : ℕ → ℕ → ℕ → Type 0
@@ -221,3 +223,11 @@ moved_all old mid new from a to b rank i s t h l m w e =
 
 pub taken_length : (old : Live) (from a n i : ℕ) → i ≤ n → a + n ≤ length (words_of old from) → length (take i (drop a (words_of old from))) ≡ i
 taken_length old from a n i l w = length-take-le i (drop a (words_of old from)) (let k = length-drop a (words_of old from) in omega arith)
+
+-- words written over words, and then one word
+pub used_moved : (old mid new : Live) (from a to b : ℕ) (ys : List ℤ) → IsLive old from → IsLive old to → Wrote old mid to b ys → b + length ys ≤ length (words_of old to) → new ≡ with_words mid from (set (words_of mid from) a (pos 0)) → used_by new ≡ used_by old
+used_moved old mid new from a to b ys from_live to_live w fit is =
+    let k = wrote_from old mid from to b ys w fit from_live in
+    ap used_by is
+    ∙ (used-with_words mid from (set (words_of mid from) a (pos 0)) k.0 (length-set (words_of mid from) a (pos 0))
+    ∙ (ap used_by w.is ∙ used-with_words old to _ to_live (length-written (words_of old to) b ys fit)))

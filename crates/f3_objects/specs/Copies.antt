@@ -1,9 +1,12 @@
--- Copies of objects (own rule): an equal tree in blocks of its own.
-use Rattle.std.specs.Prelude.{ℕ, ◌≡◌, ◌≢◌, ◌<◌, ◌≤◌, Bool, true, false, length}
+-- Copies of objects (own rule): an equal tree in blocks of its own, and the takes that made it.
+use Rattle.std.specs.Prelude.{ℕ, ◌≡◌, ◌≢◌, ◌≤◌, List, [], ◌∷◌, ◌++◌, map, length, Result, Ok, Err}
 use Rattle.f3_heap_laws.specs.Blocks.{Live, words_of, with_words}
-use Rattle.f3_desc.specs.Shape.{Shape}
-use Rattle.f3_objects.specs.Tree.{Tree, words, times, value, Fits, IsBare}
+use Rattle.f3_heap_laws.specs.Answers.{Answer, Full, Memory, Taken, Take}
+use Rattle.f3_desc.specs.Shape.{Shape, Times}
+use Rattle.f3_objects.specs.Tree.{Tree, End, Word, Unallocated, Allocated, words, times, value, Fits, IsBare}
 use Rattle.f3_objects.specs.Holds.{Holds, Replaces, with_words_at}
+use Rattle.f3_objects.specs.declared.copy.TreeFault.{TreeFault}
+use Rattle.f3_objects.specs.declared.copy.TreeFault
 
 -- an object to be copied, and a place for its copy, where nothing is allocated, in a block that is not the object's and not beneath it
 pub record Ready (m : Live) (from from_at to to_at : ℕ) (s : Shape) (t u : Tree) : Type 0 where
@@ -13,13 +16,65 @@ pub record Ready (m : Live) (from from_at to to_at : ℕ) (s : Shape) (t u : Tre
   pub beneath : times to t ≡ 0
   pub bare : IsBare u
 
--- an object of this shape took u's place, in new blocks that each stand once; where ok, its value is that of t, with the same bounds
-pub record Copies (old new : Live) (to to_at : ℕ) (s : Shape) (t u : Tree) (ok : Bool) : Type 0 where
+-- n objects of this shape are all that a block holds, and another block of its length is ready for their copies
+pub record Refills (m : Live) (from to : ℕ) (s : Shape) (n : ℕ) (t u : Tree) : Type 0 where
+  pub ready : Ready m from 0 to 0 (Times n s) t u
+  pub source : words_of m from ≡ words t
+  pub target : words_of m to ≡ words u
+
+-- the answer of the heap that a fault tells of
+abbrev pub fault_of : TreeFault → Answer
+fault_of TreeFault.TheVariants.Full = Full
+fault_of TreeFault.TheVariants.Memory = Memory
+
+-- none after Ok, and that of the fault after Err
+abbrev pub faults : {T : Type 0} → Result T TreeFault → List Answer
+faults (Ok x) = []
+faults (Err fault) = fault_of fault ∷ []
+
+-- the takes that make a tree: each block before those beneath it, and these before what stands behind
+abbrev pub takings : Tree → List Take
+takings End = []
+takings (Word w t) = takings t
+takings (Unallocated dims t) = takings t
+takings (Allocated b dims c t) = record { asked = length (words c); answer = Taken b } ∷ (takings c ++ takings t)
+
+abbrev pub asked_of : List Take → List ℕ
+asked_of ks = map (λ k. k.asked) ks
+
+-- the lengths of the blocks beneath a tree, in that order
+abbrev pub asks : Tree → List ℕ
+asks t = asked_of (takings t)
+
+-- a copy of t took u's place, in new blocks that each stand once. It is whole where there is no fault.
+pub record Copies (old new : Live) (to to_at : ℕ) (s : Shape) (t u : Tree) (faults : List Answer) (W : List Take → Type 0) : Type 0 where
   pub copy : Tree
   pub replaced : Replaces old new to to_at u copy
   pub fits : Fits s copy
   pub once : (q : ℕ) → times q copy ≤ 1
-  pub equal : ok ≡ true → value copy ≡ value t
+  -- the whole copy has the value of t, with the same bounds
+  pub equal : faults ≡ [] → value copy ≡ value t
+  -- the takes are those of the copy, and then the one that was refused, as the fault tells
+  pub refused : List Take
+  pub told : map (λ k. k.answer) refused ≡ faults
+  -- they ask for the lengths of the blocks beneath t in order, and those of the whole copy for all of them
+  pub more : List ℕ
+  pub asked : asks t ≡ asked_of (takings copy ++ refused) ++ more
+  pub all : faults ≡ [] → more ≡ []
+  -- and W is what is known of them
+  pub took : W (takings copy ++ refused)
+
+-- a copy of t was begun and given back, since a take was refused as the fault tells
+pub record Refuses (t : Tree) (faults : List Answer) (W : List Take → Type 0) : Type 0 where
+  pub part : Tree
+  -- the takes are those of the part that stood, and then the one that was refused
+  pub refused : List Take
+  pub told : map (λ k. k.answer) refused ≡ faults
+  -- they ask for the lengths of the blocks beneath t in order
+  pub more : List ℕ
+  pub asked : asks t ≡ asked_of (takings part ++ refused) ++ more
+  -- and W is what is known of them
+  pub took : W (takings part ++ refused)
 
 -- an object of this shape with nothing allocated took the place of another such, and nothing but its words changed
 pub record Empties (old new : Live) (to to_at : ℕ) (s : Shape) : Type 0 where
@@ -27,25 +82,3 @@ pub record Empties (old new : Live) (to to_at : ℕ) (s : Shape) : Type 0 where
   pub fits : Fits s rest
   pub bare : IsBare rest
   pub is : new ≡ with_words old to (with_words_at (words_of old to) to_at (words rest))
-
--- n is the length of a block beneath t
-pub record IsLength (m : Live) (t : Tree) (n : ℕ) : Type 0 where
-  pub block : ℕ
-  pub beneath : 0 < times block t
-  pub is : n ≡ length (words_of m block)
-
--- a heap whose blocks are these has no room for a block as long as one beneath t
-pub record Lacks {H : Type 0} (blocks : H → Live) (has_room : H → ℕ → Bool) (m now : Live) (t : Tree) : Type 0 where
-  pub state : H
-  pub size : ℕ
-  pub refused : has_room state size ≡ false
-  pub same : blocks state ≡ now
-  pub among : IsLength m t size
-
--- while t was copied to u's place, a state was reached in which the heap had no room for a block as long as one beneath t
-pub record Reaches {H : Type 0} (blocks : H → Live) (has_room : H → ℕ → Bool) (m : Live) (to to_at : ℕ) (s : Shape) (t u : Tree) : Type 0 where
-  pub state : H
-  pub size : ℕ
-  pub refused : has_room state size ≡ false
-  pub among : IsLength m t size
-  pub part : Copies m (blocks state) to to_at s t u false

@@ -57,7 +57,8 @@ abbrev pub left : (ℕ → ℕ) → Tree → Tree
 left pins End = End
 left pins (Word w t) = Word w (left pins t)
 left pins (Unallocated dims t) = Unallocated dims (left pins t)
-left pins (Allocated b dims c t) = cond (nat_eq (pins b) 0) (cond (is_free pins c) (Unallocated dims (left pins t)) (Allocated b dims (left pins c) t)) (Allocated b dims c t)
+left pins (Allocated b dims c t) =
+    cond (nat_eq (pins b) 0) (cond (is_free pins c) (Unallocated dims (left pins t)) (Allocated b dims (left pins c) t)) (Allocated b dims c t)
 
 -- a block holds so many objects of this shape and nothing else
 pub record IsContents (m : Live) (block : ℕ) (s : Shape) (n : ℕ) (t : Tree) : Type 0 where
@@ -71,7 +72,9 @@ pub record Frees (old new : Live) (block at : ℕ) (t : Tree) (ok : Bool) : Type
 
 -- the words of one block from a place on are written into another, and then the first of them is 0
 abbrev pub with_moved : Live → ℕ → ℕ → ℕ → ℕ → List ℤ → Live
-with_moved m from from_at to to_at ws = let mid = with_words m to (with_words_at (words_of m to) to_at ws) in with_words mid from (set (words_of mid from) from_at (pos 0))
+with_moved m from from_at to to_at ws =
+    let mid = with_words m to (with_words_at (words_of m to) to_at ws) in
+    with_words mid from (set (words_of mid from) from_at (pos 0))
 
 -- an allocatable with this tree went from one place to another: nothing but its words changed, and the first is not allocated
 pub record Moves (old new : Live) (from from_at to to_at rank : ℕ) (s : Shape) (t : Tree) : Type 0 where

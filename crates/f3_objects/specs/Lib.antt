@@ -1,3 +1,4 @@
 pub mod Tree
 pub mod Holds
 pub mod Copies
+pub mod OneTake

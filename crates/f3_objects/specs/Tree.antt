@@ -2,6 +2,7 @@
 -- A derived type is the words of its components one after another, an array those of its elements in array element order.
 use Rattle.std.proofs.Common.{zero, suc}
 use Rattle.std.specs.Prelude.{ℕ, ℤ, pos, negsuc, ◌≡◌, ◌+◌, ◌*◌, cond, nat_eq, List, [], ◌∷◌, ◌++◌, length, replicate, Option, None, Some}
+use Rattle.f3_heap_laws.specs.Account.{r}
 use Rattle.f3_desc.specs.Shape.{Shape, Nothing, Plain, Holder, Both, Times}
 
 -- an allocatable has a lower bound and an extent for each dimension; a block's words are its contents
@@ -43,6 +44,13 @@ times q End = 0
 times q (Word w t) = times q t
 times q (Unallocated dims t) = times q t
 times q (Allocated b dims c t) = one_at q b + (times q c + times q t)
+
+-- the words of the heap that the blocks beneath take, each with its length, pin count and tag
+abbrev pub footprint : Tree → ℕ
+footprint End = 0
+footprint (Word w t) = footprint t
+footprint (Unallocated dims t) = footprint t
+footprint (Allocated b dims c t) = r (length (words c)) + (footprint c + footprint t)
 
 -- no block stands beneath the object
 abbrev pub IsBare : Tree → Type 0

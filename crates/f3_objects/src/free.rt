@@ -3,11 +3,12 @@
 ghost use Rattle.std.specs.Prelude.{◌≡◌, ◌↔◌, ◌<◌, ◌+◌, ◌*◌, ◌^◌, ℕ, None, IsOk, OnOk, is_ok, map};
 ghost use Rattle.std.specs.FinMap.{get};
 ghost use Rattle.f3_heap_laws.specs.Blocks.{pins_of};
+ghost use Rattle.f3_heap_laws.specs.Account.{used_by};
 ghost use Rattle.std.specs.List.{All};
 ghost use Rattle.f3_desc.specs.Shape.{width, whole, row, shape_at, Holder, Times};
 ghost use Rattle.f3_desc.specs.Layout.{pieces_of, shapes, shape_in, piece_count};
-ghost use Rattle.f3_objects.specs.Tree.{Tree, times};
-ghost use Rattle.f3_objects.specs.Holds.{Holds, Frees, NonePinned, IsContents};
+ghost use Rattle.f3_objects.specs.Tree.{Tree, times, footprint};
+ghost use Rattle.f3_objects.specs.Holds.{Holds, Frees, NonePinned, IsContents, left};
 
 use crate::holder::block_at;
 use f3_desc::{Layout, Piece};
@@ -27,10 +28,19 @@ pub fn free_tree<B: Blocks>(
     layout: &Layout,
 ) -> Result<(), Pinned>
     requires { (t : Tree) × Holds (B.blocks heap.old) block at (whole (pieces_of layout.now)) t }
-    ensures freed { (t : Tree) → Holds (B.blocks heap.old) block at (whole (pieces_of layout.now)) t → Frees (B.blocks heap.old) (B.blocks heap.new) block at t (is_ok result) }
-    ensures unpinned { (t : Tree) → Holds (B.blocks heap.old) block at (whole (pieces_of layout.now)) t → IsOk result ↔ NonePinned (pins_of (B.blocks heap.old)) t }
-    ensures given { OnOk result ((t : Tree) → Holds (B.blocks heap.old) block at (whole (pieces_of layout.now)) t → (q : ℕ) → 0 < times q t → get (B.blocks heap.new) q ≡ None) }
-    ensures size { B.size heap.new ≡ B.size heap.old }
+    ensures freed { let s = whole (pieces_of layout.now) in
+        (t : Tree) → Holds (B.blocks heap.old) block at s t → Frees (B.blocks heap.old) (B.blocks heap.new) block at t (is_ok result) }
+    ensures unpinned { let s = whole (pieces_of layout.now) in
+        (t : Tree) → Holds (B.blocks heap.old) block at s t → IsOk result ↔ NonePinned (pins_of (B.blocks heap.old)) t }
+    ensures given { let s = whole (pieces_of layout.now) in
+        OnOk result ((t : Tree) → Holds (B.blocks heap.old) block at s t → (q : ℕ) → 0 < times q t → get (B.blocks heap.new) q ≡ None) }
+    ensures used { let s = whole (pieces_of layout.now) in
+        OnOk result ((t : Tree) → Holds (B.blocks heap.old) block at s t
+        → used_by (B.blocks heap.new) + footprint t ≡ used_by (B.blocks heap.old)) }
+    ensures used_left { let s = whole (pieces_of layout.now) in
+        (t : Tree) → Holds (B.blocks heap.old) block at s t
+        → used_by (B.blocks heap.new) + footprint t ≡ used_by (B.blocks heap.old) + footprint (left (pins_of (B.blocks heap.old)) t) }
+    ensures kept { B.kept heap.new ≡ B.kept heap.old }
 {
     prove!(at <= heap.length(block));
     free_piece(heap, block, at, layout, layout.last())
@@ -48,8 +58,9 @@ pub(crate) fn free_piece<B: Blocks>(
     requires numbered { piece < piece_count layout.now }
     requires holds { (t : Tree) × Holds (B.blocks heap.old) block at (shape_in layout.now piece) t }
     requires bound { at + width (shape_in layout.now piece) < 2 ^ 64 }
-    ensures freed { (t : Tree) → Holds (B.blocks heap.old) block at (shape_in layout.now piece) t → Frees (B.blocks heap.old) (B.blocks heap.new) block at t (is_ok result) }
-    ensures size { B.size heap.new ≡ B.size heap.old }
+    ensures freed { let s = shape_in layout.now piece in
+        (t : Tree) → Holds (B.blocks heap.old) block at s t → Frees (B.blocks heap.old) (B.blocks heap.new) block at t (is_ok result) }
+    ensures kept { B.kept heap.new ≡ B.kept heap.old }
 {
     if !layout.holds_allocatable(piece) {
         return Ok(());
@@ -58,7 +69,7 @@ pub(crate) fn free_piece<B: Blocks>(
         Piece::Word => Ok(()),
         Piece::Allocatable { rank, of } => free_allocatable(heap, block, at, layout, *rank, *of),
         Piece::Record(parts) => free_parts(heap, block, at, layout, piece, parts),
-        Piece::Array { count, of } => free_elements(heap, block, at, layout, *count, *of),
+        Piece::Array { count, of } => free_repeats(heap, block, at, layout, *count, *of),
     }
 }
 
@@ -76,8 +87,9 @@ fn free_parts<B: Blocks>(
     requires earlier { All (λ p. p < piece) parts.now }
     requires holds { (t : Tree) × Holds (B.blocks heap.old) block at (row (map (shape_at (shapes layout.now)) parts.now)) t }
     requires bound { at + width (row (map (shape_at (shapes layout.now)) parts.now)) < 2 ^ 64 }
-    ensures freed { (t : Tree) → Holds (B.blocks heap.old) block at (row (map (shape_at (shapes layout.now)) parts.now)) t → Frees (B.blocks heap.old) (B.blocks heap.new) block at t (is_ok result) }
-    ensures size { B.size heap.new ≡ B.size heap.old }
+    ensures freed { let s = row (map (shape_at (shapes layout.now)) parts.now) in
+        (t : Tree) → Holds (B.blocks heap.old) block at s t → Frees (B.blocks heap.old) (B.blocks heap.new) block at t (is_ok result) }
+    ensures kept { B.kept heap.new ≡ B.kept heap.old }
 {
     let mut place = at;
     for part in parts {
@@ -89,7 +101,7 @@ fn free_parts<B: Blocks>(
 
 /// Gives back the blocks beneath so many elements.
 #[cycle(free)]
-fn free_elements<B: Blocks>(
+pub(crate) fn free_repeats<B: Blocks>(
     heap: &mut B,
     block: BlockId,
     at: usize,
@@ -100,8 +112,9 @@ fn free_elements<B: Blocks>(
     requires numbered { of < piece_count layout.now }
     requires holds { (t : Tree) × Holds (B.blocks heap.old) block at (Times count (shape_in layout.now of)) t }
     requires bound { at + count * width (shape_in layout.now of) < 2 ^ 64 }
-    ensures freed { (t : Tree) → Holds (B.blocks heap.old) block at (Times count (shape_in layout.now of)) t → Frees (B.blocks heap.old) (B.blocks heap.new) block at t (is_ok result) }
-    ensures size { B.size heap.new ≡ B.size heap.old }
+    ensures freed { let s = Times count (shape_in layout.now of) in
+        (t : Tree) → Holds (B.blocks heap.old) block at s t → Frees (B.blocks heap.old) (B.blocks heap.new) block at t (is_ok result) }
+    ensures kept { B.kept heap.new ≡ B.kept heap.old }
 {
     let size = layout.words_of(of);
     let mut place = at;
@@ -114,7 +127,7 @@ fn free_elements<B: Blocks>(
 
 /// Gives back the blocks beneath the elements that a block holds.
 #[cycle(free)]
-fn free_contents<B: Blocks>(
+pub(crate) fn free_inner<B: Blocks>(
     heap: &mut B,
     block: BlockId,
     layout: &Layout,
@@ -122,14 +135,15 @@ fn free_contents<B: Blocks>(
 ) -> Result<(), Pinned>
     requires numbered { of < piece_count layout.now }
     requires holds { (n : ℕ) × (t : Tree) × IsContents (B.blocks heap.old) block (shape_in layout.now of) n t }
-    ensures freed { (n : ℕ) (t : Tree) → IsContents (B.blocks heap.old) block (shape_in layout.now of) n t → Frees (B.blocks heap.old) (B.blocks heap.new) block 0 t (is_ok result) }
-    ensures size { B.size heap.new ≡ B.size heap.old }
+    ensures freed { (n : ℕ) (t : Tree) → IsContents (B.blocks heap.old) block (shape_in layout.now of) n t
+        → Frees (B.blocks heap.old) (B.blocks heap.new) block 0 t (is_ok result) }
+    ensures kept { B.kept heap.new ≡ B.kept heap.old }
 {
     if !layout.holds_allocatable(of) {
         return Ok(());
     }
     let count = heap.length(block) / layout.words_of(of);
-    free_elements(heap, block, 0, layout, count, of)
+    free_repeats(heap, block, 0, layout, count, of)
 }
 
 /// Gives back the block of an allocatable, after those beneath it.
@@ -144,8 +158,9 @@ fn free_allocatable<B: Blocks>(
 ) -> Result<(), Pinned>
     requires numbered { of < piece_count layout.now }
     requires holds { (t : Tree) × Holds (B.blocks heap.old) block at (Holder rank (shape_in layout.now of)) t }
-    ensures freed { (t : Tree) → Holds (B.blocks heap.old) block at (Holder rank (shape_in layout.now of)) t → Frees (B.blocks heap.old) (B.blocks heap.new) block at t (is_ok result) }
-    ensures size { B.size heap.new ≡ B.size heap.old }
+    ensures freed { let s = Holder rank (shape_in layout.now of) in
+        (t : Tree) → Holds (B.blocks heap.old) block at s t → Frees (B.blocks heap.old) (B.blocks heap.new) block at t (is_ok result) }
+    ensures kept { B.kept heap.new ≡ B.kept heap.old }
 {
     let Some(inner) = block_at(heap, block, at) else {
         return Ok(());
@@ -153,7 +168,7 @@ fn free_allocatable<B: Blocks>(
     if heap.pins(inner) > 0 {
         return Err(Pinned);
     }
-    free_contents(heap, inner, layout, of)?;
+    free_inner(heap, inner, layout, of)?;
     heap.give(inner)?;
     heap.write(block, at, 0);
     Ok(())

@@ -2,6 +2,7 @@
 #![tactic(auto)]
 
 mod copy;
+mod elements;
 mod free;
 mod holder;
 mod shift;
@@ -9,6 +10,7 @@ mod words;
 mod zeros;
 
 pub use copy::{TreeFault, copy_tree};
+pub use elements::{copy_contents, copy_elements, free_contents, free_elements};
 pub use free::free_tree;
 pub use shift::move_tree;
 pub use zeros::clear;

@@ -20,8 +20,9 @@ pub(crate) fn copy_words<B: Blocks>(
     requires different { from ≢ to }
     requires from_within { from_at + count ≤ length (words_of (B.blocks heap.old) from) }
     requires to_within { to_at + count ≤ length (words_of (B.blocks heap.old) to) }
-    ensures written { B.blocks heap.new ≡ with_words (B.blocks heap.old) to (with_words_at (words_of (B.blocks heap.old) to) to_at (take count (drop from_at (words_of (B.blocks heap.old) from)))) }
-    ensures size { B.size heap.new ≡ B.size heap.old }
+    ensures written { let part = take count (drop from_at (words_of (B.blocks heap.old) from)) in
+        B.blocks heap.new ≡ with_words (B.blocks heap.old) to (with_words_at (words_of (B.blocks heap.old) to) to_at part) }
+    ensures kept { B.kept heap.new ≡ B.kept heap.old }
 {
     let (source, target) = heap.pair(from, to);
     target[to_at..to_at + count].copy_from_slice(&source[from_at..from_at + count]);
@@ -42,9 +43,10 @@ pub(crate) fn link_copy<B: Blocks>(
     requires different { from ≢ to }
     requires from_within { from_at + (1 + 2 * rank) ≤ length (words_of (B.blocks heap.old) from) }
     requires to_within { to_at + (1 + 2 * rank) ≤ length (words_of (B.blocks heap.old) to) }
-    ensures written { B.blocks heap.new ≡ with_words (B.blocks heap.old) to (with_words_at (words_of (B.blocks heap.old) to) to_at (pos copy ∷ take (2 * rank) (drop (from_at + 1) (words_of (B.blocks heap.old) from)))) }
+    ensures written { let dims = take (2 * rank) (drop (from_at + 1) (words_of (B.blocks heap.old) from)) in
+        B.blocks heap.new ≡ with_words (B.blocks heap.old) to (with_words_at (words_of (B.blocks heap.old) to) to_at (pos copy ∷ dims)) }
     ensures positive { 0 < copy }
-    ensures size { B.size heap.new ≡ B.size heap.old }
+    ensures kept { B.kept heap.new ≡ B.kept heap.old }
 {
     prove!(from_at < heap.length(from));
     prove!(to_at < heap.length(to));

@@ -15,10 +15,11 @@ use f3_heap::{BlockId, Blocks};
 pub fn clear<B: Blocks>(heap: &mut B, block: BlockId, at: usize, layout: &Layout)
     requires live { IsLive (B.blocks heap.old) block }
     requires within { at + width (whole (pieces_of layout.now)) ≤ length (words_of (B.blocks heap.old) block) }
-    ensures zeros { B.blocks heap.new ≡ with_words (B.blocks heap.old) block (with_words_at (words_of (B.blocks heap.old) block) at (replicate (width (whole (pieces_of layout.now))) (pos 0))) }
+    ensures zeros { let zeros = replicate (width (whole (pieces_of layout.now))) (pos 0) in
+        B.blocks heap.new ≡ with_words (B.blocks heap.old) block (with_words_at (words_of (B.blocks heap.old) block) at zeros) }
     ensures unallocated { Holds (B.blocks heap.new) block at (whole (pieces_of layout.now)) (blank (whole (pieces_of layout.now))) }
     ensures bare { IsBare (blank (whole (pieces_of layout.now))) }
-    ensures size { B.size heap.new ≡ B.size heap.old }
+    ensures kept { B.kept heap.new ≡ B.kept heap.old }
 {
     prove!(at <= heap.length(block));
     for i in 0..layout.words() {

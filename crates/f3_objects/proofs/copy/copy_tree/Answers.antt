@@ -1,22 +1,18 @@
 use Rattle.std.proofs.Common.{◌≡◌, ◌<◌, ◌+◌, ◌^◌, ℕ, false, Bool, Err, is_ok, refl, sym, subst, ◌∙◌, arith, length}
-use Rattle.std.specs.Prelude.{Result, Ok, OnErr}
+use Rattle.std.specs.Prelude.{Result, Ok, List, [], OnOk, OnErr}
 use Rattle.f3_heap_laws.specs.Blocks.{Live, words_of}
 use Rattle.f3_desc.specs.Shape.{Shape, width, whole}
 use Rattle.f3_desc.specs.Layout.{pieces_of, shape_in}
 use Rattle.f3_objects.specs.Tree.{Tree}
 use Rattle.f3_objects.specs.Holds.{Holds, Frees}
-use Rattle.f3_objects.specs.Copies.{Ready, Reaches}
+use Rattle.f3_objects.specs.Copies.{Ready, Copies, faults}
+use Rattle.f3_objects.specs.declared.copy.TreeFault.{TreeFault}
+use Rattle.f3_heap_laws.specs.Answers.{Answer, Took}
 use Rattle.f3_objects.proofs.Trees.{size-fits}
-use Rattle.f3_objects.proofs.Emptying.{copy_holds, copy_free, source_stands, Emptied, empties, reaches}
+use Rattle.f3_objects.proofs.Emptying.{copy_holds, copy_free, source_stands, Emptied, empties, refuses}
+use Rattle.f3_objects.proofs.Ending.{ends, on_err, on_ok, when_ok}
+use Rattle.f3_objects.proofs.Account.{used_copied}
 use Rattle.f3_objects.proofs.copy.copy_tree.Goals as goal
-
--- the whole ends within its block
-ends : (m : Live) (block at : ℕ) (s : Shape) (t : Tree) (n k : ℕ) → Holds m block at s t → n ≡ length (words_of m block) → n < k → at + width s < k
-ends m block at s t n k h e l = let f = size-fits s t h.fits in let w = h.stands.within in omega arith
-
-on_err : {T E : Type 0} (r : Result T E) (P : Type 0) → (is_ok r ≡ false → P) → OnErr r P
-on_err (Ok x) P f = tt
-on_err (Err e) P f = f refl
 
 pub copy_piece-copied-requires-clause-from_bound : goal.copy_piece-copied-requires-clause-from_bound
 copy_piece-copied-requires-clause-from_bound g c =
@@ -37,8 +33,8 @@ free_piece-requires-clause-holds g c =
     let mid = g.B.Blocks.blocks c.copy_piece-copied.new.heap in
     let P : Shape → Type 0 = λ s. Ready old c.args.from c.args.from_at c.args.to c.args.to_at s c.requires.0 c.requires.1 in
     let r = subst P (sym c.last-last.ensures.shape) c.requires.2 in
-    let k = c.copy_piece-copied.ensures.copied c.requires.0 c.requires.1 r in
-    (k.copy, copy_holds old mid c.args.from c.args.from_at c.args.to c.args.to_at s c.requires.0 c.requires.1 (is_ok c.copy_piece-copied.result) r k)
+    let k = c.copy_piece-copied.ensures c.requires.0 c.requires.1 r in
+    (k.copy, copy_holds old mid c.args.from c.args.from_at c.args.to c.args.to_at s c.requires.0 c.requires.1 (faults c.copy_piece-copied.result) r k)
 
 pub free_piece-requires-clause-bound : goal.free_piece-requires-clause-bound
 free_piece-requires-clause-bound g c =
@@ -53,9 +49,9 @@ prove-unreachable-requires-then-is_err g c =
     let mid = g.B.Blocks.blocks c.copy_piece-copied.new.heap in
     let P : Shape → Type 0 = λ s. Ready old c.args.from c.args.from_at c.args.to c.args.to_at s c.requires.0 c.requires.1 in
     let r = subst P (sym c.last-last.ensures.shape) c.requires.2 in
-    let k = c.copy_piece-copied.ensures.copied c.requires.0 c.requires.1 r in
-    let h = copy_holds old mid c.args.from c.args.from_at c.args.to c.args.to_at s c.requires.0 c.requires.1 (is_ok c.copy_piece-copied.result) r k in
-    let free = copy_free old mid c.args.from c.args.from_at c.args.to c.args.to_at s c.requires.0 c.requires.1 (is_ok c.copy_piece-copied.result) r k in
+    let k = c.copy_piece-copied.ensures c.requires.0 c.requires.1 r in
+    let h = copy_holds old mid c.args.from c.args.from_at c.args.to c.args.to_at s c.requires.0 c.requires.1 (faults c.copy_piece-copied.result) r k in
+    let free = copy_free old mid c.args.from c.args.from_at c.args.to c.args.to_at s c.requires.0 c.requires.1 (faults c.copy_piece-copied.result) r k in
     let f = (c.free_piece.ensures.freed k.copy h).answered in
     let given = c.is_ok-given.ensures.value in
     let not = c.if-prove-3.true in
@@ -69,17 +65,17 @@ returns-then-is_err-clause-emptied g c = on_err c.copy_piece-copied.result _ (λ
     let new = g.B.Blocks.blocks c.free_piece.new.heap in
     let P : Shape → Type 0 = λ s. Ready old c.args.from c.args.from_at c.args.to c.args.to_at s t u in
     let r = subst P (sym c.last-last.ensures.shape) ready in
-    let k = c.copy_piece-copied.ensures.copied t u r in
-    let h = copy_holds old mid c.args.from c.args.from_at c.args.to c.args.to_at s t u (is_ok c.copy_piece-copied.result) r k in
-    let free = copy_free old mid c.args.from c.args.from_at c.args.to c.args.to_at s t u (is_ok c.copy_piece-copied.result) r k in
+    let k = c.copy_piece-copied.ensures t u r in
+    let h = copy_holds old mid c.args.from c.args.from_at c.args.to c.args.to_at s t u (faults c.copy_piece-copied.result) r k in
+    let free = copy_free old mid c.args.from c.args.from_at c.args.to c.args.to_at s t u (faults c.copy_piece-copied.result) r k in
     let f = c.free_piece.ensures.freed k.copy h in
     let F : Bool → Type 0 = λ b. Frees mid new c.args.to c.args.to_at k.copy b in
     let Q : Shape → Type 0 = λ s. Emptied old new c.args.from c.args.from_at c.args.to c.args.to_at s t in
-    let e = subst Q c.last-last.ensures.shape (empties old mid c.args.from c.args.from_at c.args.to c.args.to_at s t u (is_ok c.copy_piece-copied.result) r k new (subst F (f.answered ∙ free) f)) in
+    let e = subst Q c.last-last.ensures.shape (empties old mid c.args.from c.args.from_at c.args.to c.args.to_at s t u (faults c.copy_piece-copied.result) r k new (subst F (f.answered ∙ free) f)) in
     e.empty)
 
-pub returns-then-is_err-clause-used : goal.returns-then-is_err-clause-used
-returns-then-is_err-clause-used g c = on_err c.copy_piece-copied.result _ (λ o.
+pub returns-then-is_err-clause-used_before : goal.returns-then-is_err-clause-used_before
+returns-then-is_err-clause-used_before g c = on_err c.copy_piece-copied.result _ (λ o.
     let t = c.requires.0 in
     let u = c.requires.1 in
     let ready = c.requires.2 in
@@ -89,13 +85,13 @@ returns-then-is_err-clause-used g c = on_err c.copy_piece-copied.result _ (λ o.
     let new = g.B.Blocks.blocks c.free_piece.new.heap in
     let P : Shape → Type 0 = λ s. Ready old c.args.from c.args.from_at c.args.to c.args.to_at s t u in
     let r = subst P (sym c.last-last.ensures.shape) ready in
-    let k = c.copy_piece-copied.ensures.copied t u r in
-    let h = copy_holds old mid c.args.from c.args.from_at c.args.to c.args.to_at s t u (is_ok c.copy_piece-copied.result) r k in
-    let free = copy_free old mid c.args.from c.args.from_at c.args.to c.args.to_at s t u (is_ok c.copy_piece-copied.result) r k in
+    let k = c.copy_piece-copied.ensures t u r in
+    let h = copy_holds old mid c.args.from c.args.from_at c.args.to c.args.to_at s t u (faults c.copy_piece-copied.result) r k in
+    let free = copy_free old mid c.args.from c.args.from_at c.args.to c.args.to_at s t u (faults c.copy_piece-copied.result) r k in
     let f = c.free_piece.ensures.freed k.copy h in
     let F : Bool → Type 0 = λ b. Frees mid new c.args.to c.args.to_at k.copy b in
     let Q : Shape → Type 0 = λ s. Emptied old new c.args.from c.args.from_at c.args.to c.args.to_at s t in
-    let e = subst Q c.last-last.ensures.shape (empties old mid c.args.from c.args.from_at c.args.to c.args.to_at s t u (is_ok c.copy_piece-copied.result) r k new (subst F (f.answered ∙ free) f)) in
+    let e = subst Q c.last-last.ensures.shape (empties old mid c.args.from c.args.from_at c.args.to c.args.to_at s t u (faults c.copy_piece-copied.result) r k new (subst F (f.answered ∙ free) f)) in
     e.used)
 
 pub returns-then-is_err-clause-source : goal.returns-then-is_err-clause-source
@@ -106,26 +102,24 @@ returns-then-is_err-clause-source g c = λ t u ready.
     let new = g.B.Blocks.blocks c.free_piece.new.heap in
     let P : Shape → Type 0 = λ s. Ready old c.args.from c.args.from_at c.args.to c.args.to_at s t u in
     let r = subst P (sym c.last-last.ensures.shape) ready in
-    let k = c.copy_piece-copied.ensures.copied t u r in
-    let h = copy_holds old mid c.args.from c.args.from_at c.args.to c.args.to_at s t u (is_ok c.copy_piece-copied.result) r k in
-    let free = copy_free old mid c.args.from c.args.from_at c.args.to c.args.to_at s t u (is_ok c.copy_piece-copied.result) r k in
+    let k = c.copy_piece-copied.ensures t u r in
+    let h = copy_holds old mid c.args.from c.args.from_at c.args.to c.args.to_at s t u (faults c.copy_piece-copied.result) r k in
+    let free = copy_free old mid c.args.from c.args.from_at c.args.to c.args.to_at s t u (faults c.copy_piece-copied.result) r k in
     let f = c.free_piece.ensures.freed k.copy h in
     let F : Bool → Type 0 = λ b. Frees mid new c.args.to c.args.to_at k.copy b in
     let Q : Shape → Type 0 = λ s. Emptied old new c.args.from c.args.from_at c.args.to c.args.to_at s t in
-    let e = subst Q c.last-last.ensures.shape (empties old mid c.args.from c.args.from_at c.args.to c.args.to_at s t u (is_ok c.copy_piece-copied.result) r k new (subst F (f.answered ∙ free) f)) in
+    let e = subst Q c.last-last.ensures.shape (empties old mid c.args.from c.args.from_at c.args.to c.args.to_at s t u (faults c.copy_piece-copied.result) r k new (subst F (f.answered ∙ free) f)) in
     e.source
 
-pub returns-then-is_err-clause-full : goal.returns-then-is_err-clause-full
-returns-then-is_err-clause-full g c = λ full t u ready.
+pub returns-then-is_err-clause-refused : goal.returns-then-is_err-clause-refused
+returns-then-is_err-clause-refused g c = on_err c.copy_piece-copied.result _ (λ o t u ready.
     let s = shape_in c.args.layout.now c.last-last.result in
     let old = g.B.Blocks.blocks c.args.heap.now in
     let mid = g.B.Blocks.blocks c.copy_piece-copied.new.heap in
     let P : Shape → Type 0 = λ s. Ready old c.args.from c.args.from_at c.args.to c.args.to_at s t u in
     let r = subst P (sym c.last-last.ensures.shape) ready in
-    let k = c.copy_piece-copied.ensures.copied t u r in
-    let l = c.copy_piece-copied.ensures.full full t u r in
-    let Q : Shape → Type 0 = λ s. Reaches g.B.Blocks.blocks g.B.Blocks.has_room old c.args.to c.args.to_at s t u in
-    subst Q c.last-last.ensures.shape (reaches old mid c.args.from c.args.from_at c.args.to c.args.to_at s t u (is_ok c.copy_piece-copied.result) r k g.B.Blocks.blocks g.B.Blocks.has_room l)
+    let k = c.copy_piece-copied.ensures t u r in
+    refuses old mid c.args.from c.args.from_at c.args.to c.args.to_at s t u (faults c.copy_piece-copied.result) r k _ (λ ks w. record { allowed = w.allowed; turned = c.free_piece.ensures.kept ∙ w.turned }))
 
 pub returns-else-is_err-clause-source : goal.returns-else-is_err-clause-source
 returns-else-is_err-clause-source g c = λ t u ready.
@@ -134,6 +128,30 @@ returns-else-is_err-clause-source g c = λ t u ready.
     let mid = g.B.Blocks.blocks c.copy_piece-copied.new.heap in
     let P : Shape → Type 0 = λ s. Ready old c.args.from c.args.from_at c.args.to c.args.to_at s t u in
     let r = subst P (sym c.last-last.ensures.shape) ready in
-    let k = c.copy_piece-copied.ensures.copied t u r in
+    let k = c.copy_piece-copied.ensures t u r in
     let Q : Shape → Type 0 = λ s. Holds mid c.args.from c.args.from_at s t in
-    subst Q c.last-last.ensures.shape (source_stands old mid c.args.from c.args.from_at c.args.to c.args.to_at s t u (is_ok c.copy_piece-copied.result) r k)
+    subst Q c.last-last.ensures.shape (source_stands old mid c.args.from c.args.from_at c.args.to c.args.to_at s t u (faults c.copy_piece-copied.result) r k)
+
+pub returns-else-is_err-clause-copied : goal.returns-else-is_err-clause-copied
+returns-else-is_err-clause-copied g c =
+    let old = g.B.Blocks.blocks c.args.heap.now in
+    let mid = g.B.Blocks.blocks c.copy_piece-copied.new.heap in
+    let all = whole (pieces_of c.args.layout.now) in
+    let X = Took g.B.Blocks.allows g.B.Blocks.spent (g.B.Blocks.kept c.args.heap.now) (g.B.Blocks.kept c.copy_piece-copied.new.heap) old mid in
+    let F : List Answer → Type 0 = λ fs. (t u : Tree) → Ready old c.args.from c.args.from_at c.args.to c.args.to_at all t u → Copies old mid c.args.to c.args.to_at all t u fs X in
+    on_ok c.copy_piece-copied.result F (λ t u ready.
+    let P : Shape → Type 0 = λ s. Ready old c.args.from c.args.from_at c.args.to c.args.to_at s t u in
+    let Q : Shape → Type 0 = λ s. Copies old mid c.args.to c.args.to_at s t u (faults c.copy_piece-copied.result) X in
+    subst Q c.last-last.ensures.shape (c.copy_piece-copied.ensures t u (subst P (sym c.last-last.ensures.shape) ready)))
+
+pub returns-else-is_err-clause-used : goal.returns-else-is_err-clause-used
+returns-else-is_err-clause-used g c =
+    let s = shape_in c.args.layout.now c.last-last.result in
+    let old = g.B.Blocks.blocks c.args.heap.now in
+    let mid = g.B.Blocks.blocks c.copy_piece-copied.new.heap in
+    let X = Took g.B.Blocks.allows g.B.Blocks.spent (g.B.Blocks.kept c.args.heap.now) (g.B.Blocks.kept c.copy_piece-copied.new.heap) old mid in
+    when_ok c.copy_piece-copied.result _ (λ fine t u ready.
+    let P : Shape → Type 0 = λ s. Ready old c.args.from c.args.from_at c.args.to c.args.to_at s t u in
+    let r = subst P (sym c.last-last.ensures.shape) ready in
+    let F : List Answer → Type 0 = λ fs. Copies old mid c.args.to c.args.to_at s t u fs X in
+    used_copied old mid c.args.from c.args.from_at c.args.to c.args.to_at s t u r (subst F fine (c.copy_piece-copied.ensures t u r)))

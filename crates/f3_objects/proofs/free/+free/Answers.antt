@@ -25,29 +25,29 @@ free_allocatable-returns-then-pins-gt0-clause-freed g t c = λ x h.
     let pinned : 0 < pins_of (g.B.Blocks.blocks c.args.heap.now) c.in-Some.inner = omega (arith, c.pins.ensures) in
     frees_pinned (g.B.Blocks.blocks c.args.heap.now) c.args.block c.args.at c.args.rank s c.in-Some.inner x h some pinned
 
-pub free_allocatable-free_contents-requires : goal.free_allocatable-free_contents-requires
-free_allocatable-free_contents-requires g t c κs within =
+pub free_allocatable-free_inner-requires : goal.free_allocatable-free_inner-requires
+free_allocatable-free_inner-requires g t c κs within =
     let s = shape_in c.args.layout.now c.args.of in
     let h = c.requires.holds in
     let a = allocation (g.B.Blocks.blocks c.args.heap.now) c.args.block c.args.at c.args.rank s c.in-Some.inner h.0 h.1 (sym (c.block_at.ensures c.args.rank s h.0 h.1) ∙ c.in-Some.is) in
     (search rules, (search rules, (c.requires.numbered, (elements a.dims, a.contents, a.inside))))
 
-pub free_allocatable-returns-in_err-free_contents-clause-freed :
-    goal.free_allocatable-returns-in_err-free_contents-clause-freed
-free_allocatable-returns-in_err-free_contents-clause-freed g t c = λ x h.
+pub free_allocatable-returns-in_err-free_inner-clause-freed :
+    goal.free_allocatable-returns-in_err-free_inner-clause-freed
+free_allocatable-returns-in_err-free_inner-clause-freed g t c = λ x h.
     let s = shape_in c.args.layout.now c.args.of in
     let a = allocation (g.B.Blocks.blocks c.args.heap.now) c.args.block c.args.at c.args.rank s c.in-Some.inner x h (sym (c.block_at.ensures c.args.rank s x h) ∙ c.in-Some.is) in
     let w = err_from_is_err_and c.from_residual.result c.from_residual.ensures.1 in
-    let f : Frees (g.B.Blocks.blocks c.args.heap.now) (g.B.Blocks.blocks c.free_contents.new.heap) c.in-Some.inner 0 a.contents false = c.in_err-free_contents.ensures.freed (elements a.dims) a.contents a.inside in
+    let f : Frees (g.B.Blocks.blocks c.args.heap.now) (g.B.Blocks.blocks c.free_inner.new.heap) c.in-Some.inner 0 a.contents false = c.in_err-free_inner.ensures.freed (elements a.dims) a.contents a.inside in
     let z : pins_of (g.B.Blocks.blocks c.args.heap.now) c.in-Some.inner ≡ 0 = omega (arith, c.pins.ensures) in
-    rw (w.1) (frees_stuck (g.B.Blocks.blocks c.args.heap.now) (g.B.Blocks.blocks c.free_contents.new.heap) c.args.block c.args.at c.in-Some.inner s x h.stands a z f)
+    rw (w.1) (frees_stuck (g.B.Blocks.blocks c.args.heap.now) (g.B.Blocks.blocks c.free_inner.new.heap) c.args.block c.args.at c.in-Some.inner s x h.stands a z f)
 
 pub free_allocatable-give-requires : goal.free_allocatable-give-requires
 free_allocatable-give-requires g t c =
     let s = shape_in c.args.layout.now c.args.of in
     let h = c.requires.holds in
     let a = allocation (g.B.Blocks.blocks c.args.heap.now) c.args.block c.args.at c.args.rank s c.in-Some.inner h.0 h.1 (sym (c.block_at.ensures c.args.rank s h.0 h.1) ∙ c.in-Some.is) in
-    (c.in_ok-free_contents.ensures.freed (elements a.dims) a.contents a.inside).replaced.live
+    (c.in_ok-free_inner.ensures.freed (elements a.dims) a.contents a.inside).replaced.live
 
 pub free_allocatable-returns-in_err-give-clause-freed :
     goal.free_allocatable-returns-in_err-give-clause-freed
@@ -55,7 +55,7 @@ free_allocatable-returns-in_err-give-clause-freed g t c = λ x h.
     let s = shape_in c.args.layout.now c.args.of in
     let a = allocation (g.B.Blocks.blocks c.args.heap.now) c.args.block c.args.at c.args.rank s c.in-Some.inner x h (sym (c.block_at.ensures c.args.rank s x h) ∙ c.in-Some.is) in
     let z : pins_of (g.B.Blocks.blocks c.args.heap.now) c.in-Some.inner ≡ 0 = omega (arith, c.pins.ensures) in
-    let k = unpinned_after (g.B.Blocks.blocks c.args.heap.now) (g.B.Blocks.blocks c.free_contents.new.heap) c.in-Some.inner a.contents true (c.in_ok-free_contents.ensures.freed (elements a.dims) a.contents a.inside) z in
+    let k = unpinned_after (g.B.Blocks.blocks c.args.heap.now) (g.B.Blocks.blocks c.free_inner.new.heap) c.in-Some.inner a.contents true (c.in_ok-free_inner.ensures.freed (elements a.dims) a.contents a.inside) z in
     let e = c.in_err-give.ensures.unpinned.1 k in
     cc
 
@@ -64,7 +64,7 @@ free_allocatable-write-requires-clause-live g t c =
     let s = shape_in c.args.layout.now c.args.of in
     let h = c.requires.holds in
     let a = allocation (g.B.Blocks.blocks c.args.heap.now) c.args.block c.args.at c.args.rank s c.in-Some.inner h.0 h.1 (sym (c.block_at.ensures c.args.rank s h.0 h.1) ∙ c.in-Some.is) in
-    (holder_gone (g.B.Blocks.blocks c.args.heap.now) (g.B.Blocks.blocks c.free_contents.new.heap) (g.B.Blocks.blocks c.give.new.self) c.args.block c.args.at c.in-Some.inner s h.0 true h.1.stands a (c.in_ok-free_contents.ensures.freed (elements a.dims) a.contents a.inside) c.in_ok-give.ensures.given).0
+    (holder_gone (g.B.Blocks.blocks c.args.heap.now) (g.B.Blocks.blocks c.free_inner.new.heap) (g.B.Blocks.blocks c.give.new.self) c.args.block c.args.at c.in-Some.inner s h.0 true h.1.stands a (c.in_ok-free_inner.ensures.freed (elements a.dims) a.contents a.inside) c.in_ok-give.ensures.given).0
 
 pub free_allocatable-write-requires-clause-within :
     goal.free_allocatable-write-requires-clause-within
@@ -72,7 +72,7 @@ free_allocatable-write-requires-clause-within g t c =
     let s = shape_in c.args.layout.now c.args.of in
     let h = c.requires.holds in
     let a = allocation (g.B.Blocks.blocks c.args.heap.now) c.args.block c.args.at c.args.rank s c.in-Some.inner h.0 h.1 (sym (c.block_at.ensures c.args.rank s h.0 h.1) ∙ c.in-Some.is) in
-    let e = (holder_gone (g.B.Blocks.blocks c.args.heap.now) (g.B.Blocks.blocks c.free_contents.new.heap) (g.B.Blocks.blocks c.give.new.self) c.args.block c.args.at c.in-Some.inner s h.0 true h.1.stands a (c.in_ok-free_contents.ensures.freed (elements a.dims) a.contents a.inside) c.in_ok-give.ensures.given).1 in
+    let e = (holder_gone (g.B.Blocks.blocks c.args.heap.now) (g.B.Blocks.blocks c.free_inner.new.heap) (g.B.Blocks.blocks c.give.new.self) c.args.block c.args.at c.in-Some.inner s h.0 true h.1.stands a (c.in_ok-free_inner.ensures.freed (elements a.dims) a.contents a.inside) c.in_ok-give.ensures.given).1 in
     let w = holder_within (g.B.Blocks.blocks c.args.heap.now) c.args.block c.args.at c.args.rank s h.0 h.1 in
     rw e w
 
@@ -81,22 +81,22 @@ free_allocatable-returns-clause-freed g t c = λ x h.
     let s = shape_in c.args.layout.now c.args.of in
     let a = allocation (g.B.Blocks.blocks c.args.heap.now) c.args.block c.args.at c.args.rank s c.in-Some.inner x h (sym (c.block_at.ensures c.args.rank s x h) ∙ c.in-Some.is) in
     let z : pins_of (g.B.Blocks.blocks c.args.heap.now) c.in-Some.inner ≡ 0 = omega (arith, c.pins.ensures) in
-    frees_holder (g.B.Blocks.blocks c.args.heap.now) (g.B.Blocks.blocks c.free_contents.new.heap) (g.B.Blocks.blocks c.give.new.self) (g.B.Blocks.blocks c.write.new.self) c.args.block c.args.at c.in-Some.inner s x h.stands a z (c.in_ok-free_contents.ensures.freed (elements a.dims) a.contents a.inside) c.in_ok-give.ensures.given c.write.ensures.written
+    frees_holder (g.B.Blocks.blocks c.args.heap.now) (g.B.Blocks.blocks c.free_inner.new.heap) (g.B.Blocks.blocks c.give.new.self) (g.B.Blocks.blocks c.write.new.self) c.args.block c.args.at c.in-Some.inner s x h.stands a z (c.in_ok-free_inner.ensures.freed (elements a.dims) a.contents a.inside) c.in_ok-give.ensures.given c.write.ensures.written
 
-pub free_contents-returns-then-not-holds_allocatable-clause-freed :
-    goal.free_contents-returns-then-not-holds_allocatable-clause-freed
-free_contents-returns-then-not-holds_allocatable-clause-freed g t c = λ n x h.
+pub free_inner-returns-then-not-holds_allocatable-clause-freed :
+    goal.free_inner-returns-then-not-holds_allocatable-clause-freed
+free_inner-returns-then-not-holds_allocatable-clause-freed g t c = λ n x h.
     let e : has_holder (shape_in c.args.layout.now c.args.of) ≡ false = cc in
     frees_plain_contents (g.B.Blocks.blocks c.args.heap.now) c.args.block (shape_in c.args.layout.now c.args.of) n x e h
 
-pub free_contents-nonzero_div-count : goal.free_contents-nonzero_div-count
-free_contents-nonzero_div-count g t c =
+pub free_inner-nonzero_div-count : goal.free_inner-nonzero_div-count
+free_inner-nonzero_div-count g t c =
     let e : has_holder (shape_in c.args.layout.now c.args.of) ≡ true = cc in
     let p = holder-positive (shape_in c.args.layout.now c.args.of) e in
     omega (arith, c.words_of.ensures)
 
-pub free_contents-free_elements-requires : goal.free_contents-free_elements-requires
-free_contents-free_elements-requires g t c κs within =
+pub free_inner-free_repeats-requires : goal.free_inner-free_repeats-requires
+free_inner-free_repeats-requires g t c κs within =
     let s = shape_in c.args.layout.now c.args.of in
     let m = g.B.Blocks.blocks c.args.heap.now in
     let e : has_holder s ≡ true = cc in
@@ -108,17 +108,17 @@ free_contents-free_elements-requires g t c κs within =
     let Q : ℕ → Type 0 = λ k. 0 + k * width s < 2 ^ 64 in
     (search rules, (search rules, (c.requires.numbered, ((h.1, subst P (sym n) h.2.holds), subst Q (sym n) (omega arith)))))
 
-pub free_contents-returns-clause-freed : goal.free_contents-returns-clause-freed
-free_contents-returns-clause-freed g t c = λ n x h.
+pub free_inner-returns-clause-freed : goal.free_inner-returns-clause-freed
+free_inner-returns-clause-freed g t c = λ n x h.
     let s = shape_in c.args.layout.now c.args.of in
     let m = g.B.Blocks.blocks c.args.heap.now in
     let e : has_holder s ≡ true = cc in
     let k : c.length.result / c.words_of.result ≡ n = count_is c.length.result c.words_of.result m c.args.block s n x (holder-positive s e) c.length.ensures c.words_of.ensures h in
     let P : ℕ → Type 0 = λ k. Holds m c.args.block 0 (Times k s) x in
-    c.free_elements.ensures.freed x (subst P (sym k) h.holds)
+    c.free_repeats.ensures.freed x (subst P (sym k) h.holds)
 
-pub free_elements-free_piece-requires : goal.free_elements-free_piece-requires
-free_elements-free_piece-requires g t c κs within =
+pub free_repeats-free_piece-requires : goal.free_repeats-free_piece-requires
+free_repeats-free_piece-requires g t c κs within =
     let s = shape_in c.args.layout.now c.args.of in
     let old = g.B.Blocks.blocks c.args.heap.now in
     let now = g.B.Blocks.blocks c.loop-i.heap in
@@ -130,9 +130,9 @@ free_elements-free_piece-requires g t c κs within =
     let n = freed_within old now c.args.block c.args.at c.loop-i.place (Fits s) (Repeats (c.args.count - (c.loop-i._i + 1)) (Fits s)) h.0 f (width s) (2 ^ 64) (size-fits s f.has.front f.has.first) (omega arith) in
     (search rules, (search rules, (c.requires.numbered, ((f.has.front, record { stands = st; fits = f.has.first }), n))))
 
-pub free_elements-returns-in_err-free_piece-clause-freed :
-    goal.free_elements-returns-in_err-free_piece-clause-freed
-free_elements-returns-in_err-free_piece-clause-freed g t c = λ x h.
+pub free_repeats-returns-in_err-free_piece-clause-freed :
+    goal.free_repeats-returns-in_err-free_piece-clause-freed
+free_repeats-returns-in_err-free_piece-clause-freed g t c = λ x h.
     let s = shape_in c.args.layout.now c.args.of in
     let old = g.B.Blocks.blocks c.args.heap.now in
     let now = g.B.Blocks.blocks c.loop-i.heap in
@@ -142,8 +142,8 @@ free_elements-returns-in_err-free_piece-clause-freed g t c = λ x h.
     let w = err_from_is_err_and c.from_residual.result c.from_residual.ensures.1 in
     rw (w.1) (freed_stop old now new c.args.block c.args.at c.loop-i.place (Fits s) (Repeats (c.args.count - (c.loop-i._i + 1)) (Fits s)) x h.stands f (c.in_err-free_piece.ensures.freed f.has.front (record { stands = st; fits = f.has.first })))
 
-pub free_elements-overflow_add-place : goal.free_elements-overflow_add-place
-free_elements-overflow_add-place g t c =
+pub free_repeats-overflow_add-place : goal.free_repeats-overflow_add-place
+free_repeats-overflow_add-place g t c =
     let s = shape_in c.args.layout.now c.args.of in
     let old = g.B.Blocks.blocks c.args.heap.now in
     let now = g.B.Blocks.blocks c.loop-i.heap in
@@ -154,14 +154,14 @@ free_elements-overflow_add-place g t c =
     let n = freed_within old now c.args.block c.args.at c.loop-i.place (Fits s) (Repeats (c.args.count - (c.loop-i._i + 1)) (Fits s)) h.0 f (width s) (2 ^ 64) (size-fits s f.has.front f.has.first) (omega arith) in
     omega (arith, c.words_of-size.ensures)
 
-pub free_elements-loop-i-init : goal.free_elements-loop-i-init
-free_elements-loop-i-init g t c = record {
+pub free_repeats-loop-i-init : goal.free_repeats-loop-i-init
+free_repeats-loop-i-init g t c = record {
   freed = λ x h. freed_none (g.B.Blocks.blocks c.args.heap.now) c.args.block c.args.at (Repeats (c.args.count - 0) (Fits (shape_in c.args.layout.now c.args.of))) x h.stands (let e : c.args.count ≡ c.args.count - 0 = omega arith in let P : ℕ → Type 0 = λ k. Repeats k (Fits (shape_in c.args.layout.now c.args.of)) x in subst P e h.fits);
-  size = refl;
+  kept = refl;
 }
 
-pub free_elements-loop-i-preserved : goal.free_elements-loop-i-preserved
-free_elements-loop-i-preserved g t c =
+pub free_repeats-loop-i-preserved : goal.free_repeats-loop-i-preserved
+free_repeats-loop-i-preserved g t c =
     let s = shape_in c.args.layout.now c.args.of in
     let old = g.B.Blocks.blocks c.args.heap.now in
     let now = g.B.Blocks.blocks c.loop-i.heap in
@@ -172,19 +172,19 @@ free_elements-loop-i-preserved g t c =
           let st = first_part old now new c.args.block c.args.at c.loop-i.place (Fits s) (Repeats (c.args.count - (c.loop-i._i + 1)) (Fits s)) x h.stands f in
           let more = freed_more old now new c.args.block c.args.at c.loop-i.place (Fits s) (Repeats (c.args.count - (c.loop-i._i + 1)) (Fits s)) x h.stands f c.words_of-size.result (size-fits s f.has.front f.has.first ∙ sym c.words_of-size.ensures) (c.in_ok-free_piece.ensures.freed f.has.front (record { stands = st; fits = f.has.first })) in
           more;
-      size = c.free_piece.ensures.size ∙ c.loop-i.invariant.size;
+      kept = c.free_piece.ensures.kept ∙ c.loop-i.invariant.kept;
     }
 
-pub free_elements-returns-clause-freed : goal.free_elements-returns-clause-freed
-free_elements-returns-clause-freed g t c = λ x h.
+pub free_repeats-returns-clause-freed : goal.free_repeats-returns-clause-freed
+free_repeats-returns-clause-freed g t c = λ x h.
     freed_elements (g.B.Blocks.blocks c.args.heap.now) (g.B.Blocks.blocks c.loop-i.heap) c.args.block c.args.at c.loop-i.place c.args.count c.loop-i._i (Fits (shape_in c.args.layout.now c.args.of)) x c.loop-i-test.false (c.loop-i.invariant.freed x h)
 
-pub free_elements-returns-clause-size : goal.free_elements-returns-clause-size
-free_elements-returns-clause-size g t c = c.loop-i.invariant.size
+pub free_repeats-returns-clause-kept : goal.free_repeats-returns-clause-kept
+free_repeats-returns-clause-kept g t c = c.loop-i.invariant.kept
 
-pub free_elements-returns-in_err-free_piece-clause-size :
-    goal.free_elements-returns-in_err-free_piece-clause-size
-free_elements-returns-in_err-free_piece-clause-size g t c = c.free_piece.ensures.size ∙ c.loop-i.invariant.size
+pub free_repeats-returns-in_err-free_piece-clause-kept :
+    goal.free_repeats-returns-in_err-free_piece-clause-kept
+free_repeats-returns-in_err-free_piece-clause-kept g t c = c.free_piece.ensures.kept ∙ c.loop-i.invariant.kept
 
 pub free_parts-free_piece-requires : goal.free_parts-free_piece-requires
 free_parts-free_piece-requires g t c κs within =
@@ -217,9 +217,9 @@ free_parts-returns-in_err-free_piece-clause-freed g t c = λ x h.
     let w = err_from_is_err_and c.from_residual.result c.from_residual.ensures.1 in
     rw (w.1) (freed_stop old now new c.args.block c.args.at c.loop-part.place (Fits (shape_at ss k)) (Fits rest) x h.stands f (c.in_err-free_piece.ensures.freed f.has.front (record { stands = st; fits = f.has.first })))
 
-pub free_parts-returns-in_err-free_piece-clause-size :
-    goal.free_parts-returns-in_err-free_piece-clause-size
-free_parts-returns-in_err-free_piece-clause-size g t c = c.free_piece.ensures.size ∙ c.loop-part.invariant.size
+pub free_parts-returns-in_err-free_piece-clause-kept :
+    goal.free_parts-returns-in_err-free_piece-clause-kept
+free_parts-returns-in_err-free_piece-clause-kept g t c = c.free_piece.ensures.kept ∙ c.loop-part.invariant.kept
 
 pub free_parts-overflow_add-place : goal.free_parts-overflow_add-place
 free_parts-overflow_add-place g t c =
@@ -238,7 +238,7 @@ free_parts-overflow_add-place g t c =
 pub free_parts-loop-part-init : goal.free_parts-loop-part-init
 free_parts-loop-part-init g t c = record {
   freed = λ x h. freed_none (g.B.Blocks.blocks c.args.heap.now) c.args.block c.args.at (Fits (row (map (shape_at (shapes c.args.layout.now)) c.args.parts.now))) x h.stands h.fits;
-  size = refl;
+  kept = refl;
 }
 
 pub free_parts-loop-part-preserved : goal.free_parts-loop-part-preserved
@@ -254,15 +254,15 @@ free_parts-loop-part-preserved g t c =
           let f = freed_part old now c.args.block c.args.at c.loop-part.place c.loop-part.part-index ss c.args.parts.now x c.loop-part-test.true (c.loop-part.invariant.freed x h) in
           let st = first_part old now new c.args.block c.args.at c.loop-part.place (Fits (shape_at ss k)) (Fits rest) x h.stands f in
           freed_more old now new c.args.block c.args.at c.loop-part.place (Fits (shape_at ss k)) (Fits rest) x h.stands f c.words_of-place.result (size-fits (shape_at ss k) f.has.front f.has.first ∙ sym c.words_of-place.ensures) (c.in_ok-free_piece.ensures.freed f.has.front (record { stands = st; fits = f.has.first }));
-      size = c.free_piece.ensures.size ∙ c.loop-part.invariant.size;
+      kept = c.free_piece.ensures.kept ∙ c.loop-part.invariant.kept;
     }
 
 pub free_parts-returns-clause-freed : goal.free_parts-returns-clause-freed
 free_parts-returns-clause-freed g t c = λ x h.
     freed_parts (g.B.Blocks.blocks c.args.heap.now) (g.B.Blocks.blocks c.loop-part.heap) c.args.block c.args.at c.loop-part.place c.loop-part.part-index (shapes c.args.layout.now) c.args.parts.now x c.loop-part-test.false (c.loop-part.invariant.freed x h)
 
-pub free_parts-returns-clause-size : goal.free_parts-returns-clause-size
-free_parts-returns-clause-size g t c = c.loop-part.invariant.size
+pub free_parts-returns-clause-kept : goal.free_parts-returns-clause-kept
+free_parts-returns-clause-kept g t c = c.loop-part.invariant.kept
 
 pub free_piece-returns-then-not-holds_allocatable-clause-freed :
     goal.free_piece-returns-then-not-holds_allocatable-clause-freed

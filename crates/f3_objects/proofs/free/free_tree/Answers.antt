@@ -4,6 +4,7 @@ use Rattle.f3_desc.specs.Layout.{pieces_of}
 use Rattle.f3_objects.specs.Holds.{Holds, Frees}
 use Rattle.f3_objects.proofs.Trees.{size-fits}
 use Rattle.f3_objects.proofs.Freeing.{frees_unpinned, frees_gives, on_ok}
+use Rattle.f3_objects.proofs.Account.{used_left, used_freed}
 use Rattle.f3_objects.proofs.free.free_tree.Goals as goal
 
 pub free_piece-requires-clause-bound : goal.free_piece-requires-clause-bound
@@ -24,3 +25,13 @@ returns-clause-given g c = on_ok c.free_piece.result _ (λ e t h.
     let P : Shape → Type 0 = λ s. Holds (g.B.Blocks.blocks c.args.heap.now) c.args.block c.args.at s t in
     let f = c.free_piece.ensures.freed t (subst P (sym c.last.ensures.shape) h) in
     frees_gives (g.B.Blocks.blocks c.args.heap.now) (g.B.Blocks.blocks c.free_piece.new.heap) c.args.block c.args.at t (let Q : Bool → Type 0 = λ k. Frees (g.B.Blocks.blocks c.args.heap.now) (g.B.Blocks.blocks c.free_piece.new.heap) c.args.block c.args.at t k in subst Q e f))
+
+pub returns-clause-used : goal.returns-clause-used
+returns-clause-used g c = on_ok c.free_piece.result _ (λ e t h.
+    let P : Shape → Type 0 = λ s. Holds (g.B.Blocks.blocks c.args.heap.now) c.args.block c.args.at s t in
+    used_freed (g.B.Blocks.blocks c.args.heap.now) (g.B.Blocks.blocks c.free_piece.new.heap) c.args.block c.args.at t h.stands (is_ok c.free_piece.result) (c.free_piece.ensures.freed t (subst P (sym c.last.ensures.shape) h)) e)
+
+pub returns-clause-used_left : goal.returns-clause-used_left
+returns-clause-used_left g c = λ t h.
+    let P : Shape → Type 0 = λ s. Holds (g.B.Blocks.blocks c.args.heap.now) c.args.block c.args.at s t in
+    used_left (g.B.Blocks.blocks c.args.heap.now) (g.B.Blocks.blocks c.free_piece.new.heap) c.args.block c.args.at t h.stands (is_ok c.free_piece.result) (c.free_piece.ensures.freed t (subst P (sym c.last.ensures.shape) h))

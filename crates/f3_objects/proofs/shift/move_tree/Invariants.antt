@@ -7,5 +7,5 @@ use Rattle.f3_objects.proofs.shift.move_tree.Given as goal
 abbrev pub invariant-loop-i : goal.invariant-loop-i
 invariant-loop-i g l = record {
   wrote : Wrote (g.B.Blocks.blocks l.initial.heap) (g.B.Blocks.blocks l.heap) l.to l.to_at (take l.i (drop l.from_at (words_of (g.B.Blocks.blocks l.initial.heap) l.from)));
-  size : g.B.Blocks.size l.heap ≡ g.B.Blocks.size l.initial.heap;
+  kept : g.B.Blocks.kept l.heap ≡ g.B.Blocks.kept l.initial.heap;
 }

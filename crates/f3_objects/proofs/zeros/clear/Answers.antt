@@ -9,7 +9,7 @@ use Rattle.f3_objects.proofs.Blanks.{blank_holds, blank-bare}
 use Rattle.f3_objects.proofs.zeros.clear.Goals as goal
 
 pub loop-i-init : goal.loop-i-init
-loop-i-init g c = record { wrote = wrote_none (g.B.Blocks.blocks c.args.heap.now) c.args.block c.args.at c.requires.live; size = refl }
+loop-i-init g c = record { wrote = wrote_none (g.B.Blocks.blocks c.args.heap.now) c.args.block c.args.at c.requires.live; kept = refl }
 
 pub write-requires-clause-live : goal.write-requires-clause-live
 write-requires-clause-live g c = wrote_live (g.B.Blocks.blocks c.args.heap.now) (g.B.Blocks.blocks c.loop-i.heap) c.args.block c.args.at (replicate c.loop-i.i (pos 0)) c.loop-i.invariant.wrote
@@ -27,7 +27,7 @@ loop-i-preserved g c =
     let more = wrote_more (g.B.Blocks.blocks c.args.heap.now) (g.B.Blocks.blocks c.loop-i.heap) (g.B.Blocks.blocks c.write.new.self) c.args.block c.args.at c.loop-i.i (replicate c.loop-i.i (pos 0)) (pos 0) c.loop-i.invariant.wrote (length-replicate c.loop-i.i (pos 0)) (omega (arith, c.words-i-end.ensures)) c.write.ensures.written in
     record {
       wrote = record { is = more.is ∙ ap (λ (l : List ℤ). with_words (g.B.Blocks.blocks c.args.heap.now) c.args.block (with_words_at (words_of (g.B.Blocks.blocks c.args.heap.now) c.args.block) c.args.at l)) (replicate_more c.loop-i.i (pos 0)) };
-      size = c.write.ensures.size ∙ c.loop-i.invariant.size;
+      kept = c.write.ensures.kept ∙ c.loop-i.invariant.kept;
     }
 
 pub returns-clause-zeros : goal.returns-clause-zeros

@@ -6,5 +6,5 @@ use Rattle.f3_objects.proofs.zeros.clear.Given as goal
 abbrev pub invariant-loop-i : goal.invariant-loop-i
 invariant-loop-i g l = record {
   wrote : Wrote (g.B.Blocks.blocks l.initial.heap) (g.B.Blocks.blocks l.heap) l.block l.at (replicate l.i (pos 0));
-  size : g.B.Blocks.size l.heap ≡ g.B.Blocks.size l.initial.heap;
+  kept : g.B.Blocks.kept l.heap ≡ g.B.Blocks.kept l.initial.heap;
 }

@@ -1,8 +1,9 @@
 -- A new block of zeros.
-use Rattle.std.proofs.Common.{◌<◌, ◌∙◌, ◌^◌, rules, pos, ap, sym, refl, length}
+use Rattle.std.proofs.Common.{◌<◌, ◌∙◌, ◌^◌, rules, pos, ap, sym, refl, length, arith}
 use Rattle.std.proofs.lemmas.List.{length-replicate}
 use Rattle.std.specs.FinMap.{get, insert}
 use Rattle.f3_heap_laws.specs.Blocks.{Heap, with_taken}
+use Rattle.f3_heap_laws.proofs.Refusals.{plain_taken}
 use Rattle.f3_heap.specs.Plain.{live_slots}
 use Rattle.f3_heap.proofs.Slots.{put-fresh, put-taken, put-account, fits_in}
 use Rattle.f3_heap.proofs.plain.PlainBlocksBlocks.take.Goals as goal
@@ -28,3 +29,8 @@ returns-clause-taken c =
     put-taken c.at.result c.at.ensures refl c.in_ok-at.ensures.put
     ∙ ap (λ ws. insert (live_slots c.self.inside.slots.items) c.at.result (record { words = ws; pins = 0 })) c.in_ok-zeros.ensures.zeros
     ∙ ap (λ (h : Heap). with_taken h.blocks c.at.result c.args.words) c.self.view_is
+
+pub returns-clause-allowed : goal.returns-clause-allowed
+returns-clause-allowed c =
+    plain_taken c.args.self.now.size c.args.self.now.blocks c.args.words c.at.result (sym c.room.ensures ∙ cc)
+    (ap (λ (h : Heap). get h.blocks c.at.result) (sym c.self.view_is) ∙ put-fresh c.at.result c.at.ensures c.in_ok-at.ensures.put) (omega (arith, c.at.ensures))
