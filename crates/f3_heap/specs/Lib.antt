@@ -1,4 +1,5 @@
 pub mod Answers
+pub mod Arena
 pub mod FullAt
 pub mod Laws
 pub mod Plain

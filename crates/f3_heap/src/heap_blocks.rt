@@ -1,87 +1,119 @@
 //! Taking and giving blocks in a region, over the heap's fields.
 
-ghost use Rattle.std.specs.Prelude.{◌≡◌, ◌↔◌, ◌+◌, ◌-◌, ◌^◌, ◌<◌, ◌≤◌, true, false, None, Some, IfSome, IsSome, OnSome, IfNone};
+ghost use Rattle.std.specs.Prelude.{◌≡◌, ◌≢◌, ◌+◌, ◌^◌, ◌<◌, ◌≤◌, true, false, None, Some, IfSome, IfNone};
 ghost use Rattle.std.specs.List.{list_any};
 ghost use Rattle.std.specs.FinMap.{get, remove};
-ghost use Rattle.f3_raw.specs.Region.{region_words, region_size};
-ghost use Rattle.f3_heap_laws.specs.Account.{r};
 ghost use Rattle.f3_heap_laws.specs.Blocks.{with_taken};
 ghost use Rattle.f3_heap_laws.specs.Gaps.{gaps, places, is_wide, first_wide};
-ghost use Rattle.f3_heap_laws.specs.Segments.{IsHeap, segments, live_segments, UsedAt};
+ghost use Rattle.f3_heap_laws.specs.Segments.{UsedAt, FitsAt, NoneFits};
+ghost use Rattle.f3_heap.specs.Arena.{IsArena, segments_in, live_in};
 
+use crate::arena::Arena;
+use crate::hints::{WIDTHS, class_of, lower_hints, move_hints};
 use crate::segments::{
     carve, first_fit, free_left, link, link_next, link_prev, run_around, write_free, write_used,
 };
 use f3_heap_laws::{fits, size_of_block};
-use f3_raw::Region;
 
 /// Takes a block of so many words from the first run that has room for it, and tells its place.
-pub(crate) fn take_block(
-    region: &mut Region,
-    first: &mut usize,
-    end: &mut usize,
-    used: &mut usize,
-    size: usize,
-    words: usize,
-) -> Option<usize>
-    requires { IsHeap (region_words region.old) (region_size region.old) size first.old end.old used.old }
-    ensures heap { IsHeap (region_words region.new) (region_size region.new) size first.new end.new used.new }
-    ensures taken { IfSome result (λ at. live_segments (segments (region_words region.new) end.new) ≡ with_taken (live_segments (segments (region_words region.old) end.old)) (at + 1) words) }
-    ensures fresh { IfSome result (λ at. get (live_segments (segments (region_words region.old) end.old)) (at + 1) ≡ None) }
-    ensures first { IfSome result (λ at. first_wide words (gaps (places (live_segments (segments (region_words region.old) end.old))) size) ≡ Some at) }
+pub(crate) fn take_block(arena: &mut Arena, words: usize) -> Option<usize>
+    requires { IsArena arena.old }
+    ensures arena { IsArena arena.new }
+    ensures taken { IfSome result (λ at. live_in arena.new ≡ with_taken (live_in arena.old) (at + 1) words) }
+    ensures fresh { IfSome result (λ at. get (live_in arena.old) (at + 1) ≡ None) }
+    ensures first { IfSome result (λ at. first_wide words (gaps (places (live_in arena.old)) arena.old.size) ≡ Some at) }
     ensures small { IfSome result (λ at. at + 1 < 2 ^ 63) }
-    ensures some { IfSome result (λ at. list_any (is_wide words) (gaps (places (live_segments (segments (region_words region.old) end.old))) size) ≡ true) }
-    ensures none { IfNone result (list_any (is_wide words) (gaps (places (live_segments (segments (region_words region.old) end.old))) size) ≡ false) }
-    ensures same { IfNone result ((region.new ≡ region.old) × (first.new ≡ first.old) × (end.new ≡ end.old) × (used.new ≡ used.old)) }
+    ensures some { IfSome result (λ at. list_any (is_wide words) (gaps (places (live_in arena.old)) arena.old.size) ≡ true) }
+    ensures none { IfNone result (list_any (is_wide words) (gaps (places (live_in arena.old)) arena.old.size) ≡ false) }
+    ensures same { IfNone result (live_in arena.new ≡ live_in arena.old) }
+    ensures size { arena.new.size ≡ arena.old.size }
 {
-    if !fits(words, size) {
+    if !fits(words, arena.size) {
         return None;
     }
     let taken = size_of_block(words);
-    let at = first_fit(region, *first, size, *end, taken);
-    if at == size {
-        if size - *end < taken {
+    let at = find_room(arena, taken);
+    if at == arena.size {
+        if arena.size - arena.end < taken {
             return None;
         }
-        let at = *end;
-        *end += taken;
-        *used += taken;
-        write_used(region, at, words, taken);
+        let at = arena.end;
+        arena.end += taken;
+        arena.used += taken;
+        write_used(&mut arena.region, at, words, taken);
         return Some(at);
     }
-    carve(region, first, size, *end, at, taken);
-    *used += taken;
-    write_used(region, at, words, taken);
+    let next = carve(
+        &mut arena.region,
+        &mut arena.first,
+        arena.size,
+        arena.end,
+        at,
+        taken,
+    );
+    move_hints(&mut arena.hints, at, at + 1, next);
+    arena.used += taken;
+    write_used(&mut arena.region, at, words, taken);
     Some(at)
 }
 
-/// Gives the live block at a place back, and joins it to the free words on both its sides.
-pub(crate) fn give_block(
-    region: &mut Region,
-    first: &mut usize,
-    end: &mut usize,
-    used: &mut usize,
-    size: usize,
-    at: usize,
-)
-    requires heap { IsHeap (region_words region.old) (region_size region.old) size first.old end.old used.old }
-    requires block { UsedAt (segments (region_words region.old) end.old) at }
-    ensures heap { IsHeap (region_words region.new) (region_size region.new) size first.new end.new used.new }
-    ensures given { live_segments (segments (region_words region.new) end.new) ≡ remove (live_segments (segments (region_words region.old) end.old)) (at + 1) }
+/// The first free block of `size` words or more, or the heap's size. The hint of its width moves on.
+fn find_room(arena: &mut Arena, size: usize) -> usize
+    requires arena { IsArena arena.old }
+    requires wide { 4 ≤ size }
+    ensures arena { IsArena arena.new }
+    ensures fits { result ≢ arena.new.size → FitsAt size (segments_in arena.new) result }
+    ensures lacking { result ≡ arena.new.size → NoneFits size (segments_in arena.new) }
+    ensures same { live_in arena.new ≡ live_in arena.old }
+    ensures size { arena.new.size ≡ arena.old.size }
 {
-    let given = size_of_block(link(region, at));
-    *used -= given;
-    if at + given == *end && free_left(region, at) == 0 {
-        *end = at;
+    let class = class_of(size);
+    let from = first_fit(
+        &arena.region,
+        arena.hints[class],
+        arena.size,
+        arena.end,
+        WIDTHS[class],
+    );
+    arena.hints[class] = from;
+    first_fit(&arena.region, from, arena.size, arena.end, size)
+}
+
+/// Gives the live block at a place back, and joins it to the free words on both its sides.
+pub(crate) fn give_block(arena: &mut Arena, at: usize)
+    requires arena { IsArena arena.old }
+    requires block { UsedAt (segments_in arena.old) at }
+    ensures arena { IsArena arena.new }
+    ensures given { live_in arena.new ≡ remove (live_in arena.old) (at + 1) }
+    ensures size { arena.new.size ≡ arena.old.size }
+{
+    let given = size_of_block(link(&arena.region, at));
+    arena.used -= given;
+    if at + given == arena.end && free_left(&arena.region, at) == 0 {
+        arena.end = at;
         return;
     }
-    let run = run_around(region, *first, size, *end, at, given);
-    if run.at + run.size == *end {
-        *end = run.at;
-        link_next(region, first, size, run.prev, size);
+    let run = run_around(&arena.region, arena.first, arena.size, arena.end, at, given);
+    if run.at + run.size == arena.end {
+        arena.end = run.at;
+        link_next(
+            &mut arena.region,
+            &mut arena.first,
+            arena.size,
+            run.prev,
+            arena.size,
+        );
+        move_hints(&mut arena.hints, run.at, arena.size, arena.size);
     } else {
-        write_free(region, run.at, run.size, run.next, run.prev);
-        link_next(region, first, size, run.prev, run.at);
-        link_prev(region, size, run.next, run.at);
+        write_free(&mut arena.region, run.at, run.size, run.next, run.prev);
+        link_next(
+            &mut arena.region,
+            &mut arena.first,
+            arena.size,
+            run.prev,
+            run.at,
+        );
+        link_prev(&mut arena.region, arena.size, run.next, run.at);
+        lower_hints(&mut arena.hints, run.at, run.size);
     }
 }

@@ -1,10 +1,12 @@
 //! Heaps of blocks of words, behind one trait.
 #![tactic(auto)]
 
+mod arena;
 mod block_id;
 mod blocks;
 mod full_at;
 mod heap_blocks;
+mod hints;
 pub mod laws;
 mod plain;
 mod raw;

@@ -13,9 +13,11 @@ ghost use Rattle.f3_heap_laws.specs.Rules.{raw_allows};
 ghost use Rattle.f3_heap_laws.proofs.Refusals.{raw_refuses};
 ghost use Rattle.f3_heap.specs.Answers.{answer_of};
 
+use crate::arena::Arena;
 use crate::block_id::BlockId;
 use crate::blocks::{Blocks, Pinned, TakeFault};
 use crate::heap_blocks::{give_block, take_block};
+use crate::hints::class_of;
 use crate::segments::{first_fit, link, pin_count, put_pin_count};
 use f3_heap_laws::{fits, size_of_block};
 use f3_raw::Region;
@@ -32,11 +34,7 @@ use std::marker::Model;
 /// The words behind the last block are the last run of the free ones.
 #[derive(Drop)]
 pub struct RawHeap {
-    region: Region,
-    size: usize,
-    first: usize,
-    end: usize,
-    used: usize,
+    arena: Arena,
 }
 
 impl Model for RawHeap {
@@ -46,12 +44,11 @@ impl Model for RawHeap {
 
     ghost coded = { heap_code };
 
-    ghost use Rattle.f3_raw.specs.Region.{region_words, region_size};
-    ghost use Rattle.f3_heap_laws.specs.Segments.{live_segments, segments, IsHeap};
+    ghost use Rattle.f3_heap.specs.Arena.{IsArena, live_in};
 
-    ghost view = { λ s. record { blocks = live_segments (segments (region_words s.region) s.end); size = s.size } };
+    ghost view = { λ s. record { blocks = live_in s.arena; size = s.arena.size } };
 
-    ghost invariant = { λ s. IsHeap (region_words s.region) (region_size s.region) s.size s.first s.end s.used };
+    ghost invariant = { λ s. IsArena s.arena };
 }
 
 impl RawHeap {
@@ -66,11 +63,14 @@ impl RawHeap {
         let region = Region::new(alloc, words)?;
         let size = words / 4 * 4;
         Ok(RawHeap {
-            region,
-            size,
-            first: size,
-            end: 0,
-            used: 0,
+            arena: Arena {
+                region,
+                size,
+                first: size,
+                hints: [size; 8],
+                end: 0,
+                used: 0,
+            },
         })
     }
 }
@@ -100,15 +100,7 @@ impl Blocks for RawHeap {
         ensures first { IfOk result (λ b. first_wide words (gaps (places self.old.blocks) self.old.size) ≡ Some (b - 1)) }
         ensures without_memory { result ≢ Err TakeFault.Memory }
     {
-        let at = take_block(
-            &mut self.region,
-            &mut self.first,
-            &mut self.end,
-            &mut self.used,
-            self.size,
-            words,
-        );
-        match at {
+        match take_block(&mut self.arena, words) {
             Some(at) => Ok(BlockId::at(at)),
             None => Err(TakeFault::Full),
         }
@@ -116,63 +108,60 @@ impl Blocks for RawHeap {
 
     fn give(&mut self, block: BlockId) -> Result<(), Pinned> {
         let at = block.place();
-        if pin_count(&self.region, at + 1) != 0 {
+        if pin_count(&self.arena.region, at + 1) != 0 {
             return Err(Pinned);
         }
-        give_block(
-            &mut self.region,
-            &mut self.first,
-            &mut self.end,
-            &mut self.used,
-            self.size,
-            at,
-        );
+        give_block(&mut self.arena, at);
         Ok(())
     }
 
     fn length(&self, block: BlockId) -> usize {
-        link(&self.region, block.place())
+        link(&self.arena.region, block.place())
     }
 
     fn read(&self, block: BlockId, at: usize) -> i64 {
-        self.region.get(block.place() + 2 + at)
+        self.arena.region.get(block.place() + 2 + at)
     }
 
     fn write(&mut self, block: BlockId, at: usize, value: i64) {
-        self.region.put(block.place() + 2 + at, value);
+        self.arena.region.put(block.place() + 2 + at, value);
     }
 
     fn pair(&mut self, from: BlockId, to: BlockId) -> (&[i64], &mut [i64]) {
         let n = self.length(from);
         let m = self.length(to);
-        self.region.pair(from.place() + 2, n, to.place() + 2, m)
+        self.arena
+            .region
+            .pair(from.place() + 2, n, to.place() + 2, m)
     }
 
     fn pin(&mut self, block: BlockId) {
-        let count = pin_count(&self.region, block.place() + 1) + 1;
-        put_pin_count(&mut self.region, block.place() + 1, count);
+        let count = pin_count(&self.arena.region, block.place() + 1) + 1;
+        put_pin_count(&mut self.arena.region, block.place() + 1, count);
     }
 
     fn unpin(&mut self, block: BlockId) {
-        let count = pin_count(&self.region, block.place() + 1) - 1;
-        put_pin_count(&mut self.region, block.place() + 1, count);
+        let count = pin_count(&self.arena.region, block.place() + 1) - 1;
+        put_pin_count(&mut self.arena.region, block.place() + 1, count);
     }
 
     fn pins(&self, block: BlockId) -> u64 {
-        pin_count(&self.region, block.place() + 1)
+        pin_count(&self.arena.region, block.place() + 1)
     }
 
     fn used(&self) -> usize {
-        self.used
+        self.arena.used
     }
 
     fn room(&self, words: usize) -> bool {
-        if !fits(words, self.size) {
+        let arena = &self.arena;
+        if !fits(words, arena.size) {
             return false;
         }
         let size = size_of_block(words);
-        size <= self.size - self.end
-            || first_fit(&self.region, self.first, self.size, self.end, size) != self.size
+        let from = arena.hints[class_of(size)];
+        size <= arena.size - arena.end
+            || first_fit(&arena.region, from, arena.size, arena.end, size) != arena.size
     }
 
     ghost refuses = { λ h w. raw_refuses h.size h.blocks w };

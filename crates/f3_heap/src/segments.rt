@@ -17,7 +17,8 @@ ghost use mir.Syntax.{w64};
 ghost use Rattle.f3_raw.specs.Region.{region_words, region_size};
 ghost use Rattle.f3_raw.specs.Words.{written};
 ghost use Rattle.f3_heap_laws.specs.Account.{r};
-ghost use Rattle.f3_heap_laws.specs.Segments.{Lays, segments, free_size_of, with_next, with_prev, free_words, used_words, FitsAt, Searches, NoneFits, Cuts, freed, UsedAt, last_free, AreApart, Around};
+ghost use Rattle.f3_heap_laws.specs.Hints.{HintFrom, CutsTo};
+ghost use Rattle.f3_heap_laws.specs.Segments.{Lays, segments, free_size_of, with_next, with_prev, free_words, used_words, FitsAt, NoneFits, freed, UsedAt, last_free, AreApart, Around};
 
 use f3_heap_laws::size_of_block;
 use f3_raw::Region;
@@ -107,20 +108,15 @@ pub(crate) fn link(region: &Region, at: usize) -> usize
     region.get(at).cast_unsigned() as usize
 }
 
-/// The first free block of `size` words or more, or `none`.
-pub(crate) fn first_fit(
-    region: &Region,
-    first: usize,
-    none: usize,
-    end: usize,
-    size: usize,
-) -> usize
-    requires lays { Lays none (segments (region_words region.now) end) (region_words region.now) first end }
+/// The first free block of `size` words or more, or `none`. The search begins at `from`.
+pub(crate) fn first_fit(region: &Region, from: usize, none: usize, end: usize, size: usize) -> usize
+    requires lays { (first : ℕ) × Lays none (segments (region_words region.now) end) (region_words region.now) first end }
     requires small { end ≤ none }
+    requires begins { HintFrom none size from 0 (segments (region_words region.now) end) }
     ensures fits { result ≢ none → FitsAt size (segments (region_words region.now) end) result }
     ensures lacking { result ≡ none → NoneFits size (segments (region_words region.now) end) }
 {
-    let mut at = first;
+    let mut at = from;
     while at != none {
         if free_size(region, at) >= size {
             return at;
@@ -131,6 +127,7 @@ pub(crate) fn first_fit(
 }
 
 /// Cuts `size` words from the front of the free block at `at`, and leaves the rest in the list.
+/// The next free block is told.
 pub(crate) fn carve(
     region: &mut Region,
     first: &mut usize,
@@ -138,12 +135,12 @@ pub(crate) fn carve(
     end: usize,
     at: usize,
     size: usize,
-)
+) -> usize
     requires lays { Lays none (segments (region_words region.old) end) (region_words region.old) first.old end }
     requires small { (end ≤ none) × (none < 2 ^ 60) }
     requires fits { FitsAt size (segments (region_words region.old) end) at }
     requires sized { (4 ≤ size) × (size % 4 ≡ 0) }
-    ensures cuts { Cuts none size (segments (region_words region.old) end) at first.new end (region_words region.new) }
+    ensures cuts { CutsTo none size (segments (region_words region.old) end) at result first.new end (region_words region.new) }
     ensures length { length (region_words region.new) ≡ length (region_words region.old) }
     ensures size { region_size region.new ≡ region_size region.old }
 {
@@ -155,9 +152,11 @@ pub(crate) fn carve(
         write_free(region, rest, run - size, next, prev);
         link_next(region, first, none, prev, rest);
         link_prev(region, none, next, rest);
+        rest
     } else {
         link_next(region, first, none, prev, next);
         link_prev(region, none, next, prev);
+        next
     }
 }
 

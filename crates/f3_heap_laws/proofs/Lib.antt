@@ -5,6 +5,8 @@ pub mod Relink
 pub mod BlockReads
 pub mod Surgery
 pub mod Giving
+pub mod HintHeaps
+pub mod HintLaws
 pub mod LiveSegs
 pub mod Neighbours
 pub mod GapLaws

@@ -14,6 +14,8 @@ use Rattle.f3_heap_laws.specs.Blocks.{Heap, IsLive, words_of, pins_of, with_word
 use Rattle.f3_heap_laws.specs.Placed.{extent}
 use Rattle.f3_heap_laws.specs.Gaps.{gaps, places, is_wide}
 use Rattle.f3_heap_laws.specs.Segments.{Segment, Used, Free, seg_size, seg_block, used_words, segments, live_segments, UsedAt, IsHeap, NoneFits, FitsAt}
+use Rattle.f3_heap_laws.specs.Hints.{AreHints}
+use Rattle.f3_heap_laws.proofs.HintHeaps.{change-hints}
 use Rattle.f3_heap_laws.proofs.Segs.{r-above}
 use Rattle.f3_heap_laws.proofs.Relink.{segments-lays}
 use Rattle.f3_heap_laws.proofs.LiveSegs.{live-nil}
@@ -61,6 +63,9 @@ module _ (ws : List ℤ) (room size first end used : ℕ) (h : IsHeap ws room si
     pub write-heap : IsHeap ws' room size first end used
     write-heap = change-heap ws room size first end used at h u (set u.content i v) u.pins ws' (length-set u.content i v) small words
 
+    pub write-hints : (hints : List ℕ) → AreHints size (segments ws end) hints → AreHints size (segments ws' end) hints
+    write-hints hints old = change-hints ws room size first end used h hints old at u (set u.content i v) u.pins ws' (length-set u.content i v) small words
+
     pub write-view : live_segments (segments ws' end) ≡ with_words heap.blocks b (set (words_of heap.blocks b) i v)
     write-view = change-view ws room size first end used at h u (set u.content i v) u.pins ws' (length-set u.content i v) small words b (sym is)
         ∙ (λ j. insert (same_blocks j) b (record { words = set (sym same_words j) i v; pins = sym same_pins j }))
@@ -71,6 +76,9 @@ module _ (ws : List ℤ) (room size first end used : ℕ) (h : IsHeap ws room si
 
     pub pin-heap : IsHeap ws' room size first end used
     pin-heap = change-heap ws room size first end used at h u u.content n ws' refl fits pins_words
+
+    pub pin-hints : (hints : List ℕ) → AreHints size (segments ws end) hints → AreHints size (segments ws' end) hints
+    pin-hints hints old = change-hints ws room size first end used h hints old at u u.content n ws' refl fits pins_words
 
     pub pin-view : live_segments (segments ws' end) ≡ with_pins heap.blocks b n
     pin-view = change-view ws room size first end used at h u u.content n ws' refl fits pins_words b (sym is)
@@ -91,6 +99,9 @@ module _ (ws : List ℤ) (room size first end used : ℕ) (h : IsHeap ws room si
 
     pub pair-heap : IsHeap (overwritten ws (at + 2) (take m w)) room size first end used
     pair-heap = change-heap ws room size first end used at h u (written_over u.content w) u.pins _ over_length small pair-words-are
+
+    pub pair-hints : (hints : List ℕ) → AreHints size (segments ws end) hints → AreHints size (segments (overwritten ws (at + 2) (take m w)) end) hints
+    pair-hints hints old = change-hints ws room size first end used h hints old at u (written_over u.content w) u.pins _ over_length small pair-words-are
 
     pub pair-view : live_segments (segments (overwritten ws (at + 2) (take m w)) end) ≡ with_words heap.blocks b (written_over (words_of heap.blocks b) w)
     pair-view = change-view ws room size first end used at h u (written_over u.content w) u.pins _ over_length small pair-words-are b (sym is)

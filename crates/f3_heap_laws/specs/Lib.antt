@@ -3,6 +3,7 @@ pub mod Answers
 pub mod Blocks
 pub mod FreeRuns
 pub mod Gaps
+pub mod Hints
 pub mod Placed
 pub mod Rules
 pub mod Segments

@@ -7,13 +7,13 @@ use Rattle.f3_heap_laws.proofs.RawReads.{block-small, content-is, word-in, word-
 use Rattle.f3_heap.proofs.raw.RawHeapBlocks.read.Goals as goal
 
 pub overflow_add-place : goal.overflow_add-place
-overflow_add-place c = let w = block-small (region_words c.self.inside.region) (region_size c.self.inside.region) c.self.inside.size c.self.inside.first c.self.inside.end c.self.inside.used c.self.invariant c.args.self.now c.self.view_is c.place.result c.args.block c.place.ensures c.requires.live in record { fits = omega (arith, w) }
+overflow_add-place c = let w = block-small (region_words c.self.inside.arena.region) (region_size c.self.inside.arena.region) c.self.inside.arena.size c.self.inside.arena.first c.self.inside.arena.end c.self.inside.arena.used c.self.invariant.heap c.args.self.now c.self.view_is c.place.result c.args.block c.place.ensures c.requires.live in record { fits = omega (arith, w) }
 
 pub overflow_add-place-2 : goal.overflow_add-place-2
-overflow_add-place-2 c = let w = block-small (region_words c.self.inside.region) (region_size c.self.inside.region) c.self.inside.size c.self.inside.first c.self.inside.end c.self.inside.used c.self.invariant c.args.self.now c.self.view_is c.place.result c.args.block c.place.ensures c.requires.live in let n = content-is (region_words c.self.inside.region) (region_size c.self.inside.region) c.self.inside.size c.self.inside.first c.self.inside.end c.self.inside.used c.self.invariant c.args.self.now c.self.view_is c.place.result c.args.block c.place.ensures c.requires.live in record { fits = omega (arith, w, ap length n, c.requires.within) }
+overflow_add-place-2 c = let w = block-small (region_words c.self.inside.arena.region) (region_size c.self.inside.arena.region) c.self.inside.arena.size c.self.inside.arena.first c.self.inside.arena.end c.self.inside.arena.used c.self.invariant.heap c.args.self.now c.self.view_is c.place.result c.args.block c.place.ensures c.requires.live in let n = content-is (region_words c.self.inside.arena.region) (region_size c.self.inside.arena.region) c.self.inside.arena.size c.self.inside.arena.first c.self.inside.arena.end c.self.inside.arena.used c.self.invariant.heap c.args.self.now c.self.view_is c.place.result c.args.block c.place.ensures c.requires.live in record { fits = omega (arith, w, ap length n, c.requires.within) }
 
 pub get-requires : goal.get-requires
-get-requires c = word-in (region_words c.self.inside.region) (region_size c.self.inside.region) c.self.inside.size c.self.inside.first c.self.inside.end c.self.inside.used c.self.invariant c.args.self.now c.self.view_is c.place.result c.args.block c.place.ensures c.requires.live c.args.at c.requires.within
+get-requires c = word-in (region_words c.self.inside.arena.region) (region_size c.self.inside.arena.region) c.self.inside.arena.size c.self.inside.arena.first c.self.inside.arena.end c.self.inside.arena.used c.self.invariant.heap c.args.self.now c.self.view_is c.place.result c.args.block c.place.ensures c.requires.live c.args.at c.requires.within
 
 pub returns : goal.returns
-returns c = let f : SFits w64 c.get.result = search rules in rw to_z-of_z (c.get.ensures ∙ word-is (region_words c.self.inside.region) (region_size c.self.inside.region) c.self.inside.size c.self.inside.first c.self.inside.end c.self.inside.used c.self.invariant c.args.self.now c.self.view_is c.place.result c.args.block c.place.ensures c.requires.live c.args.at c.requires.within)
+returns c = let f : SFits w64 c.get.result = search rules in rw to_z-of_z (c.get.ensures ∙ word-is (region_words c.self.inside.arena.region) (region_size c.self.inside.arena.region) c.self.inside.arena.size c.self.inside.arena.first c.self.inside.arena.end c.self.inside.arena.used c.self.invariant.heap c.args.self.now c.self.view_is c.place.result c.args.block c.place.ensures c.requires.live c.args.at c.requires.within)

@@ -8,4 +8,4 @@ use Rattle.f3_heap_laws.proofs.LiveSegs.{used-segments}
 use Rattle.f3_heap.proofs.raw.RawHeapBlocks.used.Goals as goal
 
 pub returns : goal.returns
-returns c = c.self.invariant.account ∙ sym (used-segments (segments (region_words c.self.inside.region) c.self.inside.end)) ∙ ap (λ (h : Heap). used_by h.blocks) c.self.view_is
+returns c = c.self.invariant.heap.account ∙ sym (used-segments (segments (region_words c.self.inside.arena.region) c.self.inside.arena.end)) ∙ ap (λ (h : Heap). used_by h.blocks) c.self.view_is
