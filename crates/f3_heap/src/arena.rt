@@ -1,5 +1,6 @@
 //! A heap's region, and what is known of the blocks in it.
 
+use crate::hints::CLASSES;
 use f3_raw::Region;
 
 /// A region of words with the places of its free blocks.
@@ -11,7 +12,7 @@ pub(crate) struct Arena {
     pub(crate) region: Region,
     pub(crate) size: usize,
     pub(crate) first: usize,
-    pub(crate) hints: [usize; 8],
+    pub(crate) hints: [usize; CLASSES],
     pub(crate) end: usize,
     pub(crate) used: usize,
 }

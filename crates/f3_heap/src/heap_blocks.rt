@@ -9,7 +9,7 @@ ghost use Rattle.f3_heap_laws.specs.Segments.{UsedAt, FitsAt, NoneFits};
 ghost use Rattle.f3_heap.specs.Arena.{IsArena, segments_in, live_in};
 
 use crate::arena::Arena;
-use crate::hints::{WIDTHS, class_of, lower_hints, move_hints};
+use crate::hints::{class_of, lower_hints, move_hints, width_of};
 use crate::segments::{
     carve, first_fit, free_left, link, link_next, link_prev, run_around, write_free, write_used,
 };
@@ -73,7 +73,7 @@ fn find_room(arena: &mut Arena, size: usize) -> usize
         arena.hints[class],
         arena.size,
         arena.end,
-        WIDTHS[class],
+        width_of(class),
     );
     arena.hints[class] = from;
     first_fit(&arena.region, from, arena.size, arena.end, size)

@@ -6,30 +6,34 @@
 #![tactic(auto)]
 
 ghost use Rattle.std.specs.Prelude.{◌≡◌, ◌<◌, ◌≤◌, ◌+◌, ◌^◌, ℕ, length, slice_index_or};
-ghost use Rattle.f3_heap_laws.specs.Hints.{widths, moved, lowered};
+ghost use Rattle.f3_heap_laws.specs.Hints.{classes, width, moved, lowered};
 
-/// The widths, in words. The narrowest is the size of the smallest block.
-pub(crate) const WIDTHS: [usize; 8] = [4, 8, 16, 32, 64, 128, 256, 512];
+/// How many widths there are: 4 words, 8, 12 and so on.
+pub(crate) const CLASSES: usize = 32;
 
-/// The number of the last width that is not above `size`.
+/// The number, from 0, of the last width that is not above `size`.
 pub(crate) fn class_of(size: usize) -> usize
     requires { 4 ≤ size }
-    ensures within { result < 8 }
-    ensures wide { slice_index_or widths result 0 ≤ size }
+    ensures within { result < classes }
+    ensures wide { width result ≤ size }
 {
-    let mut class = 0;
-    while class < 7 && WIDTHS[class + 1] <= size {
-        class += 1;
-    }
-    class
+    (size / 4).min(CLASSES) - 1
+}
+
+/// The words of a width.
+pub(crate) fn width_of(class: usize) -> usize
+    requires { class < classes }
+    ensures { result ≡ width class }
+{
+    4 * (class + 1)
 }
 
 /// Moves the hints from the place `from` on and below `until` to the place `to`.
-pub(crate) fn move_hints(hints: &mut [usize; 8], from: usize, until: usize, to: usize)
-    ensures length { length hints.new ≡ 8 }
-    ensures moved { (i : ℕ) → i < 8 → slice_index_or hints.new i 0 ≡ moved from until to (slice_index_or hints.old i 0) }
+pub(crate) fn move_hints(hints: &mut [usize; CLASSES], from: usize, until: usize, to: usize)
+    ensures length { length hints.new ≡ classes }
+    ensures moved { (i : ℕ) → i < classes → slice_index_or hints.new i 0 ≡ moved from until to (slice_index_or hints.old i 0) }
 {
-    for i in 0..8 {
+    for i in 0..CLASSES {
         if from <= hints[i] && hints[i] < until {
             hints[i] = to;
         }
@@ -50,12 +54,12 @@ fn lowered_hint(hint: usize, width: usize, start: usize, size: usize) -> usize
 
 /// Lowers the hints to the place `start`, where `size` words have become one free block: those
 /// behind it of widths up to `size`, and those that lie in it.
-pub(crate) fn lower_hints(hints: &mut [usize; 8], start: usize, size: usize)
+pub(crate) fn lower_hints(hints: &mut [usize; CLASSES], start: usize, size: usize)
     requires { start + size < 2 ^ 64 }
-    ensures length { length hints.new ≡ 8 }
-    ensures lowered { (i : ℕ) → i < 8 → slice_index_or hints.new i 0 ≡ lowered (slice_index_or widths i 0) start size (slice_index_or hints.old i 0) }
+    ensures length { length hints.new ≡ classes }
+    ensures lowered { (i : ℕ) → i < classes → slice_index_or hints.new i 0 ≡ lowered (width i) start size (slice_index_or hints.old i 0) }
 {
-    for i in 0..8 {
-        hints[i] = lowered_hint(hints[i], WIDTHS[i], start, size);
+    for i in 0..CLASSES {
+        hints[i] = lowered_hint(hints[i], width_of(i), start, size);
     }
 }

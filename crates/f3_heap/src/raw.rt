@@ -17,7 +17,7 @@ use crate::arena::Arena;
 use crate::block_id::BlockId;
 use crate::blocks::{Blocks, Pinned, TakeFault};
 use crate::heap_blocks::{give_block, take_block};
-use crate::hints::class_of;
+use crate::hints::{CLASSES, class_of};
 use crate::segments::{first_fit, link, pin_count, put_pin_count};
 use f3_heap_laws::{fits, size_of_block};
 use f3_raw::Region;
@@ -67,7 +67,7 @@ impl RawHeap {
                 region,
                 size,
                 first: size,
-                hints: [size; 8],
+                hints: [size; CLASSES],
                 end: 0,
                 used: 0,
             },

@@ -1,5 +1,5 @@
--- Where a search along the free list may begin (own rule): for each of eight widths the list is known to have no block as wide before some free block.
-use Rattle.std.specs.Prelude.{ℕ, ℤ, ◌≡◌, ◌+◌, ◌<◌, ◌⊎◌, List, [], ◌∷◌, length, get_or, ◌++◌, cond, nat_le, nat_lt, ◌&&◌, ◌||◌}
+-- Where a search along the free list may begin (own rule): for each of some widths the list is known to have no block as wide before some free block.
+use Rattle.std.specs.Prelude.{ℕ, ℤ, ◌≡◌, ◌+◌, ◌*◌, ◌<◌, ◌⊎◌, List, [], ◌∷◌, length, get_or, ◌++◌, cond, nat_le, nat_lt, ◌&&◌, ◌||◌}
 use Rattle.f3_heap_laws.specs.Account.{r}
 use Rattle.f3_heap_laws.specs.Placed.{extent}
 use Rattle.f3_heap_laws.specs.Segments.{Segment, Used, Free, seg_size, seg_block, first_free, Cuts}
@@ -10,13 +10,16 @@ HintFrom none n at p [] = at ≡ none
 HintFrom none n at p (Used ws pins ∷ ss) = HintFrom none n at (p + r (length ws)) ss
 HintFrom none n at p (Free junk ∷ ss) = (at ≡ p) ⊎ ((length junk + 4 < n) × HintFrom none n at (p + (length junk + 4)) ss)
 
--- the widths, in words
-abbrev pub widths : List ℕ
-widths = 4 ∷ 8 ∷ 16 ∷ 32 ∷ 64 ∷ 128 ∷ 256 ∷ 512 ∷ []
+-- there are so many widths, in whole fours of words, and the widest serves all wider blocks too
+abbrev pub classes : ℕ
+classes = 32
+
+abbrev pub width : ℕ → ℕ
+width i = 4 * (i + 1)
 
 -- a place for each width
 abbrev pub AreHints : ℕ → List Segment → List ℕ → Type 0
-AreHints none segs hints = (i : ℕ) → i < 8 → HintFrom none (get_or widths i 0) (get_or hints i 0) 0 segs
+AreHints none segs hints = (i : ℕ) → i < classes → HintFrom none (width i) (get_or hints i 0) 0 segs
 
 -- places from `from` on and below `until` become `to`
 abbrev pub moved : ℕ → ℕ → ℕ → ℕ → ℕ

@@ -1,6 +1,6 @@
 -- The hint of the width moves on, and the search goes on from it.
-use Rattle.std.proofs.Common.{◌≡◌, length, rules}
-use Rattle.f3_heap_laws.specs.Hints.{widths}
+use Rattle.std.proofs.Common.{◌≡◌, ℕ, length, subst, rules}
+use Rattle.f3_heap_laws.specs.Hints.{HintFrom, classes}
 use Rattle.f3_heap_laws.proofs.HintLaws.{hint-wider}
 use Rattle.f3_heap_laws.proofs.HintHeaps.{found-hint, set-hints}
 use Rattle.f3_heap.specs.Arena.{segments_in}
@@ -8,13 +8,15 @@ use Rattle.f3_heap.proofs.heap_blocks.find_room.Goals as goal
 
 pub first_fit-requires-clause-begins : goal.first_fit-requires-clause-begins
 first_fit-requires-clause-begins c = hint-wider c.args.arena.now.size _ c.args.size c.first_fit-from.result 0 (segments_in c.args.arena.now) c.class_of-class.ensures.wide
-    (found-hint c.args.arena.now.size _ c.first_fit-from.result (segments_in c.args.arena.now) c.first_fit-from.ensures.fits c.first_fit-from.ensures.lacking)
+    (subst (λ (n : ℕ). HintFrom c.args.arena.now.size n c.first_fit-from.result 0 (segments_in c.args.arena.now)) c.width_of.ensures
+    (found-hint c.args.arena.now.size _ c.first_fit-from.result (segments_in c.args.arena.now) c.first_fit-from.ensures.fits c.first_fit-from.ensures.lacking))
 
 pub returns-clause-arena : goal.returns-clause-arena
 returns-clause-arena c =
-    let len : length c.args.arena.now.hints ≡ 8 = search rules in
+    let len : length c.args.arena.now.hints ≡ classes = search rules in
     record {
       heap = c.requires.arena.heap;
       hints = set-hints c.args.arena.now.size c.first_fit-from.result c.class_of-class.result (segments_in c.args.arena.now) c.args.arena.now.hints len c.class_of-class.ensures.within c.requires.arena.hints
-          (found-hint c.args.arena.now.size _ c.first_fit-from.result (segments_in c.args.arena.now) c.first_fit-from.ensures.fits c.first_fit-from.ensures.lacking);
+          (subst (λ (n : ℕ). HintFrom c.args.arena.now.size n c.first_fit-from.result 0 (segments_in c.args.arena.now)) c.width_of.ensures
+    (found-hint c.args.arena.now.size _ c.first_fit-from.result (segments_in c.args.arena.now) c.first_fit-from.ensures.fits c.first_fit-from.ensures.lacking));
     }

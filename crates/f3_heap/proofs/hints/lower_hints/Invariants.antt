@@ -1,10 +1,10 @@
 -- The hints below i are lowered, the others stand.
 use Rattle.std.proofs.Common.{ℕ, ◌≡◌, ◌<◌, ◌≤◌, length, get_or}
-use Rattle.f3_heap_laws.specs.Hints.{widths, lowered}
+use Rattle.f3_heap_laws.specs.Hints.{classes, width, lowered}
 use Rattle.f3_heap.proofs.hints.lower_hints.Given as goal
 
 abbrev pub invariant-loop-i : goal.invariant-loop-i
 invariant-loop-i l =
-    (length l.hints ≡ 8)
-    × ((k : ℕ) → k < l.i → get_or l.hints k 0 ≡ lowered (get_or widths k 0) l.start l.size (get_or l.initial.hints k 0))
+    (length l.hints ≡ classes)
+    × ((k : ℕ) → k < l.i → get_or l.hints k 0 ≡ lowered (width k) l.start l.size (get_or l.initial.hints k 0))
     × ((k : ℕ) → l.i ≤ k → get_or l.hints k 0 ≡ get_or l.initial.hints k 0)

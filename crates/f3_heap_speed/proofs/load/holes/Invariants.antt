@@ -1,0 +1,6 @@
+-- The queue holds live blocks, each once.
+use Rattle.f3_heap_tests.specs.LiveOnce.{LiveOnce}
+use Rattle.f3_heap_speed.proofs.load.holes.Given as goal
+
+abbrev pub invariant-loop : goal.invariant-loop
+invariant-loop g l = LiveOnce (g.B.Blocks.blocks l.heap) l.queue.items
