@@ -50,7 +50,8 @@ impl<B: Blocks> Blocks for FullAt<B> {
         ensures fresh { IfOk result (λ b. get (B.blocks (behind self.old)) b ≡ None) }
         ensures taken { IfOk result (λ b. B.blocks (behind self.new) ≡ with_taken (B.blocks (behind self.old)) b words) }
         ensures refused { OnErr result (B.blocks (behind self.new) ≡ B.blocks (behind self.old)) }
-        ensures allowed { FullAtAllows B.allows (refused_take self.old, B.kept (behind self.old)) (sizes (B.blocks (behind self.old))) words (answer_of result) }
+        ensures allowed { FullAtAllows B.allows (refused_take self.old, B.kept (behind self.old))
+            (sizes (B.blocks (behind self.old))) words (answer_of result) }
         ensures kept { ◌≡◌ {A = ℕ × B.Rest}
             (refused_take self.new, B.kept (behind self.new))
             (full_at_spent B.spent (refused_take self.old, B.kept (behind self.old))) }
@@ -104,7 +105,8 @@ impl<B: Blocks> Blocks for FullAt<B> {
         self.at != 1 && self.blocks.room(words)
     }
 
-    ghost refuses = { λ s w. full_at_refuses B.allows (refused_take s) (B.kept (behind s)) (sizes (B.blocks (behind s))) w (B.has_room (behind s) w) (B.refuses (behind s) w) };
+    ghost refuses = { λ s w. full_at_refuses B.allows (refused_take s) (B.kept (behind s))
+        (sizes (B.blocks (behind s))) w (B.has_room (behind s) w) (B.refuses (behind s) w) };
 
     ghost pair_keeps = { λ s b ws. ap (λ (x : B.Rest). (refused_take s, x)) (B.pair_keeps (behind s) b ws) };
 

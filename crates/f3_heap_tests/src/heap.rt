@@ -149,17 +149,20 @@ fn four_blocks_in_a_region(rt: HostRuntime) {
     give_both(&rt, &mut heap, b, d);
 }
 
-// The most words that a heap may be asked for: one block takes them all.
+/// A block of so many words, which takes the whole heap.
+fn all_in_one<B: Blocks>(rt: &impl Abort, heap: &mut B, words: usize) {
+    let block = heap.take(words).expect(rt, "room for all");
+    assert_eq!(rt; heap.length(block), words);
+    assert_eq!(rt; word_at(rt, heap, block, 0), 0);
+    assert!(rt; !heap.room(0));
+    assert!(rt; heap.give(block).is_ok());
+    assert!(rt; heap.room(words));
+}
+
 #[test]
 fn the_largest_heap(rt: HostRuntime) {
     let mut heap = RawHeap::new(rt.alloc(), 134217728).expect(&rt, "memory");
-    let block = heap.take(134217725).expect(&rt, "room for all");
-    assert_eq!(rt; heap.length(block), 134217725);
-    heap.write(block, 134217724, -7);
-    assert_eq!(rt; heap.read(block, 134217724), -7);
-    assert_eq!(rt; heap.used(), 134217728);
-    assert!(rt; !heap.room(0));
-    assert!(rt; heap.give(block).is_ok());
-    assert!(rt; heap.room(134217725));
+    all_in_one(&rt, &mut heap, 134217725);
+    assert_eq!(rt; heap.used(), 0);
     assert!(rt; !heap.room(134217726));
 }

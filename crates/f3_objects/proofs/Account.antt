@@ -1,21 +1,21 @@
 -- Laws on the account of a heap in which an object's tree became another.
-use Rattle.std.proofs.Common.{◌≡◌, ◌≢◌, ℕ, ℤ, inl, inr, ◌+◌, ◌<◌, ◌≤◌, cond, List, [], ◌∷◌, ◌++◌, length, map, refl, ap, sym, subst, ◌∙◌, arith, true, Bool}
+use Rattle.std.proofs.Common.{◌≡◌, ◌≢◌, ℕ, ℤ, inl, inr, ◌+◌, ◌<◌, ◌≤◌, List, [], ◌∷◌, ◌++◌, length, refl, ap, sym, subst, ◌∙◌, arith, true, Bool}
 use Rattle.std.specs.Prelude.{Option, None, Some}
 use Rattle.std.specs.Cmp.{nat_cmp_total}
 use Rattle.std.specs.FinMap.{get, remove, same_map, nat_cmp-IsAntisymmetric}
 use Rattle.std.proofs.lemmas.Bool.{cases_eq, eq-eqb}
-use Rattle.f3_heap_laws.specs.Blocks.{Block, Live, IsLive, words_in, pins_in, words_of, pins_of, with_words}
+use Rattle.f3_heap_laws.specs.Blocks.{Block, Live, IsLive, pins_in, words_of, pins_of, with_words}
 use Rattle.f3_heap_laws.specs.Account.{r, used_by}
-use Rattle.f3_heap_laws.specs.Answers.{Answer, Taken, Take, costs}
+use Rattle.f3_heap_laws.specs.Answers.{Take, costs}
 use Rattle.f3_heap_laws.proofs.Answers.{used-removed, costs-append}
 use Rattle.f3_heap_laws.proofs.Laws.{get-insert_same, get-insert_other, get-remove_same, get-remove_other}
 use Rattle.f3_desc.specs.Shape.{Shape}
-use Rattle.f3_objects.specs.Tree.{Tree, End, Word, Unallocated, Allocated, ◌⊕◌, words, times, one_at, footprint, IsBare}
-use Rattle.f3_objects.specs.Holds.{Held, Stands, Replaces, Frees, left, with_words_at}
+use Rattle.f3_objects.specs.Tree.{Tree, End, Word, Unallocated, Allocated, words, times, one_at, footprint, IsBare}
+use Rattle.f3_objects.specs.Holds.{Held, Stands, Replaces, Frees, left}
 use Rattle.f3_objects.specs.Copies.{Ready, Copies, takings, asked_of, asks}
 use Rattle.f3_objects.proofs.Taking.{nil-append, asked-append, none_refused}
 use Rattle.f3_objects.proofs.Trees.{zero_or_more, times_own, size-fits, size-left, times-left, free-left}
-use Rattle.f3_objects.proofs.Changes.{held-same, same_live, same_words, same_pins, stands_replaced}
+use Rattle.f3_objects.proofs.Changes.{held-same, same_live, same_words, stands_replaced}
 use Rattle.f3_objects.proofs.Spans.{length-written}
 use Rattle.f3_objects.proofs.Writes.{with_words_same}
 use Rattle.f3_objects.proofs.Holders.{own_or_other}

@@ -7,14 +7,14 @@ use Rattle.f3_heap_laws.specs.Blocks.{Live, IsLive, words_of, pins_of, with_word
 use Rattle.f3_heap_laws.proofs.Laws.{get-insert_other, pins-insert_same}
 use Rattle.f3_desc.specs.Shape.{Shape, row, shape_at, width, has_holder}
 use Rattle.f3_objects.specs.Tree.{Tree, End, ◌⊕◌, words, times, value, Joins, Repeats, Fits, IsBare}
-use Rattle.f3_objects.specs.Holds.{Held, Stands, Replaces, with_words_at}
+use Rattle.f3_objects.specs.Holds.{Stands, Replaces, with_words_at}
 use Rattle.f3_heap_laws.specs.Answers.{Answer, Take, sizes}
 use Rattle.f3_heap_laws.proofs.Answers.{sizes-with_words}
 use Rattle.f3_objects.proofs.Spans.{length-written}
 use Rattle.f3_objects.specs.Copies.{Ready, Copies, takings, asked_of, asks}
 use Rattle.f3_objects.proofs.Taking.{nil-append, list-append, takes-append, takes-bare, none_refused, asked_all, asked_part, asked_more}
 use Rattle.f3_objects.proofs.Trees.{append-End, append-append, size-append, times-append, zero_or_more, value-append, ◌⊞◌, size-fits, plain-bare}
-use Rattle.f3_objects.proofs.Changes.{not_dead, same_words, held-live, stands_front, stands_back, stands_behind, stands_elsewhere, replaces_same, replaces_beside}
+use Rattle.f3_objects.proofs.Changes.{not_dead, held-live, stands_front, stands_back, stands_behind, stands_elsewhere, replaces_same, replaces_beside}
 use Rattle.f3_objects.proofs.Writes.{words-with, live-with}
 use Rattle.f3_objects.proofs.Blanks.{held-bare}
 

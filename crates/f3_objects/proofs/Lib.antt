@@ -14,3 +14,4 @@ pub mod Shifts
 pub mod Used
 pub mod Account
 pub mod Ending
+pub mod Unboxing

@@ -1,6 +1,7 @@
 //! Objects in blocks.
 #![tactic(auto)]
 
+mod boxes;
 mod copy;
 mod elements;
 mod free;
@@ -9,6 +10,7 @@ mod shift;
 mod words;
 mod zeros;
 
+pub use boxes::unbox_tree;
 pub use copy::{TreeFault, copy_tree};
 pub use elements::{copy_contents, copy_elements, free_contents, free_elements};
 pub use free::free_tree;

@@ -7,6 +7,7 @@ use Rattle.f3_heap_laws.proofs.Laws.{get-insert_other, get-remove_other}
 use Rattle.f3_desc.specs.Shape.{Shape}
 use Rattle.f3_objects.specs.Tree.{Tree, words, times, Fits, blank}
 use Rattle.f3_objects.specs.Holds.{Holds, Replaces, Frees}
+use Rattle.f3_heap_laws.specs.Answers.{Take}
 use Rattle.f3_objects.specs.Copies.{Ready, Copies, Empties}
 use Rattle.f3_objects.proofs.Trees.{zero_or_more, times-left, size-fits}
 use Rattle.f3_objects.proofs.Blanks.{blank-bare, held-bare}
@@ -99,7 +100,7 @@ target_left old new a b s t u r c =
       apart = λ q l. c.bare q;
     }
 
-pub target_after : {T E : Type 0} (old new : Live) (a b : ℕ) (s : Shape) (t u : Tree) (r : Result T E) → Ready old a 0 b 0 s t u → OnOk r ((t u : Tree) → Ready old a 0 b 0 s t u → Copies old new b 0 s t u true) → OnErr r ((t u : Tree) → Ready old a 0 b 0 s t u → Empties old new b 0 s) → Target old new b s
+pub target_after : {T E : Type 0} (old new : Live) (a b : ℕ) (s : Shape) (t u : Tree) (r : Result T E) → Ready old a 0 b 0 s t u → {W : List Take → Type 0} → OnOk r ((t u : Tree) → Ready old a 0 b 0 s t u → Copies old new b 0 s t u [] W) → OnErr r ((t u : Tree) → Ready old a 0 b 0 s t u → Empties old new b 0 s) → Target old new b s
 target_after old new a b s t u (Ok x) h e f = let c = e t u h in target_of old new a b s t u c.copy h c.replaced c.fits c.once
 target_after old new a b s t u (Err x) h e f = target_left old new a b s t u h (f t u h)
 

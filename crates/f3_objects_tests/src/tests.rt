@@ -5,6 +5,7 @@ use crate::rounds::round;
 use crate::{Dice, tower};
 use f3_desc::{Layout, Piece};
 use f3_heap::{FullAt, PlainBlocks, RawHeap};
+use f3_objects::TreeFault;
 use std::alloc::{AllocError, Global};
 use std::process::Abort;
 
@@ -34,7 +35,7 @@ fn both_heaps_agree(rt: HostRuntime) {
         let mut plain = PlainBlocks::new(rt.alloc(), 4096);
         let one = round(&rt, &mut raw, &layout, &mut Dice::new(seed));
         let other = round(&rt, &mut plain, &layout, &mut Dice::new(seed));
-        assert!(rt; one.is_some());
+        assert!(rt; matches!(one, Some(Ok(_))));
         assert_eq!(rt; one, other);
     }
 }
@@ -46,10 +47,26 @@ fn refused_round(
     layout: &Layout,
     seed: u32,
     at: u64,
-) -> Option<usize> {
+) -> Option<Result<usize, TreeFault>> {
     let raw = RawHeap::new(alloc, 4096).expect(rt, "memory");
     let mut heap = FullAt::new(raw, at);
     round(rt, &mut heap, layout, &mut Dice::new(seed))
+}
+
+/// What a round must give where take number `at` is refused, if take number `own` is that of the
+/// copy's own block, and `ample` is what it gives where none is refused. The first take is that of the
+/// object's own block, and beneath it there are `own - 2` more, as beneath the copy.
+fn is_due(
+    came: Option<Result<usize, TreeFault>>,
+    own: u64,
+    at: u64,
+    ample: Option<Result<usize, TreeFault>>,
+) -> bool {
+    if at.saturating_add(1) < own.saturating_mul(2) {
+        came == Some(Err(TreeFault::Full))
+    } else {
+        came == ample
+    }
 }
 
 #[test]
@@ -57,11 +74,20 @@ fn each_take_refused_in_turn(rt: HostRuntime) {
     let layout = nested(rt.alloc()).expect(&rt, "memory");
     for seed in 0..8 {
         let ample = refused_round(&rt, rt.alloc(), &layout, seed, 0);
-        assert!(rt; ample.is_some());
+        assert!(rt; matches!(ample, Some(Ok(_))));
         assert!(rt; refused_round(&rt, rt.alloc(), &layout, seed, 1).is_none());
-        for at in 2..80 {
-            let _ = refused_round(&rt, rt.alloc(), &layout, seed, at);
+        let mut own = 0;
+        for at in 2..81 {
+            let came = refused_round(&rt, rt.alloc(), &layout, seed, at);
+            if own > 0 {
+                assert!(rt; is_due(came, own, at, ample));
+            } else if came.is_none() {
+                own = at;
+            } else {
+                assert!(rt; matches!(came, Some(Ok(_))));
+            }
         }
+        assert!(rt; own > 0);
         assert_eq!(rt; refused_round(&rt, rt.alloc(), &layout, seed, 80), ample);
     }
 }
@@ -73,6 +99,7 @@ fn a_tall_type(rt: HostRuntime) {
     assert_eq!(rt; layout.words(), 1);
     for seed in 0..4 {
         let mut heap = RawHeap::new(rt.alloc(), 64).expect(&rt, "memory");
-        assert!(rt; round(&rt, &mut heap, &layout, &mut Dice::new(seed)).is_some());
+        let came = round(&rt, &mut heap, &layout, &mut Dice::new(seed));
+        assert!(rt; matches!(came, Some(Ok(_))));
     }
 }

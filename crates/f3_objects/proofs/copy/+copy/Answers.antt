@@ -6,7 +6,7 @@ use Rattle.f3_desc.specs.Shape.{width, row, shape_at, has_holder, Holder, Times}
 use Rattle.f3_desc.specs.Layout.{shapes, shape_in, piece_count}
 use Rattle.f3_objects.specs.Tree.{elements, Repeats, Fits, blank}
 use Rattle.f3_objects.specs.Copies.{Ready, Copies, faults}
-use Rattle.f3_heap_laws.specs.Answers.{Answer, Taken, Take, Took}
+use Rattle.f3_heap_laws.specs.Answers.{Taken, Take, Took}
 use Rattle.f3_heap_laws.proofs.Answers.{took_none, took_then}
 use Rattle.f3_objects.proofs.Trees.{size-fits, holder-positive}
 use Rattle.f3_objects.proofs.Holders.{allocation}

@@ -1,4 +1,4 @@
-use Rattle.std.proofs.Common.{◌≡◌, ◌+◌, ◌-◌, ◌*◌, map, drop}
+use Rattle.std.proofs.Common.{◌+◌, ◌-◌, ◌*◌, map, drop}
 use Rattle.f3_desc.specs.Shape.{row, shape_at, Times}
 use Rattle.f3_desc.specs.Layout.{shapes, shape_in}
 use Rattle.f3_objects.specs.Tree.{Tree, Repeats, Fits}

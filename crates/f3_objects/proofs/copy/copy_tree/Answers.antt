@@ -1,14 +1,11 @@
-use Rattle.std.proofs.Common.{◌≡◌, ◌<◌, ◌+◌, ◌^◌, ℕ, false, Bool, Err, is_ok, refl, sym, subst, ◌∙◌, arith, length}
-use Rattle.std.specs.Prelude.{Result, Ok, List, [], OnOk, OnErr}
-use Rattle.f3_heap_laws.specs.Blocks.{Live, words_of}
+use Rattle.std.proofs.Common.{◌<◌, ◌+◌, ◌^◌, Bool, sym, subst, ◌∙◌}
+use Rattle.std.specs.Prelude.{List}
 use Rattle.f3_desc.specs.Shape.{Shape, width, whole}
 use Rattle.f3_desc.specs.Layout.{pieces_of, shape_in}
 use Rattle.f3_objects.specs.Tree.{Tree}
 use Rattle.f3_objects.specs.Holds.{Holds, Frees}
 use Rattle.f3_objects.specs.Copies.{Ready, Copies, faults}
-use Rattle.f3_objects.specs.declared.copy.TreeFault.{TreeFault}
 use Rattle.f3_heap_laws.specs.Answers.{Answer, Took}
-use Rattle.f3_objects.proofs.Trees.{size-fits}
 use Rattle.f3_objects.proofs.Emptying.{copy_holds, copy_free, source_stands, Emptied, empties, refuses}
 use Rattle.f3_objects.proofs.Ending.{ends, on_err, on_ok, when_ok}
 use Rattle.f3_objects.proofs.Account.{used_copied}

@@ -1,11 +1,10 @@
-use Rattle.std.proofs.Common.{◌≡◌, ◌<◌, ◌+◌, ◌^◌, ℕ, Bool, is_ok, sym, subst, ap, ◌∙◌, length, arith}
-use Rattle.std.specs.Prelude.{List, []}
+use Rattle.std.proofs.Common.{ℕ, is_ok, sym, subst, ap, ◌∙◌, length}
+use Rattle.std.specs.Prelude.{List}
 use Rattle.f3_heap_laws.specs.Answers.{Answer, Took}
-use Rattle.f3_desc.specs.Shape.{Times, width}
+use Rattle.f3_desc.specs.Shape.{Times}
 use Rattle.f3_desc.specs.Layout.{shape_in}
 use Rattle.f3_objects.specs.Tree.{Tree, words}
-use Rattle.f3_objects.specs.Holds.{Holds, Frees}
-use Rattle.f3_objects.specs.Copies.{Ready, Copies, faults}
+use Rattle.f3_objects.specs.Copies.{Copies, faults}
 use Rattle.f3_heap_laws.specs.Blocks.{Live, words_of}
 use Rattle.f3_objects.specs.Holds.{IsContents}
 use Rattle.f3_objects.specs.Copies.{Refills}

@@ -1,10 +1,9 @@
-use Rattle.std.proofs.Common.{◌≡◌, ◌<◌, ◌+◌, ◌^◌, ℕ, Bool, is_ok, sym, subst, ap, ◌∙◌, length, arith}
-use Rattle.std.specs.Prelude.{List, []}
+use Rattle.std.proofs.Common.{◌^◌, is_ok, subst, ◌∙◌}
+use Rattle.std.specs.Prelude.{List}
 use Rattle.f3_heap_laws.specs.Answers.{Answer, Took}
-use Rattle.f3_desc.specs.Shape.{Times, width}
+use Rattle.f3_desc.specs.Shape.{Times}
 use Rattle.f3_desc.specs.Layout.{shape_in}
-use Rattle.f3_objects.specs.Tree.{Tree, words}
-use Rattle.f3_objects.specs.Holds.{Holds, Frees}
+use Rattle.f3_objects.specs.Tree.{Tree}
 use Rattle.f3_objects.specs.Copies.{Ready, Copies, faults}
 use Rattle.f3_objects.proofs.Emptying.{copy_holds, copy_free, source_stands, emptied_by, refuses}
 use Rattle.f3_objects.proofs.Ending.{ends, on_err, on_ok, when_ok}

@@ -1,5 +1,5 @@
-use Rattle.std.proofs.Common.{◌≡◌, Bool, is_ok, ap, sym, subst, arith}
-use Rattle.f3_desc.specs.Shape.{Times, width}
+use Rattle.std.proofs.Common.{Bool, is_ok, subst, arith}
+use Rattle.f3_desc.specs.Shape.{Times}
 use Rattle.f3_desc.specs.Layout.{shape_in}
 use Rattle.f3_objects.specs.Holds.{Frees}
 use Rattle.f3_objects.proofs.Trees.{size-fits}

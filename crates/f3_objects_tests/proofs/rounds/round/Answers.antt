@@ -9,8 +9,8 @@ free_object-requires g c =
     let h = c.in_ok-source.ensures in
     (h.0, holds_kept (g.B.Blocks.blocks c.random_object.new.heap) (g.B.Blocks.blocks c.blank_object.new.heap) c.in_ok-source.source 0 (whole (pieces_of c.args.layout.now)) h.0 h.1 c.blank_object.ensures.kept)
 
-pub copy_tree-requires : goal.copy_tree-requires
-copy_tree-requires g c =
+pub copy_tree-copied-requires : goal.copy_tree-copied-requires
+copy_tree-copied-requires g c =
     let s = whole (pieces_of c.args.layout.now) in
     let h = c.in_ok-source.ensures in
     (h.0, blank s, ready_beside (g.B.Blocks.blocks c.random_object.new.heap) (g.B.Blocks.blocks c.blank_object.new.heap) c.in_ok-source.source c.in-Some.target s h.0 h.1 c.in-Some.ensures.fresh c.in-Some.ensures.kept c.in-Some.ensures.holds)
@@ -21,7 +21,7 @@ free_object-requires-2 g c =
     let h = c.in_ok-source.ensures in
     let m = g.B.Blocks.blocks c.blank_object.new.heap in
     let r = ready_beside (g.B.Blocks.blocks c.random_object.new.heap) m c.in_ok-source.source c.in-Some.target s h.0 h.1 c.in-Some.ensures.fresh c.in-Some.ensures.kept c.in-Some.ensures.holds in
-    let v = target_after m (g.B.Blocks.blocks c.copy_tree.new.heap) c.in_ok-source.source c.in-Some.target s h.0 (blank s) c.copy_tree.result r c.copy_tree.ensures.copied c.copy_tree.ensures.emptied in
+    let v = target_after m (g.B.Blocks.blocks c.copy_tree-copied.new.heap) c.in_ok-source.source c.in-Some.target s h.0 (blank s) c.copy_tree-copied.result r c.copy_tree-copied.ensures.copied c.copy_tree-copied.ensures.emptied in
     (v.tree, v.holds)
 
 pub free_object-requires-3 : goal.free_object-requires-3
@@ -29,7 +29,7 @@ free_object-requires-3 g c =
     let s = whole (pieces_of c.args.layout.now) in
     let h = c.in_ok-source.ensures in
     let m = g.B.Blocks.blocks c.blank_object.new.heap in
-    let n = g.B.Blocks.blocks c.copy_tree.new.heap in
+    let n = g.B.Blocks.blocks c.copy_tree-copied.new.heap in
     let r = ready_beside (g.B.Blocks.blocks c.random_object.new.heap) m c.in_ok-source.source c.in-Some.target s h.0 h.1 c.in-Some.ensures.fresh c.in-Some.ensures.kept c.in-Some.ensures.holds in
-    let v = target_after m n c.in_ok-source.source c.in-Some.target s h.0 (blank s) c.copy_tree.result r c.copy_tree.ensures.copied c.copy_tree.ensures.emptied in
-    (h.0, source_left m n (g.B.Blocks.blocks c.free_object-2.new.heap) c.in_ok-source.source c.in-Some.target s h.0 (blank s) r (c.copy_tree.ensures.source h.0 (blank s) r) v c.free_object-2.ensures)
+    let v = target_after m n c.in_ok-source.source c.in-Some.target s h.0 (blank s) c.copy_tree-copied.result r c.copy_tree-copied.ensures.copied c.copy_tree-copied.ensures.emptied in
+    (h.0, source_left m n (g.B.Blocks.blocks c.free_object-2.new.heap) c.in_ok-source.source c.in-Some.target s h.0 (blank s) r (c.copy_tree-copied.ensures.source h.0 (blank s) r) v c.free_object-2.ensures)
