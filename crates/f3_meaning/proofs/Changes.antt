@@ -6,6 +6,7 @@ use Rattle.std.proofs.lemmas.Bool.{eq-eqb}
 use Rattle.std.proofs.lemmas.List.Elements.{All-nil, All-cons, All-append}
 use Rattle.f3_rules.specs.declared.source.Place.{Place}
 use Rattle.f3_meaning.specs.declared.elaborated.Elaborated.{Elaborated}
+use Rattle.f3_meaning.specs.declared.run_error.RunError.TheVariants.{IntegerOverflow}
 use Rattle.f3_meaning.specs.declared.elaborated.Variable as v
 use Rattle.f3_meaning.specs.declared.elaborated.Primary.{Primary}
 use Rattle.f3_meaning.specs.declared.elaborated.Primary.TheVariants as primary
@@ -55,13 +56,13 @@ module _ (p : Elaborated) where
     where
       by_end : (end : End A) → Keeps (go_on m.out end f)
       by_end (Gives x) = record { each = rw (changes-append m.out (f x).out) (All-append (Permitted p) _ _ k.each (h x).each) }
-      by_end (Fails number place) = record { each = k.each }
+      by_end (Fails error place) = record { each = k.each }
       by_end Beyond = record { each = k.each }
 
   checked_keeps : (z : ℤ) (place : Place) (store : Store) → Keeps (checked z place store)
   checked_keeps z place store = by (fits z)
     where
-      by : (b : Bool) → Keeps {A = Value × Store} (if b then gives (Number z, store) else fails 1 place)
+      by : (b : Bool) → Keeps {A = Value × Store} (if b then gives (Number z, store) else fails IntegerOverflow place)
       by true = unchanged _ refl
       by false = unchanged _ refl
 

@@ -22,7 +22,7 @@ OnlyChangesChange = (p : Elaborated) (s : Statement) (before after : Store) → 
 
 abbrev pub GrowsAs : {A : Type 0} → List Event → List Event → End A → End A → Type 0
 GrowsAs out more (Gives x) end = (more ≡ out) × (end ≡ Gives x)
-GrowsAs out more (Fails number place) end = (more ≡ out) × (end ≡ Fails number place)
+GrowsAs out more (Fails error place) end = (more ≡ out) × (end ≡ Fails error place)
 GrowsAs out more Beyond end = (rest : List Event) × (more ≡ out ++ rest)
 
 -- the second run is the first where that ends, and else has the same events and perhaps more
@@ -36,7 +36,7 @@ RunsGrow = (p : Elaborated) (refused : List ℕ) (n m : ℕ) → n ≤ m → Gro
 abbrev pub BeginsAs : Ran Store → List Event → End Course → Type 0
 BeginsAs whole out (Gives Running) = (rest : List Event) × (whole.out ≡ out ++ rest)
 BeginsAs whole out (Gives Finished) = (store : Store) × (whole.out ≡ out) × (whole.end ≡ Gives store)
-BeginsAs whole out (Fails number place) = (whole.out ≡ out) × (whole.end ≡ Fails number place)
+BeginsAs whole out (Fails error place) = (whole.out ≡ out) × (whole.end ≡ Fails error place)
 BeginsAs whole out Beyond = (rest : List Event) × (whole.out ≡ out ++ rest)
 
 -- what the run up to some steps says of the whole run: the same events and end where it has ended, and
