@@ -19,7 +19,7 @@ use Rattle.f3_meaning.specs.Event.{Event, changes}
 use Rattle.f3_meaning.specs.Ran.{Ran, End, Gives, Fails, Beyond, go_on, ◌>>=◌, gives, fails, prints_bytes}
 use Rattle.f3_meaning.specs.Meaning.{fits, checked, operand, signed_sum, sum_onto, begin, item, items, act, exec}
 use Rattle.f3_meaning.specs.Laws.{AgreeBut}
-use Rattle.f3_meaning.proofs.Changes.{changes-append}
+use Rattle.f3_meaning.proofs.Quiet.{changes-append}
 
 abbrev LeavesAs : {A : Type 0} → Store → List Event → End A → (A → Store) → Type 0
 LeavesAs before out (Gives x) after = AgreeBut out before (after x)

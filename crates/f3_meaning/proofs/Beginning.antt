@@ -12,7 +12,7 @@ behind_begins : (front : List Event) (whole : Ran Store) (part : Ran Course) →
 behind_begins front whole part b = record { as_said = by_end part.end b.as_said }
   where
     by_end : (end : End Course) → BeginsAs whole part.out end → BeginsAs (behind front whole) (front ++ part.out) end
-    by_end (Gives Running) h = (h.0, ap (λ o. front ++ o) h.1 ∙ sym (append_assoc front part.out h.0))
+    by_end (Gives (Running store)) h = (h.0, ap (λ o. front ++ o) h.1 ∙ sym (append_assoc front part.out h.0))
     by_end (Gives Finished) h = (h.0, ap (λ o. front ++ o) h.1, h.2)
     by_end (Fails error place) h = (ap (λ o. front ++ o) h.0, h.1)
     by_end Beyond h = (h.0, ap (λ o. front ++ o) h.1 ∙ sym (append_assoc front part.out h.0))

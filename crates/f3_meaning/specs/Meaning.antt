@@ -114,14 +114,14 @@ initial p = record { variables = map (λ (x : v.Variable). Number x.initial) p.v
 unfoldable pub prints : Elaborated → (turns : ℕ) → (refused : List ℕ) → Ran Store
 prints p turns refused = block p p.statements.items (initial p)
 
--- whether a run has come to its end
+-- a run goes on from a store, or has come to its end
 pub data Course : Type 0 where
-  Running : Course
+  Running : (store : Store) → Course
   Finished : Course
 
 -- so many steps: a step is one executed statement, and the END is the last
 abbrev pub steps : Elaborated → ℕ → List Statement → Store → Ran Course
-steps p zero ss store = gives Running
+steps p zero ss store = gives (Running store)
 steps p (suc k) [] store = begin store >>= λ store. gives Finished
 steps p (suc k) (s ∷ ss) store = exec p s store >>= steps p k ss
 

@@ -31,7 +31,7 @@ events_begin : (p : Elaborated) (k : ℕ) → (rest : List Event) × ((prints p 
 events_begin p k = by_end (after p k).end (steps_begin p 0 [] k).as_said
   where
     by_end : (end : End Course) → BeginsAs (prints p 0 []) (after p k).out end → (rest : List Event) × ((prints p 0 []).out ≡ (after p k).out ++ rest)
-    by_end (Gives Running) h = h
+    by_end (Gives (Running store)) h = h
     by_end (Gives Finished) h = ([], h.1 ∙ sym (append-nil _))
     by_end (Fails error place) h = ([], h.0 ∙ sym (append-nil _))
     by_end Beyond h = h
@@ -63,10 +63,10 @@ pub from_statement : (p : Elaborated) (k left i : ℕ) (store : Store) (front : 
 from_statement p k left i store front s lt is h = from_element (λ ss. steps p left ss store) p.statements.items i s front (after p k) lt is h
 
 module _ (p : Elaborated) (k : ℕ) (a b : State) (front : List Event) where
-  pub at_limit : after p k ≡ behind front (gives Running) → Wrote a b (output front) → Answers p k a b end.StepLimit
-  at_limit s w =
+  pub at_limit : (store : Store) → after p k ≡ behind front (gives (Running store)) → Wrote a b (output front) → Answers p k a b end.StepLimit
+  at_limit store s w =
       let out : output (after p k).out ≡ output front = ap (λ r. output r.out) s ∙ ap output (append-nil front) in
-      record { runs = ap (λ r. r.end) s; wrote = rw out w; begins = bytes_begin p k _ [] (sym (append-nil _)) }
+      record { store = store; runs = ap (λ r. r.end) s; wrote = rw out w; begins = bytes_begin p k _ [] (sym (append-nil _)) }
 
   pub at_end : (left : ℕ) (store : Store) → after p k ≡ behind front (steps p (suc left) [] store) → Wrote a b (output front) → Answers p k a b end.Done
   at_end left store s w =
@@ -93,7 +93,7 @@ module _ (p : Elaborated) (k : ℕ) (a b c : State) (front : List Event) where
 
   pub at_stop : (X : Type 0) (m : Ran Store) (f : Store → Ran Course) (store : Store) (stop : Stop) → after p k ≡ behind front (m >>= f) → Wrote a b (output front) → Performs {X = X} b c (Err stop) store m → Answers p k a c (end_of stop)
   at_stop X m f store (stop.Error e) s w q = at_error X m f store e s w q
-  at_stop X m f store stop.WriteFault s w q = at_fault X m f store Running s w q
+  at_stop X m f store stop.WriteFault s w q = at_fault X m f store Finished s w q
 
   pub past_statement : (X : Type 0) (u : X) (m : Ran Store) (f : Store → Ran Course) (store : Store) → after p k ≡ behind front (m >>= f) → Wrote a b (output front) → Performs b c (Ok u) store m → (front : List Event) × (after p k ≡ behind front (f store)) × Wrote a c (output front)
   past_statement X u m f store s w q =

@@ -30,7 +30,8 @@ pub record Begins (p : Elaborated) (bytes : List ℕ) : Type 0 where
 
 -- the run has come to no end after so many steps, and what it has printed until then was written
 pub record Cut (p : Elaborated) (steps : ℕ) (old new : State) : Type 0 where
-  pub runs : (after p steps).end ≡ Gives Running
+  pub store : Store
+  pub runs : (after p steps).end ≡ Gives (Running store)
   pub wrote : Wrote old new (output (after p steps).out)
   pub begins : Begins p (output (after p steps).out)
 

@@ -12,7 +12,7 @@ loop-statement-init g c = ([], at_start c.args.program.now c.args.steps c.in-Ok.
 pub returns-then-left-eq0 : goal.returns-then-left-eq0
 returns-then-left-eq0 g c =
     let i = c.loop-statement.invariant in
-    at_limit c.args.program.now c.args.steps _ _ i.0 (rw c.if-left-eq0.true at i.1) i.2
+    at_limit c.args.program.now c.args.steps _ _ i.0 (store_of c.loop-statement.variables.items) (rw c.if-left-eq0.true at i.1) i.2
 
 pub returns-in-Err-execute : goal.returns-in-Err-execute
 returns-in-Err-execute g c =
@@ -41,7 +41,7 @@ loop-statement-preserved g c =
 pub returns-then-left-eq0-2 : goal.returns-then-left-eq0-2
 returns-then-left-eq0-2 g c =
     let i = c.loop-statement.invariant in
-    at_limit c.args.program.now c.args.steps _ _ i.0 (rw c.if-left-eq0-2.true at i.1) i.2
+    at_limit c.args.program.now c.args.steps _ _ i.0 (store_of c.loop-statement.variables.items) (rw c.if-left-eq0-2.true at i.1) i.2
 
 pub returns : goal.returns
 returns g c =
