@@ -24,8 +24,8 @@ use f3_tree::program as whole;
 use f3_tree::program::UnitKind;
 use std::alloc::{AllocError, Global};
 
-/// Replaces each name of the main program by the entity that the tables have for it.
-pub fn elaborate(
+// Replaces each name of the main program by the entity that the tables have for it.
+pub(crate) fn elaborate(
     alloc: Global,
     whole: &whole::Program,
     program: &Program,
