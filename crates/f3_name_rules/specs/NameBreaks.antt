@@ -2,19 +2,15 @@
 use Rattle.std.specs.Prelude.{◌≡◌, ◌≢◌, ◌⊎◌, ℕ, false, List, [], Some, Contains, slice_get}
 use Rattle.std.specs.List.{slice_index_or}
 use Rattle.f3_rules.specs.declared.breaks.Break.{Break}
-use Rattle.f3_rules.specs.declared.rule.Rule.{Rule}
 use Rattle.f3_rules.specs.declared.rule.Rule.TheVariants.{N1, N2, N4, N7, N10, N11}
 use Rattle.f3_tree.specs.declared.expression.Name.{Name}
 use Rattle.f3_scopes.specs.declared.outline.ScopeKind.TheVariants.{Module}
 use Rattle.f3_scopes.specs.declared.outline.UseItem.{UseItem}
 use Rattle.f3_scopes.specs.Outlines.{Own, Using, Listed, Scope}
 use Rattle.f3_access.specs.Access.{IsModule, IsPrivate, IsUsed, IsVisible}
+use Rattle.f3_breaks.specs.At.{at}
 use Rattle.f3_scope_rules.specs.ScopeBreaks.{ScopeBreaks}
 use Rattle.f3_name_rules.specs.Intrinsics.{is_intrinsic}
-
--- a rule of a phase is broken at a name
-abbrev pub at : ℕ → Rule → Name → Break
-at phase rule name = record { phase = phase; place = name.place; rule = rule; name = Some name.symbol }
 
 -- the text of a name by its number, where these are the texts of all; nothing where there is none
 abbrev pub text_of : List (List ℕ) → ℕ → List ℕ
