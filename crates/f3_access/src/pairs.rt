@@ -61,7 +61,12 @@ impl<'a> VisiblePairs<'a> {
     ghost use Rattle.f3_access.specs.Pairs.{pairs_left};
 
     /// The walk over these pairs, and then over those of the host that the scope does not hide.
-    pub fn new(tables: &'a Tables, scope: usize, own: &'a [Visible], host: &'a [Visible]) -> Self
+    pub(crate) fn new(
+        tables: &'a Tables,
+        scope: usize,
+        own: &'a [Visible],
+        host: &'a [Visible],
+    ) -> Self
         ensures { pairs_left result ≡ own.now ++ unhidden tables.now scope host.now }
     {
         VisiblePairs {
