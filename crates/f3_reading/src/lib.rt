@@ -1,0 +1,5 @@
+//! Reading tokens from left to right: signs, names and lists.
+#![tactic(auto)]
+
+pub mod lists;
+pub mod signs;
