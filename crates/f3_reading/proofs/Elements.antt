@@ -11,7 +11,7 @@ use Rattle.f3_words.specs.declared.error.ReadError.TheVariants.{Memory, NoForm}
 use Rattle.f3_words.specs.declared.item.Word.TheVariants.{Comma}
 use Rattle.f3_words.specs.declared.item.Item.{Item}
 use Rattle.f3_reading.specs.Parts.{EatsWord, Lacks}
-use Rattle.f3_reading.specs.Lists.{Reader, Lists, Stops, AreRead}
+use Rattle.f3_reading.specs.Lists.{Reader, Lists, Stops, ReadsList, AreRead}
 
 -- what was read goes on with what the rest begins with
 pub record Until {T : Type 0} (Reads : Reader T) (ts : List Item) (found : List T) (rest : List Item) : Type 0 where
@@ -39,7 +39,7 @@ pub over : {T : Type 0} (Reads : Reader T) (ts rest : List Item) (found : List T
 over Reads ts rest found x a s is none = s.goes_on (x ∷ []) a.now (a, is, refl, none)
 
 pub refused : {T : Type 0} (Reads : Reader T) (ts rest : List Item) (found : List T) (e : ReadError)
-    → Until Reads ts found rest → Reads rest (Err e) → AreRead Reads (Err e) ts
+    → Until Reads ts found rest → Reads rest (Err e) → ReadsList Reads (Err e) ts
 refused Reads ts rest found Memory s is = tt
 refused Reads ts rest found NoForm s is = (found ++ [], s.stops [] is)
 
@@ -128,7 +128,30 @@ module _ {T A : Type 0} (Reads : Reader T) (Is : A → List Item → List Item �
       let one : IsRead Is ts (seen x) (h.0).now = reads ts (Ok (x, h.0)) h.2 in
       no_other Is ts (h.0).now h.1 (seen x) one h.3 (read_stops xs h.1 h.4)
 
-  pub list_reads : (result : Result (Vec T × Bor (List Item)) ReadError) (ts : List Item) → AreRead Reads result ts → ReadsOne (EatsList Is) (λ (v : Vec T). map seen v.items) result ts
-  list_reads (Ok x) ts h = read_list x.0.items ts x.1.now h
-  list_reads (Err Memory) ts h = tt
-  list_reads (Err NoForm) ts h = read_stops h.0 ts h.1
+  read_all : (result : Result (Vec T × Bor (List Item)) ReadError) (ts : List Item) → ReadsList Reads result ts → ReadsOne (EatsList Is) (λ (v : Vec T). map seen v.items) result ts
+  read_all (Ok x) ts h = read_list x.0.items ts x.1.now h
+  read_all (Err Memory) ts h = tt
+  read_all (Err NoForm) ts h = read_stops h.0 ts h.1
+
+pub list_reads : {T A : Type 0} (Is : A → List Item → List Item → Type 0) (seen : T → A) {Reads : Reader T} {result : Result (Vec T × Bor (List Item)) ReadError} {ts : List Item}
+    → AreRead Reads result ts → ((us : List Item) (one : Result (T × Bor (List Item)) ReadError) → Reads us one → ReadsOne Is seen one us) → ReadsOne (EatsList Is) (λ (v : Vec T). map seen v.items) result ts
+list_reads Is seen {Reads} {result} {ts} h reads = read_all Reads Is seen reads result ts h.is
+
+map_same : {A : Type 0} (xs : List A) → map (λ (x : A). x) xs ≡ xs
+map_same [] = refl
+map_same {A} (x ∷ xs) = ap (λ (l : List A). x ∷ l) (map_same xs)
+
+unseen : {T : Type 0} (Is : T → List Item → List Item → Type 0) (result : Result (Vec T × Bor (List Item)) ReadError) (ts : List Item)
+    → ReadsOne (EatsList Is) (λ (v : Vec T). map (λ (x : T). x) v.items) result ts → ReadsOne (EatsList Is) (λ (v : Vec T). v.items) result ts
+unseen {T} Is (Ok x) ts h = subst (λ (l : List T). IsRead (EatsList Is) ts l x.1.now) (map_same x.0.items) h
+unseen Is (Err Memory) ts h = tt
+unseen Is (Err NoForm) ts h = h
+
+-- the same of elements that are seen as they are
+pub plain_reads : {T : Type 0} (Is : T → List Item → List Item → Type 0) {Reads : Reader T} {result : Result (Vec T × Bor (List Item)) ReadError} {ts : List Item}
+    → AreRead Reads result ts → ((us : List Item) (one : Result (T × Bor (List Item)) ReadError) → Reads us one → ReadsOne Is (λ (x : T). x) one us) → ReadsOne (EatsList Is) (λ (v : Vec T). v.items) result ts
+plain_reads {T} Is {Reads} {result} {ts} h reads = unseen Is result ts (list_reads Is (λ (x : T). x) h reads)
+
+-- a reader at a reference to the tokens
+pub at_tokens : {T A : Type 0} (Is : A → List Item → List Item → Type 0) (seen : T → A) (ts us : List Item) (one : Result (T × Bor (List Item)) ReadError) → ts ≡ us → ReadsOne Is seen one ts → ReadsOne Is seen one us
+at_tokens Is seen ts us one same h = subst (λ (l : List Item). ReadsOne Is seen one l) same h

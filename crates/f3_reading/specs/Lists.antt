@@ -1,9 +1,10 @@
 -- What reading a list gives, where each of its elements is read by one reader.
-use Rattle.std.specs.Prelude.{◌≡◌, ◌<◌, List, [], ◌∷◌, Result, Ok, Err, length}
+use Rattle.std.specs.Prelude.{◌≡◌, ◌<◌, ◌⊎◌, List, [], ◌∷◌, length, Option, Some, None, Result, Ok, Err}
 use Rattle.std.specs.Borrow.{Bor}
 use Rattle.std.specs.Global.{Vec}
 use Rattle.f3_words.specs.declared.error.ReadError.{ReadError}
 use Rattle.f3_words.specs.declared.error.ReadError.TheVariants.{Memory, NoForm}
+use Rattle.f3_words.specs.declared.item.Word.{Word}
 use Rattle.f3_words.specs.declared.item.Word.TheVariants.{Comma}
 use Rattle.f3_words.specs.declared.item.Item.{Item}
 use Rattle.f3_reading.specs.Parts.{EatsWord, Lacks}
@@ -27,7 +28,30 @@ abbrev pub Stops : {T : Type 0} → Reader T → List T → List Item → Type 0
 Stops Reads [] ts = Reads ts (Err NoForm)
 Stops {T} Reads (x ∷ xs) ts = (a : Bor (List Item)) × (b : List Item) × Reads ts (Ok (x, a)) × EatsWord Comma a.now b × Stops Reads xs b
 
-abbrev pub AreRead : {T : Type 0} → Reader T → Result (Vec T × Bor (List Item)) ReadError → List Item → Type 0
-AreRead Reads (Ok x) ts = Lists Reads x.0.items ts x.1.now
-AreRead Reads (Err Memory) ts = Unit {0}
-AreRead {T} Reads (Err NoForm) ts = (xs : List T) × Stops Reads xs ts
+abbrev pub ReadsList : {T : Type 0} → Reader T → Result (Vec T × Bor (List Item)) ReadError → List Item → Type 0
+ReadsList Reads (Ok x) ts = Lists Reads x.0.items ts x.1.now
+ReadsList Reads (Err Memory) ts = Unit {0}
+ReadsList {T} Reads (Err NoForm) ts = (xs : List T) × Stops Reads xs ts
+
+-- what reading a list answers
+pub record AreRead {T : Type 0} (Reads : Reader T) (result : Result (Vec T × Bor (List Item)) ReadError) (ts : List Item) : Type 0 where
+  pub is : ReadsList Reads result ts
+
+-- ---- a part behind a word, and a list behind a comma
+
+abbrev pub ReadsPerhaps : {T : Type 0} → Word → Reader T → Result (Option T × Bor (List Item)) ReadError → List Item → Type 0
+ReadsPerhaps w Reads (Ok (None, r)) ts = (r.now ≡ ts) × Lacks w ts
+ReadsPerhaps w Reads (Ok (Some x, r)) ts = (a : List Item) × EatsWord w ts a × Reads a (Ok (x, r))
+ReadsPerhaps w Reads (Err Memory) ts = Unit {0}
+ReadsPerhaps w Reads (Err NoForm) ts = (a : List Item) × EatsWord w ts a × Reads a (Err NoForm)
+
+pub record MayBeRead {T : Type 0} (w : Word) (Reads : Reader T) (result : Result (Option T × Bor (List Item)) ReadError) (ts : List Item) : Type 0 where
+  pub is : ReadsPerhaps w Reads result ts
+
+abbrev pub ReadsOthers : {T : Type 0} → Reader T → Result (Vec T × Bor (List Item)) ReadError → List Item → Type 0
+ReadsOthers Reads (Ok x) ts = ((a : List Item) × EatsWord Comma ts a × AreRead Reads (Ok x) a) ⊎ ((x.0.items ≡ []) × (x.1.now ≡ ts) × Lacks Comma ts)
+ReadsOthers Reads (Err Memory) ts = Unit {0}
+ReadsOthers Reads (Err NoForm) ts = (a : List Item) × EatsWord Comma ts a × AreRead Reads (Err NoForm) a
+
+pub record OthersAreRead {T : Type 0} (Reads : Reader T) (result : Result (Vec T × Bor (List Item)) ReadError) (ts : List Item) : Type 0 where
+  pub is : ReadsOthers Reads result ts

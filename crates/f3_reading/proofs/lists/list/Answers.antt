@@ -25,12 +25,12 @@ pub returns-in_err-one-clause-read : goal.returns-in_err-one-clause-read
 returns-in_err-one-clause-read g c =
     let p = err_from_is_err_and c.from_residual.result c.from_residual.ensures.1 in
     let said : FnReturnsAt g.F.Fn c.args.element c.elements.rest.now _ = record { shown = c.elements.rest; shows = refl; says = record { met = c.in_err-one.ensures } } in
-    rw (p.1, p.2) (refused (FnReturnsAt g.F.Fn c.args.element) c.args.items.now c.elements.rest.now c.elements.found.items c.in_err-one.field-0.0 c.elements.invariant said)
+    record { is = rw (p.1, p.2) (refused (FnReturnsAt g.F.Fn c.args.element) c.args.items.now c.elements.rest.now c.elements.found.items c.in_err-one.field-0.0 c.elements.invariant said) }
 
 pub returns-in-None-clause-read : goal.returns-in-None-clause-read
 returns-in-None-clause-read g c =
     let said : FnReturnsAt g.F.Fn c.args.element c.elements.rest.now _ = record { shown = c.elements.rest; shows = refl; says = record { met = c.in_ok-one.ensures } } in
-    rw c.in_ok-push.ensures.items (over (FnReturnsAt g.F.Fn c.args.element) c.args.items.now c.elements.rest.now c.elements.found.items c.in_ok-one.one c.in_ok-one.after c.elements.invariant said c.in-None.ensures)
+    record { is = rw c.in_ok-push.ensures.items (over (FnReturnsAt g.F.Fn c.args.element) c.args.items.now c.elements.rest.now c.elements.found.items c.in_ok-one.one c.in_ok-one.after c.elements.invariant said c.in-None.ensures) }
 
 pub returns-in-None-clause-shorter : goal.returns-in-None-clause-shorter
 returns-in-None-clause-shorter g c =

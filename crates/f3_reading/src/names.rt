@@ -1,16 +1,18 @@
-//! Lists of names.
+//! Names, one or several.
 
-ghost use Rattle.std.specs.Prelude.{◌<◌, ◌≤◌, length, IfOk, Option};
+ghost use Rattle.std.specs.Prelude.{◌≡◌, ◌<◌, ◌≤◌, length, IfOk, Option};
 ghost use Rattle.f3_tree.specs.declared.expression.Name.{Name};
+ghost use Rattle.f3_words.specs.Words.{is_name};
+ghost use Rattle.f3_words.specs.Lists.{starts};
 ghost use Rattle.f3_words.specs.Reads.{IsRead, Reads, Finds};
-ghost use Rattle.f3_declarations.specs.Parts.{AreNames, EatsNames, EatsColons, EatsEnclosedName, IsName, IsLabel, IsNameList};
+ghost use Rattle.f3_reading.specs.Names.{AreNames, EatsNames, EatsColons, EatsEnclosedName, IsName, IsLabel, IsNameList};
 
-use crate::signs::{
-    closing, colons, is_over, name, opening, separator, starts_colons, starts_name,
-};
+use crate::lists::list;
+use crate::signs::{behind, is_over, name, skip};
 use f3_tree::expression::Name;
 use f3_words::error::ReadError;
-use f3_words::item::Item;
+use f3_words::item::{Item, Word};
+use f3_words::reading::front;
 use std::alloc::Global;
 
 /// The names at the front, with commas between them.
@@ -18,20 +20,21 @@ pub fn names(alloc: Global, items: &[Item]) -> Result<(Vec<Name>, &[Item]), Read
     ensures read { Reads AreNames (λ v. v.items) result items.now }
     ensures shorter { IfOk result (λ x. length x.1.now ≤ length items.now) }
 {
-    let mut found = Vec::new(alloc);
-    let mut rest = items;
-    'elements: loop {
-        let (element, after) = name(rest)?;
-        found.push(element)?;
-        match separator(after) {
-            Some(tail) => rest = tail,
-            None => return Ok((found, after)),
-        }
+    list(alloc, items, name)
+}
+
+/// Whether a name stands at the front.
+fn starts_name(items: &[Item]) -> bool
+    ensures { result ≡ starts is_name items.now }
+{
+    match front(items) {
+        Some((item, _)) => item.word.is_name(),
+        None => false,
     }
 }
 
 /// The names at the front, with commas between them, or none.
-#[tactic(auto, unfolding(crate::specs::Parts::EatsNames))]
+#[tactic(auto, unfolding(crate::specs::Names::EatsNames))]
 pub fn names_perhaps(alloc: Global, items: &[Item]) -> Result<(Vec<Name>, &[Item]), ReadError>
     ensures read { Reads EatsNames (λ v. v.items) result items.now }
     ensures shorter { IfOk result (λ x. length x.1.now ≤ length items.now) }
@@ -45,20 +48,18 @@ pub fn names_perhaps(alloc: Global, items: &[Item]) -> Result<(Vec<Name>, &[Item
 }
 
 /// Whether `::` stands at the front, and what stands behind it.
-#[tactic(auto, unfolding(crate::specs::Parts::EatsColons))]
-pub fn skip_colons(items: &[Item]) -> Result<(bool, &[Item]), ReadError>
-    ensures read { Reads EatsColons (λ b. b) result items.now }
-    ensures shorter { IfOk result (λ x. length x.1.now ≤ length items.now) }
+pub fn skip_colons(items: &[Item]) -> (bool, &[Item])
+    ensures read { IsRead EatsColons items.now result.0 result.1.now }
+    ensures shorter { length result.1.now ≤ length items.now }
 {
-    if starts_colons(items) {
-        Ok((true, colons(items)?))
-    } else {
-        Ok((false, items))
+    match behind(Word::Colons, items) {
+        Some(tail) => (true, tail),
+        None => (false, items),
     }
 }
 
 /// The one name that all of the tokens are.
-#[tactic(auto, unfolding(crate::specs::Parts::IsName))]
+#[tactic(auto, unfolding(crate::specs::Names::IsName))]
 pub fn only_name(items: &[Item]) -> Result<Name, ReadError>
     ensures { Finds IsName (λ (n : Name). n) result items.now }
 {
@@ -71,7 +72,7 @@ pub fn only_name(items: &[Item]) -> Result<Name, ReadError>
 }
 
 /// The name that all of the tokens are, or nothing.
-#[tactic(auto, unfolding(crate::specs::Parts::IsLabel))]
+#[tactic(auto, unfolding(crate::specs::Names::IsLabel))]
 pub fn label(items: &[Item]) -> Result<Option<Name>, ReadError>
     ensures { Finds IsLabel (λ (n : Option Name). n) result items.now }
 {
@@ -82,11 +83,11 @@ pub fn label(items: &[Item]) -> Result<Option<Name>, ReadError>
 }
 
 /// The names behind a keyword, with `::` before them or without.
-#[tactic(auto, unfolding(crate::specs::Parts::IsNameList))]
+#[tactic(auto, unfolding(crate::specs::Names::IsNameList))]
 pub fn name_list(alloc: Global, items: &[Item]) -> Result<Vec<Name>, ReadError>
     ensures { Finds IsNameList (λ v. v.items) result items.now }
 {
-    let (_, rest) = skip_colons(items)?;
+    let (_, rest) = skip_colons(items);
     let (found, rest) = names(alloc, rest)?;
     if is_over(rest) {
         Ok(found)
@@ -96,13 +97,13 @@ pub fn name_list(alloc: Global, items: &[Item]) -> Result<Vec<Name>, ReadError>
 }
 
 /// The name in parentheses at the front.
-#[tactic(auto, unfolding(crate::specs::Parts::EatsEnclosedName))]
+#[tactic(auto, unfolding(crate::specs::Names::EatsEnclosedName))]
 pub fn enclosed_name(items: &[Item]) -> Result<(Name, &[Item]), ReadError>
     ensures read { Reads EatsEnclosedName (λ (n : Name). n) result items.now }
     ensures shorter { IfOk result (λ x. length x.1.now < length items.now) }
 {
-    let rest = opening(items)?;
+    let rest = skip(Word::Open, items)?;
     let (name, rest) = name(rest)?;
-    let rest = closing(rest)?;
+    let rest = skip(Word::Close, rest)?;
     Ok((name, rest))
 }
