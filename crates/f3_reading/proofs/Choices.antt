@@ -81,3 +81,14 @@ module _ {T A : Type 0} (Reads : Reader T) (Is : A → List Item → List Item �
 pub others_read : {T A : Type 0} (Is : A → List Item → List Item → Type 0) (seen : T → A) {Reads : Reader T} {result : Result (Vec T × Bor (List Item)) ReadError} {ts : List Item}
     → OthersAreRead Reads result ts → ((us : List Item) (one : Result (T × Bor (List Item)) ReadError) → Reads us one → ReadsOne Is seen one us) → ReadsOne (BehindComma (EatsList Is)) (λ (v : Vec T). map seen v.items) result ts
 others_read Is seen {Reads} {result} {ts} h reads = read_others Reads Is seen reads result ts h.is
+-- the same of a part that is seen as it is
+plain : {T : Type 0} (w : Word) (Is : T → List Item → List Item → Type 0) (result : Result (Option T × Bor (List Item)) ReadError) (ts : List Item)
+    → ReadsOne (Perhaps w Is) (λ (x : Option T). option_map (λ (y : T). y) x) result ts → ReadsOne (Perhaps w Is) (λ (x : Option T). x) result ts
+plain w Is (Ok (None, r)) ts h = h
+plain w Is (Ok (Some x, r)) ts h = h
+plain w Is (Err Memory) ts h = tt
+plain w Is (Err NoForm) ts h = h
+
+pub plain_perhaps : {T : Type 0} (Is : T → List Item → List Item → Type 0) {w : Word} {Reads : Reader T} {result : Result (Option T × Bor (List Item)) ReadError} {ts : List Item}
+    → MayBeRead w Reads result ts → ((us : List Item) (one : Result (T × Bor (List Item)) ReadError) → Reads us one → ReadsOne Is (λ (x : T). x) one us) → ReadsOne (Perhaps w Is) (λ (x : Option T). x) result ts
+plain_perhaps {T} Is {w} {Reads} {result} {ts} h reads = plain w Is result ts (perhaps_reads Is (λ (x : T). x) h reads)
