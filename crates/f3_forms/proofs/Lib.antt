@@ -1,1 +1,2 @@
 mod Objects
+pub mod Cases

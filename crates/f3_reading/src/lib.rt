@@ -1,0 +1,6 @@
+//! Reading tokens from left to right: signs, names and lists.
+#![tactic(auto)]
+
+pub mod lists;
+pub mod names;
+pub mod signs;
