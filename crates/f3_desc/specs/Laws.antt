@@ -43,4 +43,5 @@ ContiguousArraysFit = (a : Descriptor) (words : ℕ) → IsContiguous (pos words
 
 -- each element of a section is one of the whole
 abbrev pub SectionsLieWithin : Type 0
-SectionsLieWithin = (a s : Descriptor) (ts : List Triplet) → SelectsWithin a ts → IsSection a ts s → (ss : List ℤ) → HasElement s ss → (rs : List ℤ) × (HasElement a rs × (place s ss ≡ place a rs))
+SectionsLieWithin = (a s : Descriptor) (ts : List Triplet) → SelectsWithin a ts → IsSection a ts s
+    → (ss : List ℤ) → HasElement s ss → (rs : List ℤ) × (HasElement a rs × (place s ss ≡ place a rs))

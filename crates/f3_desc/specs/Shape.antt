@@ -54,11 +54,11 @@ shapes_from before (p ∷ ps) = shapes_from (before ++ shape_of before p ∷ [])
 abbrev pub whole : List Piece → Shape
 whole ps = shape_at (shapes_from [] ps) (length ps - 1)
 
--- no piece has more words than the largest heap
+-- the most words of a piece: 16,777,216 times 15, which are the words of an allocatable of rank 7
 abbrev pub most_words : ℕ
 most_words = 251658240
 
--- the piece names earlier ones, has a rank of at most 7, and is no larger than the largest heap
+-- the piece names earlier ones, has a rank of at most 7, and at most so many words
 abbrev pub is_piece : List Shape → Piece → Bool
 is_piece before Word = true
 is_piece before (Allocatable rank of) = nat_le rank 7 && nat_lt of (length before)

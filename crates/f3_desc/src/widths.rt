@@ -8,7 +8,9 @@ use crate::piece::Piece;
 
 /// The words of parts one after another.
 fn row_width(parts: &[usize], widths: &[usize]) -> usize
-    requires { (before : List Shape) × (widths.now ≡ map width before) × IsTrue (list_all (λ k. nat_lt k (length before)) parts.now) × (width (row (map (shape_at before) parts.now)) ≤ most_words) }
+    requires { (before : List Shape) × (widths.now ≡ map width before)
+        × IsTrue (list_all (λ k. nat_lt k (length before)) parts.now)
+        × (width (row (map (shape_at before) parts.now)) ≤ most_words) }
     ensures { (before : List Shape) → widths.now ≡ map width before → result ≡ width (row (map (shape_at before) parts.now)) }
 {
     let mut total = 0;
