@@ -12,7 +12,8 @@ heap = os.path.join(here, "../crates/f3_heap_speed/out/f3_heap_speed")
 loads = [
     ("1,000 live blocks of 0 to 127 words, 1,000,000 takes and gives", "exchange 1000 127 1000000"),
     ("2,000 live of 0 to 15 words, 1,000,000", "exchange 2000 15 1000000"),
-    ("10,000 live of 0 to 15 words, 1,000,000", "exchange 10000 15 1000000"),
+    ("10,000 live of 0 to 15 words, 500,000", "exchange 10000 15 500000"),
+    ("100,000 live of 0 to 15 words, 300,000", "exchange 100000 15 300000"),
     ("100,000 live of 0 to 15 words, 1,000,000", "exchange 100000 15 1000000"),
     ("1,000,000 calls (blocks of 20 and 7 words) above no hole", "frames 0 1000000"),
     ("1,000,000 calls above 100 holes of 4 words", "frames 100 1000000"),
