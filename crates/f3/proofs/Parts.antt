@@ -12,6 +12,9 @@ use Rattle.f3_output.proofs.Outputs.{wrote_more, faulted_behind, faulted_before}
 use Rattle.f3_run.specs.declared.end.End.{End}
 use Rattle.f3_run.specs.declared.end.End.TheVariants.{Done, Stopped, Error, StepLimit, WriteFault, Memory}
 use Rattle.f3_run.specs.Answers.{Answers, Refuses}
+use Rattle.f3_run.specs.Compiles.{Means}
+use Rattle.f3.specs.declared.report.Outcome.TheVariants.{Ended}
+use Rattle.f3.specs.Work.{Runs}
 use Rattle.f3.specs.declared.files.ReadFault.{ReadFault}
 use Rattle.f3.specs.declared.files.ReadFault.TheVariants as fault
 use Rattle.f3.specs.Reading.{IsOf, AreOf, IsFaultOf, IsFaultAmong}
@@ -78,3 +81,12 @@ not_handed_on p steps a b c (Error error place) h f = record { turns = h.0.turns
 not_handed_on p steps a b c StepLimit h f = record { turns = h.begins.turns; faulted = rw h.begins.whole (faulted_before h.begins.more (faulted_on h.wrote f)) }
 not_handed_on p steps a b c WriteFault h f = record { turns = h.turns; faulted = faulted_again h.faulted f }
 not_handed_on p steps a b c Memory h f = record { turns = 0; faulted = faulted_before (output (prints p 0 []).out) (faulted_on h f) }
+
+-- what runs answer, memory wanting among it
+pub runs_so : (sources : List Source) (steps : ℕ) (a b : State) (end : End) (p : Elaborated) → Means sources p → Answers p steps a b end → Runs sources steps a b (Ended end)
+runs_so sources steps a b Done p m h = (p, m, h)
+runs_so sources steps a b (Stopped code) p m h = (p, m, h)
+runs_so sources steps a b (Error error place) p m h = (p, m, h)
+runs_so sources steps a b StepLimit p m h = (p, m, h)
+runs_so sources steps a b WriteFault p m h = (p, m, h)
+runs_so sources steps a b Memory p m h = h

@@ -9,8 +9,8 @@ IsTask name Check = name ≡ codes "check"
 IsTask name Names = name ≡ codes "names"
 IsTask name (Run limits) = (name ≢ codes "check") × (name ≢ codes "names")
 
--- a run may make so many steps
-abbrev pub HasSteps : ℕ → Task → Type 0
-HasSteps steps Check = Unit {0}
-HasSteps steps Names = Unit {0}
-HasSteps steps (Run limits) = limits.steps ≡ steps
+-- where it is a run, this holds of the steps that it may make
+abbrev pub OfRun : Task → (ℕ → Type 0) → Type 0
+OfRun Check P = Unit {0}
+OfRun Names P = Unit {0}
+OfRun (Run limits) P = P limits.steps

@@ -95,11 +95,7 @@ fn read_source<'a, F: Opener>(
 }
 
 /// The bytes of a file up to its end, or its first `MOST_BYTES`; None where it cannot be opened or read.
-fn read_file<F: Opener>(
-    alloc: Global,
-    files: &F,
-    name: &str,
-) -> Result<Option<Vec<u8>>, AllocError>
+fn read_file<F: Opener>(alloc: Global, files: &F, name: &str) -> Result<Option<Vec<u8>>, AllocError>
     ensures bounded { IfOk result (λ found. IfSome found (λ v. length v.items ≤ 16777217)) }
     ensures bytes { IfOk result (λ found. IfSome found (λ v. IfSome (F.contents files.now name.now) (λ bytes. v.items ≡ take 16777217 bytes))) }
 {

@@ -2,7 +2,7 @@
 
 ghost use Rattle.std.specs.Prelude.{◌≡◌, ℕ, List, Option, codes, unwrap_or};
 ghost use Rattle.clap.specs.Words.{found_of, one_text, ReadsOne};
-ghost use Rattle.f3.specs.Task.{IsTask, HasSteps};
+ghost use Rattle.f3.specs.Task.{IsTask, OfRun};
 
 use crate::command::command;
 use crate::files::Opener;
@@ -76,7 +76,7 @@ fn act<'a, F: Opener, O: Write, E: Write>(
 fn task(name: &str, inner: &ArgMatches<'_>) -> Task
     ensures name { IsTask name.now result }
     ensures steps { (text : List ℕ) → one_text (found_of inner.now) (codes "steps") ≡ Some text
-        → (number : Option ℕ) × ReadsOne ⟦<u64 as FromStr>⟧.from_str_gives text number × HasSteps (unwrap_or number 0) result }
+        → OfRun result (λ steps. (number : Option ℕ) × ReadsOne ⟦<u64 as FromStr>⟧.from_str_gives text number × (steps ≡ unwrap_or number 0)) }
 {
     if name == "check" {
         return Task::Check;

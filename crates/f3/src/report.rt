@@ -103,11 +103,7 @@ pub fn finish<E: Write>(
 }
 
 /// What is told of an outcome; empty where nothing is.
-fn words(
-    alloc: Global,
-    sources: &[Source],
-    outcome: &Outcome<'_>,
-) -> Result<String, AllocError>
+fn words(alloc: Global, sources: &[Source], outcome: &Outcome<'_>) -> Result<String, AllocError>
     ensures { IfOk result (λ text. string_bytes text ≡ words_of sources.now outcome.now) }
 {
     match outcome {

@@ -76,11 +76,7 @@ fn check(alloc: Global, sources: &[Source]) -> Outcome<'static>
 }
 
 /// `f3 names`
-fn names<O: Write>(
-    alloc: Global,
-    sources: &[Source],
-    output: &mut Output<O>,
-) -> Outcome<'static>
+fn names<O: Write>(alloc: Global, sources: &[Source], output: &mut Output<O>) -> Outcome<'static>
     ensures { Shows sources.now (state_of O.contents output.old) (state_of O.contents output.new) result }
 {
     match name_table(alloc, sources) {

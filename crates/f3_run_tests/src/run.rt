@@ -94,7 +94,11 @@ fn a_step_is_a_statement_and_the_end_is_the_last(rt: HostRuntime) -> Result<(), 
             end,
             "after {steps}"
         );
-        assert_eq!(rt; output.writer().as_slice(), text.as_bytes(), "after {steps}");
+        assert_eq!(rt;
+            output.writer().as_slice(),
+            text.as_bytes(),
+            "after {steps}"
+        );
     }
     let empty = program(alloc, "program p; end\n")?;
     let mut output = Output::new(Vec::<u8>::new(alloc));
@@ -168,7 +172,11 @@ fn an_overflow_is_error_1(rt: HostRuntime) -> Result<(), Fail> {
             &format!(in alloc; "program p; print *, 7, {terms}; end\n")?,
         )?;
         let mut output = Output::new(Vec::<u8>::new(alloc));
-        assert_eq!(rt; run(alloc, &compiled, limits(9), &mut output), end, "{text}");
+        assert_eq!(rt;
+            run(alloc, &compiled, limits(9), &mut output),
+            end,
+            "{text}"
+        );
         assert_eq!(rt; output.writer().as_slice(), text.as_bytes());
     }
     Ok(())
@@ -195,7 +203,10 @@ fn an_output_hands_on_what_its_writer_keeps(rt: HostRuntime) -> Result<(), Fail>
     assert!(rt; !output.is_refused());
     assert!(rt; output.flush().is_err());
     assert!(rt; output.is_refused());
-    assert_eq!(rt; output.writer().get_ref().bytes.as_slice(), b"abc".as_slice());
+    assert_eq!(rt;
+        output.writer().get_ref().bytes.as_slice(),
+        b"abc".as_slice()
+    );
     Ok(())
 }
 
@@ -203,7 +214,10 @@ fn an_output_hands_on_what_its_writer_keeps(rt: HostRuntime) -> Result<(), Fail>
 fn the_numbers_of_run_errors(rt: HostRuntime) {
     assert_eq!(rt; RunError::IntegerOverflow.number(), 1);
     assert_eq!(rt; RunError::ArrayTooLarge.number(), 11);
-    assert_eq!(rt; RunError::InUseByAnArgument.words(), "in use by an argument");
+    assert_eq!(rt;
+        RunError::InUseByAnArgument.words(),
+        "in use by an argument"
+    );
 }
 
 fn rule_and_place(fault: &CheckFault) -> Option<(Rule, Place)> {
