@@ -128,7 +128,7 @@ fn variables_of(
     ensures { IfOk result (λ v. v.items ≡ variables_of names.now.entities.items (initials_of (view program.now))) }
 {
     let initials = initials_of(alloc, program)?;
-    begun(alloc, &names.entities, &initials)
+    begun(alloc, names.entities(), &initials)
 }
 
 // The entity that the tables have for a name of a unit.

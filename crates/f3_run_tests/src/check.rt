@@ -67,7 +67,7 @@ end program p
         Ok(checked) => {
             assert_eq!(rt; checked.whole.units.len(), 2);
             assert_eq!(rt; checked.program.units.len(), 2);
-            assert_eq!(rt; checked.names.entities.len(), 3);
+            assert_eq!(rt; checked.names.entities().len(), 3);
         }
         Err(_) => assert!(rt; false),
     }

@@ -1,5 +1,5 @@
 -- What the passes over one scope look for.
-use Rattle.std.specs.Prelude.{◌≡◌, ℕ, Bool, true, false, not, List, [], ◌∷◌, ◌++◌, Option, None, Some, Contains, map, length, nat_eq, nat_lt, if◌then◌else◌, ◌&&◌, ◌||◌, ◌==◌}
+use Rattle.std.specs.Prelude.{◌≡◌, ℕ, Bool, true, false, not, List, [], ◌∷◌, ◌++◌, Option, None, Some, map, length, nat_eq, nat_lt, if◌then◌else◌, ◌&&◌, ◌||◌, ◌==◌}
 use Rattle.std.specs.List.{list_any}
 use Rattle.std.specs.Global.{Vec}
 use Rattle.indexmap.specs.IndexSet.{insert_key, insert_all}
@@ -16,7 +16,6 @@ use Rattle.f3_scopes.specs.declared.outline.EntityKind.{EntityKind}
 use Rattle.f3_scopes.specs.declared.outline.EntityKind.TheVariants as entity
 use Rattle.f3_scopes.specs.declared.outline.Component.{Component}
 use Rattle.f3_scopes.specs.declared.outline.AccessOutline.{AccessOutline}
-use Rattle.f3_scopes.specs.Kinds.{is_module}
 use Rattle.f3_breaks.specs.Among.{Among}
 use Rattle.f3_scopes.specs.Outlines.{Own, Listed, part_view}
 use Rattle.f3_scope_rules.specs.ScopeBreaks.{at, at_keyword, Again, component_names}

@@ -1,5 +1,5 @@
 -- The breaks of the rules on what one scope declares (phase 4).
-use Rattle.std.specs.Prelude.{◌≡◌, ◌≢◌, ◌⊎◌, ℕ, true, List, [], ◌∷◌, ◌++◌, None, Some, Contains, map, drop, if◌then◌else◌, option_to_list}
+use Rattle.std.specs.Prelude.{◌≡◌, ◌≢◌, ◌⊎◌, ℕ, true, List, [], ◌∷◌, ◌++◌, Some, Contains, map, drop, if◌then◌else◌, option_to_list}
 use Rattle.f3_rules.specs.declared.source.Place.{Place}
 use Rattle.f3_rules.specs.declared.breaks.Break.{Break}
 use Rattle.f3_rules.specs.declared.rule.Rule.{Rule}
