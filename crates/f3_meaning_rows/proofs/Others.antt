@@ -6,8 +6,13 @@ use Rattle.f3_meaning_whole.specs.Arithmetic.{converted, divided}
 use Rattle.f3_meaning_whole.specs.Act.{fitted}
 use Rattle.f3_meaning_whole.specs.Run.{calls_of, runs, run_of}
 use Rattle.f3_meaning_whole.specs.Permitted.{IsLawful}
-use Rattle.f3_meaning_whole.proofs.Keeping.{no}
+use Rattle.std.specs.Prelude.{◌≡◌, T, true, false}
+use Rattle.std.proofs.Common.{sym}
+use mathlib.Core.Path.{subst}
 use Rattle.f3_meaning_rows.specs.Others.{OthersShow, refused_with_stat_shows, not_refused_shows, refused_without_stat_shows, three_turns_shows, no_room_to_start_shows, no_room_for_a_call_shows, depth_of_three_shows, no_room_for_a_copy_shows, protected_elsewhere, protected_renamed, intent_in, protected_passed_on, private_component}
+
+no : {A : Type 0} → false ≡ true → A
+no h = absurd (subst T (sym h) tt)
 
 refused_with_stat_run : (h : Global) → refused_with_stat_shows h
 unfolding digits converted divided prints_bytes fitted run_of runs calls_of ◌>>=◌ gives fails stops beyond looks does asks

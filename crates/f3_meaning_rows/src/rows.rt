@@ -14,6 +14,7 @@ ghost use Rattle.f3_meaning_rows.specs.Rows8.{Rows8Show};
 ghost use Rattle.f3_meaning_rows.specs.Rows9.{Rows9Show};
 ghost use Rattle.f3_meaning_rows.specs.Others.{OthersShow};
 ghost use Rattle.f3_meaning_rows.specs.Corners.{CornersShow};
+ghost use Rattle.f3_meaning_rows.specs.Formed.{AreWellFormed};
 ghost use Rattle.f3_meaning_rows.specs.More.{MoreShow};
 ghost use Rattle.f3_meaning_rows.specs.Stages.{StagesStand};
 ghost use Rattle.f3_meaning_rows.specs.Told.{
@@ -129,4 +130,9 @@ pub fn prying_shows()
 /// These changes, which no run makes, are not permitted.
 pub fn forged_are_not()
     ensures { ForgedAreNot }
+{}
+
+/// All programs of these rows make sense.
+pub fn are_well_formed()
+    ensures { AreWellFormed }
 {}
