@@ -9,5 +9,4 @@ pub fn reads_blocks()
     ensures holds { HoldsWhatIsSpelled }
     ensures reads { ReadsWhatIsSpelled }
     ensures goes_on { GoesOnToAnEnd }
-{
-}
+{}

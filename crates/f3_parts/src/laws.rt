@@ -9,5 +9,4 @@ pub fn reads_parts()
     ensures holds { HoldsWhatIsSpelled }
     ensures reads { ReadsWhatIsSpelled }
     ensures goes_on { GoesOnToAnEnd }
-{
-}
+{}
