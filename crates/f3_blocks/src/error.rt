@@ -1,16 +1,16 @@
-//! Why units cannot go on.
+//! Why a block, a specification part or units cannot go on.
 
 ghost use Rattle.std.specs.Prelude.{◌≡◌};
-ghost use Rattle.f3_units.specs.declared.error.StepError.TheVariants.{Memory};
+ghost use Rattle.f3_blocks.specs.declared.error.StepError.TheVariants.{Memory};
 
 use std::alloc::{AllocError, AllocFailed};
 
-/// Why the units cannot go on with a statement.
+/// Why a block, a specification part or units cannot go on with a statement.
 #[derive(Clone, Copy, PartialEq, Eq, Debug)]
 pub enum StepError {
     /// A growth of the host's memory was refused.
     Memory,
-    /// No list of units goes on so (2.2, 11.1).
+    /// Nothing goes on so (2.2, 4.5, 8.1, 11.1).
     OutOfPlace,
     /// It opens a 65th construct (own rule).
     TooDeep,
