@@ -1,8 +1,7 @@
 -- Where a search along the free list may begin (own rule): for each of some widths the list is known to have no block as wide before some free block.
 use Rattle.std.specs.Prelude.{ℕ, ℤ, ◌≡◌, ◌+◌, ◌*◌, ◌<◌, ◌⊎◌, List, [], ◌∷◌, length, get_or, ◌++◌, cond, nat_le, nat_lt, ◌&&◌, ◌||◌}
 use Rattle.f3_heap_laws.specs.Account.{r}
-use Rattle.f3_heap_laws.specs.Placed.{extent}
-use Rattle.f3_heap_laws.specs.Segments.{Segment, Used, Free, seg_size, seg_block, first_free, Cuts}
+use Rattle.f3_heap_laws.specs.Segments.{Segment, Used, Free, first_free, Cuts}
 
 -- `at` is a free block's place, or `none`, and every free block before it is smaller than n words; the segments begin at p
 abbrev pub HintFrom : ℕ → ℕ → ℕ → ℕ → List Segment → Type 0
