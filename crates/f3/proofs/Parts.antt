@@ -1,8 +1,10 @@
 -- Outputs and files, part by part.
 use Rattle.std.proofs.Common.{◌≡◌, ◌≢◌, ℕ, zero, suc, ◌+◌, ◌<◌, List, [], ◌∷◌, ◌++◌, length, map, take, Option, refl, sym, ap, subst, ◌∙◌, append-nil, arith}
-use Rattle.std.specs.Prelude.{Result, Ok, Err, OnOk, OnErr, Contains}
+use Rattle.std.specs.Prelude.{Result, Ok, Err, OnOk, OnErr, String, string_bytes}
+use Rattle.std.specs.Global.{Global}
 use Rattle.std.specs.Io.KnownBytes.{Appends}
 use Rattle.std.proofs.KnownBytes.{Appends-trans}
+use Rattle.f3_name_table.specs.Answers as table
 use Rattle.f3_rules.specs.declared.source.Source.{Source}
 use Rattle.f3_meaning.specs.declared.elaborated.Elaborated.{Elaborated}
 use Rattle.f3_meaning.specs.Event.{output}
@@ -14,7 +16,7 @@ use Rattle.f3_run.specs.declared.end.End.TheVariants.{Done, Stopped, Error, Step
 use Rattle.f3_run.specs.Answers.{Answers, Refuses}
 use Rattle.f3_run.specs.Compiles.{Means}
 use Rattle.f3.specs.declared.report.Outcome.TheVariants.{Ended}
-use Rattle.f3.specs.Work.{Runs}
+use Rattle.f3.specs.Work.{Runs, Shows, Shown}
 use Rattle.f3.specs.declared.files.ReadFault.{ReadFault}
 use Rattle.f3.specs.declared.files.ReadFault.TheVariants as fault
 use Rattle.f3.specs.Reading.{IsOf, AreOf, IsFaultOf, IsFaultAmong}
@@ -90,3 +92,12 @@ runs_so sources steps a b (Error error place) p m h = (p, m, h)
 runs_so sources steps a b StepLimit p m h = (p, m, h)
 runs_so sources steps a b WriteFault p m h = (p, m, h)
 runs_so sources steps a b Memory p m h = h
+
+-- the table of names that is shown
+pub shows_so : (sources : List Source) (text : String Global) (a b : State) (end : End) → table.Answers (Ok text) sources → Shown a b (string_bytes text) end → Shows sources a b (Ended end)
+shows_so sources text a b Done is w = (text, is, w)
+shows_so sources text a b (Stopped code) is w = absurd w
+shows_so sources text a b (Error error place) is w = absurd w
+shows_so sources text a b StepLimit is w = absurd w
+shows_so sources text a b WriteFault is w = (text, is, w)
+shows_so sources text a b Memory is w = absurd w

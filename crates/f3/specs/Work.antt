@@ -31,6 +31,12 @@ Checks sources (Refused refusal) = IsRefused sources refusal
 Checks sources (Ended Memory) = Unit {0}
 Checks sources outcome = ⊥
 
+-- a text is written, or a front of it where the writer refuses
+abbrev pub Shown : State → State → List ℕ → End → Type 0
+Shown old new text Done = Wrote old new text
+Shown old new text WriteFault = Faulted old new text
+Shown old new text end = ⊥
+
 -- the table of names is written, or a front of it where the writer refuses; or the sources are refused
 abbrev pub Shows : List Source → State → State → Outcome → Type 0
 Shows sources old new (Ended Done) = (text : String Global) × table.Answers (Ok text) sources × Wrote old new (string_bytes text)

@@ -64,11 +64,10 @@ pub fn read_sources<'a, F: Opener>(
     let mut sources = Vec::new(alloc);
     for name in names {
         match read_source(alloc, files, *name) {
-            Ok(source) => {
-                if sources.push(source).is_err() {
-                    return Err(ReadFault::Memory);
-                }
-            }
+            Ok(source) => match sources.push(source) {
+                Ok(()) => {}
+                Err(_) => return Err(ReadFault::Memory),
+            },
             Err(fault) => return Err(fault),
         }
     }

@@ -7,11 +7,11 @@ ghost use Rattle.f3.specs.Task.{IsTask, OfRun};
 use crate::command::command;
 use crate::files::Opener;
 use crate::report::{Outcome, USAGE, finish, want_of_memory};
-use crate::work::{Task, perform, show};
+use crate::work::{Task, perform, shown};
 use clap::ArgMatches;
 use clap::error::ErrorKind;
 use f3_output::output::Output;
-use f3_run::end::{End, Limits};
+use f3_run::end::Limits;
 use std::alloc::Global;
 use std::io::Write;
 use std::str::FromStr;
@@ -50,11 +50,8 @@ fn usage<O: Write, E: Write>(
         let _told = errors.write(text.as_bytes());
         return USAGE;
     }
-    let end = match show(text.as_str(), output) {
-        Ok(()) => End::Done,
-        Err(_) => End::WriteFault,
-    };
-    finish(alloc, &[], &Outcome::Ended(end), errors)
+    let outcome = Outcome::Ended(shown(text.as_str(), output));
+    finish(alloc, &[], &outcome, errors)
 }
 
 /// Does what the subcommand says, with its files.

@@ -54,13 +54,21 @@ fn status_at(end: End) -> u8
     }
 }
 
+/// Writes a line feed.
+fn write_line_feed<E: Write>(errors: &mut Output<E>) -> Result<(), Refused>
+    ensures all { OnOk result (Wrote (state_of E.contents errors.old) (state_of E.contents errors.new) (10 ∷ [])) }
+    ensures front { OnErr result (Faulted (state_of E.contents errors.old) (state_of E.contents errors.new) (10 ∷ [])) }
+{
+    errors.write(b"\n")
+}
+
 /// Writes a text and a line feed, or a front of them where the writer refuses.
 fn write_line<E: Write>(errors: &mut Output<E>, text: &str) -> Result<(), Refused>
     ensures all { OnOk result (Wrote (state_of E.contents errors.old) (state_of E.contents errors.new) (text.now ++ 10 ∷ [])) }
     ensures front { OnErr result (Faulted (state_of E.contents errors.old) (state_of E.contents errors.new) (text.now ++ 10 ∷ [])) }
 {
     match errors.write(text.as_bytes()) {
-        Ok(()) => errors.write(b"\n"),
+        Ok(()) => write_line_feed(errors),
         Err(refused) => Err(refused),
     }
 }

@@ -4,7 +4,7 @@ ghost use Rattle.std.specs.Prelude.{◌≡◌, ℕ, [], map, OnOk, OnErr};
 ghost use Rattle.f3_meaning.specs.declared.elaborated.Elaborated.{Elaborated};
 ghost use Rattle.f3_output.specs.Output.{State, state_of, Wrote, Faulted};
 ghost use Rattle.f3_run.specs.Answers.{Answers};
-ghost use Rattle.f3.specs.Work.{outcome_of, Checks, Shows, Runs, Works, Performs};
+ghost use Rattle.f3.specs.Work.{outcome_of, Checks, Shown, Shows, Runs, Works, Performs};
 
 use crate::files::{Opener, ReadFault, read_sources};
 use crate::report::{Outcome, finish};
@@ -80,10 +80,7 @@ fn names<O: Write>(alloc: Global, sources: &[Source], output: &mut Output<O>) ->
     ensures { Shows sources.now (state_of O.contents output.old) (state_of O.contents output.new) result }
 {
     match name_table(alloc, sources) {
-        Ok(text) => match show(text.as_str(), output) {
-            Ok(()) => Outcome::Ended(End::Done),
-            Err(_) => Outcome::Ended(End::WriteFault),
-        },
+        Ok(text) => Outcome::Ended(shown(text.as_str(), output)),
         Err(fault) => outcome(fault),
     }
 }
@@ -114,13 +111,23 @@ fn outcome(fault: CheckFault) -> Outcome<'static>
 }
 
 /// Writes a text, and hands it on.
-pub fn show<O: Write>(text: &str, output: &mut Output<O>) -> Result<(), Refused>
+fn show<O: Write>(text: &str, output: &mut Output<O>) -> Result<(), Refused>
     ensures all { OnOk result (Wrote (state_of O.contents output.old) (state_of O.contents output.new) text.now) }
     ensures front { OnErr result (Faulted (state_of O.contents output.old) (state_of O.contents output.new) text.now) }
 {
     match output.write(text.as_bytes()) {
         Ok(()) => output.flush(),
         Err(refused) => Err(refused),
+    }
+}
+
+/// How the showing of a text ends.
+pub fn shown<O: Write>(text: &str, output: &mut Output<O>) -> End
+    ensures { Shown (state_of O.contents output.old) (state_of O.contents output.new) text.now result }
+{
+    match show(text, output) {
+        Ok(()) => End::Done,
+        Err(_) => End::WriteFault,
     }
 }
 
