@@ -23,7 +23,8 @@ fn split_unhidden<'a>(
     scope: usize,
     pairs: &'a [Visible],
 ) -> Option<(Visible, &'a [Visible])>
-    ensures { MatchOption result (unhidden tables.now scope pairs.now ≡ []) (λ r. unhidden tables.now scope pairs.now ≡ r.0 ∷ unhidden tables.now scope r.1.now) }
+    ensures { MatchOption result (unhidden tables.now scope pairs.now ≡ [])
+        (λ r. unhidden tables.now scope pairs.now ≡ r.0 ∷ unhidden tables.now scope r.1.now) }
 {
     let mut left = pairs;
     while let Some((first, others)) = left.split_first() {
