@@ -7,5 +7,4 @@ ghost use Rattle.f3_reading.specs.Laws.{WordsAreOne, NamesAreOne};
 pub fn words_and_names_are_one()
     ensures words { WordsAreOne }
     ensures names { NamesAreOne }
-{
-}
+{}
