@@ -38,7 +38,6 @@ broken_off w Is ts a begins none (Some z) s h = none z s (subst (λ (l : List It
 
 module _ {T A : Type 0} (w : Word) (Reads : Reader T) (Is : A → List Item → List Item → Type 0) (seen : T → A)
     (reads : (ts : List Item) (result : Result (T × Bor (List Item)) ReadError) → Reads ts result → ReadsOne Is seen result ts) where
-
   read_perhaps : (result : Result (Option T × Bor (List Item)) ReadError) (ts : List Item) → ReadsPerhaps w Reads result ts → ReadsOne (Perhaps w Is) (λ (x : Option T). option_map seen x) result ts
   read_perhaps (Ok (None, r)) ts h = left_out w Is ts r.now h.0 h.1
   read_perhaps (Ok (Some x, r)) ts h = there w Is ts h.0 (seen x) r.now h.1 (reads h.0 (Ok (x, r)) h.2)
@@ -71,7 +70,6 @@ not_behind Are ts a begins none y s (inr h) = lacked Comma ts a h.2 begins
 
 module _ {T A : Type 0} (Reads : Reader T) (Is : A → List Item → List Item → Type 0) (seen : T → A)
     (reads : (ts : List Item) (result : Result (T × Bor (List Item)) ReadError) → Reads ts result → ReadsOne Is seen result ts) where
-
   read_others : (result : Result (Vec T × Bor (List Item)) ReadError) (ts : List Item) → ReadsOthers Reads result ts → ReadsOne (BehindComma (EatsList Is)) (λ (v : Vec T). map seen v.items) result ts
   read_others (Ok x) ts (inl h) = some_behind (EatsList Is) ts h.0 x.1.now (map seen x.0.items) h.1 (list_reads Is seen h.2 reads)
   read_others (Ok x) ts (inr h) = none_behind (EatsList Is) ts x.1.now (map seen x.0.items) (ap (map seen) h.0) h.1 h.2
@@ -81,6 +79,7 @@ module _ {T A : Type 0} (Reads : Reader T) (Is : A → List Item → List Item �
 pub others_read : {T A : Type 0} (Is : A → List Item → List Item → Type 0) (seen : T → A) {Reads : Reader T} {result : Result (Vec T × Bor (List Item)) ReadError} {ts : List Item}
     → OthersAreRead Reads result ts → ((us : List Item) (one : Result (T × Bor (List Item)) ReadError) → Reads us one → ReadsOne Is seen one us) → ReadsOne (BehindComma (EatsList Is)) (λ (v : Vec T). map seen v.items) result ts
 others_read Is seen {Reads} {result} {ts} h reads = read_others Reads Is seen reads result ts h.is
+
 -- the same of a part that is seen as it is
 plain : {T : Type 0} (w : Word) (Is : T → List Item → List Item → Type 0) (result : Result (Option T × Bor (List Item)) ReadError) (ts : List Item)
     → ReadsOne (Perhaps w Is) (λ (x : Option T). option_map (λ (y : T). y) x) result ts → ReadsOne (Perhaps w Is) (λ (x : Option T). x) result ts

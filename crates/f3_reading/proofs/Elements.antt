@@ -114,7 +114,6 @@ no_other Is ts after tail x a c none all r h =
 -- where each answer of the reader is the one value that the tokens spell, so is the list's
 module _ {T A : Type 0} (Reads : Reader T) (Is : A → List Item → List Item → Type 0) (seen : T → A)
     (reads : (ts : List Item) (result : Result (T × Bor (List Item)) ReadError) → Reads ts result → ReadsOne Is seen result ts) where
-
   read_list : (xs : List T) (ts r : List Item) → Lists Reads xs ts r → IsRead (EatsList Is) ts (map seen xs) r
   read_list [] ts r h = absurd h
   read_list (x ∷ []) ts r h = let one : IsRead Is ts (seen x) (h.0).now = reads ts (Ok (x, h.0)) h.1 in alone Is ts (seen x) (h.0).now r one h.2 h.3

@@ -4,7 +4,6 @@ use Rattle.f3_words.specs.Lists.{starts}
 use Rattle.f3_words.specs.Reads.{Fails}
 use Rattle.f3_declarations.specs.Specifications.{is_prefix}
 use Rattle.f3_declarations.specs.Specifications.{EatsPrefix, EatsPrefixes, with_prefix}
-
 use Rattle.f3_declarations.proofs.Prefixes.{one_more, is_over, no_prefix_next, twice, refused}
 use Rattle.f3_declarations.proofs.procedures.all_prefixes.Goals as goal
 
