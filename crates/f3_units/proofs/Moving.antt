@@ -3,9 +3,8 @@ use Rattle.std.proofs.Common.{◌≡◌, ◌<◌, ℕ, Bool, true, List, [], Opt
 use Rattle.std.specs.Option.{option_map}
 use Rattle.std.proofs.lemmas.Bool.{eq-eqb}
 use Rattle.f3_rules.specs.declared.source.Place.{Place}
-use Rattle.f3_tree.specs.declared.program.UnitKind.{UnitKind}
-use Rattle.f3_tree.specs.declared.program.UnitKind.TheVariants.{Module, Program}
-use Rattle.f3_tree.specs.Tree.{HeaderTree, ProcedureTree, UnitTree}
+use Rattle.f3_tree.specs.declared.expression.Name.{Name}
+use Rattle.f3_tree.specs.Tree.{UnitTree}
 use Rattle.f3_forms.specs.declared.form.Ended.{Ended}
 use Rattle.f3_blocks.specs.declared.error.StepError.{StepError}
 use Rattle.f3_blocks.specs.declared.error.StepError.TheVariants.{Memory, OutOfPlace, TooDeep}
@@ -17,7 +16,7 @@ use Rattle.f3_parts.specs.Machine as parts
 use Rattle.f3_parts.specs.Machine.{is_none}
 use Rattle.f3_units.specs.Roles.{Role, begins, contains, heads, ends, specifies, executes, IsEnd}
 use Rattle.f3_units.specs.Units.{role_of}
-use Rattle.f3_units.specs.Machine.{Scope, Opened, Begun, State, free, busy, still, inside, step, with_scope, with_procedure, is_untouched, is_over, with_part, with_block, to_part, to_block, in_scope, in_own, in_unit, in_procedure, body_depth, scope_depth, begun_depth, Becomes, Steps}
+use Rattle.f3_units.specs.Machine.{Scope, Opened, Begun, State, busy, still, inside, step, with_scope, with_procedure, with_closed, procedure_closed, is_untouched, with_part, with_block, to_part, to_block, in_scope, in_unit, in_procedure, body_depth, scope_depth, begun_depth, Becomes, Steps}
 
 abbrev a_scope : parts.State → blocks.State → Scope
 a_scope p b = record { part = p; block = b }
@@ -103,6 +102,12 @@ inside_on None (ends what label) p done u on = absurd (on tt)
 inside_on None specifies p done u on = refl
 inside_on None executes p done u on = refl
 inside_on (Some o) r p done u on = refl
+
+-- an END ends the open procedure
+pub inside_closes : (u : Begun) (at : Place) (o : Opened) (p : Placed) (what : Option Ended) (label : Option Name) (done : List UnitTree) → u.contains ≡ Some at → u.procedure ≡ Some o
+    → inside u.procedure (ends what label) p done u ≡ still done (option_map (with_closed u) (procedure_closed p.place what label o))
+inside_closes u at o p what label done there opens =
+    ap (λ (x : Option Opened). inside x (ends what label) p done u) opens ∙ ap (λ (x : Option Place). still done (in_unit x (Some o) (ends what label) p u)) there
 
 pub step_inside : (p : Placed) (s : State) (u : Begun) → s.unit ≡ Some u → u.file ≡ p.place.file → step p s ≡ inside u.procedure (role_of p) p s.done u
 step_inside p s u is same = rw (is, eq-eqb u.file p.place.file same) refl

@@ -8,7 +8,7 @@ ghost use Rattle.f3_forms.specs.Forms.{form_view};
 ghost use Rattle.f3_blocks.specs.Pieces.{Placed};
 ghost use Rattle.f3_units.specs.Roles.{role, ends, IsEnd};
 ghost use Rattle.f3_units.specs.Units.{fits_unit, fits_procedure};
-ghost use Rattle.f3_units.specs.Machine.{State, start, step, begun, between_procedures, in_own, in_unit, in_scope, with_procedure, with_closed, procedure_closed, unit_closed, still, ended, inside, between_units, opened_view, begun_view, builder_view, begun_depth, Becomes, Steps};
+ghost use Rattle.f3_units.specs.Machine.{State, start, step, begun, between_procedures, in_own, in_unit, in_scope, with_procedure, with_closed, procedure_closed, unit_closed, busy, still, ended, inside, between_units, opened_view, begun_view, builder_view, begun_depth, Becomes, Steps};
 
 use crate::scope::{Role, Scope, role_of};
 use f3_blocks::error::StepError;
@@ -338,15 +338,27 @@ impl Builder {
                 None => self.close(unit, place, what, label),
                 Some(_) => match unit.contains {
                     None => Err(StepError::OutOfPlace),
-                    Some(_) => {
-                        let mut unit = unit;
-                        unit.end_procedure(place, what, label)?;
-                        self.unit = Some(unit);
-                        Ok(())
-                    }
+                    Some(_) => self.end_procedure(unit, place, what, label),
                 },
             },
         }
+    }
+
+    /// Ends the open procedure of this unit, which was taken out.
+    fn end_procedure(
+        &mut self,
+        unit: OpenUnit,
+        place: Place,
+        what: Option<Ended>,
+        label: Option<Name>,
+    ) -> Result<(), StepError>
+        ensures { (at : Place) (o : OpenProcedure) → unit.contains ≡ Some at → unit.procedure ≡ Some o
+            → Steps result (busy (map unit_view self.old.units.items) (begun_view unit)) (builder_view self.new) (still (map unit_view self.old.units.items) (option_map (with_closed (begun_view unit)) (procedure_closed place what label (opened_view o)))) }
+    {
+        let mut unit = unit;
+        let ended = unit.end_procedure(place, what, label);
+        self.unit = Some(unit);
+        ended
     }
 
     /// Ends this unit, which was taken out.
