@@ -18,5 +18,5 @@ returns-clause-arena c =
       heap = c.requires.arena.heap;
       hints = set-hints c.args.arena.now.size c.first_fit-from.result c.class_of-class.result (segments_in c.args.arena.now) c.args.arena.now.hints len c.class_of-class.ensures.within c.requires.arena.hints
           (subst (λ (n : ℕ). HintFrom c.args.arena.now.size n c.first_fit-from.result 0 (segments_in c.args.arena.now)) c.width_of.ensures
-    (found-hint c.args.arena.now.size _ c.first_fit-from.result (segments_in c.args.arena.now) c.first_fit-from.ensures.fits c.first_fit-from.ensures.lacking));
+          (found-hint c.args.arena.now.size _ c.first_fit-from.result (segments_in c.args.arena.now) c.first_fit-from.ensures.fits c.first_fit-from.ensures.lacking));
     }

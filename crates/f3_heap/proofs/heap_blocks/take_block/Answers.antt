@@ -1,5 +1,5 @@
 -- The first fit, or the words behind all blocks.
-use Rattle.std.proofs.Common.{◌+◌, ◌∙◌, ℕ, List, ap, sym, subst, refl, arith}
+use Rattle.std.proofs.Common.{◌+◌, ◌∙◌, ℕ, ap, sym, subst, refl, arith}
 use Rattle.f3_raw.specs.Region.{region_words, region_size}
 use Rattle.f3_heap_laws.specs.Segments.{segments, live_segments, Cuts}
 use Rattle.f3_heap_laws.proofs.HeapLaws.{cut-heap, cut-live, cut-fresh, end-heap, end-live, end-fresh, room-fits, first-fits, first-lacking}
