@@ -16,7 +16,8 @@ use f3_heap::{BlockId, Blocks};
 /// Allocates at random beneath an object with nothing allocated, as far as the heap has room.
 pub fn grow<B: Blocks>(heap: &mut B, block: BlockId, at: usize, layout: &Layout, dice: &mut Dice)
     requires { (t : Tree) × Holds (B.blocks heap.old) block at (whole (pieces_of layout.now)) t × IsBare t }
-    ensures { (t : Tree) → Holds (B.blocks heap.old) block at (whole (pieces_of layout.now)) t → IsBare t → Grows (B.blocks heap.old) (B.blocks heap.new) block at (whole (pieces_of layout.now)) t }
+    ensures { let s = whole (pieces_of layout.now) in
+        (t : Tree) → Holds (B.blocks heap.old) block at s t → IsBare t → Grows (B.blocks heap.old) (B.blocks heap.new) block at s t }
 {
     prove!(at <= heap.length(block));
     grow_piece(heap, block, at, layout, layout.last(), dice);
@@ -34,7 +35,8 @@ fn grow_piece<B: Blocks>(
     requires numbered { piece < piece_count layout.now }
     requires holds { (t : Tree) × Holds (B.blocks heap.old) block at (shape_in layout.now piece) t × IsBare t }
     requires bound { at + width (shape_in layout.now piece) < 2 ^ 64 }
-    ensures { (t : Tree) → Holds (B.blocks heap.old) block at (shape_in layout.now piece) t → IsBare t → Grows (B.blocks heap.old) (B.blocks heap.new) block at (shape_in layout.now piece) t }
+    ensures { let s = shape_in layout.now piece in
+        (t : Tree) → Holds (B.blocks heap.old) block at s t → IsBare t → Grows (B.blocks heap.old) (B.blocks heap.new) block at s t }
 {
     match layout.piece(piece) {
         Piece::Word => {}
@@ -60,7 +62,8 @@ fn grow_parts<B: Blocks>(
     requires earlier { All (λ p. p < piece) parts.now }
     requires holds { (t : Tree) × Holds (B.blocks heap.old) block at (row (map (shape_at (shapes layout.now)) parts.now)) t × IsBare t }
     requires bound { at + width (row (map (shape_at (shapes layout.now)) parts.now)) < 2 ^ 64 }
-    ensures { (t : Tree) → Holds (B.blocks heap.old) block at (row (map (shape_at (shapes layout.now)) parts.now)) t → IsBare t → Grows (B.blocks heap.old) (B.blocks heap.new) block at (row (map (shape_at (shapes layout.now)) parts.now)) t }
+    ensures { let s = row (map (shape_at (shapes layout.now)) parts.now) in
+        (t : Tree) → Holds (B.blocks heap.old) block at s t → IsBare t → Grows (B.blocks heap.old) (B.blocks heap.new) block at s t }
 {
     let mut place = at;
     for part in parts {
@@ -82,7 +85,8 @@ fn grow_elements<B: Blocks>(
     requires numbered { of < piece_count layout.now }
     requires holds { (t : Tree) × Holds (B.blocks heap.old) block at (Times count (shape_in layout.now of)) t × IsBare t }
     requires bound { at + count * width (shape_in layout.now of) < 2 ^ 64 }
-    ensures { (t : Tree) → Holds (B.blocks heap.old) block at (Times count (shape_in layout.now of)) t → IsBare t → Grows (B.blocks heap.old) (B.blocks heap.new) block at (Times count (shape_in layout.now of)) t }
+    ensures { let s = Times count (shape_in layout.now of) in
+        (t : Tree) → Holds (B.blocks heap.old) block at s t → IsBare t → Grows (B.blocks heap.old) (B.blocks heap.new) block at s t }
 {
     let size = layout.words_of(of);
     let mut place = at;
@@ -104,7 +108,8 @@ fn grow_allocatable<B: Blocks>(
 )
     requires numbered { of < piece_count layout.now }
     requires holds { (t : Tree) × Holds (B.blocks heap.old) block at (Holder rank (shape_in layout.now of)) t × IsBare t }
-    ensures { (t : Tree) → Holds (B.blocks heap.old) block at (Holder rank (shape_in layout.now of)) t → IsBare t → Grows (B.blocks heap.old) (B.blocks heap.new) block at (Holder rank (shape_in layout.now of)) t }
+    ensures { let s = Holder rank (shape_in layout.now of) in
+        (t : Tree) → Holds (B.blocks heap.old) block at s t → IsBare t → Grows (B.blocks heap.old) (B.blocks heap.new) block at s t }
 {
     if rank > 1 || dice.below(4) == 0 {
         return;

@@ -20,7 +20,8 @@ pub(crate) fn link<B: Blocks>(
     requires ranked { rank < 2 }
     requires few { count < 4 }
     requires within { at + (1 + 2 * rank) ≤ length (words_of (B.blocks heap.old) block) }
-    ensures written { B.blocks heap.new ≡ with_words (B.blocks heap.old) block (with_words_at (words_of (B.blocks heap.old) block) at (pos inner ∷ dims_of rank count)) }
+    ensures written { let linked = pos inner ∷ dims_of rank count in
+        B.blocks heap.new ≡ with_words (B.blocks heap.old) block (with_words_at (words_of (B.blocks heap.old) block) at linked) }
     ensures positive { 0 < inner }
 {
     prove!(at < heap.length(block));

@@ -39,7 +39,8 @@ pub fn random_object<B: Blocks>(heap: &mut B, layout: &Layout, dice: &mut Dice) 
 /// Gives back an object with its own block, and tells whether nothing was pinned.
 pub fn free_object<B: Blocks>(heap: &mut B, layout: &Layout, block: BlockId) -> bool
     requires { (t : Tree) × Holds (B.blocks heap.old) block 0 (whole (pieces_of layout.now)) t }
-    ensures { (t : Tree) → Holds (B.blocks heap.old) block 0 (whole (pieces_of layout.now)) t → (q : ℕ) → q ≢ block → times q t ≡ 0 → get (B.blocks heap.new) q ≡ get (B.blocks heap.old) q }
+    ensures { (t : Tree) → Holds (B.blocks heap.old) block 0 (whole (pieces_of layout.now)) t
+        → (q : ℕ) → q ≢ block → times q t ≡ 0 → get (B.blocks heap.new) q ≡ get (B.blocks heap.old) q }
 {
     free_tree(heap, block, 0, layout).is_ok() && heap.give(block).is_ok()
 }
