@@ -1,17 +1,17 @@
 -- What no event touches stays.
 use Rattle.std.proofs.Common.{◌≡◌, ℕ, zero, suc, ◌<◌, Bool, true, false, List, [], ◌∷◌, ◌++◌, refl, sym, ap, ◌∙◌, arith, length}
-use Rattle.std.specs.Prelude.{⊤, T, ◌&&◌, nat_eq, take, slice_index_or, slice_set}
+use Rattle.std.specs.Prelude.{T, ◌&&◌, nat_eq, take, slice_index_or, slice_set}
 use mathlib.Core.Path.{subst}
 use lib.Dec.{eqb→eq}
 use Rattle.std.proofs.Math.Dec.{eqb_refl}
 use Rattle.f3_meaning_whole.specs.Value.{Value, Number, Truth, Composite, Array, Unallocated, Allocated, Values, none, more}
-use Rattle.f3_meaning_whole.specs.Store.{Root, Static, Local, Store, Path, Step, Component, Element, Contents, at_root, with_root, part, part_at, with_part, with_part_at, get, put, put_all, same_root, same_step, begins_with, goes_through}
+use Rattle.f3_meaning_whole.specs.Store.{Root, Static, Local, Store, Path, Step, Component, Element, Contents, at_root, with_root, part, part_at, with_part, with_part_at, get, put, put_all, same_root, begins_with, goes_through}
 use Rattle.f3_meaning_whole.specs.Reference.{paths}
 use Rattle.f3_meaning_whole.specs.Ran.{Event, Printed, Changed, Began, Entered, Ended, Asked, Stage, effect, replayed}
 use Rattle.f3_meaning_whole.specs.Permitted.{Each}
-use Rattle.f3_meaning_whole.specs.Laws.{IsStage, Stands, Apart, Outlives, Spares, IsThere, StoresAgree}
+use Rattle.f3_meaning_whole.specs.Laws.{Stands, Apart, Outlives, Spares, IsThere, StoresAgree}
 use Rattle.f3_meaning_whole.proofs.Changes.{stages_stand}
-use Rattle.f3_meaning_whole.proofs.Keeping.{no, replayed-append}
+use Rattle.f3_meaning_whole.proofs.Keeping.{no}
 
 pub data Either (A B : Type 0) : Type 0 where
   Left : A → Either A B
@@ -103,8 +103,8 @@ root_put s (Local l i) (Local m k) v = by (slice_put s.levels l m (slice_set (sl
     now = slice_index_or (slice_set s.levels l (slice_set (slice_index_or s.levels l []) i v)) m []
 
     by : Either (slice_index_or (slice_set s.levels l (slice_set (slice_index_or s.levels l []) i v)) m [] ≡ slice_index_or s.levels m []) ((m ≡ l) × (slice_index_or (slice_set s.levels l (slice_set (slice_index_or s.levels l []) i v)) m [] ≡ slice_set (slice_index_or s.levels l []) i v))
-       → Either (slice_index_or (slice_set (slice_index_or s.levels l []) i v) k Unallocated ≡ slice_index_or (slice_index_or s.levels l []) k Unallocated) ((k ≡ i) × (slice_index_or (slice_set (slice_index_or s.levels l []) i v) k Unallocated ≡ v))
-       → Either (at_root (with_root s (Local l i) v) (Local m k) ≡ at_root s (Local m k)) ((Local m k ≡ Local l i) × (at_root (with_root s (Local l i) v) (Local m k) ≡ v))
+        → Either (slice_index_or (slice_set (slice_index_or s.levels l []) i v) k Unallocated ≡ slice_index_or (slice_index_or s.levels l []) k Unallocated) ((k ≡ i) × (slice_index_or (slice_set (slice_index_or s.levels l []) i v) k Unallocated ≡ v))
+        → Either (at_root (with_root s (Local l i) v) (Local m k) ≡ at_root s (Local m k)) ((Local m k ≡ Local l i) × (at_root (with_root s (Local l i) v) (Local m k) ≡ v))
     by (Left e) f = Left (ap (λ vs. slice_index_or vs k Unallocated) e)
     by (Right e) (Left f) = Left (ap (λ vs. slice_index_or vs k Unallocated) e.1 ∙ f ∙ ap (λ n. slice_index_or (slice_index_or s.levels n []) k Unallocated) (sym e.0))
     by (Right e) (Right f) = Right (ap (λ n. Local n k) e.0 ∙ ap (Local l) f.0, ap (λ vs. slice_index_or vs k Unallocated) e.1 ∙ f.1)

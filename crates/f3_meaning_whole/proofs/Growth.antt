@@ -1,6 +1,6 @@
 -- With more turns a run only grows.
 use Rattle.std.proofs.Common.{◌≡◌, ℕ, zero, suc, ◌≤◌, Bool, true, false, List, [], ◌∷◌, ◌++◌, Option, None, Some, refl, sym, ap, ◌∙◌, append_assoc, append-nil, arith, if◌then◌else◌}
-use Rattle.std.specs.Prelude.{⊤, slice_get, nat_eq}
+use Rattle.std.specs.Prelude.{⊤, slice_get}
 use Rattle.f3_program.specs.declared.declarations.Declared.{Declared}
 use Rattle.f3_program.specs.declared.declarations.Kind.{Kind}
 use Rattle.f3_program.specs.declared.expression.Argument as a

@@ -15,7 +15,7 @@ use Rattle.f3_meaning_whole.specs.Store as kept
 use Rattle.f3_meaning_whole.specs.Reference.{Right, Define, Read, Maker, Reach, One, Many, Reference, reach_of, elements_from, paths, paths_by, Made}
 use Rattle.f3_meaning_whole.specs.declared.run_error.RunError.{RunError}
 use Rattle.f3_meaning_whole.specs.Ran.{Event, Printed, Changed, Began, Entered, Ended, Asked, effect, replayed, World, End, Gives, Fails, Stops, Beyond, Ran, go_on, ◌>>=◌, gives, fails, stops, beyond, looks, does, asks, each}
-use Rattle.f3_meaning_whole.specs.Act.{Setting, Here, set, clear, in_each, picked, moved, component_path, component_reach, component, opened, contents, right_to, to_root, added, elements_at, first_of, contents_by, whole, static_type, derived_of, component_type}
+use Rattle.f3_meaning_whole.specs.Act.{Setting, Here, set, clear, in_each, picked, moved, component_path, component_reach, component, opened, contents, right_to, to_root, added, elements_at, first_of, contents_by, whole, static_type, component_type}
 use Rattle.f3_meaning_whole.specs.Run.{changes}
 use Rattle.f3_meaning_whole.specs.Permitted.{Each, FromHome, IsMadeWell, IsDeclared, IsTyped, Permitted, is_define, numbers, IsAt}
 use Rattle.f3_meaning_whole.specs.Laws.{Stands, along}
@@ -187,7 +187,8 @@ module _ (p : Program) where
       by s out (Gives x w) a b q = (
         rw (changes-append out ((f x).from w).out) (each-append (Permitted p) _ _ a ((h x q.0).always w).0),
         stands-append out ((f x).from w).out s b (subst (λ t. Stands t ((f x).from w).out) q.1 ((h x q.0).always w).1),
-        later Q s w.store out ((f x).from w).out q.1 ((f x).from w).end ((h x q.0).always w).2)
+        later Q s w.store out ((f x).from w).out q.1 ((f x).from w).end ((h x q.0).always w).2,
+      )
       by s out (Fails error place) a b q = (a, b, tt)
       by s out (Stops code) a b q = (a, b, tt)
       by s out Beyond a b q = (a, b, tt)

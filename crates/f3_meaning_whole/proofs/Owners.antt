@@ -1,19 +1,18 @@
 -- What owners of modules rely on.
-use Rattle.std.proofs.Common.{◌≡◌, ℕ, zero, suc, Bool, true, false, List, [], ◌∷◌, ◌++◌, Some, refl, sym, ap, ◌∙◌}
-use Rattle.std.specs.Prelude.{⊤, T, ◌&&◌, nat_eq, slice_get}
+use Rattle.std.proofs.Common.{◌≡◌, ℕ, Bool, true, false, List, [], ◌∷◌, ◌++◌, Some, refl, sym, ap, ◌∙◌}
+use Rattle.std.specs.Prelude.{T, ◌&&◌, nat_eq, slice_get}
 use mathlib.Core.Path.{subst}
 use lib.Dec.{eqb→eq}
 use Rattle.f3_program.specs.declared.declarations.Base.{Base}
 use Rattle.f3_program.specs.declared.declarations.Component as m
 use Rattle.f3_program.specs.declared.declarations.Derived.{Derived}
-use Rattle.f3_program.specs.declared.program.Static as x
 use Rattle.f3_program.specs.declared.program.Program.{Program}
-use Rattle.f3_meaning_whole.specs.Store.{Root, Static, Local, Store, Path, Step, Component, Element, Contents, within, components, get, same_root, same_step, begins_with, goes_through}
+use Rattle.f3_meaning_whole.specs.Store.{Root, Static, Path, Step, Component, Element, Contents, within, components, get, same_root, same_step, begins_with, goes_through}
 use Rattle.f3_meaning_whole.specs.Reference.{Made, paths}
-use Rattle.f3_meaning_whole.specs.Ran.{Event, Printed, Changed, Began, Entered, Ended, Asked, Change, Stage, replayed}
+use Rattle.f3_meaning_whole.specs.Ran.{Event, Printed, Changed, Began, Entered, Ended, Asked, Change, Stage}
 use Rattle.f3_meaning_whole.specs.Act.{whole, derived_of, component_type}
 use Rattle.f3_meaning_whole.specs.Run.{run_of, changes, first_store, setting_of}
-use Rattle.f3_meaning_whole.specs.Permitted.{Each, IsMaker, IsMadeWell, IsDeclared, IsTyped, numbers, IsAt, Permitted, IsLawful}
+use Rattle.f3_meaning_whole.specs.Permitted.{Each, IsMadeWell, IsTyped, numbers, IsAt, Permitted, IsLawful}
 use Rattle.f3_meaning_whole.specs.Laws.{Apart, Outlives, Spares, IsThere, AreStages, along, IsNotOwn, ProtectedStays, IsNotAbove, IsNotBy, PrivateStays}
 use Rattle.f3_meaning_whole.proofs.Keeping.{no, changes-append}
 use Rattle.f3_meaning_whole.proofs.Changes.{changes_are_permitted, stages_stand}
@@ -46,7 +45,7 @@ spares_all p q i r P f (Ended level ∷ es) h k = (subst (λ t. Outlives t level
 spares_all p q i r P f (Asked refused ∷ es) h k = (tt, spares_all p q i r P f es h k)
 
 stays : (p : Program) → IsLawful p → (n : ℕ) (answers : ℕ → Bool) (first : Stage) (between : List Event) (second : Stage) → AreStages p n answers first between second
-  → (q : Path) (i : ℕ) → q.root ≡ Static i → (P : Change → Type 0) → ((c : Change) → Permitted p c → P c → Each (Apart q) (paths c.reference)) → Each P (changes between) → get second.store q ≡ get first.store q
+    → (q : Path) (i : ℕ) → q.root ≡ Static i → (P : Change → Type 0) → ((c : Change) → Permitted p c → P c → Each (Apart q) (paths c.reference)) → Each P (changes between) → get second.store q ≡ get first.store q
 stays p l n answers first between second e q i r P f k =
     ap (λ s. get s q) (between_stages e.0 between e.1 first second (first_store (setting_of p)) (run_of p n answers).out e.2 (stages_stand p l n answers))
     ∙ spared between first.store q (subst (λ t. IsThere t first.store) (sym r) tt) (spares_all p q i r P f between (permitted_between p (run_of p n answers).out e.0 between e.1 first second e.2 (changes_are_permitted p l n answers)) k)
@@ -168,7 +167,7 @@ not_empty k ks e = no (ap is_full e)
 
 -- a component on the way has a maker, whom the change tells
 told : (p : Program) (of : Base) (t : Derived) (k : ℕ) (c : m.Component) → derived_of p.types.items of ≡ Some t → slice_get t.components.items k ≡ Some c → c.is_private ≡ true
-  → (ms : List Made) (start : Base) (ks rest : List ℕ) → numbers ms ≡ ks ++ (k ∷ rest) → IsTyped p.types.items start ms → along p.types.items start ks ≡ of → Each (IsMadeWell p) ms → Each (IsNotBy t.home of k) ms → ⊥
+    → (ms : List Made) (start : Base) (ks rest : List ℕ) → numbers ms ≡ ks ++ (k ∷ rest) → IsTyped p.types.items start ms → along p.types.items start ks ≡ of → Each (IsMadeWell p) ms → Each (IsNotBy t.home of k) ms → ⊥
 unfolding head_or tail_of
 told p of t k c d s b [] start [] rest e y a w o = not_empty k rest e
 told p of t k c d s b [] start (j ∷ ks) rest e y a w o = not_empty j (ks ++ (k ∷ rest)) e
@@ -217,7 +216,8 @@ private_stays p l n answers first between second e i y s q r of t k c a d u b ab
         by false e = other_root part z e
         by true e = (
           both (same_root q.root z.root) (begins_with (q.steps ++ Step.Component k ∷ []) z.steps) e ∙ over e (begins_with (q.steps ++ Step.Component k ∷ []) z.steps) refl,
-          both (same_root z.root q.root) (begins_with z.steps (q.steps ++ Step.Component k ∷ [])) (subst (λ v. same_root v q.root ≡ true) (same_roots q.root z.root e) (root_itself q.root)) ∙ beneath (same_roots q.root z.root e) (begins_with z.steps (q.steps ++ Step.Component k ∷ [])) refl)
+          both (same_root z.root q.root) (begins_with z.steps (q.steps ++ Step.Component k ∷ [])) (subst (λ v. same_root v q.root ≡ true) (same_roots q.root z.root e) (root_itself q.root)) ∙ beneath (same_roots q.root z.root e) (begins_with z.steps (q.steps ++ Step.Component k ∷ [])) refl,
+        )
 
     left : (x : Change) → Permitted p x → Each (IsNotBy t.home of k) x.reference.makers → (zs : List Path) → Each (IsAt x.reference.path.root (numbers x.reference.makers)) zs → Each (λ (z : Path). goes_through q z ≡ false) zs → Each (Apart part) zs
     left x h o [] at f = tt

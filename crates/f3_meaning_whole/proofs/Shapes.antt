@@ -1,5 +1,5 @@
 -- The trees of types are those of the types.
-use Rattle.std.proofs.Common.{◌≡◌, ℕ, zero, suc, ◌+◌, List, [], ◌∷◌, ◌++◌, Option, None, Some, refl, sym, ap, ◌∙◌, append_assoc, append-nil, arith, length}
+use Rattle.std.proofs.Common.{◌≡◌, ℕ, zero, suc, ◌+◌, List, [], ◌∷◌, ◌++◌, Some, refl, sym, ap, ◌∙◌, append_assoc, arith, length}
 use Rattle.std.specs.Prelude.{⊤, slice_get, slice_index_or}
 use mathlib.Core.Path.{subst}
 use Rattle.f3_program.specs.declared.declarations.Base.{Base}
@@ -59,7 +59,8 @@ parts_are : (types : List Derived) (ss : List Shape) (of : Base) (cs : List Comp
 parts_are types ss of [] k h e = tt
 parts_are types ss of (c ∷ cs) k h e = (
   subst (IsShape types (shape_in ss c.declared.kind.of)) (sym (ap (component_type types of) (add_zero k) ∙ e 0)) (shape_is types ss c.declared.kind.of h),
-  parts_are types ss of cs (suc k) h (λ j. ap (component_type types of) (add_suc k j) ∙ e (suc j)))
+  parts_are types ss of cs (suc k) h (λ j. ap (component_type types of) (add_suc k j) ∙ e (suc j)),
+)
 
 found : (front : List Derived) (t : Derived) (back : List Derived) → slice_get (front ++ t ∷ back) (length front) ≡ Some t
 found [] t back = refl

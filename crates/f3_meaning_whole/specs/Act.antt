@@ -85,18 +85,50 @@ abbrev pub claim_for : Value → Here → Ran ⊤
 claim_for v here = if needs_storage v then claim here else gives tt
 
 abbrev pub at : Place → Here → Here
-at place here = record { place = place; unit = here.unit; level = here.level; variables = here.variables; names = here.names; lent = here.lent; selected = here.selected }
+at place here = record {
+  place = place;
+  unit = here.unit;
+  level = here.level;
+  variables = here.variables;
+  names = here.names;
+  lent = here.lent;
+  selected = here.selected;
+}
 
 abbrev pub lending : List Reference → Here → Here
-lending rs here = record { place = here.place; unit = here.unit; level = here.level; variables = here.variables; names = here.names; lent = rs ++ here.lent; selected = here.selected }
+lending rs here = record {
+  place = here.place;
+  unit = here.unit;
+  level = here.level;
+  variables = here.variables;
+  names = here.names;
+  lent = rs ++ here.lent;
+  selected = here.selected;
+}
 
 -- in a SELECT CASE with this value
 abbrev pub selecting : Value → Here → Here
-selecting v here = record { place = here.place; unit = here.unit; level = here.level; variables = here.variables; names = here.names; lent = here.lent; selected = v }
+selecting v here = record {
+  place = here.place;
+  unit = here.unit;
+  level = here.level;
+  variables = here.variables;
+  names = here.names;
+  lent = here.lent;
+  selected = v;
+}
 
 -- in an ASSOCIATE with these names, which lend their objects
 abbrev pub associating : List Reference → Here → Here
-associating rs here = record { place = here.place; unit = here.unit; level = here.level; variables = here.variables; names = here.names ++ rs; lent = rs ++ here.lent; selected = here.selected }
+associating rs here = record {
+  place = here.place;
+  unit = here.unit;
+  level = here.level;
+  variables = here.variables;
+  names = here.names ++ rs;
+  lent = rs ++ here.lent;
+  selected = here.selected;
+}
 
 -- ---- references
 
@@ -123,8 +155,10 @@ static_type (Some y) = y.declared.kind.of
 
 -- what a name means in a statement of a unit
 abbrev pub named : Setting → Name → Here → Ran Reference
-named g (n.Static i) here = looks (λ store. to_root (Static i) (static_type (slice_get g.program.statics.items i)) (right_to here.unit (slice_get g.program.statics.items i)) here.unit (get store (whole (Static i))))
-named g (n.Local i) here = looks (λ store. to_root (Local here.level i) (type_of (slice_get here.variables i)) Define here.unit (get store (whole (Local here.level i))))
+named g (n.Static i) here = looks
+    (λ store. to_root (Static i) (static_type (slice_get g.program.statics.items i)) (right_to here.unit (slice_get g.program.statics.items i)) here.unit (get store (whole (Static i))))
+named g (n.Local i) here = looks
+    (λ store. to_root (Local here.level i) (type_of (slice_get here.variables i)) Define here.unit (get store (whole (Local here.level i))))
 named g (n.Lent i) here = gives (slice_index_or here.names i (to_root (Local 0 0) base.Integer Read 0 Unallocated))
 
 -- the component of a number of a type
@@ -240,7 +274,8 @@ spans_in ss cs = []
 
 -- A step of zero is found before a subscript out of bounds (own rules).
 abbrev pub places : List Span → List Chosen → Here → Ran (List ℕ)
-places ss cs here = if some_zero_step cs then fails StepIsZero here.place else (if all_inside ss cs then gives (places_in ss cs) else fails SubscriptOutOfBounds here.place)
+places ss cs here = if some_zero_step cs then fails StepIsZero here.place else (if all_inside ss cs then gives (places_in ss cs)
+    else fails SubscriptOutOfBounds here.place)
 
 abbrev pub added : Option Path → List Path → List Path
 added None ps = ps

@@ -52,7 +52,8 @@ divided y t z place = if is_zero y then fails DivisionByZero place else converte
 
 -- a remainder with the sign of the divisor (13.7.80)
 abbrev pub floor_rem : ℤ → ℤ → ℤ
-floor_rem x y = if is_zero (int_rem x y) then pos 0 else (if int_lt x (pos 0) && int_lt y (pos 0) then int_rem x y else (if int_lt x (pos 0) || int_lt y (pos 0) then int_rem x y +ℤ y else int_rem x y))
+floor_rem x y = if is_zero (int_rem x y) then pos 0 else (if int_lt x (pos 0) && int_lt y (pos 0) then int_rem x y
+    else (if int_lt x (pos 0) || int_lt y (pos 0) then int_rem x y +ℤ y else int_rem x y))
 
 abbrev pub is_even : ℕ → Bool
 is_even n = nat_eq (n % 2) 0

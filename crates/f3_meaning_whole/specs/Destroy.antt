@@ -13,7 +13,8 @@ use Rattle.f3_meaning_whole.specs.Act.{Setting, Here, Lent, Calls, set, clear, l
 -- Deallocating (ISO/IEC 1539-1:2004, 6.3.3; own order): an error where it is in use; then what it holds is destroyed, and it
 -- is unallocated.
 abbrev pub deallocate_by : (Reference → Here → Ran ⊤) → Reference → Here → Ran ⊤
-deallocate_by destroy r here = if is_pinned r.path here.lent then fails InUse here.place else (contents r here >>= λ inner. destroy inner here >>= λ done. set r Unallocated here)
+deallocate_by destroy r here = if is_pinned r.path here.lent then fails InUse here.place
+    else (contents r here >>= λ inner. destroy inner here >>= λ done. set r Unallocated here)
 
 -- deallocating what is allocated
 abbrev pub release_by : (Reference → Here → Ran ⊤) → Reference → Here → Ran ⊤

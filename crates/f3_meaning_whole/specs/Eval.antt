@@ -1,7 +1,6 @@
 -- What expressions and designators mean.
-use Rattle.std.specs.Prelude.{ℕ, ℤ, pos, ◌+ℤ◌, ◌-ℤ◌, int_le, if◌then◌else◌, List, [], ◌∷◌, length, Option, None, Some, slice_index_or, slice_get}
+use Rattle.std.specs.Prelude.{ℤ, pos, ◌+ℤ◌, ◌-ℤ◌, int_le, if◌then◌else◌, List, [], ◌∷◌, length, Option, None, Some, slice_index_or}
 use Rattle.f3_program.specs.declared.declarations.Base.TheVariants as base
-use Rattle.f3_program.specs.declared.declarations.Derived.{Derived}
 use Rattle.f3_program.specs.declared.declarations.Component.{Component}
 use Rattle.f3_program.specs.declared.expression.Argument as a
 use Rattle.f3_program.specs.declared.expression.Designator as d
@@ -39,7 +38,8 @@ ask query.Upper s = (s.lower +ℤ pos s.extent) -ℤ pos 1
 -- of the rank)
 abbrev pub asked : Query → List Span → ℤ → Here → Ran Value
 asked q [] z here = fails SubscriptOutOfBounds here.place
-asked q (s ∷ ss) z here = if int_le z (pos 0) then fails SubscriptOutOfBounds here.place else (if int_le z (pos 1) then converted base.Integer (Number (ask q s)) here.place else asked q ss (z -ℤ pos 1) here)
+asked q (s ∷ ss) z here = if int_le z (pos 0) then fails SubscriptOutOfBounds here.place
+    else (if int_le z (pos 1) then converted base.Integer (Number (ask q s)) here.place else asked q ss (z -ℤ pos 1) here)
 
 -- a value that is built, or that leaves an activation
 abbrev pub built : Value → Here → Ran Value

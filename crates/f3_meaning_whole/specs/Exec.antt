@@ -1,5 +1,5 @@
 -- What statements mean.
-use Rattle.std.specs.Prelude.{⊤, ℕ, zero, suc, ◌^◌, ℤ, pos, ◌+ℤ◌, Bool, true, false, ◌||◌, nat_eq, nat_lt, if◌then◌else◌, List, [], ◌∷◌, ◌++◌, map, length, replicate, take, Option, None, Some}
+use Rattle.std.specs.Prelude.{⊤, ℕ, zero, suc, ◌^◌, ℤ, pos, ◌+ℤ◌, Bool, true, false, ◌||◌, nat_eq, nat_lt, if◌then◌else◌, List, [], ◌∷◌, ◌++◌, map, length, replicate, Option, None, Some}
 use Rattle.std.specs.Fmt.{signed_decimal}
 use Rattle.f3_rules.specs.declared.source.Place.{Place}
 use Rattle.f3_program.specs.declared.declarations.Base.{Base}
@@ -19,7 +19,7 @@ use Rattle.f3_program.specs.declared.program.Intent.{Intent}
 use Rattle.f3_program.specs.declared.program.Intent.TheVariants as intent
 use Rattle.f3_program.specs.declared.program.Procedure.{Procedure}
 use Rattle.f3_meaning_whole.specs.Value.{Span, Value, Number, Truth, Array, Unallocated, Allocated, joined, listed, number_of, truth_of, is_allocated, count, shown, conforms, spans_of}
-use Rattle.f3_meaning_whole.specs.Store.{Static, Local, get}
+use Rattle.f3_meaning_whole.specs.Store.{Local, get}
 use Rattle.f3_meaning_whole.specs.Reference.{Right, Define, Read, Reach, One, Many, Reference, spans, is_pinned}
 use Rattle.f3_meaning_whole.specs.declared.run_error.RunError.{RunError}
 use Rattle.f3_meaning_whole.specs.declared.run_error.RunError.TheVariants.{NotAllocated, AlreadyAllocated, HeapHasNoRoom, ShapesDiffer, StepIsZero, InUse, ArrayTooLarge}
@@ -104,7 +104,8 @@ too_many (s ∷ ss) = if nat_lt s.extent (2 ^ 63) then too_many ss else true
 abbrev pub allocate : Setting → Kind → Reference → List Span → Here → Ran (Option RunError)
 allocate g k h ss here = do
   already ← looks (λ store. is_allocated (get store h.path))
-  if already then gives (Some AlreadyAllocated) else (if too_many ss || nat_lt 16777216 (count ss) then gives (Some ArrayTooLarge) else (request >>= λ refused. if refused then gives (Some HeapHasNoRoom) else (set h (new_value g k ss) here >>= λ done. gives None)))
+  if already then gives (Some AlreadyAllocated) else (if too_many ss || nat_lt 16777216 (count ss) then gives (Some ArrayTooLarge)
+      else (request >>= λ refused. if refused then gives (Some HeapHasNoRoom) else (set h (new_value g k ss) here >>= λ done. gives None)))
 
 -- ---- calls
 
@@ -138,7 +139,14 @@ based_reach ls (Many ss ps) = Many (based ls ss) ps
 
 -- what a dummy is for an actual argument (12.4.1.2)
 abbrev pub bound : Dummy → Reference → Reference
-bound d r = record { path = r.path; reach = based_reach d.lowers.items r.reach; of = r.of; right = right_of d.intent r.right; origin = r.origin; makers = r.makers }
+bound d r = record {
+  path = r.path;
+  reach = based_reach d.lowers.items r.reach;
+  of = r.of;
+  right = right_of d.intent r.right;
+  origin = r.origin;
+  makers = r.makers;
+}
 
 abbrev pub dummies : ℕ → List Dummy → List Passed → ℕ → ℕ → List Reference
 dummies k [] ps level unit = []
@@ -233,7 +241,8 @@ module _ (g : Setting) (n : ℕ) (calls : Calls) where
     set r v here
 
   abbrev pub renew : Kind → Reference → Value → Value → Here → Ran ⊤
-  renew k h (Allocated old) v here = if conforms (spans_of old) v then (contents h here >>= λ r. overwrite k r v here) else (deallocate_by (destroy g calls (shape_in g.shapes k.of)) h here >>= λ done. fill k h v here)
+  renew k h (Allocated old) v here = if conforms (spans_of old) v then (contents h here >>= λ r. overwrite k r v here)
+      else (deallocate_by (destroy g calls (shape_in g.shapes k.of)) h here >>= λ done. fill k h v here)
   renew k h old v here = if nat_eq k.rank (length (spans_of v)) then fill k h v here else fails NotAllocated here.place
 
   -- an assignment of a value (7.4.1.3), to a whole allocatable with allocation (own rule)
@@ -272,7 +281,8 @@ module _ (g : Setting) (n : ℕ) (calls : Calls) where
   abbrev pub deallocate : Kind → Reference → Here → Ran (Option RunError)
   deallocate k h here = do
     allocated ← looks (λ store. is_allocated (get store h.path))
-    if allocated then (if is_pinned h.path here.lent then gives (Some InUse) else (deallocate_by (destroy g calls (shape_in g.shapes k.of)) h here >>= λ done. gives None)) else gives (Some NotAllocated)
+    if allocated then (if is_pinned h.path here.lent then gives (Some InUse)
+        else (deallocate_by (destroy g calls (shape_in g.shapes k.of)) h here >>= λ done. gives None)) else gives (Some NotAllocated)
 
   abbrev pub deallocate_all : List Request → Here → Ran (Option RunError)
   deallocate_all [] here = gives None
@@ -282,7 +292,8 @@ module _ (g : Setting) (n : ℕ) (calls : Calls) where
     unless_failed status (deallocate_all rs here)
 
   abbrev pub take_over : Reference → Reference → Value → Here → Ran ⊤
-  take_over from to (Allocated v) here = if is_pinned from.path here.lent then fails InUse here.place else (set from Unallocated here >>= λ done. set to (Allocated v) here)
+  take_over from to (Allocated v) here = if is_pinned from.path here.lent then fails InUse here.place
+      else (set from Unallocated here >>= λ done. set to (Allocated v) here)
   take_over from to v here = gives tt
 
   -- MOVE_ALLOC (13.7.82), with both lent: TO is deallocated, then takes what FROM holds
@@ -424,7 +435,15 @@ module _ (g : Setting) (n : ℕ) (calls : Calls) where
     done ← enter (held ps)
     done ← enter (variables g p)
     let rs : List Reference = dummies 0 p.dummies.items ps level here.unit
-    let inner : Here = record { place = here.place; unit = p.unit; level = suc level; variables = declared_in p; names = rs; lent = rs ++ here.lent; selected = Unallocated }
+    let inner : Here = record {
+      place = here.place;
+      unit = p.unit;
+      level = suc level;
+      variables = declared_in p;
+      names = rs;
+      lent = rs ++ here.lent;
+      selected = Unallocated;
+    }
     done ← outs p.dummies.items rs inner
     flow ← exec p.body inner
     place ← left_at flow p.end inner

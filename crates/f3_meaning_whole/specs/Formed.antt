@@ -1,5 +1,5 @@
 -- Programs that make sense: what an elaborator establishes beside IsLawful. No law needs it; a compiler may.
-use Rattle.std.specs.Prelude.{⊤, ◌≡◌, ℕ, zero, suc, Bool, true, false, not, ◌&&◌, ◌||◌, if◌then◌else◌, nat_eq, nat_lt, ℤ, List, [], ◌∷◌, ◌++◌, map, length, Option, None, Some, slice_get}
+use Rattle.std.specs.Prelude.{◌≡◌, ℕ, suc, Bool, true, false, not, ◌&&◌, ◌||◌, if◌then◌else◌, nat_eq, nat_lt, List, [], ◌∷◌, ◌++◌, map, length, Option, None, Some, slice_get}
 use Rattle.f3_program.specs.declared.declarations.Base.{Base}
 use Rattle.f3_program.specs.declared.declarations.Base.TheVariants as base
 use Rattle.f3_program.specs.declared.declarations.Component as m
@@ -106,7 +106,8 @@ takes k v = alike k.of v.of && (not v.is_allocatable && (nat_eq v.rank 0 || nat_
 
 -- an allocatable component takes a value of its rank, or a whole allocatable (own rule)
 abbrev pub component_takes : Kind → Given → Bool
-component_takes k g = if k.is_allocatable then alike k.of g.kind.of && nat_eq k.rank g.kind.rank && (not g.kind.is_allocatable || g.is_variable) else takes k g.kind
+component_takes k g = if k.is_allocatable then alike k.of g.kind.of && nat_eq k.rank g.kind.rank && (not g.kind.is_allocatable || g.is_variable)
+    else takes k g.kind
 
 abbrev pub fits_component : List m.Component → Given → Bool
 fits_component cs g = some (slice_get cs g.number) (λ c. component_takes c.declared.kind g)
@@ -116,7 +117,8 @@ at_most_once gs g = nat_eq (given_for g.number gs) 1
 
 -- a dummy has one argument: of its type and rank, allocatable where the dummy is (12.4.1); a literal does not tell its kind
 abbrev pub dummy_takes : Dummy → Given → Bool
-dummy_takes x g = (if g.is_variable then same_type x.kind.of g.kind.of else alike x.kind.of g.kind.of) && (nat_eq x.kind.rank g.kind.rank && same_truth x.kind.is_allocatable g.kind.is_allocatable)
+dummy_takes x g = (if g.is_variable then same_type x.kind.of g.kind.of
+    else alike x.kind.of g.kind.of) && (nat_eq x.kind.rank g.kind.rank && same_truth x.kind.is_allocatable g.kind.is_allocatable)
 
 abbrev pub fits_dummy : List Dummy → Given → Bool
 fits_dummy ds g = some (slice_get ds g.number) (λ x. dummy_takes x g)
@@ -138,20 +140,25 @@ module _ (p : Program) (variables : List Declared) (names : List Kind) where
 
   -- elements of an array, or of the array that an allocatable holds: one subscript for each dimension (6.2.2)
   abbrev pub sectioned : Bool → Option (List Bool) → Kind → Option Kind
-  sectioned is_opened subscripts k = found subscripts (λ bs. only (same_truth is_opened k.is_allocatable && (nat_eq (length bs) k.rank && nat_lt 0 k.rank)) (of_kind k.of (count_ranges bs)))
+  sectioned is_opened subscripts k = found subscripts (λ bs. only (same_truth is_opened k.is_allocatable && (nat_eq (length bs) k.rank
+      && nat_lt 0 k.rank)) (of_kind k.of (count_ranges bs)))
 
   -- of a component of each element of an array: no more than one part has a rank, and none behind it is allocatable (6.1.2)
   abbrev pub element_of_each : Bool → Option (List Bool) → Kind → Kind → Option Kind
-  element_of_each is_opened subscripts array k = found subscripts (λ bs. only (not is_opened && (not k.is_allocatable && (nat_eq (length bs) k.rank && nat_eq (count_ranges bs) 0))) (of_kind k.of array.rank))
+  element_of_each is_opened subscripts array k = found subscripts (λ bs. only (not is_opened && (not k.is_allocatable && (nat_eq (length bs) k.rank
+      && nat_eq (count_ranges bs) 0))) (of_kind k.of array.rank))
 
   abbrev pub component_kind : Option Kind → ℕ → (Kind → Option Kind) → (Kind → Kind → Option Kind) → Option Kind
-  component_kind object k how each = found object (λ o. if o.is_allocatable then None else found (component_of p.types.items o.of k) (λ c. if nat_eq o.rank 0 then how c.declared.kind else each o c.declared.kind))
+  component_kind object k how each = found object (λ o. if o.is_allocatable then None
+      else found (component_of p.types.items o.of k) (λ c. if nat_eq o.rank 0 then how c.declared.kind else each o c.declared.kind))
 
   abbrev pub structured : ℕ → List Given → Option Kind
-  structured t gs = found (slice_get p.types.items t) (λ (y : Derived). only (all (λ g. fits_component y.components.items g && at_most_once gs g) gs) (of_kind (base.Derived t) 0))
+  structured t gs = found (slice_get p.types.items t) (λ (y : Derived). only (all (λ g. fits_component y.components.items g
+      && at_most_once gs g) gs) (of_kind (base.Derived t) 0))
 
   abbrev pub referenced : ℕ → List Given → Option Kind
-  referenced f gs = found (slice_get p.procedures.items f) (λ (q : Procedure). only (all (fits_dummy q.dummies.items) gs && all_given 0 q.dummies.items gs) (result_kind q.result))
+  referenced f gs = found (slice_get p.procedures.items f) (λ (q : Procedure). only (all (fits_dummy q.dummies.items) gs
+      && all_given 0 q.dummies.items gs) (result_kind q.result))
 
   abbrev mutual
     -- the kind of an expression, where it makes sense
@@ -161,13 +168,15 @@ module _ (p : Program) (variables : List Declared) (names : List Kind) where
     value_kind (e.Variable' q x) = found (object_kind x) valued
     value_kind (e.Group' q x) = value_kind x
     value_kind (e.Unary' o t q x) = found (value_kind x) (λ k. only (is_scalar k && alike k.of t) (of_kind t 0))
-    value_kind (e.Binary' o t q x r y) = found (value_kind x) (λ k. found (value_kind y) (λ j. only (is_scalar k && (is_scalar j && alike k.of j.of)) (of_kind t 0)))
+    value_kind (e.Binary' o t q x r y) = found (value_kind x) (λ k. found (value_kind y) (λ j. only (is_scalar k && (is_scalar j
+        && alike k.of j.of)) (of_kind t 0)))
     value_kind (e.Array' k xs) = found (given_all (arguments xs)) constructed
     value_kind (e.Structure' t k xs) = found (given_all (arguments xs)) (structured t)
     value_kind (e.Call' f k xs) = found (given_all (arguments xs)) (referenced f)
     value_kind (e.Allocated' q x) = found (object_kind x) (λ k. only k.is_allocatable (of_kind base.Logical 0))
     value_kind (e.Size' q x) = found (argument x) (λ g. only (not g.kind.is_allocatable && nat_lt 0 g.kind.rank) (of_kind base.Integer 0))
-    value_kind (e.Bound' o q x r y) = found (argument x) (λ g. found (value_kind y) (λ k. only (not g.kind.is_allocatable && (nat_lt 0 g.kind.rank && is_whole_number k)) (of_kind base.Integer 0)))
+    value_kind (e.Bound' o q x r y) = found (argument x) (λ g. found (value_kind y) (λ k. only (not g.kind.is_allocatable && (nat_lt 0 g.kind.rank
+        && is_whole_number k)) (of_kind base.Integer 0)))
 
     pub argument : a.Argument → Option Given
     argument (a.Value' k q x) = found (value_kind x) (λ j. Some (record { number = k; kind = j; is_variable = false }))
@@ -199,7 +208,8 @@ module _ (p : Program) (variables : List Declared) (names : List Kind) where
 
     pub subscript : u.Subscript → Option Bool
     subscript (u.At' q x) = only (some (value_kind x) is_whole_number) false
-    subscript (u.Range' b q x c r y t z) = only (some (value_kind x) is_whole_number && (some (value_kind y) is_whole_number && some (value_kind z) is_whole_number)) true
+    subscript (u.Range' b q x c r y t z) = only (some (value_kind x) is_whole_number && (some (value_kind y) is_whole_number
+        && some (value_kind z) is_whole_number)) true
 
   -- a scalar whole number to be defined
   abbrev pub is_status : Option d.Designator → Bool
@@ -242,7 +252,8 @@ module _ (p : Program) (variables : List Declared) where
     is_formed (s.Assign x k y) names = is_object_of p variables names k x && some (value_kind p variables names y) (takes k)
     is_formed (s.Call x) names = some (value_kind p variables names x) (λ k. true)
     is_formed (s.MoveAlloc k b x y) names = k.is_allocatable && (is_object_of p variables names k x && is_object_of p variables names k y)
-    is_formed (s.Allocate rs stat) names = all (λ r. is_request p variables names r && has_bounds p variables names r) rs.items && is_status p variables names stat
+    is_formed (s.Allocate rs stat) names = all (λ r. is_request p variables names r && has_bounds p variables names r) rs.items
+        && is_status p variables names stat
     is_formed (s.Deallocate rs stat) names = all (is_request p variables names) rs.items && is_status p variables names stat
     is_formed (s.Print xs) names = all (is_item p variables names) xs.items
     is_formed (s.Stop code) names = true
@@ -253,8 +264,11 @@ module _ (p : Program) (variables : List Declared) where
     is_formed (s.Select' x q y) names = some (value_kind p variables names x) is_scalar && is_formed y names
     is_formed (s.Case' rs q x r y) names = is_formed x names && is_formed y names
     is_formed (s.While' x q y) names = some (value_kind p variables names x) is_condition && is_formed y names
-    is_formed (s.Count' x k from to step q y) names = is_whole_number k && (is_object_of p variables names k x && (some (value_kind p variables names from) is_whole_number && (some (value_kind p variables names to) is_whole_number && (some (value_kind p variables names step) is_whole_number && is_formed y names))))
-    is_formed (s.Associate' xs q y) names = some (given_all (map (selected p variables names) xs.items)) (λ ks. true) && is_formed y (names ++ or_none (given_all (map (selected p variables names) xs.items)))
+    is_formed (s.Count' x k from to step q y) names = is_whole_number k && (is_object_of p variables names k x
+        && (some (value_kind p variables names from) is_whole_number && (some (value_kind p variables names to) is_whole_number
+        && (some (value_kind p variables names step) is_whole_number && is_formed y names))))
+    is_formed (s.Associate' xs q y) names = some (given_all (map (selected p variables names) xs.items)) (λ ks. true)
+        && is_formed y (names ++ or_none (given_all (map (selected p variables names) xs.items)))
 
     pub are_formed : {m : _} → s.Row_of-Statement m → List Kind → Bool
     are_formed s.end_of-Statement names = true
@@ -275,7 +289,8 @@ is_before n (base.Derived t) = nat_lt t n
 
 -- an object of a type that there is, with a dimension for each rank unless it is allocatable
 abbrev pub is_declared : ℕ → Declared → Bool
-is_declared n y = is_before n y.kind.of && (if y.kind.is_allocatable then nat_eq (length y.dimensions.items) 0 else nat_eq (length y.dimensions.items) y.kind.rank)
+is_declared n y = is_before n y.kind.of && (if y.kind.is_allocatable then nat_eq (length y.dimensions.items) 0
+    else nat_eq (length y.dimensions.items) y.kind.rank)
 
 -- a final subroutine has one dummy, of its rank (4.5.5)
 abbrev pub is_final : Program → Final → Bool
@@ -295,7 +310,8 @@ are_declared p q = all (is_declared (length p.types.items)) (declared_in q) && a
 
 -- Numbers are in range, a type stands behind those of its components, each dummy has one argument, and types and ranks agree.
 abbrev pub is_well_formed : Program → Bool
-is_well_formed p = are_types p 0 p.types.items && (all (λ (y : x.Static). is_declared (length p.types.items) y.declared) p.statics.items && (all (are_declared p) (p.main ∷ p.procedures.items) && all (is_procedure p) (p.main ∷ p.procedures.items)))
+is_well_formed p = are_types p 0 p.types.items && (all (λ (y : x.Static). is_declared (length p.types.items) y.declared) p.statics.items
+    && (all (are_declared p) (p.main ∷ p.procedures.items) && all (is_procedure p) (p.main ∷ p.procedures.items)))
 
 abbrev pub IsWellFormed : Program → Type 0
 IsWellFormed p = is_well_formed p ≡ true

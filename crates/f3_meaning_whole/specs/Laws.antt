@@ -79,13 +79,15 @@ IsThere (Local l i) store = l < length store.levels
 
 -- of the stages of a run these are two, with these events between
 abbrev pub AreStages : Program → ℕ → (ℕ → Bool) → Stage → List Event → Stage → Type 0
-AreStages p n answers first between second = (before : List Event) × (behind : List Event) × ((run_of p n answers).out ≡ before ++ (Began first ∷ (between ++ (Began second ∷ behind))))
+AreStages p n answers first between second = (before : List Event) × (behind : List Event)
+    × ((run_of p n answers).out ≡ before ++ (Began first ∷ (between ++ (Began second ∷ behind))))
 
 -- Of any two stages of a run the stores agree, but at, beneath and above the paths of the changes between, and at roots that
 -- began or ended.
 abbrev pub StoresAgree : Type 0
-StoresAgree = (p : Program) → IsLawful p → (n : ℕ) (answers : ℕ → Bool) (first : Stage) (between : List Event) (second : Stage) → AreStages p n answers first between second
-  → (q : Path) → IsThere q.root first.store → Each (Spares q) between → get second.store q ≡ get first.store q
+StoresAgree = (p : Program) → IsLawful p → (n : ℕ) (answers : ℕ → Bool) (first : Stage) (between : List Event) (second : Stage)
+    → AreStages p n answers first between second
+    → (q : Path) → IsThere q.root first.store → Each (Spares q) between → get second.store q ≡ get first.store q
 
 -- ---- what owners of modules rely on
 
@@ -101,10 +103,11 @@ IsNotOwn root home c = c.reference.path.root ≡ root → c.reference.origin ≡
 -- A protected variable holds in each stage what it held in the stage before, but for changes by statements of its module, or
 -- through arguments that its module passed (ISO/IEC 1539-1:2004, 5.1.2.12).
 abbrev pub ProtectedStays : Type 0
-ProtectedStays = (p : Program) → IsLawful p → (n : ℕ) (answers : ℕ → Bool) (first : Stage) (between : List Event) (second : Stage) → AreStages p n answers first between second
-  → (i : ℕ) (y : x.Static) → slice_get p.statics.items i ≡ Some y → y.is_protected ≡ true
-  → Each (IsNotOwn (Static i) y.home) (changes between)
-  → get second.store (whole (Static i)) ≡ get first.store (whole (Static i))
+ProtectedStays = (p : Program) → IsLawful p → (n : ℕ) (answers : ℕ → Bool) (first : Stage) (between : List Event) (second : Stage)
+    → AreStages p n answers first between second
+    → (i : ℕ) (y : x.Static) → slice_get p.statics.items i ≡ Some y → y.is_protected ≡ true
+    → Each (IsNotOwn (Static i) y.home) (changes between)
+    → get second.store (whole (Static i)) ≡ get first.store (whole (Static i))
 
 -- a change is not one of an object, nor of one that the object is part of
 abbrev pub IsNotAbove : Path → Change → Type 0
@@ -118,10 +121,12 @@ IsNotBy home of k m = m.of ≡ of → m.component ≡ k → IsMaker home m.maker
 -- whole object, and for changes of the component where its type's module has selected it, perhaps to pass it, or the
 -- language to finalize or deallocate (4.5.1.1).
 abbrev pub PrivateStays : Type 0
-PrivateStays = (p : Program) → IsLawful p → (n : ℕ) (answers : ℕ → Bool) (first : Stage) (between : List Event) (second : Stage) → AreStages p n answers first between second
-  → (i : ℕ) (y : x.Static) → slice_get p.statics.items i ≡ Some y
-  → (q : Path) → q.root ≡ Static i
-  → (of : Base) (t : Derived) (k : ℕ) (c : Component) → along p.types.items y.declared.kind.of (components q.steps) ≡ of → derived_of p.types.items of ≡ Some t → slice_get t.components.items k ≡ Some c → c.is_private ≡ true
-  → Each (IsNotAbove q) (changes between)
-  → Each (λ (d : Change). Each (IsNotBy t.home of k) d.reference.makers) (changes between)
-  → get second.store (within q (Step.Component k)) ≡ get first.store (within q (Step.Component k))
+PrivateStays = (p : Program) → IsLawful p → (n : ℕ) (answers : ℕ → Bool) (first : Stage) (between : List Event) (second : Stage)
+    → AreStages p n answers first between second
+    → (i : ℕ) (y : x.Static) → slice_get p.statics.items i ≡ Some y
+    → (q : Path) → q.root ≡ Static i
+    → (of : Base) (t : Derived) (k : ℕ) (c : Component) → along p.types.items y.declared.kind.of (components q.steps) ≡ of
+    → derived_of p.types.items of ≡ Some t → slice_get t.components.items k ≡ Some c → c.is_private ≡ true
+    → Each (IsNotAbove q) (changes between)
+    → Each (λ (d : Change). Each (IsNotBy t.home of k) d.reference.makers) (changes between)
+    → get second.store (within q (Step.Component k)) ≡ get first.store (within q (Step.Component k))

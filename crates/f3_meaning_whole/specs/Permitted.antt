@@ -1,5 +1,5 @@
 -- Which changes are permitted, and which programs make no others.
-use Rattle.std.specs.Prelude.{map, ⊤, ◌≡◌, ℕ, zero, suc, Bool, true, false, not, ◌||◌, if◌then◌else◌, nat_eq, List, [], ◌∷◌, ◌++◌, Option, None, Some, slice_get, slice_index_or}
+use Rattle.std.specs.Prelude.{map, ⊤, ◌≡◌, ℕ, suc, Bool, true, false, not, ◌||◌, if◌then◌else◌, nat_eq, List, [], ◌∷◌, ◌++◌, Option, None, Some, slice_get, slice_index_or}
 use Rattle.f3_program.specs.declared.declarations.Base.{Base}
 use Rattle.f3_program.specs.declared.declarations.Base.TheVariants as base
 use Rattle.f3_program.specs.declared.declarations.Component.{Component}
@@ -51,7 +51,8 @@ IsMaker home Language = ⊤
 
 -- a private component is selected by its type's module or the language (4.5.1.1)
 abbrev pub IsMadeWell : Program → Made → Type 0
-IsMadeWell p m = (t : Derived) (c : Component) → derived_of p.types.items m.of ≡ Some t → slice_get t.components.items m.component ≡ Some c → c.is_private ≡ true → IsMaker t.home m.maker
+IsMadeWell p m = (t : Derived) (c : Component) → derived_of p.types.items m.of ≡ Some t → slice_get t.components.items m.component ≡ Some c
+    → c.is_private ≡ true → IsMaker t.home m.maker
 
 -- the type with which a variable that lives for the whole run is declared
 abbrev pub IsDeclared : Program → Root → Base → Type 0
@@ -157,7 +158,8 @@ module _ (p : Program) (scope : Scope) where
   -- (12.4.1.2).
   abbrev pub MayPass : List Lendable → a.Argument → Type 0
   MayPass ds (a.Value' k q x) = (slice_index_or ds k unknown).may_define ≡ false
-  MayPass ds (a.Variable' k q x) = ((not (slice_index_or ds k unknown).may_define || (designated p scope x).may_define) ≡ true) × (same_type (designated p scope x).of (slice_index_or ds k unknown).of ≡ true)
+  MayPass ds (a.Variable' k q x) = ((not (slice_index_or ds k unknown).may_define || (designated p scope x).may_define) ≡ true)
+      × (same_type (designated p scope x).of (slice_index_or ds k unknown).of ≡ true)
 
   abbrev pub MayPassAll : {m : _} → List Lendable → e.Row_of-Argument m → Type 0
   MayPassAll ds e.end_of-Argument = ⊤

@@ -43,7 +43,15 @@ first_world g answers = record { store = first_store g; answers = answers }
 
 -- in the main program, as it begins
 abbrev pub first_here : Setting → Here
-first_here g = record { place = g.program.start; unit = g.program.main.unit; level = 0; variables = declared_in g.program.main; names = []; lent = []; selected = Unallocated }
+first_here g = record {
+  place = g.program.start;
+  unit = g.program.main.unit;
+  level = 0;
+  variables = declared_in g.program.main;
+  names = [];
+  lent = [];
+  selected = Unallocated;
+}
 
 -- The run of a program in which at most so many procedures are active, where each execution of a loop makes at most `n`
 -- turns, and the heap answers its requests so.

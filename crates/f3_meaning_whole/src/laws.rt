@@ -1,7 +1,12 @@
 //! Laws of the meaning: each is the contract of a function that does nothing.
 
 ghost use Rattle.f3_meaning_whole.specs.Laws.{
-    ChangesArePermitted, PrivateStays, ProtectedStays, RunsGrow, StagesStand, StoresAgree
+  ChangesArePermitted,
+  PrivateStays,
+  ProtectedStays,
+  RunsGrow,
+  StagesStand,
+  StoresAgree,
 };
 
 /// With more turns of loops a run that has ended is the same, and another has the same events and
