@@ -1,5 +1,5 @@
 -- Outputs and files, part by part.
-use Rattle.std.proofs.Common.{◌≡◌, ◌≢◌, ℕ, zero, suc, ◌+◌, ◌<◌, List, [], ◌∷◌, ◌++◌, length, map, take, Option, refl, sym, ap, subst, ◌∙◌, append-nil, arith}
+use Rattle.std.proofs.Common.{◌≡◌, ℕ, List, [], ◌∷◌, ◌++◌, Option, refl, sym, ap, subst, ◌∙◌, append-nil}
 use Rattle.std.specs.Prelude.{Result, Ok, Err, OnOk, OnErr, String, string_bytes}
 use Rattle.std.specs.Global.{Global}
 use Rattle.std.specs.Io.KnownBytes.{Appends}
@@ -8,7 +8,7 @@ use Rattle.f3_name_table.specs.Answers as table
 use Rattle.f3_rules.specs.declared.source.Source.{Source}
 use Rattle.f3_meaning.specs.declared.elaborated.Elaborated.{Elaborated}
 use Rattle.f3_meaning.specs.Event.{output}
-use Rattle.f3_meaning.specs.Meaning.{prints, after}
+use Rattle.f3_meaning.specs.Meaning.{prints}
 use Rattle.f3_output.specs.Output.{State, Wrote, Faulted}
 use Rattle.f3_output.proofs.Outputs.{wrote_more, faulted_behind, faulted_before}
 use Rattle.f3_run.specs.declared.end.End.{End}
@@ -17,9 +17,7 @@ use Rattle.f3_run.specs.Answers.{Answers, Refuses}
 use Rattle.f3_run.specs.Compiles.{Means}
 use Rattle.f3.specs.declared.report.Outcome.TheVariants.{Ended}
 use Rattle.f3.specs.Work.{Runs, Shows, Shown}
-use Rattle.f3.specs.declared.files.ReadFault.{ReadFault}
-use Rattle.f3.specs.declared.files.ReadFault.TheVariants as fault
-use Rattle.f3.specs.Reading.{IsOf, AreOf, IsFaultOf, IsFaultAmong}
+use Rattle.f3.specs.Reading.{IsOf, AreOf}
 
 pub on_ok : {T E : Type 0} {P Q : Type 0} (r : Result T E) → (P → Q) → OnOk r P → OnOk r Q
 on_ok (Ok x) f p = f p

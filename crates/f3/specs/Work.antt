@@ -9,7 +9,7 @@ use Rattle.f3_meaning.specs.declared.elaborated.Elaborated.{Elaborated}
 use Rattle.f3_output.specs.Output.{State, Wrote, Faulted}
 use Rattle.f3_run.specs.declared.compiled.Compiled.{Compiled}
 use Rattle.f3_run.specs.declared.end.End.{End}
-use Rattle.f3_run.specs.declared.end.End.TheVariants.{Done, Stopped, Error, StepLimit, WriteFault, Memory}
+use Rattle.f3_run.specs.declared.end.End.TheVariants.{Done, WriteFault, Memory}
 use Rattle.f3_run.specs.Answers.{Answers}
 use Rattle.f3_run.specs.Compiles.{Compiles, Means, IsRefused}
 use Rattle.f3.specs.declared.report.Outcome.{Outcome}

@@ -1,4 +1,3 @@
-use Rattle.f3_output.specs.Output.{state_of}
 use Rattle.f3.proofs.Parts.{handed_on, not_handed_on}
 use Rattle.f3.proofs.work.flushed.Goals as goal
 

@@ -1,5 +1,4 @@
 use Rattle.f3_output.specs.Output.{state_of}
-use Rattle.f3_run.specs.declared.end.End.{End}
 use Rattle.f3.proofs.Parts.{runs_so}
 use Rattle.f3.proofs.work.run.Goals as goal
 
