@@ -100,9 +100,9 @@ target_left old new a b s t u r c =
       apart = λ q l. c.bare q;
     }
 
-pub target_after : {T E : Type 0} (old new : Live) (a b : ℕ) (s : Shape) (t u : Tree) (r : Result T E) → Ready old a 0 b 0 s t u → {W : List Take → Type 0} → OnOk r ((t u : Tree) → Ready old a 0 b 0 s t u → Copies old new b 0 s t u [] W) → OnErr r ((t u : Tree) → Ready old a 0 b 0 s t u → Empties old new b 0 s) → Target old new b s
-target_after old new a b s t u (Ok x) h e f = let c = e t u h in target_of old new a b s t u c.copy h c.replaced c.fits c.once
-target_after old new a b s t u (Err x) h e f = target_left old new a b s t u h (f t u h)
+pub target_after : {T E : Type 0} (old new : Live) (a b : ℕ) (s : Shape) (t u : Tree) (r : Result T E) → Ready old a 0 b 0 s t u → (W : List Take → Type 0) → OnOk r ((t u : Tree) → Ready old a 0 b 0 s t u → Copies old new b 0 s t u [] W) → OnErr r ((t u : Tree) → Ready old a 0 b 0 s t u → Empties old new b 0 s) → Target old new b s
+target_after old new a b s t u (Ok x) h W e f = let c = e t u h in target_of old new a b s t u c.copy h c.replaced c.fits c.once
+target_after old new a b s t u (Err x) h W e f = target_left old new a b s t u h (f t u h)
 
 -- the source after the target has been given back
 pub source_left : (old mid new : Live) (a b : ℕ) (s : Shape) (t u : Tree) → Ready old a 0 b 0 s t u → Holds mid a 0 s t → (v : Target old mid b s) → ((x : Tree) → Holds mid b 0 s x → (q : ℕ) → q ≢ b → times q x ≡ 0 → get new q ≡ get mid q) → Holds new a 0 s t

@@ -21,7 +21,7 @@ free_object-requires-2 g c =
     let h = c.in_ok-source.ensures in
     let m = g.B.Blocks.blocks c.blank_object.new.heap in
     let r = ready_beside (g.B.Blocks.blocks c.random_object.new.heap) m c.in_ok-source.source c.in-Some.target s h.0 h.1 c.in-Some.ensures.fresh c.in-Some.ensures.kept c.in-Some.ensures.holds in
-    let v = target_after m (g.B.Blocks.blocks c.copy_tree-copied.new.heap) c.in_ok-source.source c.in-Some.target s h.0 (blank s) c.copy_tree-copied.result r c.copy_tree-copied.ensures.copied c.copy_tree-copied.ensures.emptied in
+    let v = target_after m (g.B.Blocks.blocks c.copy_tree-copied.new.heap) c.in_ok-source.source c.in-Some.target s h.0 (blank s) c.copy_tree-copied.result r _ c.copy_tree-copied.ensures.copied c.copy_tree-copied.ensures.emptied in
     (v.tree, v.holds)
 
 pub free_object-requires-3 : goal.free_object-requires-3
@@ -31,5 +31,5 @@ free_object-requires-3 g c =
     let m = g.B.Blocks.blocks c.blank_object.new.heap in
     let n = g.B.Blocks.blocks c.copy_tree-copied.new.heap in
     let r = ready_beside (g.B.Blocks.blocks c.random_object.new.heap) m c.in_ok-source.source c.in-Some.target s h.0 h.1 c.in-Some.ensures.fresh c.in-Some.ensures.kept c.in-Some.ensures.holds in
-    let v = target_after m n c.in_ok-source.source c.in-Some.target s h.0 (blank s) c.copy_tree-copied.result r c.copy_tree-copied.ensures.copied c.copy_tree-copied.ensures.emptied in
+    let v = target_after m n c.in_ok-source.source c.in-Some.target s h.0 (blank s) c.copy_tree-copied.result r _ c.copy_tree-copied.ensures.copied c.copy_tree-copied.ensures.emptied in
     (h.0, source_left m n (g.B.Blocks.blocks c.free_object-2.new.heap) c.in_ok-source.source c.in-Some.target s h.0 (blank s) r (c.copy_tree-copied.ensures.source h.0 (blank s) r) v c.free_object-2.ensures)
