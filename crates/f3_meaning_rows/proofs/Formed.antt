@@ -6,10 +6,10 @@ use Rattle.f3_meaning_rows.specs.Rows0.{allocatable_01_deep_copy, allocatable_02
 use Rattle.f3_meaning_rows.specs.Rows1.{heap_08_lent_element_deallocate_stat, heap_09_lent_element_assign_shape, heap_10_lent_element_assign_object, heap_11_lent_element_move_from, heap_12_lent_element_move_to, heap_13_lent_element_out_allocatable, heap_14_lent_element_out_object, heap_15_lent_section_deallocate, heap_16_lent_section_deallocate_stat, heap_17_lent_section_assign_shape, heap_18_lent_section_assign_object, heap_19_lent_section_move_from, heap_20_lent_section_move_to, heap_21_lent_section_out_allocatable, heap_22_lent_section_out_object, heap_23_lent_empty_section_deallocate}
 use Rattle.f3_meaning_rows.specs.Rows2.{heap_24_lent_empty_section_deallocate_stat, heap_25_lent_empty_section_assign_shape, heap_26_lent_empty_section_assign_object, heap_27_lent_empty_section_move_from, heap_28_lent_empty_section_move_to, heap_29_lent_empty_section_out_allocatable, heap_30_lent_empty_section_out_object, heap_31_lent_whole_array_deallocate, heap_32_lent_whole_array_deallocate_stat, heap_33_lent_whole_array_assign_shape, heap_34_lent_whole_array_assign_object, heap_35_lent_whole_array_move_from, heap_36_lent_whole_array_move_to, heap_37_lent_whole_array_out_allocatable, heap_38_lent_whole_array_out_object, heap_39_lent_allocatable_dummy_deallocate}
 use Rattle.f3_meaning_rows.specs.Rows3.{heap_40_lent_allocatable_dummy_deallocate_stat, heap_41_lent_allocatable_dummy_assign_shape, heap_42_lent_allocatable_dummy_assign_object, heap_43_lent_allocatable_dummy_move_from, heap_44_lent_allocatable_dummy_move_to, heap_45_lent_allocatable_dummy_out_allocatable, heap_46_lent_allocatable_dummy_out_object, heap_47_lent_final_deallocate, heap_48_lent_final_deallocate_stat, heap_49_lent_final_assign_shape, heap_50_lent_final_assign_object, heap_51_lent_final_move_from, heap_52_lent_final_move_to, heap_53_lent_final_out_allocatable, heap_54_lent_final_out_object, hostile_02_name_63}
-use Rattle.f3_meaning_rows.specs.Rows4.{hostile_03_do_64, hostile_03_parentheses_64, kinds_01_wide, kinds_02_mixed, kinds_06_do, machine_01_sections, machine_02_depth, modules_01_rename, modules_02_two_names, row_02_print, row_04_bump, row_06_whole_object, row_07_bounds, row_08_zero_extent, row_09_finals, row_10_array_final}
-use Rattle.f3_meaning_rows.specs.Rows5.{row_10_scalar_final, row_11_deallocate, row_11_move_alloc, row_11_stat, row_12_move_to_itself, row_13_arithmetic, row_13_item_by_item, row_13_overflow, row_16_no_turns, row_16_zero_step, row_17_fresh_words, row_19_continuation, row_20_not_referred, row_23_bounds, row_23_shapes, ruling_03_1}
-use Rattle.f3_meaning_rows.specs.Rows6.{ruling_06_1, ruling_10_1, ruling_12_1, ruling_17_1, ruling_19_2, ruling_36_2, ruling_46_1, ruling_49_1, ruling_50_1, ruling_52_1, ruling_52_2, ruling_53_1, ruling_54_1, ruling_56_1, ruling_57_1, ruling_58_1}
-use Rattle.f3_meaning_rows.specs.Rows7.{ruling_59_1, ruling_61_1, ruling_62_1, ruling_63_1, ruling_64_1, ruling_67_1, ruling_79_1, scalar_02_print, text_02_variable_if, usage_45_empty_statements, usage_46_letter_case, usage_47_empty_print, usage_49_stop_plain, usage_50_stop_7, usage_51_stop_least_digits, usage_52_stop_0}
+use Rattle.f3_meaning_rows.specs.Rows4.{hostile_03_do_64, hostile_03_parentheses_64, kinds_01_wide, kinds_02_mixed, kinds_06_do, machine_01_sections, machine_02_depth, modules_01_rename, modules_02_two_names, sample_02_print, sample_04_bump, sample_06_whole_object, sample_07_bounds, sample_08_zero_extent, sample_09_finals, sample_10_array_final}
+use Rattle.f3_meaning_rows.specs.Rows5.{sample_10_scalar_final, sample_11_deallocate, sample_11_move_alloc, sample_11_stat, sample_12_move_to_itself, sample_13_arithmetic, sample_13_item_by_item, sample_13_overflow, sample_16_no_turns, sample_16_zero_step, sample_17_fresh_words, sample_19_continuation, sample_20_not_referred, sample_23_bounds, sample_23_shapes, choice_03_1}
+use Rattle.f3_meaning_rows.specs.Rows6.{choice_06_1, choice_10_1, choice_12_1, choice_17_1, choice_19_2, choice_36_2, choice_46_1, choice_49_1, choice_50_1, choice_52_1, choice_52_2, choice_53_1, choice_54_1, choice_56_1, choice_57_1, choice_58_1}
+use Rattle.f3_meaning_rows.specs.Rows7.{choice_59_1, choice_61_1, choice_62_1, choice_63_1, choice_64_1, choice_67_1, choice_79_1, scalar_02_print, text_02_variable_if, usage_45_empty_statements, usage_46_letter_case, usage_47_empty_print, usage_49_stop_plain, usage_50_stop_7, usage_51_stop_least_digits, usage_52_stop_0}
 use Rattle.f3_meaning_rows.specs.Rows8.{usage_54_stop_in_procedure, usage_55_do_up, usage_56_do_down, usage_57_do_past_range, usage_58_do_count_fixed, usage_59_cycle_exit, usage_60_do_while, usage_61_exit_inner, usage_62_if_chain, usage_63_if_joined_words, usage_64_if_action_place, usage_65_case_ranges, usage_66_case_default_first, usage_67_case_logical, usage_68_case_none, usage_69_both_operands}
 use Rattle.f3_meaning_rows.specs.Rows9.{usage_70_logical_items, usage_71_powers, usage_72_zero_to_minus_one, usage_73_least_integer, usage_74_quotient_past_range, usage_75_mod_modulo, usage_77_triplet_step_zero, usage_78_allocate_twice, usage_79_deallocate_nothing, usage_80_allocate_too_large}
 use Rattle.f3_meaning_rows.specs.Others.{refused_with_stat, not_refused, refused_without_stat, three_turns, no_room_to_start, no_room_for_a_call, depth_of_three, no_room_for_a_copy, protected_elsewhere, protected_renamed, intent_in, protected_passed_on, private_component}
@@ -236,143 +236,143 @@ modules_01_rename_formed h = refl
 modules_02_two_names_formed : (h : Global) → IsWellFormed (modules_02_two_names h)
 modules_02_two_names_formed h = refl
 
-row_02_print_formed : (h : Global) → IsWellFormed (row_02_print h)
-row_02_print_formed h = refl
+sample_02_print_formed : (h : Global) → IsWellFormed (sample_02_print h)
+sample_02_print_formed h = refl
 
-row_04_bump_formed : (h : Global) → IsWellFormed (row_04_bump h)
-row_04_bump_formed h = refl
+sample_04_bump_formed : (h : Global) → IsWellFormed (sample_04_bump h)
+sample_04_bump_formed h = refl
 
-row_06_whole_object_formed : (h : Global) → IsWellFormed (row_06_whole_object h)
-row_06_whole_object_formed h = refl
+sample_06_whole_object_formed : (h : Global) → IsWellFormed (sample_06_whole_object h)
+sample_06_whole_object_formed h = refl
 
-row_07_bounds_formed : (h : Global) → IsWellFormed (row_07_bounds h)
-row_07_bounds_formed h = refl
+sample_07_bounds_formed : (h : Global) → IsWellFormed (sample_07_bounds h)
+sample_07_bounds_formed h = refl
 
-row_08_zero_extent_formed : (h : Global) → IsWellFormed (row_08_zero_extent h)
-row_08_zero_extent_formed h = refl
+sample_08_zero_extent_formed : (h : Global) → IsWellFormed (sample_08_zero_extent h)
+sample_08_zero_extent_formed h = refl
 
-row_09_finals_formed : (h : Global) → IsWellFormed (row_09_finals h)
-row_09_finals_formed h = refl
+sample_09_finals_formed : (h : Global) → IsWellFormed (sample_09_finals h)
+sample_09_finals_formed h = refl
 
-row_10_array_final_formed : (h : Global) → IsWellFormed (row_10_array_final h)
-row_10_array_final_formed h = refl
+sample_10_array_final_formed : (h : Global) → IsWellFormed (sample_10_array_final h)
+sample_10_array_final_formed h = refl
 
-row_10_scalar_final_formed : (h : Global) → IsWellFormed (row_10_scalar_final h)
-row_10_scalar_final_formed h = refl
+sample_10_scalar_final_formed : (h : Global) → IsWellFormed (sample_10_scalar_final h)
+sample_10_scalar_final_formed h = refl
 
-row_11_deallocate_formed : (h : Global) → IsWellFormed (row_11_deallocate h)
-row_11_deallocate_formed h = refl
+sample_11_deallocate_formed : (h : Global) → IsWellFormed (sample_11_deallocate h)
+sample_11_deallocate_formed h = refl
 
-row_11_move_alloc_formed : (h : Global) → IsWellFormed (row_11_move_alloc h)
-row_11_move_alloc_formed h = refl
+sample_11_move_alloc_formed : (h : Global) → IsWellFormed (sample_11_move_alloc h)
+sample_11_move_alloc_formed h = refl
 
-row_11_stat_formed : (h : Global) → IsWellFormed (row_11_stat h)
-row_11_stat_formed h = refl
+sample_11_stat_formed : (h : Global) → IsWellFormed (sample_11_stat h)
+sample_11_stat_formed h = refl
 
-row_12_move_to_itself_formed : (h : Global) → IsWellFormed (row_12_move_to_itself h)
-row_12_move_to_itself_formed h = refl
+sample_12_move_to_itself_formed : (h : Global) → IsWellFormed (sample_12_move_to_itself h)
+sample_12_move_to_itself_formed h = refl
 
-row_13_arithmetic_formed : (h : Global) → IsWellFormed (row_13_arithmetic h)
-row_13_arithmetic_formed h = refl
+sample_13_arithmetic_formed : (h : Global) → IsWellFormed (sample_13_arithmetic h)
+sample_13_arithmetic_formed h = refl
 
-row_13_item_by_item_formed : (h : Global) → IsWellFormed (row_13_item_by_item h)
-row_13_item_by_item_formed h = refl
+sample_13_item_by_item_formed : (h : Global) → IsWellFormed (sample_13_item_by_item h)
+sample_13_item_by_item_formed h = refl
 
-row_13_overflow_formed : (h : Global) → IsWellFormed (row_13_overflow h)
-row_13_overflow_formed h = refl
+sample_13_overflow_formed : (h : Global) → IsWellFormed (sample_13_overflow h)
+sample_13_overflow_formed h = refl
 
-row_16_no_turns_formed : (h : Global) → IsWellFormed (row_16_no_turns h)
-row_16_no_turns_formed h = refl
+sample_16_no_turns_formed : (h : Global) → IsWellFormed (sample_16_no_turns h)
+sample_16_no_turns_formed h = refl
 
-row_16_zero_step_formed : (h : Global) → IsWellFormed (row_16_zero_step h)
-row_16_zero_step_formed h = refl
+sample_16_zero_step_formed : (h : Global) → IsWellFormed (sample_16_zero_step h)
+sample_16_zero_step_formed h = refl
 
-row_17_fresh_words_formed : (h : Global) → IsWellFormed (row_17_fresh_words h)
-row_17_fresh_words_formed h = refl
+sample_17_fresh_words_formed : (h : Global) → IsWellFormed (sample_17_fresh_words h)
+sample_17_fresh_words_formed h = refl
 
-row_19_continuation_formed : (h : Global) → IsWellFormed (row_19_continuation h)
-row_19_continuation_formed h = refl
+sample_19_continuation_formed : (h : Global) → IsWellFormed (sample_19_continuation h)
+sample_19_continuation_formed h = refl
 
-row_20_not_referred_formed : (h : Global) → IsWellFormed (row_20_not_referred h)
-row_20_not_referred_formed h = refl
+sample_20_not_referred_formed : (h : Global) → IsWellFormed (sample_20_not_referred h)
+sample_20_not_referred_formed h = refl
 
-row_23_bounds_formed : (h : Global) → IsWellFormed (row_23_bounds h)
-row_23_bounds_formed h = refl
+sample_23_bounds_formed : (h : Global) → IsWellFormed (sample_23_bounds h)
+sample_23_bounds_formed h = refl
 
-row_23_shapes_formed : (h : Global) → IsWellFormed (row_23_shapes h)
-row_23_shapes_formed h = refl
+sample_23_shapes_formed : (h : Global) → IsWellFormed (sample_23_shapes h)
+sample_23_shapes_formed h = refl
 
-ruling_03_1_formed : (h : Global) → IsWellFormed (ruling_03_1 h)
-ruling_03_1_formed h = refl
+choice_03_1_formed : (h : Global) → IsWellFormed (choice_03_1 h)
+choice_03_1_formed h = refl
 
-ruling_06_1_formed : (h : Global) → IsWellFormed (ruling_06_1 h)
-ruling_06_1_formed h = refl
+choice_06_1_formed : (h : Global) → IsWellFormed (choice_06_1 h)
+choice_06_1_formed h = refl
 
-ruling_10_1_formed : (h : Global) → IsWellFormed (ruling_10_1 h)
-ruling_10_1_formed h = refl
+choice_10_1_formed : (h : Global) → IsWellFormed (choice_10_1 h)
+choice_10_1_formed h = refl
 
-ruling_12_1_formed : (h : Global) → IsWellFormed (ruling_12_1 h)
-ruling_12_1_formed h = refl
+choice_12_1_formed : (h : Global) → IsWellFormed (choice_12_1 h)
+choice_12_1_formed h = refl
 
-ruling_17_1_formed : (h : Global) → IsWellFormed (ruling_17_1 h)
-ruling_17_1_formed h = refl
+choice_17_1_formed : (h : Global) → IsWellFormed (choice_17_1 h)
+choice_17_1_formed h = refl
 
-ruling_19_2_formed : (h : Global) → IsWellFormed (ruling_19_2 h)
-ruling_19_2_formed h = refl
+choice_19_2_formed : (h : Global) → IsWellFormed (choice_19_2 h)
+choice_19_2_formed h = refl
 
-ruling_36_2_formed : (h : Global) → IsWellFormed (ruling_36_2 h)
-ruling_36_2_formed h = refl
+choice_36_2_formed : (h : Global) → IsWellFormed (choice_36_2 h)
+choice_36_2_formed h = refl
 
-ruling_46_1_formed : (h : Global) → IsWellFormed (ruling_46_1 h)
-ruling_46_1_formed h = refl
+choice_46_1_formed : (h : Global) → IsWellFormed (choice_46_1 h)
+choice_46_1_formed h = refl
 
-ruling_49_1_formed : (h : Global) → IsWellFormed (ruling_49_1 h)
-ruling_49_1_formed h = refl
+choice_49_1_formed : (h : Global) → IsWellFormed (choice_49_1 h)
+choice_49_1_formed h = refl
 
-ruling_50_1_formed : (h : Global) → IsWellFormed (ruling_50_1 h)
-ruling_50_1_formed h = refl
+choice_50_1_formed : (h : Global) → IsWellFormed (choice_50_1 h)
+choice_50_1_formed h = refl
 
-ruling_52_1_formed : (h : Global) → IsWellFormed (ruling_52_1 h)
-ruling_52_1_formed h = refl
+choice_52_1_formed : (h : Global) → IsWellFormed (choice_52_1 h)
+choice_52_1_formed h = refl
 
-ruling_52_2_formed : (h : Global) → IsWellFormed (ruling_52_2 h)
-ruling_52_2_formed h = refl
+choice_52_2_formed : (h : Global) → IsWellFormed (choice_52_2 h)
+choice_52_2_formed h = refl
 
-ruling_53_1_formed : (h : Global) → IsWellFormed (ruling_53_1 h)
-ruling_53_1_formed h = refl
+choice_53_1_formed : (h : Global) → IsWellFormed (choice_53_1 h)
+choice_53_1_formed h = refl
 
-ruling_54_1_formed : (h : Global) → IsWellFormed (ruling_54_1 h)
-ruling_54_1_formed h = refl
+choice_54_1_formed : (h : Global) → IsWellFormed (choice_54_1 h)
+choice_54_1_formed h = refl
 
-ruling_56_1_formed : (h : Global) → IsWellFormed (ruling_56_1 h)
-ruling_56_1_formed h = refl
+choice_56_1_formed : (h : Global) → IsWellFormed (choice_56_1 h)
+choice_56_1_formed h = refl
 
-ruling_57_1_formed : (h : Global) → IsWellFormed (ruling_57_1 h)
-ruling_57_1_formed h = refl
+choice_57_1_formed : (h : Global) → IsWellFormed (choice_57_1 h)
+choice_57_1_formed h = refl
 
-ruling_58_1_formed : (h : Global) → IsWellFormed (ruling_58_1 h)
-ruling_58_1_formed h = refl
+choice_58_1_formed : (h : Global) → IsWellFormed (choice_58_1 h)
+choice_58_1_formed h = refl
 
-ruling_59_1_formed : (h : Global) → IsWellFormed (ruling_59_1 h)
-ruling_59_1_formed h = refl
+choice_59_1_formed : (h : Global) → IsWellFormed (choice_59_1 h)
+choice_59_1_formed h = refl
 
-ruling_61_1_formed : (h : Global) → IsWellFormed (ruling_61_1 h)
-ruling_61_1_formed h = refl
+choice_61_1_formed : (h : Global) → IsWellFormed (choice_61_1 h)
+choice_61_1_formed h = refl
 
-ruling_62_1_formed : (h : Global) → IsWellFormed (ruling_62_1 h)
-ruling_62_1_formed h = refl
+choice_62_1_formed : (h : Global) → IsWellFormed (choice_62_1 h)
+choice_62_1_formed h = refl
 
-ruling_63_1_formed : (h : Global) → IsWellFormed (ruling_63_1 h)
-ruling_63_1_formed h = refl
+choice_63_1_formed : (h : Global) → IsWellFormed (choice_63_1 h)
+choice_63_1_formed h = refl
 
-ruling_64_1_formed : (h : Global) → IsWellFormed (ruling_64_1 h)
-ruling_64_1_formed h = refl
+choice_64_1_formed : (h : Global) → IsWellFormed (choice_64_1 h)
+choice_64_1_formed h = refl
 
-ruling_67_1_formed : (h : Global) → IsWellFormed (ruling_67_1 h)
-ruling_67_1_formed h = refl
+choice_67_1_formed : (h : Global) → IsWellFormed (choice_67_1 h)
+choice_67_1_formed h = refl
 
-ruling_79_1_formed : (h : Global) → IsWellFormed (ruling_79_1 h)
-ruling_79_1_formed h = refl
+choice_79_1_formed : (h : Global) → IsWellFormed (choice_79_1 h)
+choice_79_1_formed h = refl
 
 scalar_02_print_formed : (h : Global) → IsWellFormed (scalar_02_print h)
 scalar_02_print_formed h = refl
@@ -618,4 +618,4 @@ prying_formed : (h : Global) → IsWellFormed (prying h)
 prying_formed h = refl
 
 pub are_well_formed : AreWellFormed
-are_well_formed h = (allocatable_01_deep_copy_formed h, allocatable_02_scalar_value_formed h, allocatable_02_stat_formed h, allocatable_02_too_large_formed h, allocatable_03_assumed_shape_formed h, associate_01_lent_formed h, associate_01_selectors_formed h, associate_03_return_formed h, finalizer_01_frees_its_holder_formed h, finalizer_02_order_formed h, heap_01_stat_ample_formed h, heap_04_other_shape_formed h, heap_04_same_shape_formed h, heap_05_dummy_itself_formed h, heap_06_held_value_formed h, heap_07_lent_element_deallocate_formed h, heap_08_lent_element_deallocate_stat_formed h, heap_09_lent_element_assign_shape_formed h, heap_10_lent_element_assign_object_formed h, heap_11_lent_element_move_from_formed h, heap_12_lent_element_move_to_formed h, heap_13_lent_element_out_allocatable_formed h, heap_14_lent_element_out_object_formed h, heap_15_lent_section_deallocate_formed h, heap_16_lent_section_deallocate_stat_formed h, heap_17_lent_section_assign_shape_formed h, heap_18_lent_section_assign_object_formed h, heap_19_lent_section_move_from_formed h, heap_20_lent_section_move_to_formed h, heap_21_lent_section_out_allocatable_formed h, heap_22_lent_section_out_object_formed h, heap_23_lent_empty_section_deallocate_formed h, heap_24_lent_empty_section_deallocate_stat_formed h, heap_25_lent_empty_section_assign_shape_formed h, heap_26_lent_empty_section_assign_object_formed h, heap_27_lent_empty_section_move_from_formed h, heap_28_lent_empty_section_move_to_formed h, heap_29_lent_empty_section_out_allocatable_formed h, heap_30_lent_empty_section_out_object_formed h, heap_31_lent_whole_array_deallocate_formed h, heap_32_lent_whole_array_deallocate_stat_formed h, heap_33_lent_whole_array_assign_shape_formed h, heap_34_lent_whole_array_assign_object_formed h, heap_35_lent_whole_array_move_from_formed h, heap_36_lent_whole_array_move_to_formed h, heap_37_lent_whole_array_out_allocatable_formed h, heap_38_lent_whole_array_out_object_formed h, heap_39_lent_allocatable_dummy_deallocate_formed h, heap_40_lent_allocatable_dummy_deallocate_stat_formed h, heap_41_lent_allocatable_dummy_assign_shape_formed h, heap_42_lent_allocatable_dummy_assign_object_formed h, heap_43_lent_allocatable_dummy_move_from_formed h, heap_44_lent_allocatable_dummy_move_to_formed h, heap_45_lent_allocatable_dummy_out_allocatable_formed h, heap_46_lent_allocatable_dummy_out_object_formed h, heap_47_lent_final_deallocate_formed h, heap_48_lent_final_deallocate_stat_formed h, heap_49_lent_final_assign_shape_formed h, heap_50_lent_final_assign_object_formed h, heap_51_lent_final_move_from_formed h, heap_52_lent_final_move_to_formed h, heap_53_lent_final_out_allocatable_formed h, heap_54_lent_final_out_object_formed h, hostile_02_name_63_formed h, hostile_03_do_64_formed h, hostile_03_parentheses_64_formed h, kinds_01_wide_formed h, kinds_02_mixed_formed h, kinds_06_do_formed h, machine_01_sections_formed h, machine_02_depth_formed h, modules_01_rename_formed h, modules_02_two_names_formed h, row_02_print_formed h, row_04_bump_formed h, row_06_whole_object_formed h, row_07_bounds_formed h, row_08_zero_extent_formed h, row_09_finals_formed h, row_10_array_final_formed h, row_10_scalar_final_formed h, row_11_deallocate_formed h, row_11_move_alloc_formed h, row_11_stat_formed h, row_12_move_to_itself_formed h, row_13_arithmetic_formed h, row_13_item_by_item_formed h, row_13_overflow_formed h, row_16_no_turns_formed h, row_16_zero_step_formed h, row_17_fresh_words_formed h, row_19_continuation_formed h, row_20_not_referred_formed h, row_23_bounds_formed h, row_23_shapes_formed h, ruling_03_1_formed h, ruling_06_1_formed h, ruling_10_1_formed h, ruling_12_1_formed h, ruling_17_1_formed h, ruling_19_2_formed h, ruling_36_2_formed h, ruling_46_1_formed h, ruling_49_1_formed h, ruling_50_1_formed h, ruling_52_1_formed h, ruling_52_2_formed h, ruling_53_1_formed h, ruling_54_1_formed h, ruling_56_1_formed h, ruling_57_1_formed h, ruling_58_1_formed h, ruling_59_1_formed h, ruling_61_1_formed h, ruling_62_1_formed h, ruling_63_1_formed h, ruling_64_1_formed h, ruling_67_1_formed h, ruling_79_1_formed h, scalar_02_print_formed h, text_02_variable_if_formed h, usage_45_empty_statements_formed h, usage_46_letter_case_formed h, usage_47_empty_print_formed h, usage_49_stop_plain_formed h, usage_50_stop_7_formed h, usage_51_stop_least_digits_formed h, usage_52_stop_0_formed h, usage_54_stop_in_procedure_formed h, usage_55_do_up_formed h, usage_56_do_down_formed h, usage_57_do_past_range_formed h, usage_58_do_count_fixed_formed h, usage_59_cycle_exit_formed h, usage_60_do_while_formed h, usage_61_exit_inner_formed h, usage_62_if_chain_formed h, usage_63_if_joined_words_formed h, usage_64_if_action_place_formed h, usage_65_case_ranges_formed h, usage_66_case_default_first_formed h, usage_67_case_logical_formed h, usage_68_case_none_formed h, usage_69_both_operands_formed h, usage_70_logical_items_formed h, usage_71_powers_formed h, usage_72_zero_to_minus_one_formed h, usage_73_least_integer_formed h, usage_74_quotient_past_range_formed h, usage_75_mod_modulo_formed h, usage_77_triplet_step_zero_formed h, usage_78_allocate_twice_formed h, usage_79_deallocate_nothing_formed h, usage_80_allocate_too_large_formed h, refused_with_stat_formed h, not_refused_formed h, refused_without_stat_formed h, three_turns_formed h, no_room_to_start_formed h, no_room_for_a_call_formed h, depth_of_three_formed h, no_room_for_a_copy_formed h, protected_elsewhere_formed h, protected_renamed_formed h, intent_in_formed h, protected_passed_on_formed h, private_component_formed h, corner_sections_formed h, corner_finals_of_sections_formed h, corner_functions_formed h, corner_associates_formed h, corner_intent_out_formed h, corner_moves_formed h, corner_control_formed h, corner_kinds_formed h, corner_lent_objects_formed h, corner_scalars_formed h, stat_last_formed h, out_while_lent_formed h, held_is_not_final_formed h, move_lends_formed h, bounds_before_variable_formed h, shapes_before_destroying_formed h, step_before_bounds_formed h, subscripts_before_contents_formed h, associate_from_one_formed h, locals_at_return_formed h, locals_at_end_formed h, asked_for_objects_formed h, array_constructor_formed h, array_result_formed h, component_values_formed h, held_value_formed h, allocation_by_assignment_formed h, changing_formed h, staged_formed h, nested_formed h, forms_formed h, unlawful_formed h, prying_formed h)
+are_well_formed h = (allocatable_01_deep_copy_formed h, allocatable_02_scalar_value_formed h, allocatable_02_stat_formed h, allocatable_02_too_large_formed h, allocatable_03_assumed_shape_formed h, associate_01_lent_formed h, associate_01_selectors_formed h, associate_03_return_formed h, finalizer_01_frees_its_holder_formed h, finalizer_02_order_formed h, heap_01_stat_ample_formed h, heap_04_other_shape_formed h, heap_04_same_shape_formed h, heap_05_dummy_itself_formed h, heap_06_held_value_formed h, heap_07_lent_element_deallocate_formed h, heap_08_lent_element_deallocate_stat_formed h, heap_09_lent_element_assign_shape_formed h, heap_10_lent_element_assign_object_formed h, heap_11_lent_element_move_from_formed h, heap_12_lent_element_move_to_formed h, heap_13_lent_element_out_allocatable_formed h, heap_14_lent_element_out_object_formed h, heap_15_lent_section_deallocate_formed h, heap_16_lent_section_deallocate_stat_formed h, heap_17_lent_section_assign_shape_formed h, heap_18_lent_section_assign_object_formed h, heap_19_lent_section_move_from_formed h, heap_20_lent_section_move_to_formed h, heap_21_lent_section_out_allocatable_formed h, heap_22_lent_section_out_object_formed h, heap_23_lent_empty_section_deallocate_formed h, heap_24_lent_empty_section_deallocate_stat_formed h, heap_25_lent_empty_section_assign_shape_formed h, heap_26_lent_empty_section_assign_object_formed h, heap_27_lent_empty_section_move_from_formed h, heap_28_lent_empty_section_move_to_formed h, heap_29_lent_empty_section_out_allocatable_formed h, heap_30_lent_empty_section_out_object_formed h, heap_31_lent_whole_array_deallocate_formed h, heap_32_lent_whole_array_deallocate_stat_formed h, heap_33_lent_whole_array_assign_shape_formed h, heap_34_lent_whole_array_assign_object_formed h, heap_35_lent_whole_array_move_from_formed h, heap_36_lent_whole_array_move_to_formed h, heap_37_lent_whole_array_out_allocatable_formed h, heap_38_lent_whole_array_out_object_formed h, heap_39_lent_allocatable_dummy_deallocate_formed h, heap_40_lent_allocatable_dummy_deallocate_stat_formed h, heap_41_lent_allocatable_dummy_assign_shape_formed h, heap_42_lent_allocatable_dummy_assign_object_formed h, heap_43_lent_allocatable_dummy_move_from_formed h, heap_44_lent_allocatable_dummy_move_to_formed h, heap_45_lent_allocatable_dummy_out_allocatable_formed h, heap_46_lent_allocatable_dummy_out_object_formed h, heap_47_lent_final_deallocate_formed h, heap_48_lent_final_deallocate_stat_formed h, heap_49_lent_final_assign_shape_formed h, heap_50_lent_final_assign_object_formed h, heap_51_lent_final_move_from_formed h, heap_52_lent_final_move_to_formed h, heap_53_lent_final_out_allocatable_formed h, heap_54_lent_final_out_object_formed h, hostile_02_name_63_formed h, hostile_03_do_64_formed h, hostile_03_parentheses_64_formed h, kinds_01_wide_formed h, kinds_02_mixed_formed h, kinds_06_do_formed h, machine_01_sections_formed h, machine_02_depth_formed h, modules_01_rename_formed h, modules_02_two_names_formed h, sample_02_print_formed h, sample_04_bump_formed h, sample_06_whole_object_formed h, sample_07_bounds_formed h, sample_08_zero_extent_formed h, sample_09_finals_formed h, sample_10_array_final_formed h, sample_10_scalar_final_formed h, sample_11_deallocate_formed h, sample_11_move_alloc_formed h, sample_11_stat_formed h, sample_12_move_to_itself_formed h, sample_13_arithmetic_formed h, sample_13_item_by_item_formed h, sample_13_overflow_formed h, sample_16_no_turns_formed h, sample_16_zero_step_formed h, sample_17_fresh_words_formed h, sample_19_continuation_formed h, sample_20_not_referred_formed h, sample_23_bounds_formed h, sample_23_shapes_formed h, choice_03_1_formed h, choice_06_1_formed h, choice_10_1_formed h, choice_12_1_formed h, choice_17_1_formed h, choice_19_2_formed h, choice_36_2_formed h, choice_46_1_formed h, choice_49_1_formed h, choice_50_1_formed h, choice_52_1_formed h, choice_52_2_formed h, choice_53_1_formed h, choice_54_1_formed h, choice_56_1_formed h, choice_57_1_formed h, choice_58_1_formed h, choice_59_1_formed h, choice_61_1_formed h, choice_62_1_formed h, choice_63_1_formed h, choice_64_1_formed h, choice_67_1_formed h, choice_79_1_formed h, scalar_02_print_formed h, text_02_variable_if_formed h, usage_45_empty_statements_formed h, usage_46_letter_case_formed h, usage_47_empty_print_formed h, usage_49_stop_plain_formed h, usage_50_stop_7_formed h, usage_51_stop_least_digits_formed h, usage_52_stop_0_formed h, usage_54_stop_in_procedure_formed h, usage_55_do_up_formed h, usage_56_do_down_formed h, usage_57_do_past_range_formed h, usage_58_do_count_fixed_formed h, usage_59_cycle_exit_formed h, usage_60_do_while_formed h, usage_61_exit_inner_formed h, usage_62_if_chain_formed h, usage_63_if_joined_words_formed h, usage_64_if_action_place_formed h, usage_65_case_ranges_formed h, usage_66_case_default_first_formed h, usage_67_case_logical_formed h, usage_68_case_none_formed h, usage_69_both_operands_formed h, usage_70_logical_items_formed h, usage_71_powers_formed h, usage_72_zero_to_minus_one_formed h, usage_73_least_integer_formed h, usage_74_quotient_past_range_formed h, usage_75_mod_modulo_formed h, usage_77_triplet_step_zero_formed h, usage_78_allocate_twice_formed h, usage_79_deallocate_nothing_formed h, usage_80_allocate_too_large_formed h, refused_with_stat_formed h, not_refused_formed h, refused_without_stat_formed h, three_turns_formed h, no_room_to_start_formed h, no_room_for_a_call_formed h, depth_of_three_formed h, no_room_for_a_copy_formed h, protected_elsewhere_formed h, protected_renamed_formed h, intent_in_formed h, protected_passed_on_formed h, private_component_formed h, corner_sections_formed h, corner_finals_of_sections_formed h, corner_functions_formed h, corner_associates_formed h, corner_intent_out_formed h, corner_moves_formed h, corner_control_formed h, corner_kinds_formed h, corner_lent_objects_formed h, corner_scalars_formed h, stat_last_formed h, out_while_lent_formed h, held_is_not_final_formed h, move_lends_formed h, bounds_before_variable_formed h, shapes_before_destroying_formed h, step_before_bounds_formed h, subscripts_before_contents_formed h, associate_from_one_formed h, locals_at_return_formed h, locals_at_end_formed h, asked_for_objects_formed h, array_constructor_formed h, array_result_formed h, component_values_formed h, held_value_formed h, allocation_by_assignment_formed h, changing_formed h, staged_formed h, nested_formed h, forms_formed h, unlawful_formed h, prying_formed h)

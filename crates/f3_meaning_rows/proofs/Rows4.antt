@@ -6,7 +6,7 @@ use Rattle.f3_meaning_whole.specs.Arithmetic.{converted, divided}
 use Rattle.f3_meaning_whole.specs.Act.{fitted}
 use Rattle.f3_meaning_whole.specs.Run.{calls_of, runs, run_of}
 use Rattle.f3_meaning_whole.specs.Permitted.{IsLawful}
-use Rattle.f3_meaning_rows.specs.Rows4.{Rows4Show, hostile_03_do_64_shows, hostile_03_parentheses_64_shows, kinds_01_wide_shows, kinds_02_mixed_shows, kinds_06_do_shows, machine_01_sections_shows, machine_02_depth_shows, modules_01_rename_shows, modules_02_two_names_shows, row_02_print_shows, row_04_bump_shows, row_06_whole_object_shows, row_07_bounds_shows, row_08_zero_extent_shows, row_09_finals_shows, row_10_array_final_shows, hostile_03_do_64, hostile_03_parentheses_64, kinds_01_wide, kinds_02_mixed, kinds_06_do, machine_01_sections, machine_02_depth, modules_01_rename, modules_02_two_names, row_02_print, row_04_bump, row_06_whole_object, row_07_bounds, row_08_zero_extent, row_09_finals, row_10_array_final}
+use Rattle.f3_meaning_rows.specs.Rows4.{Rows4Show, hostile_03_do_64_shows, hostile_03_parentheses_64_shows, kinds_01_wide_shows, kinds_02_mixed_shows, kinds_06_do_shows, machine_01_sections_shows, machine_02_depth_shows, modules_01_rename_shows, modules_02_two_names_shows, sample_02_print_shows, sample_04_bump_shows, sample_06_whole_object_shows, sample_07_bounds_shows, sample_08_zero_extent_shows, sample_09_finals_shows, sample_10_array_final_shows, hostile_03_do_64, hostile_03_parentheses_64, kinds_01_wide, kinds_02_mixed, kinds_06_do, machine_01_sections, machine_02_depth, modules_01_rename, modules_02_two_names, sample_02_print, sample_04_bump, sample_06_whole_object, sample_07_bounds, sample_08_zero_extent, sample_09_finals, sample_10_array_final}
 
 hostile_03_do_64_lawful : (h : Global) → IsLawful (hostile_03_do_64 h)
 hostile_03_do_64_lawful h = record { in_main = search; in_procedures = search; in_types = search }
@@ -71,54 +71,54 @@ modules_02_two_names_run : (h : Global) → modules_02_two_names_shows h
 unfolding digits converted divided prints_bytes fitted run_of runs calls_of ◌>>=◌ gives fails stops beyond looks does asks
 modules_02_two_names_run h = refl
 
-row_02_print_lawful : (h : Global) → IsLawful (row_02_print h)
-row_02_print_lawful h = record { in_main = search; in_procedures = search; in_types = search }
+sample_02_print_lawful : (h : Global) → IsLawful (sample_02_print h)
+sample_02_print_lawful h = record { in_main = search; in_procedures = search; in_types = search }
 
-row_02_print_run : (h : Global) → row_02_print_shows h
+sample_02_print_run : (h : Global) → sample_02_print_shows h
 unfolding digits converted divided prints_bytes fitted run_of runs calls_of ◌>>=◌ gives fails stops beyond looks does asks
-row_02_print_run h = refl
+sample_02_print_run h = refl
 
-row_04_bump_lawful : (h : Global) → IsLawful (row_04_bump h)
-row_04_bump_lawful h = record { in_main = search; in_procedures = search; in_types = search }
+sample_04_bump_lawful : (h : Global) → IsLawful (sample_04_bump h)
+sample_04_bump_lawful h = record { in_main = search; in_procedures = search; in_types = search }
 
-row_04_bump_run : (h : Global) → row_04_bump_shows h
+sample_04_bump_run : (h : Global) → sample_04_bump_shows h
 unfolding digits converted divided prints_bytes fitted run_of runs calls_of ◌>>=◌ gives fails stops beyond looks does asks
-row_04_bump_run h = refl
+sample_04_bump_run h = refl
 
-row_06_whole_object_lawful : (h : Global) → IsLawful (row_06_whole_object h)
-row_06_whole_object_lawful h = record { in_main = search; in_procedures = search; in_types = search }
+sample_06_whole_object_lawful : (h : Global) → IsLawful (sample_06_whole_object h)
+sample_06_whole_object_lawful h = record { in_main = search; in_procedures = search; in_types = search }
 
-row_06_whole_object_run : (h : Global) → row_06_whole_object_shows h
+sample_06_whole_object_run : (h : Global) → sample_06_whole_object_shows h
 unfolding digits converted divided prints_bytes fitted run_of runs calls_of ◌>>=◌ gives fails stops beyond looks does asks
-row_06_whole_object_run h = refl
+sample_06_whole_object_run h = refl
 
-row_07_bounds_lawful : (h : Global) → IsLawful (row_07_bounds h)
-row_07_bounds_lawful h = record { in_main = search; in_procedures = search; in_types = search }
+sample_07_bounds_lawful : (h : Global) → IsLawful (sample_07_bounds h)
+sample_07_bounds_lawful h = record { in_main = search; in_procedures = search; in_types = search }
 
-row_07_bounds_run : (h : Global) → row_07_bounds_shows h
+sample_07_bounds_run : (h : Global) → sample_07_bounds_shows h
 unfolding digits converted divided prints_bytes fitted run_of runs calls_of ◌>>=◌ gives fails stops beyond looks does asks
-row_07_bounds_run h = refl
+sample_07_bounds_run h = refl
 
-row_08_zero_extent_lawful : (h : Global) → IsLawful (row_08_zero_extent h)
-row_08_zero_extent_lawful h = record { in_main = search; in_procedures = search; in_types = search }
+sample_08_zero_extent_lawful : (h : Global) → IsLawful (sample_08_zero_extent h)
+sample_08_zero_extent_lawful h = record { in_main = search; in_procedures = search; in_types = search }
 
-row_08_zero_extent_run : (h : Global) → row_08_zero_extent_shows h
+sample_08_zero_extent_run : (h : Global) → sample_08_zero_extent_shows h
 unfolding digits converted divided prints_bytes fitted run_of runs calls_of ◌>>=◌ gives fails stops beyond looks does asks
-row_08_zero_extent_run h = refl
+sample_08_zero_extent_run h = refl
 
-row_09_finals_lawful : (h : Global) → IsLawful (row_09_finals h)
-row_09_finals_lawful h = record { in_main = search; in_procedures = search; in_types = search }
+sample_09_finals_lawful : (h : Global) → IsLawful (sample_09_finals h)
+sample_09_finals_lawful h = record { in_main = search; in_procedures = search; in_types = search }
 
-row_09_finals_run : (h : Global) → row_09_finals_shows h
+sample_09_finals_run : (h : Global) → sample_09_finals_shows h
 unfolding digits converted divided prints_bytes fitted run_of runs calls_of ◌>>=◌ gives fails stops beyond looks does asks
-row_09_finals_run h = refl
+sample_09_finals_run h = refl
 
-row_10_array_final_lawful : (h : Global) → IsLawful (row_10_array_final h)
-row_10_array_final_lawful h = record { in_main = search; in_procedures = search; in_types = search }
+sample_10_array_final_lawful : (h : Global) → IsLawful (sample_10_array_final h)
+sample_10_array_final_lawful h = record { in_main = search; in_procedures = search; in_types = search }
 
-row_10_array_final_run : (h : Global) → row_10_array_final_shows h
+sample_10_array_final_run : (h : Global) → sample_10_array_final_shows h
 unfolding digits converted divided prints_bytes fitted run_of runs calls_of ◌>>=◌ gives fails stops beyond looks does asks
-row_10_array_final_run h = refl
+sample_10_array_final_run h = refl
 
 pub rows4_show : Rows4Show
-rows4_show h = ((hostile_03_do_64_lawful h, hostile_03_do_64_run h), (hostile_03_parentheses_64_lawful h, hostile_03_parentheses_64_run h), (kinds_01_wide_lawful h, kinds_01_wide_run h), (kinds_02_mixed_lawful h, kinds_02_mixed_run h), (kinds_06_do_lawful h, kinds_06_do_run h), (machine_01_sections_lawful h, machine_01_sections_run h), (machine_02_depth_lawful h, machine_02_depth_run h), (modules_01_rename_lawful h, modules_01_rename_run h), (modules_02_two_names_lawful h, modules_02_two_names_run h), (row_02_print_lawful h, row_02_print_run h), (row_04_bump_lawful h, row_04_bump_run h), (row_06_whole_object_lawful h, row_06_whole_object_run h), (row_07_bounds_lawful h, row_07_bounds_run h), (row_08_zero_extent_lawful h, row_08_zero_extent_run h), (row_09_finals_lawful h, row_09_finals_run h), (row_10_array_final_lawful h, row_10_array_final_run h))
+rows4_show h = ((hostile_03_do_64_lawful h, hostile_03_do_64_run h), (hostile_03_parentheses_64_lawful h, hostile_03_parentheses_64_run h), (kinds_01_wide_lawful h, kinds_01_wide_run h), (kinds_02_mixed_lawful h, kinds_02_mixed_run h), (kinds_06_do_lawful h, kinds_06_do_run h), (machine_01_sections_lawful h, machine_01_sections_run h), (machine_02_depth_lawful h, machine_02_depth_run h), (modules_01_rename_lawful h, modules_01_rename_run h), (modules_02_two_names_lawful h, modules_02_two_names_run h), (sample_02_print_lawful h, sample_02_print_run h), (sample_04_bump_lawful h, sample_04_bump_run h), (sample_06_whole_object_lawful h, sample_06_whole_object_run h), (sample_07_bounds_lawful h, sample_07_bounds_run h), (sample_08_zero_extent_lawful h, sample_08_zero_extent_run h), (sample_09_finals_lawful h, sample_09_finals_run h), (sample_10_array_final_lawful h, sample_10_array_final_run h))

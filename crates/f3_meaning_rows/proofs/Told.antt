@@ -1,17 +1,15 @@
-use Rattle.std.specs.Prelude.{T, ⊤, nat_eq}
+use Rattle.std.specs.Prelude.{T, nat_eq}
 use Rattle.std.proofs.Common.{refl, ◌≡◌, ℕ, Bool, true, false, List, [], ◌∷◌, sym, ap, ◌∙◌}
 use mathlib.Core.Path.{subst}
 use Rattle.f3_program.specs.declared.declarations.Base.{Base}
 use Rattle.f3_program.specs.declared.declarations.Base.TheVariants as base
 use Rattle.f3_meaning_whole.specs.Reference.{Right, Define, Read}
 use Rattle.std.specs.Fmt.{digits}
-use Rattle.std.specs.declared.alloc.Global.{Global}
 use Rattle.f3_meaning_whole.specs.Ran.{◌>>=◌, gives, fails, stops, beyond, looks, does, asks, prints_bytes}
 use Rattle.f3_meaning_whole.specs.Arithmetic.{converted, divided}
 use Rattle.f3_meaning_whole.specs.Act.{fitted}
 use Rattle.f3_meaning_whole.specs.Run.{calls_of, runs, run_of}
-use Rattle.f3_meaning_whole.specs.Permitted.{IsLawful}
-use Rattle.f3_meaning_rows.specs.Told.{changing, staged, nested, forms, unlawful, prying, ChangesStand, StoresStand, DestroyedLent, FormsStand, ReadsShow, PryingShows, ForgedAreNot}
+use Rattle.f3_meaning_rows.specs.Told.{ChangesStand, StoresStand, DestroyedLent, FormsStand, ReadsShow, PryingShows, ForgedAreNot}
 
 no : {A : Type 0} → false ≡ true → A
 no h = absurd (subst T (sym h) tt)

@@ -1,8 +1,7 @@
 -- Programs whose order of work or demand of storage shows, and runs in which the heap refuses.
-use Rattle.std.specs.Prelude.{◌≡◌, ℕ, ℤ, pos, negsuc, Bool, true, false, List, [], ◌∷◌, ◌++◌, map, None, Some, codes}
+use Rattle.std.specs.Prelude.{◌≡◌, pos, true, false, [], ◌∷◌, None, Some, codes}
 use Rattle.std.specs.declared.alloc.Global.{Global}
 use Rattle.f3_program.specs.declared.declarations.Base.TheVariants as base
-use Rattle.f3_program.specs.declared.declarations.Constant.TheVariants as constant
 use Rattle.f3_program.specs.declared.expression.Name.TheVariants as n
 use Rattle.f3_program.specs.declared.expression.BinaryOperator.TheVariants as o
 use Rattle.f3_program.specs.declared.expression.Query.TheVariants as query
@@ -12,10 +11,10 @@ use Rattle.f3_program.specs.declared.statement.Selector.TheVariants as selector
 use Rattle.f3_program.specs.declared.statement.Statement as s
 use Rattle.f3_program.specs.declared.program.Intent.TheVariants as intent
 use Rattle.f3_program.specs.declared.program.Program.{Program}
-use Rattle.f3_meaning_whole.specs.Permitted.{IsLawful, Permitted}
-use Rattle.f3_meaning_whole.specs.Run.{runs, run_of, changes, stages, requests}
-use Rattle.f3_meaning_rows.specs.Shown.{granted, refusing, Shown, shown, lines, Finished, Failed, Stopped, Unfinished}
-use Rattle.f3_meaning_rows.specs.Build.{vec, place, kind, dim, declared, comp, derived, final, num, truth, var, group, bin, array, struct, call, allocated, size, query as asks, val, ref, name, member, elements, sub, range as triplet, at, block, when, for, associate, bounds, request, text, dummy, static, procedure, program}
+use Rattle.f3_meaning_whole.specs.Permitted.{IsLawful}
+use Rattle.f3_meaning_whole.specs.Run.{runs, run_of, requests}
+use Rattle.f3_meaning_rows.specs.Shown.{granted, refusing, shown, lines, Finished, Failed}
+use Rattle.f3_meaning_rows.specs.Build.{vec, place, kind, dim, declared, comp, derived, final, num, var, group, bin, array, struct, call, size, query as asks, val, ref, name, member, elements, sub, range as triplet, at, block, when, for, associate, bounds, request, text, dummy, static, procedure, program}
 
 --     program p; integer, allocatable :: a(:)
 --     allocate(a(2), stat=a(2)); print *, a; end
@@ -54,14 +53,14 @@ abbrev pub held_is_not_final_shows : Global → Type 0
 held_is_not_final_shows h = shown (run_of (held_is_not_final h) 20 granted) ≡ record { bytes = []; verdict = Finished }
 
 --     module m; type t; integer :: i; contains; final :: f; end type; type box; type(t), allocatable :: c; end type; type(box), allocatable :: b; type(t), allocatable :: u; contains; subroutine f(x); type(t), intent(inout) :: x
---     deallocate(b); end; end
---     program p; use m; allocate(b, u); allocate(b%c)
+--     if (x%i == 1) deallocate(b); end; end
+--     program p; use m; allocate(b, u); allocate(b%c); u%i = 1
 --     call move_alloc(b%c, u); end
 abbrev pub move_lends : Global → Program
 move_lends h = program h (derived h 0 (comp (declared h (kind base.Integer 0 false) ([]) tt ([]) tt) false ∷ []) tt (final 0 0 ∷ []) tt ∷ derived h 0 (comp (declared h (kind (base.Derived 0) 0 true) ([]) tt ([]) tt) false ∷ []) tt ([]) tt ∷ []) tt
     (static (declared h (kind (base.Derived 1) 0 true) ([]) tt ([]) tt) 0 false ∷ static (declared h (kind (base.Derived 0) 0 true) ([]) tt ([]) tt) 0 false ∷ []) tt
-    (procedure h 0 (dummy h (kind (base.Derived 0) 0 false) intent.InOut ([]) tt ∷ []) tt ([]) tt None (block h (at h 2 1 true (s.Deallocate (vec h (request h (name (n.Static 0) l.Whole) (kind (base.Derived 1) 0 true) ([]) tt ∷ []) tt) None) ∷ []) tt) (place 2 16) ∷ []) tt
-    (procedure h 1 ([]) tt ([]) tt None (block h (at h 3 19 true (s.Allocate (vec h (request h (name (n.Static 0) l.Whole) (kind (base.Derived 1) 0 true) ([]) tt ∷ request h (name (n.Static 1) l.Whole) (kind (base.Derived 0) 0 true) ([]) tt ∷ []) tt) None) ∷ at h 3 35 true (s.Allocate (vec h (request h (member h (name (n.Static 0) l.Contents) 0 l.Whole) (kind (base.Derived 0) 0 true) ([]) tt ∷ []) tt) None) ∷ at h 4 1 true (s.MoveAlloc (kind (base.Derived 0) 0 true) true (member h (name (n.Static 0) l.Contents) 0 l.Whole) (name (n.Static 1) l.Whole)) ∷ []) tt) (place 4 26)) (place 1 1)
+    (procedure h 0 (dummy h (kind (base.Derived 0) 0 false) intent.InOut ([]) tt ∷ []) tt ([]) tt None (block h (at h 2 1 true (when h (bin h o.Equal base.Logical (var h (member h (name (n.Lent 0) l.Whole) 0 l.Whole)) (num (pos 1))) (s.Deallocate (vec h (request h (name (n.Static 0) l.Whole) (kind (base.Derived 1) 0 true) ([]) tt ∷ []) tt) None) (block h ([]) tt)) ∷ []) tt) (place 2 30) ∷ []) tt
+    (procedure h 1 ([]) tt ([]) tt None (block h (at h 3 19 true (s.Allocate (vec h (request h (name (n.Static 0) l.Whole) (kind (base.Derived 1) 0 true) ([]) tt ∷ request h (name (n.Static 1) l.Whole) (kind (base.Derived 0) 0 true) ([]) tt ∷ []) tt) None) ∷ at h 3 35 true (s.Allocate (vec h (request h (member h (name (n.Static 0) l.Contents) 0 l.Whole) (kind (base.Derived 0) 0 true) ([]) tt ∷ []) tt) None) ∷ at h 3 50 true (s.Assign (member h (name (n.Static 1) l.Contents) 0 l.Whole) (kind base.Integer 0 false) (num (pos 1))) ∷ at h 4 1 true (s.MoveAlloc (kind (base.Derived 0) 0 true) true (member h (name (n.Static 0) l.Contents) 0 l.Whole) (name (n.Static 1) l.Whole)) ∷ []) tt) (place 4 26)) (place 1 1)
 
 abbrev pub move_lends_shows : Global → Type 0
 move_lends_shows h = shown (run_of (move_lends h) 20 granted) ≡ record { bytes = []; verdict = Failed 9 2 1 }

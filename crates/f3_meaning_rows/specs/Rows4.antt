@@ -228,8 +228,8 @@ modules_02_two_names h = program h [] tt
 
 --     module m; integer, protected :: n = 3; end
 --     program p; use m; print *, n; end
-abbrev pub row_02_print : Global → Program
-row_02_print h = program h [] tt
+abbrev pub sample_02_print : Global → Program
+sample_02_print h = program h [] tt
     (static (declared h (kind base.Integer 0 false) [] tt ((constant.Number (pos 3)) ∷ []) tt) 0 true ∷ []) tt
     [] tt
     (procedure h 1 [] tt [] tt None (block h (at h 2 19 true (s.Print (vec h (item.Value (var h (name (n.Static 0) l.Whole)) ∷ []) tt)) ∷ []) tt) (place 2 31))
@@ -238,8 +238,8 @@ row_02_print h = program h [] tt
 --     module m; use k; integer, protected :: n = 3; contains; subroutine up(); call bump(n); end; end
 --     module k; contains; subroutine bump(x); integer, intent(inout) :: x; x = x + 1; end; end
 --     program p; use m; call up(); print *, n; end
-abbrev pub row_04_bump : Global → Program
-row_04_bump h = program h [] tt
+abbrev pub sample_04_bump : Global → Program
+sample_04_bump h = program h [] tt
     (static (declared h (kind base.Integer 0 false) [] tt ((constant.Number (pos 3)) ∷ []) tt) 0 true ∷ []) tt
     (procedure h 0 [] tt [] tt None (block h (at h 1 74 true (s.Call (call h 1 (ref h 0 (name (n.Static 0) l.Whole) ∷ []) tt)) ∷ []) tt) (place 1 88) ∷ procedure h 1 (dummy h (kind base.Integer 0 false) intent.InOut [] tt ∷ []) tt [] tt None (block h (at h 2 70 true (s.Assign (name (n.Lent 0) l.Whole) (kind base.Integer 0 false) (bin h o.Add base.Integer (var h (name (n.Lent 0) l.Whole)) (num (pos 1)))) ∷ []) tt) (place 2 81) ∷ []) tt
     (procedure h 2 [] tt [] tt None (block h (at h 3 19 true (s.Call (call h 0 [] tt)) ∷ at h 3 30 true (s.Print (vec h (item.Value (var h (name (n.Static 0) l.Whole)) ∷ []) tt)) ∷ []) tt) (place 3 42))
@@ -252,8 +252,8 @@ row_04_bump h = program h [] tt
 --     program p; use m; type(box) :: a, b
 --     call set(b, 5); a = b; call show(a)
 --     end
-abbrev pub row_06_whole_object : Global → Program
-row_06_whole_object h = program h (derived h 0 (comp (declared h (kind base.Integer 0 false) [] tt ((constant.Number (pos 1)) ∷ []) tt) true ∷ []) tt [] tt ∷ []) tt
+abbrev pub sample_06_whole_object : Global → Program
+sample_06_whole_object h = program h (derived h 0 (comp (declared h (kind base.Integer 0 false) [] tt ((constant.Number (pos 1)) ∷ []) tt) true ∷ []) tt [] tt ∷ []) tt
     [] tt
     (procedure h 0 (dummy h (kind (base.Derived 0) 0 false) intent.In [] tt ∷ []) tt [] tt None (block h (at h 2 49 true (s.Print (vec h (item.Value (var h (member h (name (n.Lent 0) l.Whole) 0 l.Whole)) ∷ []) tt)) ∷ []) tt) (place 2 68) ∷ procedure h 0 (dummy h (kind (base.Derived 0) 0 false) intent.InOut [] tt ∷ dummy h (kind base.Integer 0 false) intent.In [] tt ∷ []) tt [] tt None (block h (at h 3 80 true (s.Assign (member h (name (n.Lent 0) l.Whole) 0 l.Whole) (kind base.Integer 0 false) (var h (name (n.Lent 1) l.Whole))) ∷ []) tt) (place 3 94) ∷ []) tt
     (procedure h 1 [] tt ((declared h (kind (base.Derived 0) 0 false) [] tt [] tt) ∷ (declared h (kind (base.Derived 0) 0 false) [] tt [] tt) ∷ []) tt None (block h (at h 6 1 true (s.Call (call h 1 (ref h 0 (name (n.Local 1) l.Whole) ∷ val h 1 (num (pos 5)) ∷ []) tt)) ∷ at h 6 17 true (s.Assign (name (n.Local 0) l.Whole) (kind (base.Derived 0) 0 false) (var h (name (n.Local 1) l.Whole))) ∷ at h 6 24 true (s.Call (call h 0 (ref h 0 (name (n.Local 0) l.Whole) ∷ []) tt)) ∷ []) tt) (place 7 1))
@@ -263,8 +263,8 @@ row_06_whole_object h = program h (derived h 0 (comp (declared h (kind base.Inte
 --     allocate(a(3:5)); a = 0; b = a; c = a(3:5); allocate(d(0:2)); d = a
 --     print *, lbound(b,1), lbound(c,1), lbound(d,1)
 --     end
-abbrev pub row_07_bounds : Global → Program
-row_07_bounds h = program h [] tt
+abbrev pub sample_07_bounds : Global → Program
+sample_07_bounds h = program h [] tt
     [] tt
     [] tt
     (procedure h 0 [] tt ((declared h (kind base.Integer 1 true) [] tt [] tt) ∷ (declared h (kind base.Integer 1 true) [] tt [] tt) ∷ (declared h (kind base.Integer 1 true) [] tt [] tt) ∷ (declared h (kind base.Integer 1 true) [] tt [] tt) ∷ []) tt None (block h (at h 2 1 true (s.Allocate (vec h (request h (name (n.Local 0) l.Whole) (kind base.Integer 1 true) (bounds (num (pos 3)) (num (pos 5)) ∷ []) tt ∷ []) tt) None) ∷ at h 2 19 true (s.Assign (name (n.Local 0) l.Whole) (kind base.Integer 1 true) (num (pos 0))) ∷ at h 2 26 true (s.Assign (name (n.Local 1) l.Whole) (kind base.Integer 1 true) (var h (name (n.Local 0) l.Contents))) ∷ at h 2 33 true (s.Assign (name (n.Local 2) l.Whole) (kind base.Integer 1 true) (var h (name (n.Local 0) (elements h true (triplet h true (num (pos 3)) true (num (pos 5)) (num (pos 1)) ∷ []) tt)))) ∷ at h 2 45 true (s.Allocate (vec h (request h (name (n.Local 3) l.Whole) (kind base.Integer 1 true) (bounds (num (pos 0)) (num (pos 2)) ∷ []) tt ∷ []) tt) None) ∷ at h 2 63 true (s.Assign (name (n.Local 3) l.Whole) (kind base.Integer 1 true) (var h (name (n.Local 0) l.Contents))) ∷ at h 3 1 true (s.Print (vec h (item.Value (asks h query.Lower (ref h 0 (name (n.Local 1) l.Contents)) (num (pos 1))) ∷ item.Value (asks h query.Lower (ref h 0 (name (n.Local 2) l.Contents)) (num (pos 1))) ∷ item.Value (asks h query.Lower (ref h 0 (name (n.Local 3) l.Contents)) (num (pos 1))) ∷ []) tt)) ∷ []) tt) (place 4 1))
@@ -273,8 +273,8 @@ row_07_bounds h = program h [] tt
 --     program p; integer, allocatable :: a(:)
 --     allocate(a(5:4)); print *, size(a), lbound(a,1), ubound(a,1)
 --     end
-abbrev pub row_08_zero_extent : Global → Program
-row_08_zero_extent h = program h [] tt
+abbrev pub sample_08_zero_extent : Global → Program
+sample_08_zero_extent h = program h [] tt
     [] tt
     [] tt
     (procedure h 0 [] tt ((declared h (kind base.Integer 1 true) [] tt [] tt) ∷ []) tt None (block h (at h 2 1 true (s.Allocate (vec h (request h (name (n.Local 0) l.Whole) (kind base.Integer 1 true) (bounds (num (pos 5)) (num (pos 4)) ∷ []) tt ∷ []) tt) None) ∷ at h 2 19 true (s.Print (vec h (item.Value (size h (ref h 0 (name (n.Local 0) l.Contents))) ∷ item.Value (asks h query.Lower (ref h 0 (name (n.Local 0) l.Contents)) (num (pos 1))) ∷ item.Value (asks h query.Upper (ref h 0 (name (n.Local 0) l.Contents)) (num (pos 1))) ∷ []) tt)) ∷ []) tt) (place 3 1))
@@ -285,8 +285,8 @@ row_08_zero_extent h = program h [] tt
 --     subroutine go(); type(t) :: x, y; x%id = 1; y%id = 2; x = y; print *, 'g'; end
 --     end
 --     program p; use m; call go(); end
-abbrev pub row_09_finals : Global → Program
-row_09_finals h = program h (derived h 0 (comp (declared h (kind base.Integer 0 false) [] tt ((constant.Number (pos 0)) ∷ []) tt) false ∷ []) tt (final 0 0 ∷ []) tt ∷ []) tt
+abbrev pub sample_09_finals : Global → Program
+sample_09_finals h = program h (derived h 0 (comp (declared h (kind base.Integer 0 false) [] tt ((constant.Number (pos 0)) ∷ []) tt) false ∷ []) tt (final 0 0 ∷ []) tt ∷ []) tt
     [] tt
     (procedure h 0 (dummy h (kind (base.Derived 0) 0 false) intent.InOut [] tt ∷ []) tt [] tt None (block h (at h 2 49 true (s.Print (vec h (text h (102 ∷ []) tt ∷ item.Value (var h (member h (name (n.Lent 0) l.Whole) 0 l.Whole)) ∷ []) tt)) ∷ []) tt) (place 2 69) ∷ procedure h 0 [] tt ((declared h (kind (base.Derived 0) 0 false) [] tt [] tt) ∷ (declared h (kind (base.Derived 0) 0 false) [] tt [] tt) ∷ []) tt None (block h (at h 3 35 true (s.Assign (member h (name (n.Local 0) l.Whole) 0 l.Whole) (kind base.Integer 0 false) (num (pos 1))) ∷ at h 3 45 true (s.Assign (member h (name (n.Local 1) l.Whole) 0 l.Whole) (kind base.Integer 0 false) (num (pos 2))) ∷ at h 3 55 true (s.Assign (name (n.Local 0) l.Whole) (kind (base.Derived 0) 0 false) (var h (name (n.Local 1) l.Whole))) ∷ at h 3 62 true (s.Print (vec h (text h (103 ∷ []) tt ∷ []) tt)) ∷ []) tt) (place 3 76) ∷ []) tt
     (procedure h 1 [] tt [] tt None (block h (at h 5 19 true (s.Call (call h 1 [] tt)) ∷ []) tt) (place 5 30))
@@ -300,8 +300,8 @@ row_09_finals h = program h (derived h 0 (comp (declared h (kind base.Integer 0 
 --     program p; use m; type(t), allocatable :: v(:); type(t) :: s
 --     allocate(v(2)); deallocate(v); print *, 'e'
 --     end
-abbrev pub row_10_array_final : Global → Program
-row_10_array_final h = program h (derived h 0 (comp (declared h (kind base.Integer 0 false) [] tt ((constant.Number (pos 0)) ∷ []) tt) false ∷ []) tt (final 0 0 ∷ final 1 2 ∷ []) tt ∷ []) tt
+abbrev pub sample_10_array_final : Global → Program
+sample_10_array_final h = program h (derived h 0 (comp (declared h (kind base.Integer 0 false) [] tt ((constant.Number (pos 0)) ∷ []) tt) false ∷ []) tt (final 0 0 ∷ final 1 2 ∷ []) tt ∷ []) tt
     [] tt
     (procedure h 0 (dummy h (kind (base.Derived 0) 0 false) intent.InOut [] tt ∷ []) tt [] tt None (block h (at h 2 49 true (s.Print (vec h (text h (102 ∷ []) tt ∷ item.Value (var h (member h (name (n.Lent 0) l.Whole) 0 l.Whole)) ∷ []) tt)) ∷ []) tt) (place 2 69) ∷ procedure h 0 [] tt ((declared h (kind (base.Derived 0) 0 false) [] tt [] tt) ∷ (declared h (kind (base.Derived 0) 0 false) [] tt [] tt) ∷ []) tt None (block h (at h 3 35 true (s.Assign (member h (name (n.Local 0) l.Whole) 0 l.Whole) (kind base.Integer 0 false) (num (pos 1))) ∷ at h 3 45 true (s.Assign (member h (name (n.Local 1) l.Whole) 0 l.Whole) (kind base.Integer 0 false) (num (pos 2))) ∷ at h 3 55 true (s.Assign (name (n.Local 0) l.Whole) (kind (base.Derived 0) 0 false) (var h (name (n.Local 1) l.Whole))) ∷ at h 3 62 true (s.Print (vec h (text h (103 ∷ []) tt ∷ []) tt)) ∷ []) tt) (place 3 76) ∷ procedure h 0 (dummy h (kind (base.Derived 0) 1 false) intent.InOut ((pos 1) ∷ []) tt ∷ []) tt [] tt None (block h (at h 4 53 true (s.Print (vec h (text h (118 ∷ []) tt ∷ item.Value (size h (ref h 0 (name (n.Lent 0) l.Whole))) ∷ []) tt)) ∷ []) tt) (place 4 76) ∷ []) tt
     (procedure h 1 [] tt ((declared h (kind (base.Derived 0) 1 true) [] tt [] tt) ∷ (declared h (kind (base.Derived 0) 0 false) [] tt [] tt) ∷ []) tt None (block h (at h 7 1 true (s.Allocate (vec h (request h (name (n.Local 0) l.Whole) (kind (base.Derived 0) 1 true) (bounds (num (pos 1)) (num (pos 2)) ∷ []) tt ∷ []) tt) None) ∷ at h 7 17 true (s.Deallocate (vec h (request h (name (n.Local 0) l.Whole) (kind (base.Derived 0) 1 true) [] tt ∷ []) tt) None) ∷ at h 7 32 true (s.Print (vec h (text h (101 ∷ []) tt ∷ []) tt)) ∷ []) tt) (place 8 1))
@@ -334,26 +334,26 @@ modules_01_rename_shows h = shown (run_of (modules_01_rename h) 2000 granted) �
 abbrev pub modules_02_two_names_shows : Global → Type 0
 modules_02_two_names_shows h = shown (run_of (modules_02_two_names h) 2000 granted) ≡ record { bytes = (lines (codes " 1 1" ∷ [])); verdict = Finished }
 
-abbrev pub row_02_print_shows : Global → Type 0
-row_02_print_shows h = shown (run_of (row_02_print h) 2000 granted) ≡ record { bytes = (lines (codes " 3" ∷ [])); verdict = Finished }
+abbrev pub sample_02_print_shows : Global → Type 0
+sample_02_print_shows h = shown (run_of (sample_02_print h) 2000 granted) ≡ record { bytes = (lines (codes " 3" ∷ [])); verdict = Finished }
 
-abbrev pub row_04_bump_shows : Global → Type 0
-row_04_bump_shows h = shown (run_of (row_04_bump h) 2000 granted) ≡ record { bytes = (lines (codes " 4" ∷ [])); verdict = Finished }
+abbrev pub sample_04_bump_shows : Global → Type 0
+sample_04_bump_shows h = shown (run_of (sample_04_bump h) 2000 granted) ≡ record { bytes = (lines (codes " 4" ∷ [])); verdict = Finished }
 
-abbrev pub row_06_whole_object_shows : Global → Type 0
-row_06_whole_object_shows h = shown (run_of (row_06_whole_object h) 2000 granted) ≡ record { bytes = (lines (codes " 5" ∷ [])); verdict = Finished }
+abbrev pub sample_06_whole_object_shows : Global → Type 0
+sample_06_whole_object_shows h = shown (run_of (sample_06_whole_object h) 2000 granted) ≡ record { bytes = (lines (codes " 5" ∷ [])); verdict = Finished }
 
-abbrev pub row_07_bounds_shows : Global → Type 0
-row_07_bounds_shows h = shown (run_of (row_07_bounds h) 2000 granted) ≡ record { bytes = (lines (codes " 3 1 0" ∷ [])); verdict = Finished }
+abbrev pub sample_07_bounds_shows : Global → Type 0
+sample_07_bounds_shows h = shown (run_of (sample_07_bounds h) 2000 granted) ≡ record { bytes = (lines (codes " 3 1 0" ∷ [])); verdict = Finished }
 
-abbrev pub row_08_zero_extent_shows : Global → Type 0
-row_08_zero_extent_shows h = shown (run_of (row_08_zero_extent h) 2000 granted) ≡ record { bytes = (lines (codes " 0 1 0" ∷ [])); verdict = Finished }
+abbrev pub sample_08_zero_extent_shows : Global → Type 0
+sample_08_zero_extent_shows h = shown (run_of (sample_08_zero_extent h) 2000 granted) ≡ record { bytes = (lines (codes " 0 1 0" ∷ [])); verdict = Finished }
 
-abbrev pub row_09_finals_shows : Global → Type 0
-row_09_finals_shows h = shown (run_of (row_09_finals h) 2000 granted) ≡ record { bytes = (lines (codes " f 1" ∷ codes " g" ∷ codes " f 2" ∷ codes " f 2" ∷ [])); verdict = Finished }
+abbrev pub sample_09_finals_shows : Global → Type 0
+sample_09_finals_shows h = shown (run_of (sample_09_finals h) 2000 granted) ≡ record { bytes = (lines (codes " f 1" ∷ codes " g" ∷ codes " f 2" ∷ codes " f 2" ∷ [])); verdict = Finished }
 
-abbrev pub row_10_array_final_shows : Global → Type 0
-row_10_array_final_shows h = shown (run_of (row_10_array_final h) 2000 granted) ≡ record { bytes = (lines (codes " v 2" ∷ codes " e" ∷ [])); verdict = Finished }
+abbrev pub sample_10_array_final_shows : Global → Type 0
+sample_10_array_final_shows h = shown (run_of (sample_10_array_final h) 2000 granted) ≡ record { bytes = (lines (codes " v 2" ∷ codes " e" ∷ [])); verdict = Finished }
 
 -- These programs print this and end so.
 abbrev pub Rows4Show : Type 0
@@ -367,10 +367,10 @@ Rows4Show = (h : Global) →
     × (IsLawful (machine_02_depth h) × machine_02_depth_shows h)
     × (IsLawful (modules_01_rename h) × modules_01_rename_shows h)
     × (IsLawful (modules_02_two_names h) × modules_02_two_names_shows h)
-    × (IsLawful (row_02_print h) × row_02_print_shows h)
-    × (IsLawful (row_04_bump h) × row_04_bump_shows h)
-    × (IsLawful (row_06_whole_object h) × row_06_whole_object_shows h)
-    × (IsLawful (row_07_bounds h) × row_07_bounds_shows h)
-    × (IsLawful (row_08_zero_extent h) × row_08_zero_extent_shows h)
-    × (IsLawful (row_09_finals h) × row_09_finals_shows h)
-    × (IsLawful (row_10_array_final h) × row_10_array_final_shows h)
+    × (IsLawful (sample_02_print h) × sample_02_print_shows h)
+    × (IsLawful (sample_04_bump h) × sample_04_bump_shows h)
+    × (IsLawful (sample_06_whole_object h) × sample_06_whole_object_shows h)
+    × (IsLawful (sample_07_bounds h) × sample_07_bounds_shows h)
+    × (IsLawful (sample_08_zero_extent h) × sample_08_zero_extent_shows h)
+    × (IsLawful (sample_09_finals h) × sample_09_finals_shows h)
+    × (IsLawful (sample_10_array_final h) × sample_10_array_final_shows h)

@@ -19,8 +19,8 @@ use Rattle.f3_meaning_rows.specs.Build.{vec, place, kind, dim, declared, comp, d
 --     program p; if (.false.) then
 --     else if (1/0 == 1) then
 --     end if; end
-abbrev pub ruling_59_1 : Global → Program
-ruling_59_1 h = program h [] tt
+abbrev pub choice_59_1 : Global → Program
+choice_59_1 h = program h [] tt
     [] tt
     [] tt
     (procedure h 0 [] tt [] tt None (block h (at h 1 12 true (when h (truth false) (block h [] tt) (at h 2 1 false (when h (bin h o.Equal base.Logical (bin h o.Divide base.Integer (num (pos 1)) (num (pos 0))) (num (pos 1))) (block h [] tt) (block h [] tt)))) ∷ []) tt) (place 3 9))
@@ -28,8 +28,8 @@ ruling_59_1 h = program h [] tt
 
 --     module m; type t; integer :: i; contains; final :: f; end type; contains; subroutine f(x); type(t), intent(in) :: x(:); print *, size(x); end; end
 --     program p; use m; type(t), allocatable :: v(:); allocate(v(0)); deallocate(v); end
-abbrev pub ruling_61_1 : Global → Program
-ruling_61_1 h = program h (derived h 0 (comp (declared h (kind base.Integer 0 false) [] tt [] tt) false ∷ []) tt (final 1 0 ∷ []) tt ∷ []) tt
+abbrev pub choice_61_1 : Global → Program
+choice_61_1 h = program h (derived h 0 (comp (declared h (kind base.Integer 0 false) [] tt [] tt) false ∷ []) tt (final 1 0 ∷ []) tt ∷ []) tt
     [] tt
     (procedure h 0 (dummy h (kind (base.Derived 0) 1 false) intent.In ((pos 1) ∷ []) tt ∷ []) tt [] tt None (block h (at h 1 121 true (s.Print (vec h (item.Value (size h (ref h 0 (name (n.Lent 0) l.Whole))) ∷ []) tt)) ∷ []) tt) (place 1 139) ∷ []) tt
     (procedure h 1 [] tt ((declared h (kind (base.Derived 0) 1 true) [] tt [] tt) ∷ []) tt None (block h (at h 2 49 true (s.Allocate (vec h (request h (name (n.Local 0) l.Whole) (kind (base.Derived 0) 1 true) (bounds (num (pos 1)) (num (pos 0)) ∷ []) tt ∷ []) tt) None) ∷ at h 2 65 true (s.Deallocate (vec h (request h (name (n.Local 0) l.Whole) (kind (base.Derived 0) 1 true) [] tt ∷ []) tt) None) ∷ []) tt) (place 2 80))
@@ -37,8 +37,8 @@ ruling_61_1 h = program h (derived h 0 (comp (declared h (kind base.Integer 0 fa
 
 --     program p; use m; integer :: i; i = 5; call s(i); print *, i; end
 --     module m; contains; subroutine s(x); integer, intent(out) :: x; end; end
-abbrev pub ruling_62_1 : Global → Program
-ruling_62_1 h = program h [] tt
+abbrev pub choice_62_1 : Global → Program
+choice_62_1 h = program h [] tt
     [] tt
     (procedure h 1 (dummy h (kind base.Integer 0 false) intent.Out [] tt ∷ []) tt [] tt None (block h [] tt) (place 2 65) ∷ []) tt
     (procedure h 0 [] tt ((declared h (kind base.Integer 0 false) [] tt [] tt) ∷ []) tt None (block h (at h 1 33 true (s.Assign (name (n.Local 0) l.Whole) (kind base.Integer 0 false) (num (pos 5))) ∷ at h 1 40 true (s.Call (call h 0 (ref h 0 (name (n.Local 0) l.Whole) ∷ []) tt)) ∷ at h 1 51 true (s.Print (vec h (item.Value (var h (name (n.Local 0) l.Whole)) ∷ []) tt)) ∷ []) tt) (place 1 63))
@@ -46,8 +46,8 @@ ruling_62_1 h = program h [] tt
 
 --     module m; type t; integer, allocatable :: a(:); end type; end
 --     program p; use m; type(t) :: x; integer, allocatable :: v(:); x = t(v); print *, allocated(x%a); allocate(v(3:4)); x = t(v); print *, lbound(x%a,1); x = t((v)); print *, lbound(x%a,1); deallocate(v); x = t((v)); end
-abbrev pub ruling_63_1 : Global → Program
-ruling_63_1 h = program h (derived h 0 (comp (declared h (kind base.Integer 1 true) [] tt [] tt) false ∷ []) tt [] tt ∷ []) tt
+abbrev pub choice_63_1 : Global → Program
+choice_63_1 h = program h (derived h 0 (comp (declared h (kind base.Integer 1 true) [] tt [] tt) false ∷ []) tt [] tt ∷ []) tt
     [] tt
     [] tt
     (procedure h 1 [] tt ((declared h (kind (base.Derived 0) 0 false) [] tt [] tt) ∷ (declared h (kind base.Integer 1 true) [] tt [] tt) ∷ []) tt None (block h (at h 2 63 true (s.Assign (name (n.Local 0) l.Whole) (kind (base.Derived 0) 0 false) (struct h 0 (ref h 0 (name (n.Local 1) l.Whole) ∷ []) tt)) ∷ at h 2 73 true (s.Print (vec h (item.Value (allocated h (member h (name (n.Local 0) l.Whole) 0 l.Whole)) ∷ []) tt)) ∷ at h 2 98 true (s.Allocate (vec h (request h (name (n.Local 1) l.Whole) (kind base.Integer 1 true) (bounds (num (pos 3)) (num (pos 4)) ∷ []) tt ∷ []) tt) None) ∷ at h 2 116 true (s.Assign (name (n.Local 0) l.Whole) (kind (base.Derived 0) 0 false) (struct h 0 (ref h 0 (name (n.Local 1) l.Whole) ∷ []) tt)) ∷ at h 2 126 true (s.Print (vec h (item.Value (asks h query.Lower (ref h 0 (member h (name (n.Local 0) l.Whole) 0 l.Contents)) (num (pos 1))) ∷ []) tt)) ∷ at h 2 150 true (s.Assign (name (n.Local 0) l.Whole) (kind (base.Derived 0) 0 false) (struct h 0 (val h 0 (group h (var h (name (n.Local 1) l.Contents))) ∷ []) tt)) ∷ at h 2 162 true (s.Print (vec h (item.Value (asks h query.Lower (ref h 0 (member h (name (n.Local 0) l.Whole) 0 l.Contents)) (num (pos 1))) ∷ []) tt)) ∷ at h 2 186 true (s.Deallocate (vec h (request h (name (n.Local 1) l.Whole) (kind base.Integer 1 true) [] tt ∷ []) tt) None) ∷ at h 2 201 true (s.Assign (name (n.Local 0) l.Whole) (kind (base.Derived 0) 0 false) (struct h 0 (val h 0 (group h (var h (name (n.Local 1) l.Contents))) ∷ []) tt)) ∷ []) tt) (place 2 213))
@@ -55,24 +55,24 @@ ruling_63_1 h = program h (derived h 0 (comp (declared h (kind base.Integer 1 tr
 
 --     program p; use m; integer, allocatable :: a(:); a = f(); print *, lbound(a,1); end
 --     module m; contains; function f(); integer, allocatable :: f(:); allocate(f(5:6)); f = 1; end; end
-abbrev pub ruling_64_1 : Global → Program
-ruling_64_1 h = program h [] tt
+abbrev pub choice_64_1 : Global → Program
+choice_64_1 h = program h [] tt
     [] tt
     (procedure h 1 [] tt [] tt (Some (declared h (kind base.Integer 1 true) [] tt [] tt)) (block h (at h 2 65 true (s.Allocate (vec h (request h (name (n.Local 0) l.Whole) (kind base.Integer 1 true) (bounds (num (pos 5)) (num (pos 6)) ∷ []) tt ∷ []) tt) None) ∷ at h 2 83 true (s.Assign (name (n.Local 0) l.Whole) (kind base.Integer 1 true) (num (pos 1))) ∷ []) tt) (place 2 90) ∷ []) tt
     (procedure h 0 [] tt ((declared h (kind base.Integer 1 true) [] tt [] tt) ∷ []) tt None (block h (at h 1 49 true (s.Assign (name (n.Local 0) l.Whole) (kind base.Integer 1 true) (call h 0 [] tt)) ∷ at h 1 58 true (s.Print (vec h (item.Value (asks h query.Lower (ref h 0 (name (n.Local 0) l.Contents)) (num (pos 1))) ∷ []) tt)) ∷ []) tt) (place 1 80))
     (place 1 1)
 
 --     program p; stop 00; end
-abbrev pub ruling_67_1 : Global → Program
-ruling_67_1 h = program h [] tt
+abbrev pub choice_67_1 : Global → Program
+choice_67_1 h = program h [] tt
     [] tt
     [] tt
     (procedure h 0 [] tt [] tt None (block h (at h 1 12 true (s.Stop (Some 0)) ∷ []) tt) (place 1 21))
     (place 1 1)
 
 --     program p; integer :: k(0); k = 3000000000_8; end
-abbrev pub ruling_79_1 : Global → Program
-ruling_79_1 h = program h [] tt
+abbrev pub choice_79_1 : Global → Program
+choice_79_1 h = program h [] tt
     [] tt
     [] tt
     (procedure h 0 [] tt ((declared h (kind base.Integer 1 false) (dim (pos 1) 0 ∷ []) tt [] tt) ∷ []) tt None (block h (at h 1 29 true (s.Assign (name (n.Local 0) l.Whole) (kind base.Integer 1 false) (num (pos 3000000000))) ∷ []) tt) (place 1 47))
@@ -151,26 +151,26 @@ usage_52_stop_0 h = program h [] tt
     (procedure h 0 [] tt [] tt None (block h (at h 1 12 true (s.Stop (Some 0)) ∷ []) tt) (place 1 20))
     (place 1 1)
 
-abbrev pub ruling_59_1_shows : Global → Type 0
-ruling_59_1_shows h = shown (run_of (ruling_59_1 h) 2000 granted) ≡ record { bytes = (lines []); verdict = Failed 2 2 1 }
+abbrev pub choice_59_1_shows : Global → Type 0
+choice_59_1_shows h = shown (run_of (choice_59_1 h) 2000 granted) ≡ record { bytes = (lines []); verdict = Failed 2 2 1 }
 
-abbrev pub ruling_61_1_shows : Global → Type 0
-ruling_61_1_shows h = shown (run_of (ruling_61_1 h) 2000 granted) ≡ record { bytes = (lines (codes " 0" ∷ [])); verdict = Finished }
+abbrev pub choice_61_1_shows : Global → Type 0
+choice_61_1_shows h = shown (run_of (choice_61_1 h) 2000 granted) ≡ record { bytes = (lines (codes " 0" ∷ [])); verdict = Finished }
 
-abbrev pub ruling_62_1_shows : Global → Type 0
-ruling_62_1_shows h = shown (run_of (ruling_62_1 h) 2000 granted) ≡ record { bytes = (lines (codes " 0" ∷ [])); verdict = Finished }
+abbrev pub choice_62_1_shows : Global → Type 0
+choice_62_1_shows h = shown (run_of (choice_62_1 h) 2000 granted) ≡ record { bytes = (lines (codes " 0" ∷ [])); verdict = Finished }
 
-abbrev pub ruling_63_1_shows : Global → Type 0
-ruling_63_1_shows h = shown (run_of (ruling_63_1 h) 2000 granted) ≡ record { bytes = (lines (codes " F" ∷ codes " 3" ∷ codes " 1" ∷ [])); verdict = Failed 4 2 201 }
+abbrev pub choice_63_1_shows : Global → Type 0
+choice_63_1_shows h = shown (run_of (choice_63_1 h) 2000 granted) ≡ record { bytes = (lines (codes " F" ∷ codes " 3" ∷ codes " 1" ∷ [])); verdict = Failed 4 2 201 }
 
-abbrev pub ruling_64_1_shows : Global → Type 0
-ruling_64_1_shows h = shown (run_of (ruling_64_1 h) 2000 granted) ≡ record { bytes = (lines (codes " 1" ∷ [])); verdict = Finished }
+abbrev pub choice_64_1_shows : Global → Type 0
+choice_64_1_shows h = shown (run_of (choice_64_1 h) 2000 granted) ≡ record { bytes = (lines (codes " 1" ∷ [])); verdict = Finished }
 
-abbrev pub ruling_67_1_shows : Global → Type 0
-ruling_67_1_shows h = shown (run_of (ruling_67_1 h) 2000 granted) ≡ record { bytes = (lines []); verdict = Stopped (Some 0) }
+abbrev pub choice_67_1_shows : Global → Type 0
+choice_67_1_shows h = shown (run_of (choice_67_1 h) 2000 granted) ≡ record { bytes = (lines []); verdict = Stopped (Some 0) }
 
-abbrev pub ruling_79_1_shows : Global → Type 0
-ruling_79_1_shows h = shown (run_of (ruling_79_1 h) 2000 granted) ≡ record { bytes = (lines []); verdict = Failed 1 1 29 }
+abbrev pub choice_79_1_shows : Global → Type 0
+choice_79_1_shows h = shown (run_of (choice_79_1 h) 2000 granted) ≡ record { bytes = (lines []); verdict = Failed 1 1 29 }
 
 abbrev pub scalar_02_print_shows : Global → Type 0
 scalar_02_print_shows h = shown (run_of (scalar_02_print h) 2000 granted) ≡ record { bytes = (lines (codes " 1" ∷ [])); verdict = Finished }
@@ -202,13 +202,13 @@ usage_52_stop_0_shows h = shown (run_of (usage_52_stop_0 h) 2000 granted) ≡ re
 -- These programs print this and end so.
 abbrev pub Rows7Show : Type 0
 Rows7Show = (h : Global) →
-    (IsLawful (ruling_59_1 h) × ruling_59_1_shows h)
-    × (IsLawful (ruling_61_1 h) × ruling_61_1_shows h)
-    × (IsLawful (ruling_62_1 h) × ruling_62_1_shows h)
-    × (IsLawful (ruling_63_1 h) × ruling_63_1_shows h)
-    × (IsLawful (ruling_64_1 h) × ruling_64_1_shows h)
-    × (IsLawful (ruling_67_1 h) × ruling_67_1_shows h)
-    × (IsLawful (ruling_79_1 h) × ruling_79_1_shows h)
+    (IsLawful (choice_59_1 h) × choice_59_1_shows h)
+    × (IsLawful (choice_61_1 h) × choice_61_1_shows h)
+    × (IsLawful (choice_62_1 h) × choice_62_1_shows h)
+    × (IsLawful (choice_63_1 h) × choice_63_1_shows h)
+    × (IsLawful (choice_64_1 h) × choice_64_1_shows h)
+    × (IsLawful (choice_67_1 h) × choice_67_1_shows h)
+    × (IsLawful (choice_79_1 h) × choice_79_1_shows h)
     × (IsLawful (scalar_02_print h) × scalar_02_print_shows h)
     × (IsLawful (text_02_variable_if h) × text_02_variable_if_shows h)
     × (IsLawful (usage_45_empty_statements h) × usage_45_empty_statements_shows h)

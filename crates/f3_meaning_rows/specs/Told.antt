@@ -1,25 +1,23 @@
 -- Changes and stages of runs, whole.
-use Rattle.std.specs.Prelude.{◌≡◌, ℕ, ℤ, length, pos, negsuc, Bool, true, false, List, [], ◌∷◌, ◌++◌, map, None, Some, codes}
+use Rattle.std.specs.Prelude.{◌≡◌, ℕ, ℤ, length, pos, true, false, List, [], ◌∷◌, map, None}
 use Rattle.std.specs.declared.alloc.Global.{Global}
 use Rattle.f3_program.specs.declared.declarations.Base.TheVariants as base
 use Rattle.f3_program.specs.declared.declarations.Constant.TheVariants as constant
 use Rattle.f3_program.specs.declared.expression.Name.TheVariants as n
 use Rattle.f3_program.specs.declared.expression.BinaryOperator.TheVariants as o
-use Rattle.f3_program.specs.declared.expression.Query.TheVariants as query
 use Rattle.f3_program.specs.declared.expression.Selection as l
-use Rattle.f3_program.specs.declared.statement.Item.TheVariants as item
 use Rattle.f3_program.specs.declared.statement.Selector.TheVariants as selector
 use Rattle.f3_program.specs.declared.statement.Statement as s
 use Rattle.f3_program.specs.declared.program.Intent.TheVariants as intent
 use Rattle.f3_program.specs.declared.program.Program.{Program}
-use Rattle.f3_meaning_whole.specs.Permitted.{IsLawful, Permitted}
-use Rattle.f3_meaning_whole.specs.Run.{runs, run_of, changes, stages, requests}
-use Rattle.f3_meaning_rows.specs.Shown.{granted, refusing, Shown, shown, lines, Finished, Failed, Stopped, Unfinished}
-use Rattle.f3_meaning_rows.specs.Build.{vec, place, kind, dim, declared, comp, derived, final, num, truth, var, group, bin, array, struct, call, allocated, size, query as asks, val, ref, name, member, elements, sub, range as triplet, at, block, when, for, associate, bounds, request, text, dummy, static, procedure, program}
+use Rattle.f3_meaning_whole.specs.Permitted.{Permitted}
+use Rattle.f3_meaning_whole.specs.Run.{run_of, changes, stages}
+use Rattle.f3_meaning_rows.specs.Shown.{granted}
+use Rattle.f3_meaning_rows.specs.Build.{vec, place, kind, declared, comp, derived, final, num, truth, var, bin, call, allocated, ref, name, member, elements, sub, at, block, when, for, associate, bounds, request, dummy, static, procedure, program}
 use Rattle.f3_program.specs.declared.declarations.Base.{Base}
-use Rattle.f3_meaning_whole.specs.Value.{Value, Number, Composite, Array, Unallocated, Allocated, none, more}
+use Rattle.f3_meaning_whole.specs.Value.{Value, Number, Array, Unallocated, Allocated, none, more}
 use Rattle.f3_meaning_whole.specs.Store.{Root, Static, Local, Store, Path, Step, Component, Contents}
-use Rattle.f3_meaning_whole.specs.Reference.{Right, Define, Read, Maker, Selected, Language, Made, One, Reference}
+use Rattle.f3_meaning_whole.specs.Reference.{Define, Read, Maker, Selected, Language, Made, One, Reference}
 use Rattle.f3_meaning_whole.specs.Ran.{Change, Stage}
 
 --     module k (unit 0); contains; subroutine bump(x); integer, intent(inout) :: x; x = x + 1; end; end
