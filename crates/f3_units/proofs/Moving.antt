@@ -1,10 +1,10 @@
 -- What the builder's parts become.
-use Rattle.std.proofs.Common.{◌≡◌, ◌<◌, ℕ, Bool, true, List, [], Option, Some, None, Result, Ok, Err, refl, sym, ap, subst, ◌∙◌, length, arith}
+use Rattle.std.proofs.Common.{◌≡◌, ◌<◌, ℕ, Bool, true, List, [], map, Option, Some, None, Result, Ok, Err, refl, sym, ap, subst, ◌∙◌, length, arith}
 use Rattle.std.specs.Option.{option_map}
 use Rattle.std.proofs.lemmas.Bool.{eq-eqb}
 use Rattle.f3_rules.specs.declared.source.Place.{Place}
 use Rattle.f3_tree.specs.declared.expression.Name.{Name}
-use Rattle.f3_tree.specs.Tree.{UnitTree}
+use Rattle.f3_tree.specs.Tree.{UnitTree, unit_view}
 use Rattle.f3_forms.specs.declared.form.Ended.{Ended}
 use Rattle.f3_blocks.specs.declared.error.StepError.{StepError}
 use Rattle.f3_blocks.specs.declared.error.StepError.TheVariants.{Memory, OutOfPlace, TooDeep}
@@ -14,9 +14,17 @@ use Rattle.f3_blocks.specs.Machine as blocks
 use Rattle.f3_parts.specs.Pieces as parts_pieces
 use Rattle.f3_parts.specs.Machine as parts
 use Rattle.f3_parts.specs.Machine.{is_none}
-use Rattle.f3_units.specs.Roles.{Role, begins, contains, heads, ends, specifies, executes, IsEnd}
+use Rattle.f3_units.specs.Roles.{Role, begins, contains, heads, ends, specifies, executes, IsEnd, Tells}
+use Rattle.f3_units.specs.declared.scope.Role.{Role as CodeRole}
+use Rattle.f3_units.specs.declared.scope.Role.TheVariants as code
+use Rattle.f3_units.specs.declared.builder.OpenProcedure.{OpenProcedure}
+use Rattle.f3_units.specs.declared.builder.OpenUnit.{OpenUnit}
+use Rattle.f3_units.specs.declared.builder.Builder.{Builder}
 use Rattle.f3_units.specs.Units.{role_of}
-use Rattle.f3_units.specs.Machine.{Scope, Opened, Begun, State, busy, still, inside, step, with_scope, with_procedure, with_closed, procedure_closed, is_untouched, with_part, with_block, to_part, to_block, in_scope, in_unit, in_procedure, body_depth, scope_depth, begun_depth, Becomes, Steps}
+use Rattle.f3_units.specs.Machine.{Scope, Opened, Begun, State, busy, still, inside, step, with_scope, with_procedure, with_closed, procedure_closed, is_untouched, with_part, with_block, to_part, to_block, in_scope, in_unit, in_procedure, body_depth, scope_depth, begun_depth, opened_view, begun_view, builder_view, Becomes, Steps}
+
+abbrev a_state : List UnitTree → Option Begun → State
+a_state done u = record { done = done; unit = u }
 
 abbrev a_scope : parts.State → blocks.State → Scope
 a_scope p b = record { part = p; block = b }
@@ -78,6 +86,15 @@ module _ {U : Type 0} where
   pub steps_from : (result : Result U StepError) (s r t : State) (next : Option State) → Steps result s t next → r ≡ s → Steps result r t next
   steps_from result s r t next h is = subst (λ (x : State). Steps result x t next) (sym is) h
 
+  -- the open unit goes on
+  pub moves_inside : (now : Builder) (unit u : OpenUnit) (v : Begun) (f : OpenUnit → Option Begun) (result : Result U StepError) → now.unit ≡ Some unit → now.unit ≡ Some u → Becomes begun_depth result (begun_view unit) v (f unit)
+      → Steps result (builder_view now) (busy (map unit_view now.units.items) v) (still (map unit_view now.units.items) (f u))
+  moves_inside now unit u v f result is opens h =
+      let done = map unit_view now.units.items in
+      let same : unit ≡ u = cc in
+      let from : builder_view now ≡ busy done (begun_view unit) = ap (λ (o : Option OpenUnit). a_state done (option_map begun_view o)) is in
+      subst (λ (x : OpenUnit). Steps result (builder_view now) (busy done v) (still done (f x))) same (steps_from result (busy done (begun_view unit)) (builder_view now) (busy done v) (still done (f unit)) (unit_moves done (begun_view unit) v (f unit) result h) from)
+
 -- ---- what the machine does at a role
 
 -- no unit, procedure or END begins in a procedure or among the statements of a unit
@@ -111,3 +128,28 @@ inside_closes u at o p what label done there opens =
 
 pub step_inside : (p : Placed) (s : State) (u : Begun) → s.unit ≡ Some u → u.file ≡ p.place.file → step p s ≡ inside u.procedure (role_of p) p s.done u
 step_inside p s u is same = rw (is, eq-eqb u.file p.place.file same) refl
+
+-- among executable statements and declarations stands nothing else
+pub in_scope_none : (k : CodeRole) (r : Role) (procedure : Bool) (p : Placed) (s : Scope) → Tells k r → (k ≡ code.Specifies → ⊥) → (k ≡ code.Contains → ⊥) → (k ≡ code.Executes → ⊥) → in_scope procedure r p s ≡ None
+in_scope_none (code.Begins kind n) r procedure p s h a b c = rw h refl
+in_scope_none code.Contains r procedure p s h a b c = absurd (b refl)
+in_scope_none code.Heads r procedure p s h a b c = rw h.1 refl
+in_scope_none (code.Ends what n) r procedure p s h a b c = rw h refl
+in_scope_none code.Specifies r procedure p s h a b c = absurd (a refl)
+in_scope_none code.Executes r procedure p s h a b c = absurd (c refl)
+
+-- an END that was read in an open unit ends the open procedure
+pub ends_procedure : {U : Type 0} → (now : Builder) (unit u : OpenUnit) (t : State) (at : Place) (o : OpenProcedure) (p : Placed) (place : Place) (what : Option Ended) (label : Option Name) (result : Result U StepError)
+    → now.unit ≡ Some unit → now.unit ≡ Some u → unit.contains ≡ Some at → unit.procedure ≡ Some o → p.place ≡ place
+    → Steps result (busy (map unit_view now.units.items) (begun_view unit)) t (still (map unit_view now.units.items) (option_map (with_closed (begun_view unit)) (procedure_closed place what label (opened_view o))))
+    → Steps result (builder_view now) t (inside (begun_view u).procedure (ends what label) p (map unit_view now.units.items) (begun_view u))
+ends_procedure now unit u t at o p place what label result is opens there within here h =
+    let done = map unit_view now.units.items in
+    let v = begun_view unit in
+    let same : unit ≡ u = cc in
+    let from : builder_view now ≡ busy done v = ap (λ (x : Option OpenUnit). a_state done (option_map begun_view x)) is in
+    let closes : inside v.procedure (ends what label) p done v ≡ still done (option_map (with_closed v) (procedure_closed place what label (opened_view o))) =
+    inside_closes v at (opened_view o) p what label done there (ap (λ (x : Option OpenProcedure). option_map opened_view x) within)
+    ∙ ap (λ (x : Place). still done (option_map (with_closed v) (procedure_closed x what label (opened_view o)))) here in
+    subst (λ (x : OpenUnit). Steps result (builder_view now) t (inside (begun_view x).procedure (ends what label) p done (begun_view x))) same
+    (steps_from result (busy done v) (builder_view now) t (inside v.procedure (ends what label) p done v) (steps_same result (busy done v) t (still done (option_map (with_closed v) (procedure_closed place what label (opened_view o)))) (inside v.procedure (ends what label) p done v) h closes) from)
