@@ -1,6 +1,7 @@
 //! Files by their names.
 
-ghost use Rattle.std.specs.Prelude.{◌≡◌, ◌≤◌, ◌<◌, ℕ, List, Option, None, Some, IfOk, IfSome, length, take};
+ghost use Rattle.std.specs.Prelude.{◌≡◌, ◌≤◌, ◌<◌, ℕ, List, Option, None, Some, IfOk, IfErr, IfSome, length, map, take};
+ghost use Rattle.f3.specs.Reading.{IsOf, AreOf, IsFaultOf, IsFaultAmong};
 
 use f3_rules::source::Source;
 use std::alloc::{AllocError, Global};
@@ -51,47 +52,57 @@ pub enum ReadFault<'a> {
     Memory,
 }
 
-impl From<AllocError> for ReadFault<'_> {
-    fn from(_error: AllocError) -> Self {
-        ReadFault::Memory
-    }
-}
-
 /// The sources of these files in order, or the first fault.
 pub fn read_sources<'a, F: Opener>(
     alloc: Global,
     files: &F,
     names: &[&'a str],
-) -> Result<Vec<Source>, ReadFault<'a>> {
+) -> Result<Vec<Source>, ReadFault<'a>>
+    ensures read { IfOk result (λ sources. AreOf (F.contents files.now) (map (λ name. name.now) names.now) sources.items) }
+    ensures fault { IfErr result (IsFaultAmong (map (λ name. name.now) names.now)) }
+{
     let mut sources = Vec::new(alloc);
     for name in names {
-        let bytes = read_file(alloc, files, *name)?;
-        let name = String::from_str(alloc, *name)?;
-        sources
-            .push(Source { name, bytes })
-            .map_err(AllocError::from)?;
+        match read_source(alloc, files, *name) {
+            Ok(source) => match sources.push(source) {
+                Ok(()) => {}
+                Err(_) => return Err(ReadFault::Memory),
+            },
+            Err(fault) => return Err(fault),
+        }
     }
     Ok(sources)
 }
 
-/// The bytes of a file up to its end, or its first `MOST_BYTES`.
-fn read_file<'a, F: Opener>(
+/// The source of a file.
+fn read_source<'a, F: Opener>(
     alloc: Global,
     files: &F,
     name: &'a str,
-) -> Result<Vec<u8>, ReadFault<'a>>
-    ensures bounded { IfOk result (λ v. length v.items ≤ 16777217) }
-    ensures bytes { IfOk result (λ v. IfSome (F.contents files.now name.now) (λ bytes. v.items ≡ take 16777217 bytes)) }
+) -> Result<Source, ReadFault<'a>>
+    ensures read { IfOk result (IsOf (F.contents files.now) name.now) }
+    ensures fault { IfErr result (IsFaultOf name.now) }
+{
+    match read_file(alloc, files, name) {
+        Ok(Some(bytes)) => match String::from_str(alloc, name) {
+            Ok(name) => Ok(Source { name, bytes }),
+            Err(_) => Err(ReadFault::Memory),
+        },
+        Ok(None) => Err(ReadFault::Unreadable(name)),
+        Err(_) => Err(ReadFault::Memory),
+    }
+}
+
+/// The bytes of a file up to its end, or its first `MOST_BYTES`; None where it cannot be opened or read.
+fn read_file<F: Opener>(alloc: Global, files: &F, name: &str) -> Result<Option<Vec<u8>>, AllocError>
+    ensures bounded { IfOk result (λ found. IfSome found (λ v. length v.items ≤ 16777217)) }
+    ensures bytes { IfOk result (λ found. IfSome found (λ v. IfSome (F.contents files.now name.now) (λ bytes. v.items ≡ take 16777217 bytes))) }
 {
     match files.open(name) {
-        Err(_) => Err(ReadFault::Unreadable(name)),
+        Err(_) => Ok(None),
         Ok(mut file) => {
             let mut buffer = buffer(alloc)?;
-            match read_up_to(alloc, &mut file, MOST_BYTES, buffer.as_mut_slice()) {
-                Ok(Some(bytes)) => Ok(bytes),
-                Ok(None) => Err(ReadFault::Unreadable(name)),
-                Err(_) => Err(ReadFault::Memory),
-            }
+            read_up_to(alloc, &mut file, MOST_BYTES, buffer.as_mut_slice())
         }
     }
 }

@@ -2,6 +2,7 @@
 
 use crate::program::f3;
 use crate::tests::{Folder, Text, expect};
+use f3_output::output::Output;
 use std::test::Fail;
 
 #[test]
@@ -206,8 +207,8 @@ fn no_room_for_the_text(rt: HostRuntime) -> Result<(), Fail> {
     }
     let files = [("a.f90", b"program p; integer :: n; end\n".as_slice())];
     let mut bytes = [0; 12];
-    let mut output = bytes.as_mut_slice();
-    let mut errors = Vec::new(alloc);
+    let mut output = Output::new(bytes.as_mut_slice());
+    let mut errors = Output::new(Vec::<u8>::new(alloc));
     let answer = f3(
         alloc,
         words.as_slice(),
@@ -216,6 +217,6 @@ fn no_room_for_the_text(rt: HostRuntime) -> Result<(), Fail> {
         &mut errors,
     );
     assert_eq!(rt; answer, 5);
-    assert_eq!(rt; errors.as_slice(), b"write fault\n".as_slice());
+    assert_eq!(rt; errors.writer().as_slice(), b"write fault\n".as_slice());
     Ok(())
 }

@@ -1,25 +1,28 @@
 //! The program over its words, its files and its writers.
 
+ghost use Rattle.std.specs.Prelude.{◌≡◌, ℕ, List, Option, codes, unwrap_or};
+ghost use Rattle.clap.specs.Words.{found_of, one_text, ReadsOne};
+ghost use Rattle.f3.specs.Task.{IsTask, OfRun};
+
 use crate::command::command;
-use crate::files::{Opener, ReadFault, read_sources};
-use crate::report::{ended, refused, unreadable, want_of_memory, write_fault};
+use crate::files::Opener;
+use crate::report::{Outcome, USAGE, finish, want_of_memory};
+use crate::work::{Task, perform, shown};
 use clap::ArgMatches;
 use clap::error::ErrorKind;
-use f3_graph::CheckFault;
-use f3_name_table::name_table;
-use f3_rules::source::Source;
-use f3_run::compile::{check_and_run, compile};
+use f3_output::output::Output;
 use f3_run::end::Limits;
 use std::alloc::Global;
 use std::io::Write;
+use std::str::FromStr;
 
 /// Does what the words ask for, and answers the exit status. The first word is the program's own name.
 pub fn f3<F: Opener, O: Write, E: Write>(
     alloc: Global,
     words: &[String],
     files: &F,
-    output: &mut O,
-    errors: &mut E,
+    output: &mut Output<O>,
+    errors: &mut Output<E>,
 ) -> u8 {
     let Ok(command) = command(alloc) else {
         return want_of_memory(errors);
@@ -34,8 +37,8 @@ pub fn f3<F: Opener, O: Write, E: Write>(
 fn usage<O: Write, E: Write>(
     alloc: Global,
     error: &clap::Error,
-    output: &mut O,
-    errors: &mut E,
+    output: &mut Output<O>,
+    errors: &mut Output<E>,
 ) -> u8 {
     if error.kind() == ErrorKind::OutOfMemory {
         return want_of_memory(errors);
@@ -44,89 +47,42 @@ fn usage<O: Write, E: Write>(
         return want_of_memory(errors);
     };
     if error.use_stderr() {
-        let _ = errors.write_all(text.as_bytes());
-        return crate::report::USAGE;
+        let _told = errors.write(text.as_bytes());
+        return USAGE;
     }
-    shown(text.as_str(), output, errors)
+    let outcome = Outcome::Ended(shown(text.as_str(), output));
+    finish(alloc, &[], &outcome, errors)
 }
 
-/// Writes a text, and answers the status.
-fn shown<O: Write, E: Write>(text: &str, output: &mut O, errors: &mut E) -> u8 {
-    if output.write_all(text.as_bytes()).is_err() || output.flush().is_err() {
-        return write_fault(errors);
-    }
-    0
-}
-
-/// Reads the files and does what the subcommand says.
+/// Does what the subcommand says, with its files.
 fn act<'a, F: Opener, O: Write, E: Write>(
     alloc: Global,
     matches: &ArgMatches<'a>,
     files: &F,
-    output: &mut O,
-    errors: &mut E,
+    output: &mut Output<O>,
+    errors: &mut Output<E>,
 ) -> u8 {
     let Some((name, inner)) = matches.subcommand() else {
-        return crate::report::USAGE;
+        return USAGE;
     };
-    let words = inner.get_strs("FILE").unwrap_or(&[]);
-    let sources = match read_sources(alloc, files, words) {
-        Ok(sources) => sources,
-        Err(ReadFault::Unreadable(name)) => return unreadable(alloc, name, errors),
-        Err(ReadFault::Memory) => return want_of_memory(errors),
-    };
+    let names = inner.get_strs("FILE").unwrap_or(&[]);
+    perform(alloc, task(name, inner), names, files, output, errors)
+}
+
+/// What a subcommand of this name asks for.
+fn task(name: &str, inner: &ArgMatches<'_>) -> Task
+    ensures name { IsTask name.now result }
+    ensures steps { (text : List ℕ) → one_text (found_of inner.now) (codes "steps") ≡ Some text
+        → OfRun result (λ steps. (number : Option ℕ) × ReadsOne ⟦<u64 as FromStr>⟧.from_str_gives text number × (steps ≡ unwrap_or number 0)) }
+{
     if name == "check" {
-        return check(alloc, sources.as_slice(), errors);
+        return Task::Check;
     }
     if name == "names" {
-        return names(alloc, sources.as_slice(), output, errors);
+        return Task::Names;
     }
-    let limits = Limits {
+    Task::Run(Limits {
         steps: inner.get_one::<u64>("steps").unwrap_or(0),
         heap_words: inner.get_one::<usize>("heap").unwrap_or(0),
-    };
-    run(alloc, sources.as_slice(), limits, output, errors)
-}
-
-/// `f3 check`
-fn check<E: Write>(alloc: Global, sources: &[Source], errors: &mut E) -> u8 {
-    match compile(alloc, sources) {
-        Ok(_) => 0,
-        Err(CheckFault::Refused(refusal)) => refused(alloc, sources, &refusal, errors),
-        Err(CheckFault::Memory) => want_of_memory(errors),
-    }
-}
-
-/// `f3 names`
-fn names<O: Write, E: Write>(
-    alloc: Global,
-    sources: &[Source],
-    output: &mut O,
-    errors: &mut E,
-) -> u8 {
-    match name_table(alloc, sources) {
-        Ok(text) => shown(text.as_str(), output, errors),
-        Err(CheckFault::Refused(refusal)) => refused(alloc, sources, &refusal, errors),
-        Err(CheckFault::Memory) => want_of_memory(errors),
-    }
-}
-
-/// `f3 run`
-fn run<O: Write, E: Write>(
-    alloc: Global,
-    sources: &[Source],
-    limits: Limits,
-    output: &mut O,
-    errors: &mut E,
-) -> u8 {
-    match check_and_run(alloc, sources, limits, output) {
-        Ok(end) => {
-            if output.flush().is_err() {
-                return write_fault(errors);
-            }
-            ended(alloc, sources, end, errors)
-        }
-        Err(CheckFault::Refused(refusal)) => refused(alloc, sources, &refusal, errors),
-        Err(CheckFault::Memory) => want_of_memory(errors),
-    }
+    })
 }

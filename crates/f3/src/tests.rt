@@ -4,6 +4,7 @@ ghost use Rattle.std.specs.Prelude.{None};
 
 use crate::files::Opener;
 use crate::program::f3;
+use f3_output::output::Output;
 use std::alloc::Global;
 use std::io;
 use std::process::Abort;
@@ -61,8 +62,8 @@ pub fn expect(
     for word in words {
         line.push(String::from_str(alloc, *word)?)?;
     }
-    let mut out = Vec::new(alloc);
-    let mut err = Vec::new(alloc);
+    let mut out = Output::new(Vec::<u8>::new(alloc));
+    let mut err = Output::new(Vec::<u8>::new(alloc));
     let answer = f3(
         alloc,
         line.as_slice(),
@@ -71,8 +72,8 @@ pub fn expect(
         &mut err,
     );
     assert_eq!(rt; answer, status, "status of {words:?}");
-    assert!(rt; output.fits(out.as_slice()), "output of {words:?}");
-    assert!(rt; errors.fits(err.as_slice()), "errors of {words:?}");
+    assert!(rt; output.fits(out.writer().as_slice()), "output of {words:?}");
+    assert!(rt; errors.fits(err.writer().as_slice()), "errors of {words:?}");
     Ok(())
 }
 

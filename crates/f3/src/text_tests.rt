@@ -2,6 +2,7 @@
 
 use crate::program::f3;
 use crate::tests::{Folder, Text, expect};
+use f3_output::output::Output;
 use std::alloc::Global;
 use std::test::Fail;
 
@@ -281,15 +282,15 @@ fn prefixes(rt: HostRuntime) -> Result<(), Fail> {
         line.push(String::from_str(alloc, word)?)?;
     }
     for length in 0..source.len().min(43) {
-        let mut out = Vec::new(alloc);
-        let mut err = Vec::new(alloc);
+        let mut out = Output::new(Vec::<u8>::new(alloc));
+        let mut err = Output::new(Vec::<u8>::new(alloc));
         let files = [("a.f90", &source[..length])];
         let folder = Folder { files: &files };
         let answer = f3(alloc, line.as_slice(), &folder, &mut out, &mut err);
         assert_eq!(rt; answer, 1, "status of a prefix of {length}");
-        assert!(rt; out.is_empty(), "output of a prefix of {length}");
+        assert!(rt; out.writer().is_empty(), "output of a prefix of {length}");
         assert!(rt;
-            is_refusal(err.as_slice()),
+            is_refusal(err.writer().as_slice()),
             "errors of a prefix of {length}"
         );
     }

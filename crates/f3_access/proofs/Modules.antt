@@ -6,7 +6,8 @@ use Rattle.f3_scopes.specs.declared.outline.ScopeKind.{ScopeKind}
 use Rattle.f3_scopes.specs.declared.outline.ScopeKind.TheVariants.{Module, Program, Subroutine, Function}
 use Rattle.f3_scopes.specs.Outlines.{Scope}
 use Rattle.f3_access.specs.Access.{IsModule, IsUnit, ModulesDiffer}
-use Rattle.f3_access.specs.Listing.{is_module, is_unit, module_from, module_named}
+use Rattle.f3_scopes.specs.Kinds.{is_module}
+use Rattle.f3_access.specs.Listing.{is_unit, module_from, module_named}
 
 pub is_a_module : (k : ScopeKind) → is_module k ≡ true → k ≡ Module
 is_a_module Module t = refl

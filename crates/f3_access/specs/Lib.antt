@@ -4,3 +4,4 @@ pub mod Selecting
 pub mod Tables
 pub mod Walk
 pub mod Lookups
+pub mod Pairs

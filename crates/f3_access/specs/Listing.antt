@@ -8,6 +8,7 @@ use Rattle.f3_tree.specs.declared.expression.Name.{Name}
 use Rattle.f3_scopes.specs.declared.outline.ScopeKind.{ScopeKind}
 use Rattle.f3_scopes.specs.declared.outline.ScopeKind.TheVariants.{Module, Program, Subroutine, Function}
 use Rattle.f3_scopes.specs.declared.outline.UseItem.{UseItem}
+use Rattle.f3_scopes.specs.Kinds.{is_module}
 use Rattle.f3_scopes.specs.Outlines.{Scope, Own, Using, Listed}
 use Rattle.f3_access.specs.declared.table.Visible.{Visible}
 use Rattle.f3_access.specs.Access.{first_entity}
@@ -22,12 +23,6 @@ pair symbol entity = record { symbol = symbol; entity = entity }
 abbrev pub numbered : ℕ → List Own → List Visible
 numbered number [] = []
 numbered number (d ∷ ds) = pair d.name.symbol number ∷ numbered (number + 1) ds
-
-abbrev pub is_module : ScopeKind → Bool
-is_module Module = true
-is_module Program = false
-is_module Subroutine = false
-is_module Function = false
 
 -- the number of the module of this name, among the scopes from a number on
 abbrev pub module_from : Option ℕ → ℕ → List Scope → ℕ → Option ℕ

@@ -121,10 +121,14 @@ is_nothing Nothing = true
 is_nothing (One e) = false
 is_nothing Several = false
 
+-- those of the pairs under whose names the scope of this number has nothing of its own
+abbrev pub unhidden : Tables → ℕ → List Visible → List Visible
+unhidden tables number pairs = filter (λ v. is_nothing (lookup_in (slice_get tables.scopes.items number) v.symbol)) pairs
+
 -- of a scope with a host, its own and then what its host has and it does not hide, by its index
 abbrev pub visible_from : Tables → ℕ → Option ℕ → List Visible
 visible_from tables number None = own_of tables number
-visible_from tables number (Some host) = own_of tables number ++ filter (λ v. is_nothing (lookup_in (slice_get tables.scopes.items number) v.symbol)) (own_of tables host)
+visible_from tables number (Some host) = own_of tables number ++ unhidden tables number (own_of tables host)
 
 abbrev pub visible_of : Tables → ℕ → List Visible
 visible_of tables number = visible_from tables number (host_in (slice_get tables.scopes.items number))

@@ -5,7 +5,8 @@ ghost use Rattle.std.specs.List.{flat_map, list_any};
 ghost use Rattle.indexmap.specs.IndexSet.{insert_all};
 ghost use Rattle.f3_scopes.specs.Outlines.{own_view, listed_view, scope_view};
 ghost use Rattle.f3_tree.specs.declared.declaration.Accessibility.TheVariants.{Public, Private};
-ghost use Rattle.f3_access.specs.Listing.{same_access, listed_names, given_name, named, is_default, is_private, is_module};
+ghost use Rattle.f3_scopes.specs.Kinds.{is_module};
+ghost use Rattle.f3_access.specs.Listing.{same_access, listed_names, given_name, named, is_default, is_private};
 ghost use Rattle.f3_access.specs.Tables.{makes_private, AreAccesses};
 
 use crate::table::{Accesses, Visible};

@@ -5,6 +5,7 @@ mod bringing;
 mod building;
 mod choosing;
 mod filling;
+pub mod pairs;
 mod reading;
 pub mod selecting;
 pub mod table;

@@ -1,13 +1,14 @@
 //! What tables say.
 
-ghost use Rattle.std.specs.Prelude.{◌≡◌, OnOk, IfOk, nat_eq, ◌++◌, filter, slice_get};
+ghost use Rattle.std.specs.Prelude.{◌≡◌, nat_eq, slice_get};
 ghost use Rattle.std.specs.List.{list_any};
 ghost use Rattle.f3_access.specs.Access.{VisibleIsDeclared};
+ghost use Rattle.f3_access.specs.Pairs.{pairs_left};
 ghost use Rattle.f3_access.specs.Tables.{own_of, exports_of, used_of, visible_of, lookup_of, lookup_in, host_in, is_nothing, private_of, module_of};
 
 use crate::choosing;
+use crate::pairs::VisiblePairs;
 use crate::table::{Lookup, Tables, Visible};
-use std::alloc::{AllocError, Global};
 
 /// What a scope has of its own, each entity once under each name: what its USE statements bring, in the order of the
 /// modules' first USE and of what they export, then what it declares (own rule). In a unit that is all that is visible.
@@ -60,7 +61,7 @@ pub fn module(tables: &Tables, symbol: usize) -> Option<usize>
 }
 
 /// What the scope of this number has of its own under a name.
-fn own_lookup(tables: &Tables, scope: usize, symbol: usize) -> Lookup
+pub fn own_lookup(tables: &Tables, scope: usize, symbol: usize) -> Lookup
     ensures { result ≡ lookup_in (slice_get tables.now.scopes.items scope) symbol }
 {
     match tables.scopes.get(scope) {
@@ -100,7 +101,8 @@ pub fn lookup(tables: &Tables, scope: usize, symbol: usize) -> Lookup
     }
 }
 
-fn is_nothing(lookup: Lookup) -> bool
+/// Whether nothing is found.
+pub fn is_nothing(lookup: Lookup) -> bool
     ensures { result ≡ is_nothing lookup }
 {
     match lookup {
@@ -110,37 +112,17 @@ fn is_nothing(lookup: Lookup) -> bool
     }
 }
 
-/// Adds those of the pairs whose names the scope does not hide.
-fn add_unhidden(
-    visible: &mut Vec<Visible>,
-    tables: &Tables,
-    scope: usize,
-    pairs: &[Visible],
-) -> Result<(), AllocError>
-    ensures { OnOk result (visible.new.items ≡ visible.old.items ++ filter (λ v. is_nothing (lookup_in (slice_get tables.now.scopes.items scope) v.symbol)) pairs.now) }
-{
-    for pair in pairs {
-        if is_nothing(own_lookup(tables, scope, pair.symbol)) {
-            visible.push(*pair)?;
-        }
-    }
-    Ok(())
-}
-
 /// What is visible in a scope, each entity once under each name: its own, and in a procedure then what its module has
-/// under names that none of its own has, in their order (own rule). It is made anew, since procedures of one module see
-/// the same names of it.
-///
-/// Memory: a growth of the host's memory was refused.
-pub fn visible(alloc: Global, tables: &Tables, scope: usize) -> Result<Vec<Visible>, AllocError>
-    ensures { IfOk result (λ v. v.items ≡ visible_of tables.now scope) }
+/// under names that none of its own has, in their order (own rule). It takes no memory. Where there is no scope of this
+/// number nothing is visible.
+pub fn visible(tables: &Tables, scope: usize) -> VisiblePairs<'_>
+    ensures { pairs_left result ≡ visible_of tables.now scope }
 {
-    let mut visible = Vec::new(alloc);
-    visible.extend_from_slice(own(tables, scope))?;
-    if let Some(host) = host_of(tables, scope) {
-        add_unhidden(&mut visible, tables, scope, own(tables, host))?;
-    }
-    Ok(visible)
+    let host = match host_of(tables, scope) {
+        Some(host) => own(tables, host),
+        None => &[],
+    };
+    VisiblePairs::new(tables, scope, own(tables, scope), host)
 }
 
 /// What is visible under a name is a declaration of some scope, by its number among the declarations of all scopes.

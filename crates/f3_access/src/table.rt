@@ -25,40 +25,41 @@ pub enum Lookup {
     Several,
 }
 
-/// The table of one scope.
+/// The table of one scope. Only this crate makes one.
 #[derive(Drop)]
 pub struct ScopeTable {
     /// Each entity that it declares or that a USE of it brings, with its name, in the order of names.
-    pub own: IndexSet<Visible>,
+    pub(crate) own: IndexSet<Visible>,
     /// The names that a USE of it brings.
-    pub used: IndexSet<usize>,
+    pub(crate) used: IndexSet<usize>,
     /// What is in `own` under each name.
-    pub lookups: IndexMap<usize, Lookup>,
+    pub(crate) lookups: IndexMap<usize, Lookup>,
     /// Of a module, what it exports, in order.
-    pub exports: Vec<Visible>,
+    pub(crate) exports: Vec<Visible>,
     /// The places in `exports` of each name there, in order.
-    pub places: IndexMap<usize, Vec<usize>>,
+    pub(crate) places: IndexMap<usize, Vec<usize>>,
     /// Of a procedure, the number of its module.
-    pub host: Option<usize>,
+    pub(crate) host: Option<usize>,
 }
 
-/// Which names of a scope are private.
+/// Which names of a scope are private. Only this crate makes one.
 #[derive(Drop)]
 pub struct Accesses {
     /// The names that a PRIVATE names.
-    pub private_names: IndexSet<usize>,
+    pub(crate) private_names: IndexSet<usize>,
     /// The names that a PUBLIC names.
-    pub public_names: IndexSet<usize>,
+    pub(crate) public_names: IndexSet<usize>,
     /// Whether there is a PRIVATE without a list.
-    pub is_private: bool,
+    pub(crate) is_private: bool,
 }
 
-/// The tables of a program, in order of its scopes.
+/// The tables of a program, in order of its scopes. Only `tables` makes them: they are those of its outlines.
 #[derive(Drop)]
 pub struct Tables {
-    pub scopes: Vec<ScopeTable>,
+    /// The table of each scope.
+    pub(crate) scopes: Vec<ScopeTable>,
     /// Which names of each scope are private.
-    pub accesses: Vec<Accesses>,
+    pub(crate) accesses: Vec<Accesses>,
     /// The number of the module of each name among the scopes.
-    pub modules: IndexMap<usize, usize>,
+    pub(crate) modules: IndexMap<usize, usize>,
 }

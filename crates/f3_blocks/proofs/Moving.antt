@@ -1,23 +1,22 @@
 -- What a builder becomes where its innermost construct goes on or is closed.
-use Rattle.std.proofs.Common.{◌≡◌, ◌<◌, ◌≤◌, ◌+◌, ℕ, Bool, true, false, List, [], ◌∷◌, ◌++◌, length, map, reverse, drop, get_or, Option, Some, None, Result, Ok, Err, refl, sym, ap, subst, ◌∙◌, arith}
+use Rattle.std.proofs.Common.{◌≡◌, ◌<◌, ◌≤◌, ◌+◌, ℕ, Bool, true, false, List, [], ◌∷◌, ◌++◌, length, map, reverse, drop, get_or, Option, Some, None, refl, sym, ap, ◌∙◌}
 use Rattle.std.specs.Prelude.{◌||◌}
 use Rattle.std.specs.Global.{Vec}
-use Rattle.std.proofs.lemmas.List.{map-append, reverse-append, length-reverse, length-map, length-append, at_drop_more, at_drop_all}
+use Rattle.std.proofs.lemmas.List.{reverse-append, at_drop_more, at_drop_all}
 use Rattle.f3_rules.specs.declared.source.Place.{Place}
 use Rattle.f3_tree.specs.declared.expression.Expression.{Expression}
 use Rattle.f3_tree.specs.declared.statement.Selector.{Selector}
 use Rattle.f3_tree.specs.declared.statement.Control.{Control}
-use Rattle.f3_tree.specs.declared.statement.Statement.{Statement}
-use Rattle.f3_tree.specs.declared.statement.Statement.TheVariants as statement
+use Rattle.f3_tree.specs.declared.statement.Statement.{Statement, If, Select}
 use Rattle.f3_tree.specs.Expressions.{expression_view}
-use Rattle.f3_tree.specs.Statements.{StatementTree, selector_view, statement_view, block_view}
+use Rattle.f3_tree.specs.Statements.{StatementTree, branches, alternative, no_alternative, selects, selector_view, statement_view, block_view}
+use Rattle.f3_forms.specs.declared.form.Ended.{Ended}
+use Rattle.f3_forms.specs.declared.form.Ended.TheVariants as ended
 use Rattle.f3_blocks.specs.declared.builder.Opening.{Opening}
 use Rattle.f3_blocks.specs.declared.builder.Opening.TheVariants as opening
 use Rattle.f3_blocks.specs.declared.builder.OpenConstruct.{OpenConstruct}
-use Rattle.f3_blocks.specs.declared.builder.BlockBuilder.{BlockBuilder}
-use Rattle.f3_blocks.specs.declared.builder.BlockError.{BlockError}
-use Rattle.f3_blocks.specs.Machine.{Open, State, is_do, in_loop, within, behind, to_else_if, to_else, close_if, to_case, close_select, close_do, open_as, open_view, tested_view, chosen_view, Moves}
-use Rattle.f3_blocks.proofs.Views.{view_do, view_if, view_if_else, view_select}
+use Rattle.f3_blocks.specs.Machine.{Open, Tested, Chosen, branches_from, cases_from, is_do, in_loop, behind, close, close_if, close_select, open_as, open_view, tested_view, chosen_view}
+use Rattle.f3_blocks.proofs.Views.{view_if, view_if_else, view_select}
 
 -- ---- a DO that is open
 
@@ -43,22 +42,32 @@ loop_here xs i x p c inside at is =
 pub loop_over : (xs : List OpenConstruct) (i : ℕ) → length xs ≤ i → in_loop (map open_view (drop i xs)) ≡ false
 loop_over xs i past = at_drop_all (λ (ys : List OpenConstruct). in_loop (map open_view ys)) xs i past
 
--- ---- the innermost construct
+-- ---- the END of a construct
 
-pub popped : (xs ys : List OpenConstruct) (x : OpenConstruct) → xs ≡ ys ++ x ∷ [] → reverse (map open_view xs) ≡ open_view x ∷ reverse (map open_view ys)
-popped xs ys x is = ap (λ (zs : List OpenConstruct). reverse (map open_view zs)) is ∙ ap reverse (map-append open_view ys (x ∷ [])) ∙ reverse-append (map open_view ys) (open_view x ∷ [])
+module _ (what : Option Ended) (o : Opening) (body : Vec Statement) (before : List StatementTree) (os : List Open) where
+  pub ends_if : (v bs : Vec (Place × Expression × Vec Statement)) (at : Place) (e : Expression) → what ≡ Some ended.If → o ≡ opening.If bs at e
+      → Some (map tested_view bs.items ++ (at, expression_view e, block_view body) ∷ []) ≡ Some (map tested_view v.items)
+      → close what (open_as o before ∷ os) (map statement_view body.items) ≡ Some (behind os before (statement_view (If v None)))
+  ends_if v bs at e says is more =
+      let grown : map tested_view bs.items ++ (at, expression_view e, block_view body) ∷ [] ≡ map tested_view v.items = cc in
+      ap (λ (x : Option Ended). close x (open_as o before ∷ os) (map statement_view body.items)) says
+      ∙ ap (λ (x : Opening). close_if (open_as x before ∷ os) (map statement_view body.items)) is
+      ∙ ap (λ (l : List Tested). Some (behind os before (branches (branches_from l) no_alternative))) grown
+      ∙ ap (λ (t : StatementTree). Some (behind os before t)) (sym (view_if v))
 
-pub fewer : (xs ys : List OpenConstruct) (x : OpenConstruct) → xs ≡ ys ++ x ∷ [] → length ys < length (reverse (map open_view xs))
-fewer xs ys x is = omega (arith, ap length is, length-append ys (x ∷ []), length-reverse (map open_view xs), length-map xs open_view)
+  pub ends_else : (bs : Vec (Place × Expression × Vec Statement)) → what ≡ Some ended.If → o ≡ opening.Else bs
+      → close what (open_as o before ∷ os) (map statement_view body.items) ≡ Some (behind os before (statement_view (If bs (Some body))))
+  ends_else bs says is =
+      ap (λ (x : Option Ended). close x (open_as o before ∷ os) (map statement_view body.items)) says
+      ∙ ap (λ (x : Opening). close_if (open_as x before ∷ os) (map statement_view body.items)) is
+      ∙ ap (λ (t : StatementTree). Some (behind os before t)) (sym (view_if_else bs body))
 
-pub moved : (result : Result BlockBuilder BlockError) (s t : State) (next : Option State) → Moves result s (Some t) → next ≡ Some t → Moves result s next
-moved result s t next h is = subst (λ (x : Option State). Moves result s x) (sym is) h
-
-module _ (f : List Open → List StatementTree → Option State) (xs ys : List OpenConstruct) (x : OpenConstruct) (body : List StatementTree) (is : xs ≡ ys ++ x ∷ []) (o : Opening) (at : x.opening ≡ o) where
-  pub innermost : f (reverse (map open_view xs)) body ≡ f (open_as o (map statement_view x.before.items) ∷ reverse (map open_view ys)) body
-  innermost =
-      ap (λ (os : List Open). f os body) (popped xs ys x is)
-      ∙ ap (λ (p : Opening). f (open_as p (map statement_view x.before.items) ∷ reverse (map open_view ys)) body) at
-
-pub grown : {A B : Type 0} (f : A → B) (xs ys : List A) (x : A) → ys ≡ xs ++ x ∷ [] → map f xs ++ f x ∷ [] ≡ map f ys
-grown {A} f xs ys x is = sym (ap (λ (zs : List A). map f zs) is ∙ map-append f xs (x ∷ []))
+  pub ends_case : (v cs : Vec (Place × Selector × Vec Statement)) (at : Place) (e : Expression) (from : Place) (s : Selector) → what ≡ Some ended.Select → o ≡ opening.Case at e cs from s
+      → Some (map chosen_view cs.items ++ (from, selector_view s, block_view body) ∷ []) ≡ Some (map chosen_view v.items)
+      → close what (open_as o before ∷ os) (map statement_view body.items) ≡ Some (behind os before (statement_view (Select at e v)))
+  ends_case v cs at e from s says is more =
+      let grown : map chosen_view cs.items ++ (from, selector_view s, block_view body) ∷ [] ≡ map chosen_view v.items = cc in
+      ap (λ (x : Option Ended). close x (open_as o before ∷ os) (map statement_view body.items)) says
+      ∙ ap (λ (x : Opening). close_select (open_as x before ∷ os) (map statement_view body.items)) is
+      ∙ ap (λ (l : List Chosen). Some (behind os before (selects at (expression_view e) (cases_from l)))) grown
+      ∙ ap (λ (t : StatementTree). Some (behind os before t)) (sym (view_select at e v))

@@ -11,8 +11,12 @@ use Rattle.f3_blocks.specs.declared.builder.Opening.{Opening}
 use Rattle.f3_blocks.specs.declared.builder.Opening.TheVariants as opening
 use Rattle.f3_blocks.specs.declared.builder.OpenConstruct.{OpenConstruct}
 use Rattle.f3_blocks.specs.declared.builder.BlockBuilder.{BlockBuilder}
-use Rattle.f3_blocks.specs.declared.builder.BlockError.{BlockError}
-use Rattle.f3_blocks.specs.declared.builder.BlockError.TheVariants.{Memory, OutOfPlace, TooDeep}
+use Rattle.f3_blocks.specs.declared.builder.Edge.{Edge}
+use Rattle.f3_blocks.specs.declared.builder.Edge.TheVariants as edge
+use Rattle.f3_blocks.specs.declared.error.StepError.{StepError}
+use Rattle.f3_blocks.specs.declared.error.StepError.TheVariants.{Memory, OutOfPlace, TooDeep}
+use Rattle.f3_forms.specs.declared.form.Ended.{Ended}
+use Rattle.f3_forms.specs.declared.form.Ended.TheVariants as ended
 use Rattle.f3_blocks.specs.Pieces.{Piece, act, act_if, if_begins, else_if_begins, else_begins, if_ends, select_begins, case_begins, select_ends, do_begins, do_ends, no_piece}
 use Rattle.f3_blocks.specs.Blocks.{may_act}
 
@@ -144,13 +148,43 @@ open_view c = open_as c.opening (map statement_view c.before.items)
 abbrev pub builder_view : BlockBuilder → State
 builder_view b = record { opens = reverse (map open_view b.constructs.items); body = map statement_view b.body.items }
 
+-- a construct goes on behind an edge
+abbrev pub turned : Edge → List Open → List StatementTree → Option State
+turned (edge.ElseIf p e) os body = to_else_if p (expression_view e) os body
+turned edge.Else os body = to_else os body
+turned (edge.Case p s) os body = to_case p (selector_view s) os body
+
+-- an END that says this ends the innermost construct
+abbrev pub close : Option Ended → List Open → List StatementTree → Option State
+close (Some ended.If) os body = close_if os body
+close (Some ended.Select) os body = close_select os body
+close (Some ended.Do) os body = close_do os body
+close _ os body = None
+
+-- the innermost construct is taken out, with its block
+abbrev pub Pops : Option (OpenConstruct × Vec Statement) → State → State → Type 0
+Pops None s t = s.opens ≡ []
+Pops (Some x) s t = (s ≡ record { opens = open_view x.0 ∷ t.opens; body = map statement_view x.1.items }) × (t.body ≡ [])
+
+-- what is made, or that there is none
+abbrev pub Turns : {A X : Type 0} → (X → A) → Result X StepError → Option A → Type 0
+Turns seen (Ok x) next = next ≡ Some (seen x)
+Turns seen (Err Memory) next = Unit {0}
+Turns seen (Err OutOfPlace) next = next ≡ None
+Turns seen (Err TooDeep) next = ⊥
+
+-- What something becomes, or why it cannot: from s to t, where the machine goes from s to `next`. Nothing is said of t
+-- behind an error.
+abbrev pub Steps : {A U : Type 0} → (A → A → Type 0) → Result U StepError → A → A → Option A → Type 0
+Steps IsTooDeep (Ok u) s t next = (next ≡ Some t) × (IsTooDeep s t → ⊥)
+Steps IsTooDeep (Err Memory) s t next = Unit {0}
+Steps IsTooDeep (Err OutOfPlace) s t next = next ≡ None
+Steps {A} IsTooDeep (Err TooDeep) s t next = (d : A) × (next ≡ Some d) × IsTooDeep s d
+
 -- a construct is opened within 64 that are open
 abbrev pub IsDeeper : State → State → Type 0
 IsDeeper s t = (length s.opens < length t.opens) × (64 < length t.opens)
 
 -- what a builder becomes, or why it cannot
-abbrev pub Moves : Result BlockBuilder BlockError → State → Option State → Type 0
-Moves (Ok b) s next = (next ≡ Some (builder_view b)) × (IsDeeper s (builder_view b) → ⊥)
-Moves (Err Memory) s next = Unit {0}
-Moves (Err OutOfPlace) s next = next ≡ None
-Moves (Err TooDeep) s next = (t : State) × (next ≡ Some t) × IsDeeper s t
+abbrev pub Moves : {U : Type 0} → Result U StepError → State → State → Option State → Type 0
+Moves result s t next = Steps IsDeeper result s t next

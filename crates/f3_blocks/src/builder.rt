@@ -1,19 +1,20 @@
 //! A block, as it grows statement by statement.
 
-ghost use Rattle.std.specs.Prelude.{◌≡◌, ◌<◌, Bool, Some, None, length, map, reverse};
-ghost use Rattle.f3_blocks.specs.declared.builder.BlockError.TheVariants.{Memory};
+ghost use Rattle.std.specs.Prelude.{◌≡◌, ◌++◌, Bool, List, [], ◌∷◌, IfOk, map};
 ghost use Rattle.f3_tree.specs.Expressions.{expression_view};
-ghost use Rattle.f3_tree.specs.Statements.{acts, acts_if, branches as branches_tree, alternative, action_view, statement_view, selector_view, block_view};
+ghost use Rattle.f3_tree.specs.Statements.{StatementTree, acts, acts_if, action_view, statement_view, selector_view, block_view};
 ghost use Rattle.f3_forms.specs.Forms.{form_view, ends};
 ghost use Rattle.f3_blocks.specs.Pieces.{piece};
 ghost use Rattle.f3_blocks.specs.Blocks.{may_act};
-ghost use Rattle.f3_blocks.specs.Machine.{start, step, in_loop, may_stand, pushed, opened, to_else_if, to_else, close_if, to_case, close_select, close_do, branches_from, tested_view, open_as, open_view, State, within, behind, builder_view, Moves};
+ghost use Rattle.f3_blocks.specs.Machine.{Open, start, step, in_loop, may_stand, pushed, opened, turned, close, tested_view, chosen_view, within, behind, open_as, builder_view, Pops, Turns, Moves};
 
+use crate::error::StepError;
 use f3_forms::form::{Ended, Form};
 use f3_rules::source::Place;
 use f3_tree::expression::{Expression, Name};
 use f3_tree::statement::{Action, Control, Selector, Statement};
-use std::alloc::{AllocError, AllocFailed, Global};
+use std::alloc::Global;
+use std::mem;
 
 /// What is open of a construct.
 #[derive(Drop)]
@@ -44,31 +45,12 @@ pub struct BlockBuilder {
     pub body: Vec<Statement>,
 }
 
-/// Why a block cannot go on with a statement.
-#[derive(Clone, Copy, PartialEq, Eq, Debug)]
-pub enum BlockError {
-    /// A growth of the host's memory was refused.
-    Memory,
-    /// No block goes on so (8.1).
-    OutOfPlace,
-    /// It opens a 65th construct (own rule).
-    TooDeep,
-}
-
-impl From<AllocError> for BlockError {
-    ghost from_gives = { λ _ e. e ≡ Memory };
-
-    fn from(_error: AllocError) -> Self {
-        BlockError::Memory
-    }
-}
-
-impl<T: Drop> From<AllocFailed<T>> for BlockError {
-    ghost from_gives = { λ _ e. e ≡ Memory };
-
-    fn from(_error: AllocFailed<T>) -> Self {
-        BlockError::Memory
-    }
+/// Where a construct goes on with its next block.
+#[derive(Drop)]
+pub enum Edge {
+    ElseIf(Place, Expression),
+    Else,
+    Case(Place, Selector),
 }
 
 /// Whether an action may stand in a procedure or in a program, and in a DO or outside of each.
@@ -89,6 +71,107 @@ fn may_act(procedure: bool, looped: bool, action: &Action) -> bool
     }
 }
 
+/// The branches and one more.
+fn with_branch(
+    branches: Vec<(Place, Expression, Vec<Statement>)>,
+    place: Place,
+    condition: Expression,
+    body: Vec<Statement>,
+) -> Result<Vec<(Place, Expression, Vec<Statement>)>, StepError>
+    ensures { Turns (λ v. map tested_view v.items) result (Some (map tested_view branches.items ++ (place, expression_view condition, block_view body) ∷ [])) }
+{
+    let mut branches = branches;
+    branches.push((place, condition, body))?;
+    Ok(branches)
+}
+
+/// The cases and one more.
+fn with_case(
+    cases: Vec<(Place, Selector, Vec<Statement>)>,
+    place: Place,
+    selector: Selector,
+    body: Vec<Statement>,
+) -> Result<Vec<(Place, Selector, Vec<Statement>)>, StepError>
+    ensures { Turns (λ v. map chosen_view v.items) result (Some (map chosen_view cases.items ++ (place, selector_view selector, block_view body) ∷ [])) }
+{
+    let mut cases = cases;
+    cases.push((place, selector, body))?;
+    Ok(cases)
+}
+
+impl Opening {
+    /// What is open of the construct behind this edge, where this block stands before it. Answers `Memory` where a growth
+    /// of the host's memory is refused, and `OutOfPlace` where the construct has no such edge there (8.1).
+    fn next(self, alloc: Global, body: Vec<Statement>, edge: Edge) -> Result<Opening, StepError>
+        ensures { (before : List StatementTree) (os : List Open) → Turns (λ o. within (open_as o before) os) result (turned edge (open_as self before ∷ os) (map statement_view body.items)) }
+    {
+        match edge {
+            Edge::ElseIf(place, condition) => match self {
+                Opening::If(branches, at, tested) => Ok(Opening::If(
+                    with_branch(branches, at, tested, body)?,
+                    place,
+                    condition,
+                )),
+                _ => Err(StepError::OutOfPlace),
+            },
+            Edge::Else => match self {
+                Opening::If(branches, at, tested) => {
+                    Ok(Opening::Else(with_branch(branches, at, tested, body)?))
+                }
+                _ => Err(StepError::OutOfPlace),
+            },
+            Edge::Case(place, selector) => match self {
+                Opening::Select(at, value) => {
+                    Ok(Opening::Case(at, value, Vec::new(alloc), place, selector))
+                }
+                Opening::Case(at, value, cases, from, chosen) => Ok(Opening::Case(
+                    at,
+                    value,
+                    with_case(cases, from, chosen, body)?,
+                    place,
+                    selector,
+                )),
+                _ => Err(StepError::OutOfPlace),
+            },
+        }
+    }
+
+    /// The construct, where this END stands behind this block. Answers `Memory` where a growth of the host's memory is
+    /// refused, and `OutOfPlace` where the END is not that of the construct (8.1).
+    fn end(
+        self,
+        alloc: Global,
+        body: Vec<Statement>,
+        what: Option<Ended>,
+    ) -> Result<Statement, StepError>
+        ensures { (before : List StatementTree) (os : List Open) → Turns (λ s. behind os before (statement_view s)) result (close what (open_as self before ∷ os) (map statement_view body.items)) }
+    {
+        match what {
+            Some(Ended::If) => match self {
+                Opening::If(branches, at, tested) => {
+                    Ok(Statement::If(with_branch(branches, at, tested, body)?, None))
+                }
+                Opening::Else(branches) => Ok(Statement::If(branches, Some(body))),
+                _ => Err(StepError::OutOfPlace),
+            },
+            Some(Ended::Select) => match self {
+                Opening::Select(at, value) => Ok(Statement::Select(at, value, Vec::new(alloc))),
+                Opening::Case(at, value, cases, from, chosen) => Ok(Statement::Select(
+                    at,
+                    value,
+                    with_case(cases, from, chosen, body)?,
+                )),
+                _ => Err(StepError::OutOfPlace),
+            },
+            Some(Ended::Do) => match self {
+                Opening::Do(at, control) => Ok(Statement::Do(at, control, body)),
+                _ => Err(StepError::OutOfPlace),
+            },
+            _ => Err(StepError::OutOfPlace),
+        }
+    }
+}
+
 impl BlockBuilder {
     /// How many constructs may be open (own rule).
     pub const DEEPEST: usize = 64;
@@ -105,14 +188,15 @@ impl BlockBuilder {
 
     /// Goes on with a statement of a procedure or of a program. Answers `Memory` where a growth of the host's memory is
     /// refused, `OutOfPlace` where no block goes on so (8.1), and `TooDeep` where it opens a 65th construct (own rule).
+    /// Behind an error the builder is not to be used again: it may have lost statements.
     pub fn step(
-        self,
+        &mut self,
         alloc: Global,
         procedure: bool,
         place: Place,
         form: Form,
-    ) -> Result<BlockBuilder, BlockError>
-        ensures { Moves result (builder_view self) (step procedure (piece place (form_view form)) (builder_view self)) }
+    ) -> Result<(), StepError>
+        ensures { Moves result (builder_view self.old) (builder_view self.new) (step procedure (piece place (form_view form)) (builder_view self.old)) }
     {
         match form {
             Form::Act(action) => self.act(procedure, place, action),
@@ -123,23 +207,13 @@ impl BlockBuilder {
                 alloc,
                 Opening::If(Vec::new(alloc), place, condition),
             ),
-            Form::ElseIf(condition) => self.else_if(alloc, place, condition),
-            Form::Else => self.else_alone(alloc),
+            Form::ElseIf(condition) => self.turn(alloc, Edge::ElseIf(place, condition)),
+            Form::Else => self.turn(alloc, Edge::Else),
             Form::Select(value) => self.open(alloc, Opening::Select(place, value)),
-            Form::Case(selector) => self.case(alloc, place, selector),
+            Form::Case(selector) => self.turn(alloc, Edge::Case(place, selector)),
             Form::Do(control) => self.open(alloc, Opening::Do(place, control)),
             Form::End(what, name) => self.end(alloc, what, name),
-            Form::Unit(_, _) => Err(BlockError::OutOfPlace),
-            Form::Contains => Err(BlockError::OutOfPlace),
-            Form::Procedure(_) => Err(BlockError::OutOfPlace),
-            Form::Use(_) => Err(BlockError::OutOfPlace),
-            Form::ImplicitNone => Err(BlockError::OutOfPlace),
-            Form::Access(_) => Err(BlockError::OutOfPlace),
-            Form::Protected(_) => Err(BlockError::OutOfPlace),
-            Form::Save => Err(BlockError::OutOfPlace),
-            Form::Declare(_) => Err(BlockError::OutOfPlace),
-            Form::Type(_, _) => Err(BlockError::OutOfPlace),
-            Form::Final(_) => Err(BlockError::OutOfPlace),
+            _ => Err(StepError::OutOfPlace),
         }
     }
 
@@ -150,10 +224,7 @@ impl BlockBuilder {
         for construct in &self.constructs {
             match construct.opening {
                 Opening::Do(_, _) => return true,
-                Opening::If(_, _, _) => {}
-                Opening::Else(_) => {}
-                Opening::Select(_, _) => {}
-                Opening::Case(_, _, _, _, _) => {}
+                _ => {}
             }
         }
         false
@@ -167,288 +238,112 @@ impl BlockBuilder {
             None => true,
             Some(construct) => match construct.opening {
                 Opening::Select(_, _) => false,
-                Opening::If(_, _, _) => true,
-                Opening::Else(_) => true,
-                Opening::Case(_, _, _, _, _) => true,
-                Opening::Do(_, _) => true,
+                _ => true,
             },
         }
     }
 
     /// The statement behind those of the innermost block.
-    fn push(self, allowed: bool, statement: Statement) -> Result<BlockBuilder, BlockError>
-        ensures { Moves result (builder_view self) (pushed allowed (statement_view statement) (builder_view self)) }
+    fn push(&mut self, allowed: bool, statement: Statement) -> Result<(), StepError>
+        ensures { Moves result (builder_view self.old) (builder_view self.new) (pushed allowed (statement_view statement) (builder_view self.old)) }
     {
         if !self.may_stand() {
-            return Err(BlockError::OutOfPlace);
+            return Err(StepError::OutOfPlace);
         }
         if !allowed {
-            return Err(BlockError::OutOfPlace);
+            return Err(StepError::OutOfPlace);
         }
-        let mut body = self.body;
-        body.push(statement)?;
-        Ok(BlockBuilder {
-            constructs: self.constructs,
-            body,
-        })
+        self.body.push(statement)?;
+        Ok(())
     }
 
-    fn act(self, procedure: bool, place: Place, action: Action) -> Result<BlockBuilder, BlockError>
-        ensures { Moves result (builder_view self) (pushed (may_act procedure (in_loop (builder_view self).opens) (action_view action)) (acts place (action_view action)) (builder_view self)) }
+    fn act(&mut self, procedure: bool, place: Place, action: Action) -> Result<(), StepError>
+        ensures { Moves result (builder_view self.old) (builder_view self.new) (pushed (may_act procedure (in_loop (builder_view self.old).opens) (action_view action)) (acts place (action_view action)) (builder_view self.old)) }
     {
         let allowed = may_act(procedure, self.in_loop(), &action);
         self.push(allowed, Statement::Action(place, action))
     }
 
     fn act_if(
-        self,
+        &mut self,
         procedure: bool,
         place: Place,
         condition: Expression,
         at: Place,
         action: Action,
-    ) -> Result<BlockBuilder, BlockError>
-        ensures { Moves result (builder_view self) (pushed (may_act procedure (in_loop (builder_view self).opens) (action_view action)) (acts_if place (expression_view condition) at (action_view action)) (builder_view self)) }
+    ) -> Result<(), StepError>
+        ensures { Moves result (builder_view self.old) (builder_view self.new) (pushed (may_act procedure (in_loop (builder_view self.old).opens) (action_view action)) (acts_if place (expression_view condition) at (action_view action)) (builder_view self.old)) }
     {
         let allowed = may_act(procedure, self.in_loop(), &action);
         self.push(allowed, Statement::LogicalIf(place, condition, at, action))
     }
 
     /// The first statement of a construct.
-    fn open(self, alloc: Global, opening: Opening) -> Result<BlockBuilder, BlockError>
-        ensures { Moves result (builder_view self) (opened (open_as opening (builder_view self).body) (builder_view self)) }
+    fn open(&mut self, alloc: Global, opening: Opening) -> Result<(), StepError>
+        ensures { Moves result (builder_view self.old) (builder_view self.new) (opened (open_as opening (builder_view self.old).body) (builder_view self.old)) }
     {
         if !self.may_stand() {
-            return Err(BlockError::OutOfPlace);
+            return Err(StepError::OutOfPlace);
         }
         if self.constructs.len() >= BlockBuilder::DEEPEST {
-            return Err(BlockError::TooDeep);
+            return Err(StepError::TooDeep);
         }
-        let mut constructs = self.constructs;
-        constructs.push(OpenConstruct {
-            opening,
-            before: self.body,
-        })?;
-        Ok(BlockBuilder {
-            constructs,
-            body: Vec::new(alloc),
-        })
+        let before = mem::replace(&mut self.body, Vec::new(alloc));
+        self.constructs.push(OpenConstruct { opening, before })?;
+        Ok(())
     }
 
-    fn else_if(
-        self,
-        alloc: Global,
-        place: Place,
-        condition: Expression,
-    ) -> Result<BlockBuilder, BlockError>
-        ensures { Moves result (builder_view self) (to_else_if place (expression_view condition) (builder_view self).opens (builder_view self).body) }
+    /// Takes out the innermost construct, with its block.
+    fn pop(&mut self, alloc: Global) -> Option<(OpenConstruct, Vec<Statement>)>
+        ensures { Pops result (builder_view self.old) (builder_view self.new) }
     {
-        let mut constructs = self.constructs;
-        match constructs.pop() {
-            None => Err(BlockError::OutOfPlace),
-            Some(OpenConstruct { opening, before }) => match opening {
-                Opening::If(branches, at, tested) => {
-                    let mut branches = branches;
-                    branches.push((at, tested, self.body))?;
-                    reopened(
-                        alloc,
-                        constructs,
-                        Opening::If(branches, place, condition),
-                        before,
-                    )
-                }
-                Opening::Else(_) => Err(BlockError::OutOfPlace),
-                Opening::Select(_, _) => Err(BlockError::OutOfPlace),
-                Opening::Case(_, _, _, _, _) => Err(BlockError::OutOfPlace),
-                Opening::Do(_, _) => Err(BlockError::OutOfPlace),
-            },
+        match self.constructs.pop() {
+            None => None,
+            Some(construct) => Some((construct, mem::replace(&mut self.body, Vec::new(alloc)))),
         }
     }
 
-    fn else_alone(self, alloc: Global) -> Result<BlockBuilder, BlockError>
-        ensures { Moves result (builder_view self) (to_else (builder_view self).opens (builder_view self).body) }
+    /// The next block of a construct.
+    fn turn(&mut self, alloc: Global, edge: Edge) -> Result<(), StepError>
+        ensures { Moves result (builder_view self.old) (builder_view self.new) (turned edge (builder_view self.old).opens (builder_view self.old).body) }
     {
-        let mut constructs = self.constructs;
-        match constructs.pop() {
-            None => Err(BlockError::OutOfPlace),
-            Some(OpenConstruct { opening, before }) => match opening {
-                Opening::If(branches, at, tested) => {
-                    let mut branches = branches;
-                    branches.push((at, tested, self.body))?;
-                    reopened(alloc, constructs, Opening::Else(branches), before)
-                }
-                Opening::Else(_) => Err(BlockError::OutOfPlace),
-                Opening::Select(_, _) => Err(BlockError::OutOfPlace),
-                Opening::Case(_, _, _, _, _) => Err(BlockError::OutOfPlace),
-                Opening::Do(_, _) => Err(BlockError::OutOfPlace),
-            },
-        }
-    }
-
-    fn end_if(self) -> Result<BlockBuilder, BlockError>
-        ensures { Moves result (builder_view self) (close_if (builder_view self).opens (builder_view self).body) }
-    {
-        let mut constructs = self.constructs;
-        match constructs.pop() {
-            None => Err(BlockError::OutOfPlace),
-            Some(OpenConstruct { opening, before }) => match opening {
-                Opening::If(branches, at, tested) => {
-                    let mut branches = branches;
-                    branches.push((at, tested, self.body))?;
-                    closed(constructs, before, Statement::If(branches, None))
-                }
-                Opening::Else(branches) => closed(
-                    constructs,
-                    before,
-                    with_else(branches, self.body),
-                ),
-                Opening::Select(_, _) => Err(BlockError::OutOfPlace),
-                Opening::Case(_, _, _, _, _) => Err(BlockError::OutOfPlace),
-                Opening::Do(_, _) => Err(BlockError::OutOfPlace),
-            },
-        }
-    }
-
-    fn case(
-        self,
-        alloc: Global,
-        place: Place,
-        selector: Selector,
-    ) -> Result<BlockBuilder, BlockError>
-        ensures { Moves result (builder_view self) (to_case place (selector_view selector) (builder_view self).opens (builder_view self).body) }
-    {
-        let mut constructs = self.constructs;
-        match constructs.pop() {
-            None => Err(BlockError::OutOfPlace),
-            Some(OpenConstruct { opening, before }) => match opening {
-                Opening::Select(at, value) => {
-                    let cases = Vec::new(alloc);
-                    reopened(
-                        alloc,
-                        constructs,
-                        Opening::Case(at, value, cases, place, selector),
-                        before,
-                    )
-                }
-                Opening::Case(at, value, cases, from, chosen) => {
-                    let mut cases = cases;
-                    cases.push((from, chosen, self.body))?;
-                    reopened(
-                        alloc,
-                        constructs,
-                        Opening::Case(at, value, cases, place, selector),
-                        before,
-                    )
-                }
-                Opening::If(_, _, _) => Err(BlockError::OutOfPlace),
-                Opening::Else(_) => Err(BlockError::OutOfPlace),
-                Opening::Do(_, _) => Err(BlockError::OutOfPlace),
-            },
-        }
-    }
-
-    fn end_select(self, alloc: Global) -> Result<BlockBuilder, BlockError>
-        ensures { Moves result (builder_view self) (close_select (builder_view self).opens (builder_view self).body) }
-    {
-        let mut constructs = self.constructs;
-        match constructs.pop() {
-            None => Err(BlockError::OutOfPlace),
-            Some(OpenConstruct { opening, before }) => match opening {
-                Opening::Select(at, value) => {
-                    let cases = Vec::new(alloc);
-                    closed(constructs, before, Statement::Select(at, value, cases))
-                }
-                Opening::Case(at, value, cases, from, chosen) => {
-                    let mut cases = cases;
-                    cases.push((from, chosen, self.body))?;
-                    closed(constructs, before, Statement::Select(at, value, cases))
-                }
-                Opening::If(_, _, _) => Err(BlockError::OutOfPlace),
-                Opening::Else(_) => Err(BlockError::OutOfPlace),
-                Opening::Do(_, _) => Err(BlockError::OutOfPlace),
-            },
-        }
-    }
-
-    fn end_do(self) -> Result<BlockBuilder, BlockError>
-        ensures { Moves result (builder_view self) (close_do (builder_view self).opens (builder_view self).body) }
-    {
-        let mut constructs = self.constructs;
-        match constructs.pop() {
-            None => Err(BlockError::OutOfPlace),
-            Some(OpenConstruct { opening, before }) => match opening {
-                Opening::Do(at, control) => closed(
-                    constructs,
-                    before,
-                    Statement::Do(at, control, self.body),
-                ),
-                Opening::If(_, _, _) => Err(BlockError::OutOfPlace),
-                Opening::Else(_) => Err(BlockError::OutOfPlace),
-                Opening::Select(_, _) => Err(BlockError::OutOfPlace),
-                Opening::Case(_, _, _, _, _) => Err(BlockError::OutOfPlace),
-            },
+        match self.pop(alloc) {
+            None => Err(StepError::OutOfPlace),
+            Some((OpenConstruct { opening, before }, body)) => {
+                let opening = opening.next(alloc, body, edge)?;
+                self.constructs.push(OpenConstruct { opening, before })?;
+                Ok(())
+            }
         }
     }
 
     /// The END of a construct, which has no name.
     fn end(
-        self,
+        &mut self,
         alloc: Global,
         what: Option<Ended>,
         name: Option<Name>,
-    ) -> Result<BlockBuilder, BlockError>
-        ensures { (procedure : Bool) (place : Place) → Moves result (builder_view self) (step procedure (piece place (ends what name)) (builder_view self)) }
+    ) -> Result<(), StepError>
+        ensures { (procedure : Bool) (place : Place) → Moves result (builder_view self.old) (builder_view self.new) (step procedure (piece place (ends what name)) (builder_view self.old)) }
     {
         match name {
-            Some(_) => Err(BlockError::OutOfPlace),
-            None => match what {
-                Some(Ended::If) => self.end_if(),
-                Some(Ended::Select) => self.end_select(alloc),
-                Some(Ended::Do) => self.end_do(),
-                Some(Ended::Module) => Err(BlockError::OutOfPlace),
-                Some(Ended::Program) => Err(BlockError::OutOfPlace),
-                Some(Ended::Subroutine) => Err(BlockError::OutOfPlace),
-                Some(Ended::Function) => Err(BlockError::OutOfPlace),
-                Some(Ended::Type) => Err(BlockError::OutOfPlace),
-                None => Err(BlockError::OutOfPlace),
-            },
+            Some(_) => Err(StepError::OutOfPlace),
+            None => self.close(alloc, what),
         }
     }
-}
 
-/// An IF construct with an ELSE.
-fn with_else(branches: Vec<(Place, Expression, Vec<Statement>)>, other: Vec<Statement>) -> Statement
-    ensures { statement_view result ≡ branches_tree (branches_from (map tested_view branches.items)) (alternative (block_view other)) }
-{
-    Statement::If(branches, Some(other))
-}
-
-/// The next part of a construct, within these constructs.
-fn reopened(
-    alloc: Global,
-    constructs: Vec<OpenConstruct>,
-    opening: Opening,
-    before: Vec<Statement>,
-) -> Result<BlockBuilder, BlockError>
-    ensures { (s : State) → length constructs.items < length s.opens → Moves result s (Some (within (open_as opening (map statement_view before.items)) (reverse (map open_view constructs.items)))) }
-{
-    let mut constructs = constructs;
-    constructs.push(OpenConstruct { opening, before })?;
-    Ok(BlockBuilder {
-        constructs,
-        body: Vec::new(alloc),
-    })
-}
-
-/// The statements before a construct and the construct behind them, within these constructs.
-fn closed(
-    constructs: Vec<OpenConstruct>,
-    before: Vec<Statement>,
-    statement: Statement,
-) -> Result<BlockBuilder, BlockError>
-    ensures { (s : State) → length constructs.items < length s.opens → Moves result s (Some (behind (reverse (map open_view constructs.items)) (map statement_view before.items) (statement_view statement))) }
-{
-    let mut body = before;
-    body.push(statement)?;
-    Ok(BlockBuilder { constructs, body })
+    /// The END of the innermost construct.
+    fn close(&mut self, alloc: Global, what: Option<Ended>) -> Result<(), StepError>
+        ensures { Moves result (builder_view self.old) (builder_view self.new) (close what (builder_view self.old).opens (builder_view self.old).body) }
+    {
+        match self.pop(alloc) {
+            None => Err(StepError::OutOfPlace),
+            Some((OpenConstruct { opening, before }, body)) => {
+                let statement = opening.end(alloc, body, what)?;
+                self.body = before;
+                self.body.push(statement)?;
+                Ok(())
+            }
+        }
+    }
 }

@@ -11,7 +11,7 @@ use Rattle.f3_rules.proofs.Firsts.{first-append}
 use Rattle.f3_rules.specs.declared.rule.Rule.TheVariants.{T1}
 use Rattle.f3_taken.specs.declared.statement.Entity.{Entity as DeclaredName}
 use Rattle.f3_taken.specs.Tree.{Declares, UnitTree, declarations_of, protected_names}
-use Rattle.f3_name_rules.specs.NameBreaks.{at}
+use Rattle.f3_breaks.specs.At.{at}
 use Rattle.f3_names.specs.declared.table.Names.{Names}
 use Rattle.f3_check.specs.declared.times.Times.{Times}
 use Rattle.f3_check.specs.declared.times.Times.TheVariants.{Never, Once, Often}

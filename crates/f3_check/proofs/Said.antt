@@ -14,18 +14,20 @@ use Rattle.f3_access.proofs.Members.{Has, has_of, contains_of, has_piece, piece_
 use Rattle.f3_taken.specs.declared.statement.Entity.{Entity as DeclaredName}
 use Rattle.f3_taken.specs.Tree.{Declares, UnitTree, Tree, declarations_of}
 use Rattle.f3_name_rules.specs.Intrinsics.{is_intrinsic}
-use Rattle.f3_name_rules.specs.NameBreaks.{at, text_of}
+use Rattle.f3_breaks.specs.At.{at}
+use Rattle.f3_name_rules.specs.References.{text_of, IsNowhere}
 use Rattle.f3_names.specs.declared.entity.Entity.{Entity}
 use Rattle.f3_names.specs.Entities.{described}
 use Rattle.f3_check.specs.References.{RefersTo, Defines}
-use Rattle.f3_check.specs.UseBreaks.{protections, IsNowhere, Means, UseBreaks, attribute_twice, not_accessible, of_several, no_variable, protected_defined}
+use Rattle.f3_names.specs.Meant.{IsMeant}
+use Rattle.f3_check.specs.UseBreaks.{protections, UseBreaks, attribute_twice, not_accessible, of_several, no_variable, protected_defined}
 use Rattle.f3_check.specs.Rows.{reference_row, entity_row, definition_row, entity_again, declaration_row}
 
 -- ---- references and definitions of one name
 
 module _ (t : whole.Tree) (program : Tree) (unit : ℕ) (x : Name) (b : Break) where
   module _ (texts : List ℕ) (are : texts ≡ text_of t.names x.symbol) where
-    nothing_said : (f : Bool) → is_intrinsic texts ≡ f → RefersTo program unit x → IsNowhere t unit x → Has ((if f then at 6 T9 x else at 6 N10 x) ∷ []) b → UseBreaks t program b
+    nothing_said : (f : Bool) → is_intrinsic texts ≡ f → RefersTo program unit x → IsNowhere (scopes_of t) unit x → Has ((if f then at 6 T9 x else at 6 N10 x) ∷ []) b → UseBreaks t program b
     nothing_said true e refers none (inl i) = no_variable (unit, x, refers, none, ap is_intrinsic (sym are) ∙ e, i)
     nothing_said true e refers none (inr n) = absurd n
     nothing_said false e refers none (inl i) = not_accessible (unit, x, refers, none, ap is_intrinsic (sym are) ∙ e, i)
@@ -37,12 +39,12 @@ module _ (t : whole.Tree) (program : Tree) (unit : ℕ) (x : Name) (b : Break) w
     reference_said Several r refers (inr n) = absurd n
     reference_said Nothing r refers h = nothing_said (is_intrinsic texts) refl refers r h
 
-    pub row_of_nowhere : (l : Lookup) → ResolvesAs l (IsVisible (scopes_of t) unit x.symbol) → IsNowhere t unit x → is_intrinsic (text_of t.names x.symbol) ≡ false → b ≡ at 6 N10 x → Has (reference_row l texts x) b
+    pub row_of_nowhere : (l : Lookup) → ResolvesAs l (IsVisible (scopes_of t) unit x.symbol) → IsNowhere (scopes_of t) unit x → is_intrinsic (text_of t.names x.symbol) ≡ false → b ≡ at 6 N10 x → Has (reference_row l texts x) b
     row_of_nowhere (One e) r none i q = absurd (none e r.0)
     row_of_nowhere Several r none i q = absurd (none r.0 r.2)
     row_of_nowhere Nothing r none i q = let same : is_intrinsic texts ≡ false = ap is_intrinsic are ∙ i in rw same (inl q)
 
-    pub row_of_intrinsic : (l : Lookup) → ResolvesAs l (IsVisible (scopes_of t) unit x.symbol) → IsNowhere t unit x → is_intrinsic (text_of t.names x.symbol) ≡ true → b ≡ at 6 T9 x → Has (reference_row l texts x) b
+    pub row_of_intrinsic : (l : Lookup) → ResolvesAs l (IsVisible (scopes_of t) unit x.symbol) → IsNowhere (scopes_of t) unit x → is_intrinsic (text_of t.names x.symbol) ≡ true → b ≡ at 6 T9 x → Has (reference_row l texts x) b
     row_of_intrinsic (One e) r none i q = absurd (none e r.0)
     row_of_intrinsic Several r none i q = absurd (none r.0 r.2)
     row_of_intrinsic Nothing r none i q = let same : is_intrinsic texts ≡ true = ap is_intrinsic are ∙ i in rw same (inl q)
@@ -54,7 +56,7 @@ module _ (t : whole.Tree) (program : Tree) (unit : ℕ) (x : Name) (b : Break) w
     row_of_several Nothing r d e hd he ne q = absurd (r d hd)
 
   module _ (entities : List Entity) (are : entities ≡ described (scopes_of t)) where
-    flag_said : (e : ℕ) (d : Entity) → Means t unit x e → Defines program unit x → slice_get entities e ≡ Some d
+    flag_said : (e : ℕ) (d : Entity) → IsMeant t unit x.symbol e → Defines program unit x → slice_get entities e ≡ Some d
         → (f g : Bool) → d.is_protected ≡ f → (d.scope == unit) ≡ g → Has (if f && not g then at 7 D1 x ∷ [] else []) b → UseBreaks t program b
     flag_said e d means defines q true false f g (inl i) =
         protected_defined (unit, x, defines, e, means, d, ap (λ l. slice_get l e) (sym are) ∙ q, f, eqb-false d.scope unit g, i)
@@ -62,7 +64,7 @@ module _ (t : whole.Tree) (program : Tree) (unit : ℕ) (x : Name) (b : Break) w
     flag_said e d means defines q true true f g h = absurd h
     flag_said e d means defines q false s f g h = absurd h
 
-    entity_said : (e : ℕ) → Means t unit x e → Defines program unit x → (o : Option Entity) → slice_get entities e ≡ o → Has (entity_row unit o x) b → UseBreaks t program b
+    entity_said : (e : ℕ) → IsMeant t unit x.symbol e → Defines program unit x → (o : Option Entity) → slice_get entities e ≡ o → Has (entity_row unit o x) b → UseBreaks t program b
     entity_said e means defines None q h = absurd h
     entity_said e means defines (Some d) q h = flag_said e d means defines q d.is_protected (d.scope == unit) refl refl h
 
@@ -74,7 +76,7 @@ module _ (t : whole.Tree) (program : Tree) (unit : ℕ) (x : Name) (b : Break) w
     protected_row : (d : Entity) (o : Option Entity) → o ≡ Some d → d.is_protected ≡ true → d.scope ≢ unit → b ≡ at 7 D1 x → Has (entity_row unit o x) b
     protected_row d o q f ne i = rw (q, f, ne_eqb d.scope unit ne) (inl i)
 
-    pub row_of_protected : (l : Lookup) → ResolvesAs l (IsVisible (scopes_of t) unit x.symbol) → (e : ℕ) → Means t unit x e → (d : Entity) → slice_get (described (scopes_of t)) e ≡ Some d
+    pub row_of_protected : (l : Lookup) → ResolvesAs l (IsVisible (scopes_of t) unit x.symbol) → (e : ℕ) → IsMeant t unit x.symbol e → (d : Entity) → slice_get (described (scopes_of t)) e ≡ Some d
         → d.is_protected ≡ true → d.scope ≢ unit → b ≡ at 7 D1 x → Has (definition_row unit entities l x) b
     row_of_protected (One c) r e means d q f ne i =
         let same : c ≡ e = means.1 c r.0 in

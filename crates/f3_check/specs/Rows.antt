@@ -9,7 +9,8 @@ use Rattle.f3_taken.specs.Tree.{Acts, Declares, UnitTree, Tree, declarations_of}
 use Rattle.f3_access.specs.declared.table.Lookup.{Lookup}
 use Rattle.f3_access.specs.declared.table.Lookup.TheVariants.{One, Nothing, Several}
 use Rattle.f3_name_rules.specs.Intrinsics.{is_intrinsic}
-use Rattle.f3_name_rules.specs.NameBreaks.{at, text_of}
+use Rattle.f3_breaks.specs.At.{at}
+use Rattle.f3_name_rules.specs.References.{text_of}
 use Rattle.f3_names.specs.declared.entity.Entity.{Entity}
 use Rattle.f3_names.specs.declared.table.Names.{Names}
 use Rattle.f3_names.specs.Tables.{lookup_at}

@@ -2,19 +2,21 @@
 -- tree says what its names mean. A unit has no procedures there, so that a unit's number is that of its scope.
 use Rattle.std.specs.Prelude.{◌≡◌, ◌≢◌, ℕ, ◌+◌, ◌<◌, ◌==◌, Bool, Some, true, false, Contains, length, filter, slice_get}
 use Rattle.f3_rules.specs.declared.breaks.Break.{Break}
-use Rattle.f3_rules.specs.declared.rule.Rule.TheVariants.{T1, T9, N10, N11, D1}
+use Rattle.f3_rules.specs.declared.rule.Rule.TheVariants.{T1, T9, D1}
 use Rattle.f3_tree.specs.declared.expression.Name.{Name}
 use Rattle.f3_tree.specs.Tree as whole
 use Rattle.f3_scopes.specs.Scopes.{scopes_of}
-use Rattle.f3_access.specs.Access.{IsVisible}
 use Rattle.f3_taken.specs.declared.statement.Attribute.{Attribute}
 use Rattle.f3_taken.specs.declared.statement.Attribute.TheVariants.{Protected, Access}
 use Rattle.f3_taken.specs.declared.statement.Entity.{Entity as DeclaredName}
 use Rattle.f3_taken.specs.Tree.{Declares, UnitTree, Tree, declarations_of, protected_names}
 use Rattle.f3_name_rules.specs.Intrinsics.{is_intrinsic}
-use Rattle.f3_name_rules.specs.NameBreaks.{at, text_of}
+use Rattle.f3_breaks.specs.At.{at}
+use Rattle.f3_name_rules.specs.References as references
+use Rattle.f3_name_rules.specs.References.{text_of, IsNowhere}
 use Rattle.f3_names.specs.declared.entity.Entity.{Entity}
 use Rattle.f3_names.specs.Entities.{described}
+use Rattle.f3_names.specs.Meant.{IsMeant}
 use Rattle.f3_check.specs.References.{RefersTo, Defines}
 
 abbrev pub is_protected : Attribute → Bool
@@ -33,33 +35,23 @@ abbrev pub AttributeTwice : Tree → Break → Type 0
 AttributeTwice program b = (unit : UnitTree) × Contains program.units unit × (d : Declares) × Contains (declarations_of unit) d
     × (e : DeclaredName) × Contains d.entities e × (1 < protections unit d e.name.symbol) × (b ≡ at 5 T1 e.name)
 
--- nothing is visible under the name
-abbrev pub IsNowhere : whole.Tree → ℕ → Name → Type 0
-IsNowhere t unit x = (e : ℕ) → IsVisible (scopes_of t) unit x.symbol e → ⊥
-
--- The name means this entity: it is visible under the name, and no other is (own rule).
-abbrev pub Means : whole.Tree → ℕ → Name → ℕ → Type 0
-Means t unit x e = IsVisible (scopes_of t) unit x.symbol e × ((d : ℕ) → IsVisible (scopes_of t) unit x.symbol d → d ≡ e)
-
--- N10: a reference to a name that no entity and no intrinsic procedure has; the name (5.3: there is no implicit typing)
+-- N10 at a reference of an executable statement
 abbrev pub NotAccessible : whole.Tree → Tree → Break → Type 0
-NotAccessible t program b = (unit : ℕ) × (x : Name) × RefersTo program unit x × IsNowhere t unit x
-    × (is_intrinsic (text_of t.names x.symbol) ≡ false) × (b ≡ at 6 N10 x)
+NotAccessible t program b = references.NotAccessible 6 (scopes_of t) (RefersTo program) t.names b
 
--- N11: a reference to a name that several entities have; the name (11.2.1)
+-- N11 at such a reference
 abbrev pub OfSeveral : whole.Tree → Tree → Break → Type 0
-OfSeveral t program b = (unit : ℕ) × (x : Name) × RefersTo program unit x
-    × (d : ℕ) × (e : ℕ) × IsVisible (scopes_of t) unit x.symbol d × IsVisible (scopes_of t) unit x.symbol e × (d ≢ e) × (b ≡ at 6 N11 x)
+OfSeveral t program b = references.OfSeveral 6 (scopes_of t) (RefersTo program) b
 
 -- T9: a reference to the name of an intrinsic procedure, where a variable is needed; the name (7.1.2, 7.4.1.1)
 abbrev pub NoVariable : whole.Tree → Tree → Break → Type 0
-NoVariable t program b = (unit : ℕ) × (x : Name) × RefersTo program unit x × IsNowhere t unit x
+NoVariable t program b = (unit : ℕ) × (x : Name) × RefersTo program unit x × IsNowhere (scopes_of t) unit x
     × (is_intrinsic (text_of t.names x.symbol) ≡ true) × (b ≡ at 6 T9 x)
 
 -- D1: the definition of a protected variable of another unit; the name (5.1.2.12)
 abbrev pub ProtectedDefined : whole.Tree → Tree → Break → Type 0
 ProtectedDefined t program b = (unit : ℕ) × (x : Name) × Defines program unit x
-    × (e : ℕ) × Means t unit x e × (d : Entity) × (slice_get (described (scopes_of t)) e ≡ Some d) × (d.is_protected ≡ true) × (d.scope ≢ unit)
+    × (e : ℕ) × IsMeant t unit x.symbol e × (d : Entity) × (slice_get (described (scopes_of t)) e ≡ Some d) × (d.is_protected ≡ true) × (d.scope ≢ unit)
     × (b ≡ at 7 D1 x)
 
 -- the breaks of phases 5 to 7

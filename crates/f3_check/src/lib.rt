@@ -2,5 +2,5 @@
 #![tactic(auto)]
 
 pub mod check;
-pub mod rows;
+mod rows;
 mod times;

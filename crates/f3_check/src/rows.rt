@@ -5,7 +5,6 @@ ghost use Rattle.std.specs.List.{flat_map};
 ghost use Rattle.f3_rules.specs.Least.{first_of, Least};
 ghost use Rattle.f3_tree.specs.Tree.{Tree};
 ghost use Rattle.f3_taken.specs.Tree.{view, unit_view, specification_view, declaration_view, statement_view, item_view, sum_view, declared_by};
-ghost use Rattle.f3_name_rules.specs.NameBreaks.{at};
 ghost use Rattle.f3_names.specs.Tables.{AreNames};
 ghost use Rattle.f3_check.specs.References.{operand_names, term_names, item_names};
 ghost use Rattle.f3_check.specs.UseBreaks.{UseBreaks};
@@ -14,6 +13,7 @@ ghost use Rattle.f3_check.specs.Rows.{reference_of, definition_of, entity_row, e
 
 use crate::times::{Times, is_twice, listed_times, listings, protections};
 use f3_access::table::Lookup;
+use f3_breaks::at;
 use f3_name_rules::is_intrinsic;
 use f3_names::entity::Entity;
 use f3_names::lookup;
@@ -28,18 +28,6 @@ use f3_taken::statement::{
 use f3_tree::expression::Name;
 use indexmap::IndexMap;
 use std::alloc::{AllocError, Global};
-
-/// The break of a rule at a name.
-fn at(phase: u32, rule: Rule, x: Name) -> Break
-    ensures { result ≡ at phase rule x }
-{
-    Break {
-        phase,
-        place: x.place,
-        rule,
-        name: Some(x.symbol),
-    }
-}
 
 /// The break at a reference.
 fn at_reference(names: &Names, unit: usize, x: Name) -> Option<Break>
@@ -63,7 +51,7 @@ fn at_definition(names: &Names, unit: usize, x: Name) -> Option<Break>
     ensures { result ≡ first_of (definition_of names.now unit x) }
 {
     match lookup(names, ScopeId { number: unit }, x.symbol) {
-        Lookup::One(entity) => match names.entities.get(entity) {
+        Lookup::One(entity) => match names.entities().get(entity) {
             Some(declared) => at_definition_of(declared, unit, x),
             None => None,
         },

@@ -5,10 +5,12 @@ use Rattle.std.proofs.lemmas.List.{append-nil}
 use Rattle.std.proofs.lemmas.Bool.{true≢false}
 use Rattle.f3_words.specs.declared.item.Item.{Item}
 use Rattle.f3_words.specs.Lists.{starts}
-use Rattle.f3_words.specs.Reads.{IsRead, Fails}
+use Rattle.f3_words.specs.declared.error.ReadError.{ReadError}
+use Rattle.f3_words.specs.declared.error.ReadError.TheVariants.{Memory, NoForm}
+use Rattle.f3_words.specs.Reads.{IsRead, Fails, Refused}
 use Rattle.f3_declarations.specs.declared.procedures.Prefix.{Prefix}
 use Rattle.f3_declarations.specs.declared.procedures.Prefixes.{Prefixes}
-use Rattle.f3_declarations.specs.Parts.{is_prefix}
+use Rattle.f3_declarations.specs.Specifications.{is_prefix}
 use Rattle.f3_declarations.specs.Specifications.{EatsPrefix, ArePrefixes, EatsPrefixes, no_prefix, with_prefix, with_prefixes}
 
 -- What was found so far goes on with the prefixes that the rest begins with, and in no other way.
@@ -94,3 +96,8 @@ twice ts rest after t x s passes a is p r h =
     let none : with_prefixes no_prefix h.0 ≡ None = ap (with_prefixes no_prefix) all ∙ sum_more no_prefix s.found (x ∷ n.0) ∙ ap (option_and_then (λ q. with_prefixes q (x ∷ n.0))) s.sum ∙ ap (option_and_then (λ q. with_prefixes q n.0)) is in
     let some = h.2 in
     cc
+
+-- one refusal from another
+pub refused : (e : ReadError) (P Q : Type 0) → (P → Q) → Refused e P → Refused e Q
+refused Memory P Q f h = tt
+refused NoForm P Q f h = f h

@@ -21,12 +21,13 @@ use Rattle.f3_words.specs.declared.item.Keyword.TheVariants as keyword
 use Rattle.f3_words.specs.declared.item.Word.{Word}
 use Rattle.f3_words.specs.declared.item.Word.TheVariants as word
 use Rattle.f3_words.specs.declared.item.Item.{Item}
-use Rattle.f3_words.specs.Lists.{starts, is_comma, EatsList}
+use Rattle.f3_words.specs.Lists.{starts, EatsList}
 use Rattle.f3_expressions.specs.Grammar.{EatsExpression}
 use Rattle.f3_declarations.specs.declared.procedures.Prefix.{Prefix}
 use Rattle.f3_declarations.specs.declared.procedures.Prefix.TheVariants as prefix
 use Rattle.f3_declarations.specs.declared.procedures.Prefixes.{Prefixes}
-use Rattle.f3_declarations.specs.Parts.{is_open, is_arrow, is_equals, is_colon, is_out, is_result, is_prefix, EatsWord, EatsKeyword, EatsName, EatsEnclosedName, Enclosed, Perhaps, BehindComma, EatsColons, EatsNames, IsName, IsNameList}
+use Rattle.f3_reading.specs.Parts.{EatsWord, EatsName, EatsKeyword, Lacks, Enclosed, Perhaps, BehindComma}
+use Rattle.f3_reading.specs.Names.{EatsEnclosedName, EatsNames, EatsColons, IsName, IsNameList}
 
 -- ---- USE (11.2.1): [::] n [, n => n {, n => n}], or [::] n, ONLY: [only {, only}]
 
@@ -35,7 +36,7 @@ EatsRename x ts r = (l : Identifier) × (o : Identifier) × (a : List Item) × (
 
 -- a name alone is one that no arrow follows
 unfoldable pub EatsOnly : Only → List Item → List Item → Type 0
-EatsOnly (only_of.Name n) ts r = EatsName n ts r × (starts is_arrow r ≡ false)
+EatsOnly (only_of.Name n) ts r = EatsName n ts r × Lacks word.Arrow r
 EatsOnly (only_of.Rename x) ts r = EatsRename x ts r
 
 unfoldable pub AreRenames : List Rename → List Item → List Item → Type 0
@@ -88,16 +89,16 @@ EatsSpecifier s ts r = (i : Item) × (k : Keyword) × (tail : List Item) × (ts 
 
 -- `e`, or `e:e`
 abbrev pub EatsBound : Option Tree → Tree → List Item → List Item → Type 0
-EatsBound None upper ts r = EatsExpression upper ts r × (starts is_colon r ≡ false)
-EatsBound (Some lower) upper ts r = (a : List Item) × (b : List Item) × EatsExpression lower ts a × (starts is_colon a ≡ true) × EatsWord word.Colon a b × EatsExpression upper b r
+EatsBound None upper ts r = EatsExpression upper ts r × Lacks word.Colon r
+EatsBound (Some lower) upper ts r = (a : List Item) × (b : List Item) × EatsExpression lower ts a × EatsWord word.Colon a b × EatsExpression upper b r
 
 unfoldable pub EatsBounds : Bounds → List Item → List Item → Type 0
 EatsBounds x ts r = (lower : Option Tree) × (upper : Tree) × EatsBound lower upper ts r × (x ≡ record { lower = lower; upper = upper })
 
 -- `:`, or `e:`
 unfoldable pub EatsLower : Option Tree → List Item → List Item → Type 0
-EatsLower None ts r = (starts is_colon ts ≡ true) × EatsWord word.Colon ts r
-EatsLower (Some lower) ts r = (a : List Item) × (starts is_colon ts ≡ false) × EatsExpression lower ts a × EatsWord word.Colon a r
+EatsLower None ts r = EatsWord word.Colon ts r
+EatsLower (Some lower) ts r = (a : List Item) × Lacks word.Colon ts × EatsExpression lower ts a × EatsWord word.Colon a r
 
 unfoldable pub AreBounds : List Bounds → List Item → List Item → Type 0
 AreBounds xs ts r = EatsList EatsBounds xs ts r
@@ -105,20 +106,26 @@ AreBounds xs ts r = EatsList EatsBounds xs ts r
 unfoldable pub AreLowers : List (Option Tree) → List Item → List Item → Type 0
 AreLowers xs ts r = EatsList EatsLower xs ts r
 
+-- `e`, `e:e` {, ..} and the parenthesis that closes
 unfoldable pub EatsExplicit : List Bounds → List Item → List Item → Type 0
-EatsExplicit xs ts r = Enclosed AreBounds xs ts r
+EatsExplicit xs ts r = (a : List Item) × AreBounds xs ts a × EatsWord word.Close a r
 
+-- `:`, `e:` {, ..} and the parenthesis that closes
 unfoldable pub EatsDeferred : List (Option Tree) → List Item → List Item → Type 0
-EatsDeferred xs ts r = Enclosed AreLowers xs ts r
+EatsDeferred xs ts r = (a : List Item) × AreLowers xs ts a × EatsWord word.Close a r
 
--- a shape with its parentheses: of `e` and `e:e`, or else of `:` and `e:`
+-- a shape behind its open parenthesis: of `e` and `e:e`, or else of `:` and `e:`
+unfoldable pub EatsShapeBehind : ShapeTree → List Item → List Item → Type 0
+EatsShapeBehind (explicit bounds) ts r = EatsExplicit bounds ts r
+EatsShapeBehind (deferred lowers) ts r = EatsDeferred lowers ts r × ((bounds : List Bounds) (s : List Item) → EatsExplicit bounds ts s → ⊥)
+
+-- `( shape )`
 unfoldable pub EatsShape : ShapeTree → List Item → List Item → Type 0
-EatsShape (explicit bounds) ts r = EatsExplicit bounds ts r
-EatsShape (deferred lowers) ts r = EatsDeferred lowers ts r × ((bounds : List Bounds) (s : List Item) → EatsExplicit bounds ts s → ⊥)
+EatsShape x ts r = (a : List Item) × EatsWord word.Open ts a × EatsShapeBehind x a r
 
 -- IN OUT may be written as one word (3.3.1.1)
 unfoldable pub EatsIntent : Intent → List Item → List Item → Type 0
-EatsIntent intent_of.In ts r = EatsKeyword keyword.In ts r × (starts is_out r ≡ false)
+EatsIntent intent_of.In ts r = EatsKeyword keyword.In ts r × Lacks (word.Name keyword.Out) r
 EatsIntent intent_of.Out ts r = EatsKeyword keyword.Out ts r
 EatsIntent intent_of.InOut ts r = EatsKeyword keyword.InOut ts r ⊎ ((a : List Item) × EatsKeyword keyword.In ts a × EatsKeyword keyword.Out a r)
 
@@ -155,15 +162,13 @@ EatsAttribute p ts r = (i : Item) × (k : Keyword) × (tail : List Item) × (kin
 unfoldable pub AreAttributes : List Placed → List Item → List Item → Type 0
 AreAttributes xs ts r = EatsList EatsAttribute xs ts r
 
--- `= e`
-unfoldable pub EatsInitial : Tree → List Item → List Item → Type 0
-EatsInitial e ts r = (a : List Item) × EatsWord word.Equals ts a × EatsExpression e a r
-
+-- `[( shape )]`
 unfoldable pub EatsShapePerhaps : Option ShapeTree → List Item → List Item → Type 0
-EatsShapePerhaps s ts r = Perhaps is_open EatsShape s ts r
+EatsShapePerhaps s ts r = Perhaps word.Open EatsShapeBehind s ts r
 
+-- `[= e]`
 unfoldable pub EatsInitialPerhaps : Option Tree → List Item → List Item → Type 0
-EatsInitialPerhaps e ts r = Perhaps is_equals EatsInitial e ts r
+EatsInitialPerhaps e ts r = Perhaps word.Equals EatsExpression e ts r
 
 unfoldable pub EatsEntity : EntityTree → List Item → List Item → Type 0
 EatsEntity e ts r =
@@ -196,17 +201,24 @@ IsDeclaration place d ts = (s : TypeSpecifier) × (a : List Item) × EatsSpecifi
 
 -- ---- SUBROUTINE and FUNCTION (12.5.2)
 
-unfoldable pub EatsDerivedPrefix : Prefix → List Item → List Item → Type 0
-EatsDerivedPrefix x ts r = (s : TypeSpecifier) × EatsDerived s ts r × (x ≡ prefix.Typed s)
+-- the keyword of a prefix of a procedure
+abbrev pub is_prefix : Word → Bool
+is_prefix (word.Name keyword.Pure) = true
+is_prefix (word.Name keyword.Recursive) = true
+is_prefix (word.Name keyword.Integer) = true
+is_prefix (word.Name keyword.Logical) = true
+is_prefix (word.Name keyword.Type) = true
+is_prefix _ = false
+
+-- a type specifier as a prefix, behind its keyword
+unfoldable pub EatsTyped : Keyword → Prefix → List Item → List Item → Type 0
+EatsTyped k x ts r = (s : TypeSpecifier) × EatsSpecifierOf k s ts r × (x ≡ prefix.Typed s)
 
 -- behind the keyword of a prefix
 abbrev pub EatsPrefixOf : Keyword → Prefix → List Item → List Item → Type 0
 EatsPrefixOf keyword.Pure x ts r = (ts ≡ r) × (x ≡ prefix.Pure)
 EatsPrefixOf keyword.Recursive x ts r = (ts ≡ r) × (x ≡ prefix.Recursive)
-EatsPrefixOf keyword.Integer x ts r = (ts ≡ r) × (x ≡ prefix.Typed specifier.Integer)
-EatsPrefixOf keyword.Logical x ts r = (ts ≡ r) × (x ≡ prefix.Typed specifier.Logical)
-EatsPrefixOf keyword.Type x ts r = EatsDerivedPrefix x ts r
-EatsPrefixOf _ x ts r = ⊥
+EatsPrefixOf k x ts r = EatsTyped k x ts r
 
 unfoldable pub EatsPrefix : Prefix → List Item → List Item → Type 0
 EatsPrefix x ts r = (i : Item) × (k : Keyword) × (tail : List Item) × (ts ≡ i ∷ tail) × (i.word ≡ word.Name k) × EatsPrefixOf k x tail r
@@ -241,12 +253,9 @@ EatsDummies ns ts r = Enclosed EatsNames ns ts r
 unfoldable pub IsDummiesPerhaps : List Identifier → List Item → Type 0
 IsDummiesPerhaps ns ts = ((ts ≡ []) × (ns ≡ [])) ⊎ ((ts ≢ []) × EatsDummies ns ts [])
 
--- `RESULT (n)`
-unfoldable pub EatsResult : Identifier → List Item → List Item → Type 0
-EatsResult n ts r = (a : List Item) × EatsKeyword keyword.ResultWord ts a × EatsEnclosedName n a r
-
+-- `[RESULT (n)]`
 unfoldable pub EatsResultPerhaps : Option Identifier → List Item → List Item → Type 0
-EatsResultPerhaps n ts r = Perhaps is_result EatsResult n ts r
+EatsResultPerhaps n ts r = Perhaps (word.Name keyword.ResultWord) EatsEnclosedName n ts r
 
 -- behind SUBROUTINE
 unfoldable pub IsSubroutine : Place → Prefixes → HeaderTree → List Item → Type 0
@@ -284,10 +293,10 @@ access_of _ = None
 unfoldable pub EatsAccess : Place × Accessibility → List Item → List Item → Type 0
 EatsAccess x ts r = (i : Item) × (a : Accessibility) × (ts ≡ i ∷ r) × (access_of i.word ≡ Some a) × (x ≡ (i.place, a))
 
--- `, access ::`, where a comma stands
+-- `, access ::`
 unfoldable pub EatsTypeAccess : Place × Accessibility → List Item → List Item → Type 0
 EatsTypeAccess x ts r = (a : List Item) × (b : List Item) × EatsWord word.Comma ts a × EatsAccess x a b × EatsWord word.Colons b r
 
 unfoldable pub IsTypeBegin : Option (Place × Accessibility) → Identifier → List Item → Type 0
-IsTypeBegin None n ts = (c : Bool) × (a : List Item) × (starts is_comma ts ≡ false) × EatsColons c ts a × IsName n a
-IsTypeBegin (Some x) n ts = (a : List Item) × (starts is_comma ts ≡ true) × EatsTypeAccess x ts a × IsName n a
+IsTypeBegin None n ts = (c : Bool) × (a : List Item) × Lacks word.Comma ts × EatsColons c ts a × IsName n a
+IsTypeBegin (Some x) n ts = (a : List Item) × EatsTypeAccess x ts a × IsName n a

@@ -7,8 +7,8 @@ ghost use Rattle.f3_tree.specs.Declarations.{access_view};
 ghost use Rattle.f3_words.specs.Reads.{Reads, Finds};
 ghost use Rattle.f3_declarations.specs.Specifications.{IsAccessList, IsAccess, EatsAccess, EatsTypeAccess};
 
-use crate::names::name_list;
-use crate::signs::{colons, comma, is_over};
+use f3_reading::names::name_list;
+use f3_reading::signs::{is_over, skip};
 use f3_rules::source::Place;
 use f3_tree::declaration::{Access, Accessibility};
 use f3_tree::expression::Name;
@@ -66,8 +66,8 @@ fn specifier(items: &[Item]) -> Result<((Place, Accessibility), &[Item]), ReadEr
 pub fn type_access(items: &[Item]) -> Result<((Place, Accessibility), &[Item]), ReadError>
     ensures { Reads EatsTypeAccess (λ (x : Place × Accessibility). x) result items.now }
 {
-    let rest = comma(items)?;
+    let rest = skip(Word::Comma, items)?;
     let (access, rest) = specifier(rest)?;
-    let rest = colons(rest)?;
+    let rest = skip(Word::Colons, rest)?;
     Ok((access, rest))
 }

@@ -5,11 +5,12 @@ ghost use Rattle.f3_tree.specs.declared.declaration.Intent.{Intent};
 ghost use Rattle.f3_tree.specs.declared.declaration.TypeSpecifier.{TypeSpecifier};
 ghost use Rattle.f3_tree.specs.Declarations.{attribute_view, placed_view};
 ghost use Rattle.f3_words.specs.Reads.{Reads};
-ghost use Rattle.f3_declarations.specs.Specifications.{EatsDerived, EatsSpecifier, EatsSpecifierOf, EatsIntent, EatsEnclosedIntent, EatsDimension, EatsIntentOf, EatsAttributeOf, EatsAttribute, AreAttributes, EatsAttributes};
+ghost use Rattle.f3_declarations.specs.Specifications.{EatsDerived, EatsSpecifier, EatsSpecifierOf, EatsIntent, EatsEnclosedIntent, EatsDimension, EatsIntentOf, EatsAttributeOf, EatsAttribute, EatsAttributes};
 
-use crate::names::enclosed_name;
 use crate::shapes::shape;
-use crate::signs::{closing, comma, opening, separator, starts_comma};
+use f3_reading::lists::others;
+use f3_reading::names::enclosed_name;
+use f3_reading::signs::skip;
 use f3_tree::declaration::{Accessibility, Attribute, AttributeKind, Intent, TypeSpecifier};
 use f3_words::error::ReadError;
 use f3_words::item::{Item, Keyword, Word};
@@ -18,7 +19,7 @@ use std::alloc::Global;
 
 /// The type behind TYPE.
 #[tactic(auto, unfolding(crate::specs::Specifications::EatsDerived))]
-pub fn derived(items: &[Item]) -> Result<(TypeSpecifier, &[Item]), ReadError>
+fn derived(items: &[Item]) -> Result<(TypeSpecifier, &[Item]), ReadError>
     ensures read { Reads EatsDerived (λ (s : TypeSpecifier). s) result items.now }
     ensures shorter { IfOk result (λ x. length x.1.now ≤ length items.now) }
 {
@@ -26,8 +27,8 @@ pub fn derived(items: &[Item]) -> Result<(TypeSpecifier, &[Item]), ReadError>
     Ok((TypeSpecifier::Derived(name), rest))
 }
 
-/// The specifier that begins with the keyword.
-fn specifier_of(keyword: Keyword, items: &[Item]) -> Result<(TypeSpecifier, &[Item]), ReadError>
+/// The type specifier that begins with the keyword.
+pub fn specifier_of(keyword: Keyword, items: &[Item]) -> Result<(TypeSpecifier, &[Item]), ReadError>
     ensures read { Reads (EatsSpecifierOf keyword) (λ (s : TypeSpecifier). s) result items.now }
     ensures shorter { IfOk result (λ x. length x.1.now ≤ length items.now) }
 {
@@ -58,7 +59,7 @@ pub fn specifier(items: &[Item]) -> Result<(TypeSpecifier, &[Item]), ReadError>
 }
 
 /// The intent at the front.
-#[tactic(auto, unfolding(crate::specs::Specifications::EatsIntent, crate::specs::Parts::EatsWord))]
+#[tactic(auto, unfolding(crate::specs::Specifications::EatsIntent, f3_reading::specs::Parts::EatsWord, f3_reading::specs::Parts::Lacks))]
 fn intent(items: &[Item]) -> Result<(Intent, &[Item]), ReadError>
     ensures read { Reads EatsIntent (λ (i : Intent). i) result items.now }
     ensures shorter { IfOk result (λ x. length x.1.now ≤ length items.now) }
@@ -88,9 +89,9 @@ fn enclosed_intent(items: &[Item]) -> Result<(Intent, &[Item]), ReadError>
     ensures read { Reads EatsEnclosedIntent (λ (i : Intent). i) result items.now }
     ensures shorter { IfOk result (λ x. length x.1.now ≤ length items.now) }
 {
-    let rest = opening(items)?;
+    let rest = skip(Word::Open, items)?;
     let (intent, rest) = intent(rest)?;
-    let rest = closing(rest)?;
+    let rest = skip(Word::Close, rest)?;
     Ok((intent, rest))
 }
 
@@ -160,33 +161,10 @@ fn attribute(alloc: Global, items: &[Item]) -> Result<(Attribute, &[Item]), Read
     }
 }
 
-/// The attributes at the front, with commas between them.
-fn attribute_list(alloc: Global, items: &[Item]) -> Result<(Vec<Attribute>, &[Item]), ReadError>
-    ensures read { Reads AreAttributes (λ v. map placed_view v.items) result items.now }
-    ensures shorter { IfOk result (λ x. length x.1.now ≤ length items.now) }
-{
-    let mut found = Vec::new(alloc);
-    let mut rest = items;
-    'elements: loop {
-        let (element, after) = attribute(alloc, rest)?;
-        found.push(element)?;
-        match separator(after) {
-            Some(tail) => rest = tail,
-            None => return Ok((found, after)),
-        }
-    }
-}
-
 /// The attributes behind a specifier, each behind a comma.
-#[tactic(auto, unfolding(crate::specs::Specifications::EatsAttributes))]
 pub fn attributes(alloc: Global, items: &[Item]) -> Result<(Vec<Attribute>, &[Item]), ReadError>
     ensures read { Reads EatsAttributes (λ v. map placed_view v.items) result items.now }
     ensures shorter { IfOk result (λ x. length x.1.now ≤ length items.now) }
 {
-    if !starts_comma(items) {
-        return Ok((Vec::new(alloc), items));
-    }
-    let rest = comma(items)?;
-    let (found, rest) = attribute_list(alloc, rest)?;
-    Ok((found, rest))
+    others(alloc, items, |tokens| attribute(alloc, tokens))
 }

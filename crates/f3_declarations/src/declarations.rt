@@ -7,33 +7,22 @@ ghost use Rattle.f3_tree.specs.Expressions.{expression_view};
 ghost use Rattle.f3_tree.specs.Declarations.{placed_view, entity_view, declaration_view};
 ghost use Rattle.f3_words.specs.Reads.{Reads, Finds};
 ghost use Rattle.f3_declarations.specs.Views.{AsDeclared};
-ghost use Rattle.f3_declarations.specs.Specifications.{EatsInitial, EatsInitialPerhaps, EatsEntity, AreEntities, needs_colons, IsDeclarationBehind, IsDeclaration};
+ghost use Rattle.f3_declarations.specs.Specifications.{EatsInitialPerhaps, EatsEntity, AreEntities, needs_colons, IsDeclarationBehind, IsDeclaration};
 
 use crate::attributes::{attributes, specifier};
-use crate::names::skip_colons;
 use crate::shapes::shape_perhaps;
-use crate::signs::{equals, is_over, name, separator, starts_equals};
 use f3_expressions::expressions::expression;
+use f3_reading::lists::{list, perhaps};
+use f3_reading::names::skip_colons;
+use f3_reading::signs::{is_over, name};
 use f3_rules::source::Place;
 use f3_tree::declaration::{Attribute, Declaration, Entity, TypeSpecifier};
 use f3_tree::expression::Expression;
 use f3_words::error::ReadError;
-use f3_words::item::Item;
+use f3_words::item::{Item, Word};
 use std::alloc::Global;
 
-/// The initializer at the front.
-#[tactic(auto, unfolding(crate::specs::Specifications::EatsInitial))]
-fn initial(alloc: Global, items: &[Item]) -> Result<(Expression, &[Item]), ReadError>
-    ensures read { Reads EatsInitial expression_view result items.now }
-    ensures shorter { IfOk result (λ x. length x.1.now ≤ length items.now) }
-{
-    let rest = equals(items)?;
-    let (value, rest) = expression(alloc, rest)?;
-    Ok((value, rest))
-}
-
 /// The initializer at the front, where there is one.
-#[tactic(auto, unfolding(crate::specs::Specifications::EatsInitialPerhaps))]
 fn initial_perhaps(
     alloc: Global,
     items: &[Item],
@@ -41,11 +30,7 @@ fn initial_perhaps(
     ensures read { Reads EatsInitialPerhaps (λ e. option_map expression_view e) result items.now }
     ensures shorter { IfOk result (λ x. length x.1.now ≤ length items.now) }
 {
-    if !starts_equals(items) {
-        return Ok((None, items));
-    }
-    let (found, rest) = initial(alloc, items)?;
-    Ok((Some(found), rest))
+    perhaps(Word::Equals, items, |tokens| expression(alloc, tokens))
 }
 
 /// The entity at the front.
@@ -72,16 +57,7 @@ fn entities(alloc: Global, items: &[Item]) -> Result<(Vec<Entity>, &[Item]), Rea
     ensures read { Reads AreEntities (λ v. map entity_view v.items) result items.now }
     ensures shorter { IfOk result (λ x. length x.1.now ≤ length items.now) }
 {
-    let mut found = Vec::new(alloc);
-    let mut rest = items;
-    'elements: loop {
-        let (element, after) = entity(alloc, rest)?;
-        found.push(element)?;
-        match separator(after) {
-            Some(tail) => rest = tail,
-            None => return Ok((found, after)),
-        }
-    }
+    list(alloc, items, |tokens| entity(alloc, tokens))
 }
 
 /// Whether one of them has an initializer.
@@ -133,7 +109,7 @@ fn declaration_behind(
     ensures { Finds (IsDeclarationBehind place specifier) declaration_view result items.now }
 {
     let (attributes, rest) = attributes(alloc, items)?;
-    let (colons, rest) = skip_colons(rest)?;
+    let (colons, rest) = skip_colons(rest);
     let (entities, rest) = entities(alloc, rest)?;
     if !is_over(rest) {
         return Err(ReadError::NoForm);

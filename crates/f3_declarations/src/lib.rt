@@ -4,8 +4,6 @@
 pub mod access;
 pub mod attributes;
 pub mod declarations;
-pub mod names;
 pub mod procedures;
 pub mod shapes;
-pub mod signs;
 pub mod uses;

@@ -3,14 +3,16 @@
 ghost use Rattle.std.specs.Prelude.{◌≡◌, ◌<◌, ◌≤◌, length, IfOk, Option};
 ghost use Rattle.f3_tree.specs.declared.expression.Name.{Name};
 ghost use Rattle.f3_tree.specs.Tree.{header_view};
+ghost use Rattle.f3_words.specs.Lists.{starts};
 ghost use Rattle.f3_words.specs.Reads.{Reads, Finds};
 ghost use Rattle.f3_declarations.specs.declared.procedures.Prefix.{Prefix};
 ghost use Rattle.f3_declarations.specs.declared.procedures.Prefixes.{Prefixes};
-ghost use Rattle.f3_declarations.specs.Specifications.{EatsDummies, IsDummiesPerhaps, EatsResult, EatsResultPerhaps, IsSubroutine, IsFunction, IsProcedureOf, IsProcedureBehind, IsHeader, EatsDerivedPrefix, EatsPrefixOf, EatsPrefix, EatsPrefixes, with_prefix};
+ghost use Rattle.f3_declarations.specs.Specifications.{EatsDummies, IsDummiesPerhaps, EatsResultPerhaps, IsSubroutine, IsFunction, IsProcedureOf, IsProcedureBehind, IsHeader, is_prefix, EatsTyped, EatsPrefixOf, EatsPrefix, EatsPrefixes, with_prefix};
 
-use crate::attributes::derived;
-use crate::names::{enclosed_name, names_perhaps};
-use crate::signs::{closing, is_over, keyword, name, opening, starts_prefix, starts_result};
+use crate::attributes::specifier_of;
+use f3_reading::lists::perhaps;
+use f3_reading::names::{enclosed_name, names_perhaps};
+use f3_reading::signs::{is_over, name, skip};
 use f3_rules::source::Place;
 use f3_tree::declaration::TypeSpecifier;
 use f3_tree::expression::Name;
@@ -76,13 +78,13 @@ impl Prefixes {
     }
 }
 
-/// The prefix behind TYPE.
-#[tactic(auto, unfolding(crate::specs::Specifications::EatsDerivedPrefix))]
-fn derived_prefix(items: &[Item]) -> Result<(Prefix, &[Item]), ReadError>
-    ensures read { Reads EatsDerivedPrefix (λ (x : Prefix). x) result items.now }
+/// The type specifier that begins with the keyword, as a prefix.
+#[tactic(auto, unfolding(crate::specs::Specifications::EatsTyped))]
+fn typed_prefix(keyword: Keyword, items: &[Item]) -> Result<(Prefix, &[Item]), ReadError>
+    ensures read { Reads (EatsTyped keyword) (λ (x : Prefix). x) result items.now }
     ensures shorter { IfOk result (λ x. length x.1.now ≤ length items.now) }
 {
-    let (specifier, rest) = derived(items)?;
+    let (specifier, rest) = specifier_of(keyword, items)?;
     Ok((Prefix::Typed(specifier), rest))
 }
 
@@ -94,10 +96,7 @@ fn prefix_of(keyword: Keyword, items: &[Item]) -> Result<(Prefix, &[Item]), Read
     match keyword {
         Keyword::Pure => Ok((Prefix::Pure, items)),
         Keyword::Recursive => Ok((Prefix::Recursive, items)),
-        Keyword::Integer => Ok((Prefix::Typed(TypeSpecifier::Integer), items)),
-        Keyword::Logical => Ok((Prefix::Typed(TypeSpecifier::Logical), items)),
-        Keyword::Type => derived_prefix(items),
-        _ => Err(ReadError::NoForm),
+        _ => typed_prefix(keyword, items),
     }
 }
 
@@ -116,6 +115,25 @@ fn next_prefix(items: &[Item]) -> Result<(Prefix, &[Item]), ReadError>
             }
             _ => Err(ReadError::NoForm),
         },
+    }
+}
+
+/// Whether a prefix of a procedure stands at the front.
+fn starts_prefix(items: &[Item]) -> bool
+    ensures { result ≡ starts is_prefix items.now }
+{
+    match front(items) {
+        Some((item, _)) => match item.word {
+            Word::Name(
+                Keyword::Pure
+                | Keyword::Recursive
+                | Keyword::Integer
+                | Keyword::Logical
+                | Keyword::Type,
+            ) => true,
+            _ => false,
+        },
+        None => false,
     }
 }
 
@@ -147,9 +165,9 @@ fn all_prefixes(items: &[Item]) -> Result<(Prefixes, &[Item]), ReadError>
 fn dummies(alloc: Global, items: &[Item]) -> Result<(Vec<Name>, &[Item]), ReadError>
     ensures { Reads EatsDummies (λ v. v.items) result items.now }
 {
-    let rest = opening(items)?;
+    let rest = skip(Word::Open, items)?;
     let (found, rest) = names_perhaps(alloc, rest)?;
-    let rest = closing(rest)?;
+    let rest = skip(Word::Close, rest)?;
     Ok((found, rest))
 }
 
@@ -169,26 +187,11 @@ fn dummies_perhaps(alloc: Global, items: &[Item]) -> Result<Vec<Name>, ReadError
     }
 }
 
-/// The `RESULT (n)` at the front.
-#[tactic(auto, unfolding(crate::specs::Specifications::EatsResult))]
-fn outcome(items: &[Item]) -> Result<(Name, &[Item]), ReadError>
-    ensures { Reads EatsResult (λ (n : Name). n) result items.now }
-{
-    let rest = keyword(Keyword::ResultWord, items)?;
-    let (name, rest) = enclosed_name(rest)?;
-    Ok((name, rest))
-}
-
 /// The `RESULT (n)` at the front, where it is written.
-#[tactic(auto, unfolding(crate::specs::Specifications::EatsResultPerhaps))]
 fn outcome_perhaps(items: &[Item]) -> Result<(Option<Name>, &[Item]), ReadError>
     ensures { Reads EatsResultPerhaps (λ (n : Option Name). n) result items.now }
 {
-    if !starts_result(items) {
-        return Ok((None, items));
-    }
-    let (name, rest) = outcome(items)?;
-    Ok((Some(name), rest))
+    perhaps(Word::Name(Keyword::ResultWord), items, enclosed_name)
 }
 
 /// The header behind SUBROUTINE.

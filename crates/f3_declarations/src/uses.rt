@@ -5,17 +5,16 @@ ghost use Rattle.f3_tree.specs.declared.declaration.Rename.{Rename};
 ghost use Rattle.f3_tree.specs.declared.declaration.Only.{Only};
 ghost use Rattle.f3_tree.specs.Declarations.{selection_view, use_view};
 ghost use Rattle.f3_words.specs.Reads.{Reads, Finds};
-ghost use Rattle.f3_declarations.specs.Parts.{Skips};
+ghost use Rattle.f3_reading.specs.Parts.{Skips};
 ghost use Rattle.f3_declarations.specs.Specifications.{EatsRename, AreRenames, EatsOnly, AreOnly, EatsOnlyHead, IsOnlyList, IsRenameList, IsSelection, IsUse};
 
-use crate::names::skip_colons;
-use crate::signs::{
-    arrow, colon, comma, is_over, keyword, name, separator, starts_arrow, starts_comma,
-};
+use f3_reading::lists::list;
+use f3_reading::names::skip_colons;
+use f3_reading::signs::{behind, is_over, name, skip};
 use f3_rules::source::Place;
 use f3_tree::declaration::{Only, Rename, Selection, Use};
 use f3_words::error::ReadError;
-use f3_words::item::{Item, Keyword};
+use f3_words::item::{Item, Keyword, Word};
 use std::alloc::Global;
 
 /// The `n => n` at the front.
@@ -25,7 +24,7 @@ fn rename(items: &[Item]) -> Result<(Rename, &[Item]), ReadError>
     ensures shorter { IfOk result (λ x. length x.1.now < length items.now) }
 {
     let (local, rest) = name(items)?;
-    let rest = arrow(rest)?;
+    let rest = skip(Word::Arrow, rest)?;
     let (original, rest) = name(rest)?;
     Ok((Rename { local, original }, rest))
 }
@@ -35,16 +34,7 @@ fn renames(alloc: Global, items: &[Item]) -> Result<(Vec<Rename>, &[Item]), Read
     ensures read { Reads AreRenames (λ v. v.items) result items.now }
     ensures shorter { IfOk result (λ x. length x.1.now ≤ length items.now) }
 {
-    let mut found = Vec::new(alloc);
-    let mut rest = items;
-    'elements: loop {
-        let (element, after) = rename(rest)?;
-        found.push(element)?;
-        match separator(after) {
-            Some(tail) => rest = tail,
-            None => return Ok((found, after)),
-        }
-    }
+    list(alloc, items, rename)
 }
 
 /// The renames behind the name of a module, each behind a comma.
@@ -55,7 +45,7 @@ fn rename_list(alloc: Global, items: &[Item]) -> Result<Vec<Rename>, ReadError>
     if is_over(items) {
         return Ok(Vec::new(alloc));
     }
-    let rest = comma(items)?;
+    let rest = skip(Word::Comma, items)?;
     let (found, rest) = renames(alloc, rest)?;
     if is_over(rest) {
         Ok(found)
@@ -71,12 +61,13 @@ fn only(items: &[Item]) -> Result<(Only, &[Item]), ReadError>
     ensures shorter { IfOk result (λ x. length x.1.now < length items.now) }
 {
     let (local, rest) = name(items)?;
-    if !starts_arrow(rest) {
-        return Ok((Only::Name(local), rest));
+    match behind(Word::Arrow, rest) {
+        None => Ok((Only::Name(local), rest)),
+        Some(tail) => {
+            let (original, rest) = name(tail)?;
+            Ok((Only::Rename(Rename { local, original }), rest))
+        }
     }
-    let rest = arrow(rest)?;
-    let (original, rest) = name(rest)?;
-    Ok((Only::Rename(Rename { local, original }), rest))
 }
 
 /// The names and renames at the front, with commas between them.
@@ -84,16 +75,7 @@ fn only_list(alloc: Global, items: &[Item]) -> Result<(Vec<Only>, &[Item]), Read
     ensures read { Reads AreOnly (λ v. v.items) result items.now }
     ensures shorter { IfOk result (λ x. length x.1.now ≤ length items.now) }
 {
-    let mut found = Vec::new(alloc);
-    let mut rest = items;
-    'elements: loop {
-        let (element, after) = only(rest)?;
-        found.push(element)?;
-        match separator(after) {
-            Some(tail) => rest = tail,
-            None => return Ok((found, after)),
-        }
-    }
+    list(alloc, items, only)
 }
 
 /// The list behind `ONLY:`.
@@ -117,9 +99,9 @@ fn whole_only_list(alloc: Global, items: &[Item]) -> Result<Vec<Only>, ReadError
 fn only_head(items: &[Item]) -> Result<&[Item], ReadError>
     ensures { Skips EatsOnlyHead result items.now }
 {
-    let rest = comma(items)?;
-    let rest = keyword(Keyword::Only, rest)?;
-    colon(rest)
+    let rest = skip(Word::Comma, items)?;
+    let rest = skip(Word::Name(Keyword::Only), rest)?;
+    skip(Word::Colon, rest)
 }
 
 /// What a USE statement selects, behind the name of its module.
@@ -139,7 +121,7 @@ fn selection(alloc: Global, items: &[Item]) -> Result<Selection, ReadError>
 pub fn use_statement(alloc: Global, place: Place, items: &[Item]) -> Result<Use, ReadError>
     ensures { Finds (IsUse place) use_view result items.now }
 {
-    let (_, rest) = skip_colons(items)?;
+    let (_, rest) = skip_colons(items);
     let (module, rest) = name(rest)?;
     let selection = selection(alloc, rest)?;
     Ok(Use {

@@ -1,1 +1,3 @@
 mod Objects
+pub mod Cases
+pub mod Types

@@ -1,14 +1,17 @@
 -- Reading the objects of an ALLOCATE one after the other.
-use Rattle.std.proofs.Common.{◌≡◌, ◌⊎◌, inl, inr, List, [], ◌∷◌, ◌++◌, false, Option, Some, None, refl, sym, ap, subst, ◌∙◌, append_assoc}
+use Rattle.std.proofs.Common.{◌≡◌, ◌⊎◌, inl, inr, List, [], ◌∷◌, ◌++◌, Option, Some, None, refl, sym, ap, subst, ◌∙◌, append_assoc}
 use Rattle.f3_tree.specs.Expressions.{Parts}
+use Rattle.f3_words.specs.declared.item.Word.{Word}
 use Rattle.f3_words.specs.declared.item.Word.TheVariants.{Comma}
 use Rattle.f3_words.specs.declared.item.Item.{Item}
-use Rattle.f3_words.specs.Lists.{starts, is_comma}
 use Rattle.f3_words.specs.Reads.{IsRead, Fails}
 use Rattle.f3_expressions.specs.Grammar.{EatsDesignator}
-use Rattle.f3_declarations.specs.Parts.{EatsWord}
+use Rattle.f3_reading.specs.Parts.{EatsWord, Lacks}
 use Rattle.f3_forms.specs.Actions.{EatsStatusHead, EatsObject, EatsStatus, EatsObjects, AreObjects}
-use Rattle.f3_declarations.proofs.Words.{not_word, same_tail}
+use Rattle.f3_reading.proofs.Words.{lacked, same_tail as tail_of}
+
+same_tail : (v w : Word) (ts r s : List Item) → EatsWord v ts r → EatsWord w ts s → r ≡ s
+same_tail v w ts r s a b = sym (tail_of v w ts r s a b)
 
 -- What was found so far goes on with the objects that the rest begins with, and in no other way.
 pub record SoFar (ts : List Item) (found : List Parts) (rest : List Item) : Type 0 where
@@ -50,7 +53,7 @@ objects_no_status (v ∷ w ∷ vs) stat ts r a h s = h.2.1 a s
 -- behind a comma with no STAT
 not_status : (ts tail : List Item) (stat : Option Parts) (r : List Item) → EatsWord Comma ts tail → ((a : List Item) → EatsStatusHead tail a → ⊥) → EatsStatus stat ts r → ⊥
 unfolding EatsStatus
-not_status ts tail None r c none h = not_word is_comma Comma ts tail refl h.1 c
+not_status ts tail None r c none h = lacked Comma ts tail h.1 c
 not_status ts tail (Some v) r c none h = none h.1 (subst (λ (l : List Item). EatsStatusHead l h.1) (same_tail Comma Comma ts h.0 tail h.2 c) h.3)
 
 behind_comma : (ts tail : List Item) (vs : List Parts) (stat : Option Parts) (r : List Item) → EatsWord Comma ts tail → ((a : List Item) → EatsStatusHead tail a → ⊥) → Behind vs stat ts r → EatsObjects vs stat tail r
@@ -77,11 +80,11 @@ no_object ts rest found s none y r h = let w = s.only y.0 y.1 r h in by w.0 w.2
     by (v ∷ w ∷ vs) k = none v k.0 k.2
 
 -- the end without STAT
-behind_none : (ts : List Item) (vs : List Parts) (stat : Option Parts) (r : List Item) → starts is_comma ts ≡ false → Behind vs stat ts r → (vs ≡ []) × (stat ≡ None) × (r ≡ ts)
+behind_none : (ts : List Item) (vs : List Parts) (stat : Option Parts) (r : List Item) → Lacks Comma ts → Behind vs stat ts r → (vs ≡ []) × (stat ≡ None) × (r ≡ ts)
 unfolding EatsStatus
 behind_none ts vs None r none (inl k) = (k.0, refl, sym k.1.0)
-behind_none ts vs (Some v) r none (inl k) = absurd (not_word is_comma Comma ts k.1.0 refl none k.1.2)
-behind_none ts vs stat r none (inr k) = absurd (not_word is_comma Comma ts k.0 refl none k.1)
+behind_none ts vs (Some v) r none (inl k) = absurd (lacked Comma ts k.1.0 none k.1.2)
+behind_none ts vs stat r none (inr k) = absurd (lacked Comma ts k.0 none k.1)
 
 abbrev Pair : Type 0
 Pair = List Parts × Option Parts
@@ -94,7 +97,7 @@ same_pair found x y vs ws stat a b c d =
     pair : List Parts → Option Parts → Pair
     pair l o = (l, o)
 
-pub is_over : (ts rest after : List Item) (found : List Parts) (x : Parts) → SoFar ts found rest → IsRead EatsObject rest x after → starts is_comma after ≡ false → IsRead AreObjects ts (found ++ x ∷ [], None) after
+pub is_over : (ts rest after : List Item) (found : List Parts) (x : Parts) → SoFar ts found rest → IsRead EatsObject rest x after → Lacks Comma after → IsRead AreObjects ts (found ++ x ∷ [], None) after
 unfolding AreObjects EatsStatus
 is_over ts rest after found x s a none = record {
   eats = s.goes_on (x ∷ []) None after (with_object x [] None rest after after a.eats (inl (refl, (refl, none))));
@@ -111,7 +114,7 @@ Status v last vs stat r = (vs ≡ []) × (stat ≡ Some v) × (r ≡ last)
 
 behind_status : (ts tail variable last : List Item) (v : Parts) (vs : List Parts) (stat : Option Parts) (r : List Item) → EatsWord Comma ts tail → EatsStatusHead tail variable → ((s : List Item) → EatsStatusHead tail s → s ≡ variable) → IsRead EatsDesignator variable v last → Behind vs stat ts r → Status v last vs stat r
 unfolding EatsStatus
-behind_status ts tail variable last v vs None r c s u a (inl k) = absurd (not_word is_comma Comma ts tail refl k.1.1 c)
+behind_status ts tail variable last v vs None r c s u a (inl k) = absurd (lacked Comma ts tail k.1.1 c)
 behind_status ts tail variable last v vs (Some w) r c s u a (inl k) =
     let at_tail = subst (λ (l : List Item). EatsStatusHead l k.1.1) (same_tail Comma Comma ts k.1.0 tail k.1.2 c) k.1.3 in
     let same = a.only w r (subst (λ (l : List Item). EatsDesignator w l r) (u k.1.1 at_tail) k.1.4) in
@@ -140,7 +143,7 @@ status_fails ts rest after tail variable found x s a c k u none y r h =
     by n.0 y.1 n.2
   where
     by : (vs : List Parts) (stat : Option Parts) → Behind vs stat after r → ⊥
-    by vs None (inl j) = not_word is_comma Comma after tail refl j.1.1 c
+    by vs None (inl j) = lacked Comma after tail j.1.1 c
     by vs (Some z) (inl j) =
         let at_tail = subst (λ (l : List Item). EatsStatusHead l j.1.1) (same_tail Comma Comma after j.1.0 tail j.1.2 c) j.1.3 in
         none z r (subst (λ (l : List Item). EatsDesignator z l r) (u j.1.1 at_tail) j.1.4)

@@ -1,16 +1,17 @@
 -- Executable statements.
-use Rattle.std.specs.Prelude.{◌≡◌, ◌≢◌, ◌⊎◌, true, false, List, [], ◌∷◌, Option, Some, None}
+use Rattle.std.specs.Prelude.{◌≡◌, ◌≢◌, ◌⊎◌, Bool, true, false, List, [], ◌∷◌, Option, Some, None}
 use Rattle.f3_tree.specs.declared.expression.Name.{Name as Identifier}
 use Rattle.f3_tree.specs.declared.expression.Operator.TheVariants.{Multiply}
 use Rattle.f3_tree.specs.Expressions.{Tree, Parts, ArgumentTree}
 use Rattle.f3_tree.specs.Statements.{Act, assign, call, allocate, deallocate, print, stop, return, cycle, exit, continue, CaseTree, one, from, up_to, range, Selects, values, default, Controls, forever, counted, while}
 use Rattle.f3_words.specs.declared.item.Keyword.{Keyword}
 use Rattle.f3_words.specs.declared.item.Keyword.TheVariants as keyword
+use Rattle.f3_words.specs.declared.item.Word.{Word}
 use Rattle.f3_words.specs.declared.item.Word.TheVariants as word
 use Rattle.f3_words.specs.declared.item.Item.{Item}
-use Rattle.f3_words.specs.Lists.{starts, is_comma, EatsList}
+use Rattle.f3_words.specs.Lists.{starts, EatsList}
 use Rattle.f3_expressions.specs.Grammar.{EatsExpression, EatsDesignator, EatsArguments}
-use Rattle.f3_declarations.specs.Parts.{is_colon, ends_value, EatsWord, EatsKeyword, EatsName, Enclosed, Perhaps, BehindComma, First}
+use Rattle.f3_reading.specs.Parts.{EatsWord, EatsName, EatsKeyword, Lacks, Enclosed, Perhaps, BehindComma, First}
 
 -- `v = e` (7.4.1)
 unfoldable pub IsAssignment : Act → List Item → Type 0
@@ -34,7 +35,7 @@ EatsObject v ts r = EatsDesignator v ts r × ((a : List Item) → EatsStatusHead
 
 -- `, STAT = v`, where a comma stands
 unfoldable pub EatsStatus : Option Parts → List Item → List Item → Type 0
-EatsStatus None ts r = (ts ≡ r) × (starts is_comma ts ≡ false)
+EatsStatus None ts r = (ts ≡ r) × Lacks word.Comma ts
 EatsStatus (Some v) ts r = (a : List Item) × (b : List Item) × EatsWord word.Comma ts a × EatsStatusHead a b × EatsDesignator v b r
 
 -- objects with commas between them, and then STAT
@@ -109,13 +110,19 @@ IsCondition e ts = EatsCondition e ts []
 unfoldable pub IsThen : Tree → List Item → Type 0
 IsThen e ts = (a : List Item) × EatsCondition e ts a × EatsKeyword keyword.Then a []
 
+-- a value of a CASE ends before a comma or the closing parenthesis
+abbrev pub ends_value : Word → Bool
+ends_value word.Comma = true
+ends_value word.Close = true
+ends_value _ = false
+
 -- `e`, `e:`, `:e` or `e:e` (8.1.3)
 unfoldable pub EatsCase : CaseTree → List Item → List Item → Type 0
-EatsCase (one e) ts r = (starts is_colon ts ≡ false) × EatsExpression e ts r × (starts is_colon r ≡ false)
-EatsCase (from e) ts r = (a : List Item) × (starts is_colon ts ≡ false) × EatsExpression e ts a × (starts is_colon a ≡ true) × EatsWord word.Colon a r × (starts ends_value r ≡ true)
+EatsCase (one e) ts r = Lacks word.Colon ts × EatsExpression e ts r × Lacks word.Colon r
+EatsCase (from e) ts r = (a : List Item) × Lacks word.Colon ts × EatsExpression e ts a × EatsWord word.Colon a r × (starts ends_value r ≡ true)
 EatsCase (range e f) ts r =
-    (a : List Item) × (b : List Item) × (starts is_colon ts ≡ false) × EatsExpression e ts a × (starts is_colon a ≡ true) × EatsWord word.Colon a b × (starts ends_value b ≡ false) × EatsExpression f b r
-EatsCase (up_to p f) ts r = (i : Item) × (a : List Item) × (starts is_colon ts ≡ true) × (ts ≡ i ∷ a) × (p ≡ i.place) × EatsExpression f a r
+    (a : List Item) × (b : List Item) × Lacks word.Colon ts × EatsExpression e ts a × EatsWord word.Colon a b × (starts ends_value b ≡ false) × EatsExpression f b r
+EatsCase (up_to p f) ts r = (i : Item) × (a : List Item) × EatsWord word.Colon ts a × (ts ≡ i ∷ a) × (p ≡ i.place) × EatsExpression f a r
 
 unfoldable pub AreCases : List CaseTree → List Item → List Item → Type 0
 AreCases cs ts r = EatsList EatsCase cs ts r
@@ -135,12 +142,9 @@ AreValues x ts = (cs : List CaseTree) × IsCaseList cs ts × (x ≡ values cs)
 unfoldable pub IsCase : Selects → List Item → Type 0
 IsCase x ts = First IsDefault AreValues x ts
 
--- `, e`
-unfoldable pub EatsStep : Tree → List Item → List Item → Type 0
-EatsStep e ts r = (a : List Item) × EatsWord word.Comma ts a × EatsExpression e a r
-
+-- `[, e]`
 unfoldable pub EatsStepPerhaps : Option Tree → List Item → List Item → Type 0
-EatsStepPerhaps e ts r = Perhaps is_comma EatsStep e ts r
+EatsStepPerhaps e ts r = Perhaps word.Comma EatsExpression e ts r
 
 -- `e, e [, e]`
 unfoldable pub IsSteps : Tree × Tree × Option Tree → List Item → Type 0

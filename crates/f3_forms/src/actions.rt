@@ -1,17 +1,18 @@
 //! Action statements.
 
-ghost use Rattle.std.specs.Prelude.{◌≤◌, length, map, IfOk};
+ghost use Rattle.std.specs.Prelude.{map};
 ghost use Rattle.f3_tree.specs.Expressions.{expression_view, argument_view};
 ghost use Rattle.f3_tree.specs.Statements.{action_view};
 ghost use Rattle.f3_words.specs.Reads.{Reads, Finds};
-ghost use Rattle.f3_forms.specs.Actions.{IsAssignment, IsCallArguments, IsCall, IsAllocate, IsDeallocate, AreItems, EatsItems, IsPrint, IsStop, IsAlone, IsActionOf, IsHeadedAction, IsAction};
+ghost use Rattle.f3_forms.specs.Actions.{IsAssignment, IsCallArguments, IsCall, IsAllocate, IsDeallocate, EatsItems, IsPrint, IsStop, IsAlone, IsActionOf, IsHeadedAction, IsAction};
 
 use crate::allocations::allocation;
-use f3_declarations::signs::{comma, equals, is_over, name, separator, star, starts_comma};
 use f3_expressions::arguments::arguments;
 use f3_expressions::designators::designator;
 use f3_expressions::expressions::expression;
-use f3_tree::expression::{Argument, Expression};
+use f3_reading::lists::others;
+use f3_reading::signs::{is_over, name, skip};
+use f3_tree::expression::{Argument, Expression, Operator};
 use f3_tree::statement::Action;
 use f3_words::error::ReadError;
 use f3_words::item::{Item, Keyword, Word};
@@ -24,7 +25,7 @@ fn assignment(alloc: Global, items: &[Item]) -> Result<Action, ReadError>
     ensures { Finds IsAssignment action_view result items.now }
 {
     let (variable, rest) = designator(alloc, items)?;
-    let rest = equals(rest)?;
+    let rest = skip(Word::Equals, rest)?;
     let (value, rest) = expression(alloc, rest)?;
     if is_over(rest) {
         Ok(Action::Assign(variable, value))
@@ -77,34 +78,11 @@ fn deallocate(alloc: Global, items: &[Item]) -> Result<Action, ReadError>
     Ok(Action::Deallocate(objects, status))
 }
 
-/// The expressions at the front, with commas between them.
-fn expressions(alloc: Global, items: &[Item]) -> Result<(Vec<Expression>, &[Item]), ReadError>
-    ensures read { Reads AreItems (λ v. map expression_view v.items) result items.now }
-    ensures shorter { IfOk result (λ x. length x.1.now ≤ length items.now) }
-{
-    let mut found = Vec::new(alloc);
-    let mut rest = items;
-    'elements: loop {
-        let (element, after) = expression(alloc, rest)?;
-        found.push(element)?;
-        match separator(after) {
-            Some(tail) => rest = tail,
-            None => return Ok((found, after)),
-        }
-    }
-}
-
 /// The items of a PRINT at the front, each behind a comma.
-#[tactic(auto, unfolding(crate::specs::Actions::EatsItems))]
 fn print_items(alloc: Global, items: &[Item]) -> Result<(Vec<Expression>, &[Item]), ReadError>
     ensures { Reads EatsItems (λ v. map expression_view v.items) result items.now }
 {
-    if !starts_comma(items) {
-        return Ok((Vec::new(alloc), items));
-    }
-    let rest = comma(items)?;
-    let (found, rest) = expressions(alloc, rest)?;
-    Ok((found, rest))
+    others(alloc, items, |tokens| expression(alloc, tokens))
 }
 
 /// What stands behind PRINT.
@@ -112,7 +90,7 @@ fn print_items(alloc: Global, items: &[Item]) -> Result<(Vec<Expression>, &[Item
 fn print(alloc: Global, items: &[Item]) -> Result<Action, ReadError>
     ensures { Finds IsPrint action_view result items.now }
 {
-    let rest = star(items)?;
+    let rest = skip(Word::Operator(Operator::Multiply), items)?;
     let (found, rest) = print_items(alloc, rest)?;
     if is_over(rest) {
         Ok(Action::Print(found))

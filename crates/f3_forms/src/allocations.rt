@@ -3,15 +3,15 @@
 ghost use Rattle.std.specs.Prelude.{◌<◌, ◌≤◌, length, map, IfOk};
 ghost use Rattle.f3_tree.specs.Expressions.{designator_view};
 ghost use Rattle.f3_words.specs.Reads.{Reads, Finds};
-ghost use Rattle.f3_declarations.specs.Parts.{Skips};
+ghost use Rattle.f3_reading.specs.Parts.{Skips};
 ghost use Rattle.f3_forms.specs.Views.{allocation_view};
 ghost use Rattle.f3_forms.specs.Actions.{EatsStatusHead, EatsObject, AreObjects, IsAllocation};
 
-use f3_declarations::signs::{closing, equals, is_over, keyword, opening, separator};
 use f3_expressions::designators::designator;
+use f3_reading::signs::{behind, is_over, skip};
 use f3_tree::statement::Designator;
 use f3_words::error::ReadError;
-use f3_words::item::{Item, Keyword};
+use f3_words::item::{Item, Keyword, Word};
 use std::alloc::Global;
 
 /// What stands behind `STAT =`.
@@ -19,8 +19,8 @@ use std::alloc::Global;
 fn status_head(items: &[Item]) -> Result<&[Item], ReadError>
     ensures { Skips EatsStatusHead result items.now }
 {
-    let rest = keyword(Keyword::Stat, items)?;
-    equals(rest)
+    let rest = skip(Word::Name(Keyword::Stat), items)?;
+    skip(Word::Equals, rest)
 }
 
 /// The object at the front.
@@ -51,7 +51,7 @@ fn objects(
     'elements: loop {
         let (element, after) = object(alloc, rest)?;
         found.push(element)?;
-        match separator(after) {
+        match behind(Word::Comma, after) {
             None => return Ok(((found, None), after)),
             Some(tail) => match status_head(tail) {
                 Ok(variable) => {
@@ -73,9 +73,9 @@ pub fn allocation(
 ) -> Result<(Vec<Designator>, Option<Designator>), ReadError>
     ensures { Finds IsAllocation allocation_view result items.now }
 {
-    let rest = opening(items)?;
+    let rest = skip(Word::Open, items)?;
     let (found, rest) = objects(alloc, rest)?;
-    let rest = closing(rest)?;
+    let rest = skip(Word::Close, rest)?;
     if is_over(rest) {
         Ok(found)
     } else {

@@ -1,22 +1,23 @@
 //! The statements of IF, CASE and DO constructs.
 
-ghost use Rattle.std.specs.Prelude.{◌<◌, ◌≤◌, length, map, IfOk, Option};
+ghost use Rattle.std.specs.Prelude.{◌≡◌, ◌<◌, ◌≤◌, length, map, IfOk, Option};
 ghost use Rattle.std.specs.Option.{option_map};
 ghost use Rattle.f3_tree.specs.Expressions.{expression_view};
 ghost use Rattle.f3_tree.specs.Statements.{case_view, selector_view, control_view};
+ghost use Rattle.f3_words.specs.Lists.{starts};
 ghost use Rattle.f3_words.specs.Reads.{Reads, Finds};
 ghost use Rattle.f3_forms.specs.Views.{steps_view};
-ghost use Rattle.f3_forms.specs.Actions.{EatsCondition, IsCondition, IsThen, EatsCase, AreCases, IsCaseList, IsDefault, AreValues, IsCase, EatsStep, EatsStepPerhaps, IsSteps, IsCounted, IsWhile, IsControl, IsDo};
+ghost use Rattle.f3_forms.specs.Readings.{HasColon, EatsCaseBehind};
+ghost use Rattle.f3_forms.specs.Actions.{EatsCondition, IsCondition, IsThen, ends_value, EatsCase, AreCases, IsCaseList, IsDefault, AreValues, IsCase, EatsStepPerhaps, IsSteps, IsCounted, IsWhile, IsControl, IsDo};
 
-use f3_declarations::signs::{
-    closing, colon, comma, ends_value, equals, is_over, keyword, name, opening, separator,
-    starts_colon, starts_comma,
-};
 use f3_expressions::expressions::expression;
+use f3_reading::lists::{list, perhaps};
+use f3_reading::signs::{behind, is_over, name, skip};
+use f3_rules::source::Place;
 use f3_tree::expression::Expression;
 use f3_tree::statement::{CaseValue, Control, Selector};
 use f3_words::error::ReadError;
-use f3_words::item::{Item, Keyword};
+use f3_words::item::{Item, Keyword, Word};
 use f3_words::reading::front;
 use std::alloc::Global;
 
@@ -25,9 +26,9 @@ use std::alloc::Global;
 pub fn condition(alloc: Global, items: &[Item]) -> Result<(Expression, &[Item]), ReadError>
     ensures { Reads EatsCondition expression_view result items.now }
 {
-    let rest = opening(items)?;
+    let rest = skip(Word::Open, items)?;
     let (found, rest) = expression(alloc, rest)?;
-    let rest = closing(rest)?;
+    let rest = skip(Word::Close, rest)?;
     Ok((found, rest))
 }
 
@@ -50,7 +51,7 @@ pub fn then(alloc: Global, items: &[Item]) -> Result<Expression, ReadError>
     ensures { Finds IsThen expression_view result items.now }
 {
     let (found, rest) = condition(alloc, items)?;
-    let rest = keyword(Keyword::Then, rest)?;
+    let rest = skip(Word::Name(Keyword::Then), rest)?;
     if is_over(rest) {
         Ok(found)
     } else {
@@ -58,31 +59,70 @@ pub fn then(alloc: Global, items: &[Item]) -> Result<Expression, ReadError>
     }
 }
 
+/// The place of a `:` at the front, and what stands behind it.
+#[tactic(auto, unfolding(f3_reading::specs::Parts::EatsWord, f3_reading::specs::Parts::Lacks))]
+fn colon_front(items: &[Item]) -> Option<(Place, &[Item])>
+    ensures { HasColon result items.now }
+{
+    match front(items) {
+        Some((first, tail)) => match first.word {
+            Word::Colon => Some((first.place, tail)),
+            _ => None,
+        },
+        None => None,
+    }
+}
+
+/// Whether a comma or `)` stands at the front.
+fn ends_value(items: &[Item]) -> bool
+    ensures { result ≡ starts ends_value items.now }
+{
+    match front(items) {
+        Some((item, _)) => match item.word {
+            Word::Comma | Word::Close => true,
+            _ => false,
+        },
+        None => false,
+    }
+}
+
 /// The value or range of a CASE at the front.
-#[tactic(auto, unfolding(crate::specs::Actions::EatsCase))]
 fn case_value(alloc: Global, items: &[Item]) -> Result<(CaseValue, &[Item]), ReadError>
     ensures read { Reads EatsCase case_view result items.now }
     ensures shorter { IfOk result (λ x. length x.1.now < length items.now) }
 {
-    if starts_colon(items) {
-        return match front(items) {
-            None => Err(ReadError::NoForm),
-            Some((first, tail)) => {
-                let (upper, rest) = expression(alloc, tail)?;
-                Ok((CaseValue::UpTo(first.place, upper), rest))
+    match colon_front(items) {
+        Some((place, tail)) => {
+            let (upper, rest) = expression(alloc, tail)?;
+            Ok((CaseValue::UpTo(place, upper), rest))
+        }
+        None => {
+            let (lower, rest) = expression(alloc, items)?;
+            case_behind(alloc, lower, rest)
+        }
+    }
+}
+
+/// What stands behind the first value of a range, with that value.
+#[tactic(auto, unfolding(f3_reading::specs::Parts::Lacks))]
+fn case_behind(
+    alloc: Global,
+    lower: Expression,
+    items: &[Item],
+) -> Result<(CaseValue, &[Item]), ReadError>
+    ensures read { Reads (EatsCaseBehind (expression_view lower)) case_view result items.now }
+    ensures shorter { IfOk result (λ x. length x.1.now ≤ length items.now) }
+{
+    match behind(Word::Colon, items) {
+        None => Ok((CaseValue::Value(lower), items)),
+        Some(tail) => {
+            if ends_value(tail) {
+                return Ok((CaseValue::From(lower), tail));
             }
-        };
+            let (upper, rest) = expression(alloc, tail)?;
+            Ok((CaseValue::Range(lower, upper), rest))
+        }
     }
-    let (lower, rest) = expression(alloc, items)?;
-    if !starts_colon(rest) {
-        return Ok((CaseValue::Value(lower), rest));
-    }
-    let rest = colon(rest)?;
-    if ends_value(rest) {
-        return Ok((CaseValue::From(lower), rest));
-    }
-    let (upper, rest) = expression(alloc, rest)?;
-    Ok((CaseValue::Range(lower, upper), rest))
 }
 
 /// The values and ranges at the front, with commas between them.
@@ -90,16 +130,7 @@ fn case_values(alloc: Global, items: &[Item]) -> Result<(Vec<CaseValue>, &[Item]
     ensures read { Reads AreCases (λ v. map case_view v.items) result items.now }
     ensures shorter { IfOk result (λ x. length x.1.now ≤ length items.now) }
 {
-    let mut found = Vec::new(alloc);
-    let mut rest = items;
-    'elements: loop {
-        let (element, after) = case_value(alloc, rest)?;
-        found.push(element)?;
-        match separator(after) {
-            Some(tail) => rest = tail,
-            None => return Ok((found, after)),
-        }
-    }
+    list(alloc, items, |tokens| case_value(alloc, tokens))
 }
 
 /// The values and ranges in the parentheses that all of the tokens are.
@@ -107,9 +138,9 @@ fn case_values(alloc: Global, items: &[Item]) -> Result<(Vec<CaseValue>, &[Item]
 fn enclosed_values(alloc: Global, items: &[Item]) -> Result<Vec<CaseValue>, ReadError>
     ensures { Finds IsCaseList (λ v. map case_view v.items) result items.now }
 {
-    let rest = opening(items)?;
+    let rest = skip(Word::Open, items)?;
     let (found, rest) = case_values(alloc, rest)?;
-    let rest = closing(rest)?;
+    let rest = skip(Word::Close, rest)?;
     if is_over(rest) {
         Ok(found)
     } else {
@@ -130,7 +161,7 @@ fn value_selector(alloc: Global, items: &[Item]) -> Result<Selector, ReadError>
 fn default_selector(items: &[Item]) -> Result<Selector, ReadError>
     ensures { Finds IsDefault selector_view result items.now }
 {
-    let rest = keyword(Keyword::Default, items)?;
+    let rest = skip(Word::Name(Keyword::Default), items)?;
     if is_over(rest) {
         Ok(Selector::Default)
     } else {
@@ -150,26 +181,11 @@ pub fn selector(alloc: Global, items: &[Item]) -> Result<Selector, ReadError>
     }
 }
 
-/// The step of a DO at the front.
-#[tactic(auto, unfolding(crate::specs::Actions::EatsStep))]
-fn step(alloc: Global, items: &[Item]) -> Result<(Expression, &[Item]), ReadError>
-    ensures { Reads EatsStep expression_view result items.now }
-{
-    let rest = comma(items)?;
-    let (found, rest) = expression(alloc, rest)?;
-    Ok((found, rest))
-}
-
 /// The step of a DO at the front, where it is written.
-#[tactic(auto, unfolding(crate::specs::Actions::EatsStepPerhaps))]
 fn step_perhaps(alloc: Global, items: &[Item]) -> Result<(Option<Expression>, &[Item]), ReadError>
     ensures { Reads EatsStepPerhaps (λ e. option_map expression_view e) result items.now }
 {
-    if !starts_comma(items) {
-        return Ok((None, items));
-    }
-    let (found, rest) = step(alloc, items)?;
-    Ok((Some(found), rest))
+    perhaps(Word::Comma, items, |tokens| expression(alloc, tokens))
 }
 
 /// The values of a DO variable, behind its `=`.
@@ -181,7 +197,7 @@ fn steps(
     ensures { Finds IsSteps steps_view result items.now }
 {
     let (first, rest) = expression(alloc, items)?;
-    let rest = comma(rest)?;
+    let rest = skip(Word::Comma, rest)?;
     let (last, rest) = expression(alloc, rest)?;
     let (step, rest) = step_perhaps(alloc, rest)?;
     if is_over(rest) {
@@ -197,7 +213,7 @@ fn counted(alloc: Global, items: &[Item]) -> Result<Control, ReadError>
     ensures { Finds IsCounted control_view result items.now }
 {
     let (variable, rest) = name(items)?;
-    let rest = equals(rest)?;
+    let rest = skip(Word::Equals, rest)?;
     let (first, last, step) = steps(alloc, rest)?;
     Ok(Control::Counted(variable, first, last, step))
 }
@@ -207,7 +223,7 @@ fn counted(alloc: Global, items: &[Item]) -> Result<Control, ReadError>
 fn while_control(alloc: Global, items: &[Item]) -> Result<Control, ReadError>
     ensures { Finds IsWhile control_view result items.now }
 {
-    let rest = keyword(Keyword::While, items)?;
+    let rest = skip(Word::Name(Keyword::While), items)?;
     let test = whole_condition(alloc, rest)?;
     Ok(Control::While(test))
 }

@@ -6,7 +6,7 @@ ghost use Rattle.f3_forms.specs.Forms.{form_view};
 ghost use Rattle.f3_forms.specs.Grammar.{ended_of, has_name, IsJoinedEnd, IsEnd};
 
 use crate::form::{Ended, Form};
-use f3_declarations::names::label;
+use f3_reading::names::label;
 use f3_words::error::ReadError;
 use f3_words::item::{Item, Keyword, Word};
 use f3_words::reading::front;

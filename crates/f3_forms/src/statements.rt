@@ -5,7 +5,8 @@ ghost use Rattle.f3_tree.specs.Expressions.{expression_view};
 ghost use Rattle.f3_words.specs.declared.item.Keyword.TheVariants.{Then};
 ghost use Rattle.f3_words.specs.Reads.{Finds};
 ghost use Rattle.f3_forms.specs.Forms.{FormTree, unit, uses, accesses, protects, finals, else_if, select_case, case_of, repeats, form_view};
-ghost use Rattle.f3_declarations.specs.Parts.{EatsKeyword, IsName, IsNameList};
+ghost use Rattle.f3_reading.specs.Parts.{EatsKeyword};
+ghost use Rattle.f3_reading.specs.Names.{IsName, IsNameList};
 ghost use Rattle.f3_declarations.specs.Specifications.{IsAccess, IsUse};
 ghost use Rattle.f3_forms.specs.Actions.{IsThen, IsCondition, IsCase, IsDo};
 ghost use Rattle.f3_forms.specs.Grammar.{Makes, IsBare, IsType, IsLogicalIf, IsIfBehind, IsIf, IsElse, IsSelect, IsImplicit, IsFormOf, IsHeaded, IsAct, IsProcedure, IsDeclared, IsSpecified, IsPassive, IsForm};
@@ -16,17 +17,17 @@ use crate::ends::{end, joined_end};
 use crate::form::{Ended, Form};
 use f3_declarations::access::{access, type_access};
 use f3_declarations::declarations::declaration;
-use f3_declarations::names::{name_list, only_name, skip_colons};
 use f3_declarations::procedures::header;
-use f3_declarations::signs::{is_over, keyword, starts_comma};
 use f3_declarations::uses::use_statement;
+use f3_reading::names::{name_list, only_name, skip_colons};
+use f3_reading::signs::{behind, is_over, skip};
 use f3_rules::source::Place;
 use f3_tree::declaration::Accessibility;
 use f3_tree::expression::Expression;
 use f3_tree::program::UnitKind;
 use f3_words::error::ReadError;
 use f3_words::item::{Item, Keyword, Word};
-use f3_words::reading::{behind_keyword, front};
+use f3_words::reading::front;
 use std::alloc::Global;
 
 /// The form whose keyword stands alone.
@@ -59,7 +60,7 @@ fn use_form(alloc: Global, place: Place, items: &[Item]) -> Result<Form, ReadErr
 fn implicit(items: &[Item]) -> Result<Form, ReadError>
     ensures { Finds IsImplicit form_view result items.now }
 {
-    let rest = keyword(Keyword::NoneWord, items)?;
+    let rest = skip(Word::Name(Keyword::NoneWord), items)?;
     if is_over(rest) {
         Ok(Form::ImplicitNone)
     } else {
@@ -94,27 +95,27 @@ fn finals(alloc: Global, items: &[Item]) -> Result<Form, ReadError>
 }
 
 /// What stands behind the TYPE that begins a definition.
-#[tactic(auto, unfolding(crate::specs::Grammar::IsType, f3_declarations::specs::Specifications::IsTypeBegin))]
+#[tactic(auto, unfolding(crate::specs::Grammar::IsType, f3_declarations::specs::Specifications::IsTypeBegin, f3_declarations::specs::Specifications::EatsTypeAccess, f3_reading::specs::Parts::Lacks))]
 fn type_form(items: &[Item]) -> Result<Form, ReadError>
     ensures { Finds IsType form_view result items.now }
 {
-    if starts_comma(items) {
+    if let Some(_) = behind(Word::Comma, items) {
         let (access, rest) = type_access(items)?;
         let name = only_name(rest)?;
         return Ok(Form::Type(Some(access), name));
     }
-    let (_, rest) = skip_colons(items)?;
+    let (_, rest) = skip_colons(items);
     let name = only_name(rest)?;
     Ok(Form::Type(None, name))
 }
 
 /// Whether THEN is all of the tokens.
-#[tactic(auto, unfolding(f3_declarations::specs::Parts::EatsWord))]
+#[tactic(auto, unfolding(f3_reading::specs::Parts::Lacks))]
 fn is_then(items: &[Item]) -> bool
     ensures is { result ≡ true → EatsKeyword Then items.now [] }
     ensures not { result ≡ false → EatsKeyword Then items.now [] → ⊥ }
 {
-    match behind_keyword(Keyword::Then, items) {
+    match behind(Word::Name(Keyword::Then), items) {
         Some(rest) => is_over(rest),
         None => false,
     }
@@ -170,7 +171,7 @@ fn else_form(alloc: Global, items: &[Item]) -> Result<Form, ReadError>
     if is_over(items) {
         return Ok(Form::Else);
     }
-    let rest = keyword(Keyword::If, items)?;
+    let rest = skip(Word::Name(Keyword::If), items)?;
     Ok(Form::ElseIf(then(alloc, rest)?))
 }
 
@@ -186,7 +187,7 @@ fn select_case(alloc: Global, items: &[Item]) -> Result<Form, ReadError>
 fn select(alloc: Global, items: &[Item]) -> Result<Form, ReadError>
     ensures { Finds IsSelect form_view result items.now }
 {
-    let rest = keyword(Keyword::Case, items)?;
+    let rest = skip(Word::Name(Keyword::Case), items)?;
     Ok(Form::Select(whole_condition(alloc, rest)?))
 }
 

@@ -4,6 +4,7 @@ use Rattle.std.specs.Fmt.{signed_decimal}
 use Rattle.std.proofs.lemmas.List.Elements.{Contains-append_left, Contains-append_right}
 use Rattle.f3_rules.specs.declared.source.Place.{Place}
 use Rattle.f3_meaning.specs.declared.elaborated.Elaborated.{Elaborated}
+use Rattle.f3_meaning.specs.declared.run_error.RunError.TheVariants.{IntegerOverflow}
 use Rattle.f3_meaning.specs.declared.elaborated.Primary.{Primary}
 use Rattle.f3_meaning.specs.declared.elaborated.Primary.TheVariants as primary
 use Rattle.f3_meaning.specs.declared.elaborated.Term.{Term}
@@ -18,11 +19,11 @@ use Rattle.f3_meaning.specs.Event.{Event, changes}
 use Rattle.f3_meaning.specs.Ran.{Ran, End, Gives, Fails, Beyond, go_on, ◌>>=◌, gives, fails, prints_bytes}
 use Rattle.f3_meaning.specs.Meaning.{fits, checked, operand, signed_sum, sum_onto, begin, item, items, act, exec}
 use Rattle.f3_meaning.specs.Laws.{AgreeBut}
-use Rattle.f3_meaning.proofs.Changes.{changes-append}
+use Rattle.f3_meaning.proofs.Quiet.{changes-append}
 
 abbrev LeavesAs : {A : Type 0} → Store → List Event → End A → (A → Store) → Type 0
 LeavesAs before out (Gives x) after = AgreeBut out before (after x)
-LeavesAs before out (Fails number place) after = Unit {0}
+LeavesAs before out (Fails error place) after = Unit {0}
 LeavesAs before out Beyond after = Unit {0}
 
 -- behind a part of a run the store agrees with the one before but for its changes
@@ -40,12 +41,12 @@ bind_leaves {A} {B} {before} {m} {f} between after k h = by_end m.end k.as_said
     onward x a (Gives y) l = λ root clear.
         l root (λ c i. clear c (rw (changes-append m.out (f x).out) (Contains-append_right (changes m.out) (changes (f x).out) c i)))
         ∙ a root (λ c i. clear c (rw (changes-append m.out (f x).out) (Contains-append_left (changes m.out) (changes (f x).out) c i)))
-    onward x a (Fails number place) l = tt
+    onward x a (Fails error place) l = tt
     onward x a Beyond l = tt
 
     by_end : (end : End A) → LeavesAs before m.out end between → Leaves before (go_on m.out end f) after
     by_end (Gives x) a = record { as_said = onward x a (f x).end (h x).as_said }
-    by_end (Fails number place) a = record { as_said = tt }
+    by_end (Fails error place) a = record { as_said = tt }
     by_end Beyond a = record { as_said = tt }
 
 abbrev pair_store : Value × Store → Store
@@ -57,7 +58,7 @@ itself s = s
 checked_leaves : (z : ℤ) (place : Place) (store : Store) → Leaves store (checked z place store) pair_store
 checked_leaves z place store = by (fits z)
   where
-    by : (b : Bool) → Leaves {A = Value × Store} store (if b then gives (Number z, store) else fails 1 place) pair_store
+    by : (b : Bool) → Leaves {A = Value × Store} store (if b then gives (Number z, store) else fails IntegerOverflow place) pair_store
     by true = untouched store [] (Number z, store) pair_store refl
     by false = record { as_said = tt }
 

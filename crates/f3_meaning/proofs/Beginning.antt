@@ -12,9 +12,9 @@ behind_begins : (front : List Event) (whole : Ran Store) (part : Ran Course) →
 behind_begins front whole part b = record { as_said = by_end part.end b.as_said }
   where
     by_end : (end : End Course) → BeginsAs whole part.out end → BeginsAs (behind front whole) (front ++ part.out) end
-    by_end (Gives Running) h = (h.0, ap (λ o. front ++ o) h.1 ∙ sym (append_assoc front part.out h.0))
+    by_end (Gives (Running store)) h = (h.0, ap (λ o. front ++ o) h.1 ∙ sym (append_assoc front part.out h.0))
     by_end (Gives Finished) h = (h.0, ap (λ o. front ++ o) h.1, h.2)
-    by_end (Fails number place) h = (ap (λ o. front ++ o) h.0, h.1)
+    by_end (Fails error place) h = (ap (λ o. front ++ o) h.0, h.1)
     by_end Beyond h = (h.0, ap (λ o. front ++ o) h.1 ∙ sym (append_assoc front part.out h.0))
 
 bind_begins : {A : Type 0} (m : Ran A) (f : A → Ran Store) (g : A → Ran Course) → ((x : A) → Begins (f x) (g x)) → Begins (m >>= f) (m >>= g)
@@ -22,7 +22,7 @@ bind_begins {A} m f g h = by_end m.end
   where
     by_end : (end : End A) → Begins (go_on m.out end f) (go_on m.out end g)
     by_end (Gives x) = behind_begins m.out (f x) (g x) (h x)
-    by_end (Fails number place) = record { as_said = (refl, refl) }
+    by_end (Fails error place) = record { as_said = (refl, refl) }
     by_end Beyond = record { as_said = ([], sym (append-nil m.out)) }
 
 pub steps_begin_block : (p : Elaborated) (k : ℕ) (ss : List Statement) (store : Store) → Begins (block p ss store) (steps p k ss store)

@@ -1,6 +1,7 @@
 -- Parts of runs, one behind another.
 use Rattle.std.proofs.Common.{◌≡◌, ℕ, List, [], ◌∷◌, ◌++◌, map, refl, sym, ap, append_assoc}
 use Rattle.f3_rules.specs.declared.source.Place.{Place}
+use Rattle.f3_meaning.specs.declared.run_error.RunError.{RunError}
 use Rattle.f3_meaning.specs.Event.{Event, Printed, Changed, Began, output}
 use Rattle.f3_meaning.specs.Ran.{Ran, Gives, Fails, behind, go_on, ◌>>=◌}
 
@@ -12,8 +13,8 @@ pub then_gives : {A B : Type 0} (m : Ran A) (f : A → Ran B) (x : A) → m.end 
 then_gives m f x e = ap (λ end. go_on m.out end f) e
 
 -- a part that fails, whatever would follow it
-pub then_fails : {A B : Type 0} (m : Ran A) (f : A → Ran B) (number : ℕ) (place : Place) → m.end ≡ Fails number place → (m >>= f) ≡ record { out = m.out; end = Fails number place }
-then_fails m f number place e = ap (λ end. go_on m.out end f) e
+pub then_fails : {A B : Type 0} (m : Ran A) (f : A → Ran B) (error : RunError) (place : Place) → m.end ≡ Fails error place → (m >>= f) ≡ record { out = m.out; end = Fails error place }
+then_fails m f error place e = ap (λ end. go_on m.out end f) e
 
 -- what is printed behind what was printed
 pub output-append : (a b : List Event) → output (a ++ b) ≡ output a ++ output b

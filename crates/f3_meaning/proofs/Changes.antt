@@ -1,37 +1,23 @@
 -- Changes are permitted.
-use Rattle.std.proofs.Common.{◌≡◌, ℕ, suc, ℤ, pos, Bool, true, false, List, [], ◌∷◌, ◌++◌, map, Option, Some, None, refl, sym, ap, arith, if◌then◌else◌}
+use Rattle.std.proofs.Common.{◌≡◌, ℕ, suc, Bool, true, false, List, [], ◌∷◌, Option, Some, None, refl, sym, arith, if◌then◌else◌}
 use Rattle.std.specs.Prelude.{All, slice_get, ◌==◌}
-use Rattle.std.specs.Fmt.{signed_decimal}
 use Rattle.std.proofs.lemmas.Bool.{eq-eqb}
 use Rattle.std.proofs.lemmas.List.Elements.{All-nil, All-cons, All-append}
 use Rattle.f3_rules.specs.declared.source.Place.{Place}
 use Rattle.f3_meaning.specs.declared.elaborated.Elaborated.{Elaborated}
 use Rattle.f3_meaning.specs.declared.elaborated.Variable as v
-use Rattle.f3_meaning.specs.declared.elaborated.Primary.{Primary}
-use Rattle.f3_meaning.specs.declared.elaborated.Primary.TheVariants as primary
-use Rattle.f3_meaning.specs.declared.elaborated.Term.{Term}
+use Rattle.f3_meaning.specs.declared.elaborated.Expression.{Expression}
 use Rattle.f3_meaning.specs.declared.elaborated.Item.{Item}
-use Rattle.f3_meaning.specs.declared.elaborated.Item.TheVariants as shown
 use Rattle.f3_meaning.specs.declared.elaborated.Action.{Action}
 use Rattle.f3_meaning.specs.declared.elaborated.Action.TheVariants.{Assign, Print}
 use Rattle.f3_meaning.specs.declared.elaborated.Statement.{Statement}
-use Rattle.f3_meaning.specs.Value.{Value, Number, number_of}
 use Rattle.f3_meaning.specs.Store.{Store, Variable}
 use Rattle.f3_meaning.specs.Reference.{Define, Read, right_in, named}
-use Rattle.f3_meaning.specs.Event.{Event, Printed, Changed, Began, changes}
-use Rattle.f3_meaning.specs.Ran.{Ran, End, Gives, Fails, Beyond, go_on, ◌>>=◌, gives, fails, prints_bytes}
-use Rattle.f3_meaning.specs.Meaning.{fits, checked, operand, signed_sum, term_onto, sum_onto, begin, item, items, act, exec, block, prints}
+use Rattle.f3_meaning.specs.Event.{changes}
+use Rattle.f3_meaning.specs.Ran.{Ran, End, Gives, Fails, Beyond, go_on, ◌>>=◌, prints_bytes}
+use Rattle.f3_meaning.specs.Meaning.{value, begin, items, act, exec, block, prints}
 use Rattle.f3_meaning.specs.Permitted.{IsProtectedOf, Permitted, MayAct, MayDefine}
-
-pub changes-append : (a b : List Event) → changes (a ++ b) ≡ changes a ++ changes b
-changes-append [] b = refl
-changes-append (Printed byte ∷ a) b = changes-append a b
-changes-append (Changed change ∷ a) b = ap (λ l. change ∷ l) (changes-append a b)
-changes-append (Began stage ∷ a) b = changes-append a b
-
-pub changes-printed : (bytes : List ℕ) → changes (map Printed bytes) ≡ []
-changes-printed [] = refl
-changes-printed (b ∷ bs) = changes-printed bs
+use Rattle.f3_meaning.proofs.Quiet.{changes-append, value_quiet, items_quiet, printed_quiet}
 
 -- a unit has the right to define what is no protected variable of another
 right_is : (unit : ℕ) (o : Option v.Variable) → ((y : v.Variable) → o ≡ Some y → y.is_protected ≡ true → y.home ≡ unit) → right_in unit o ≡ Define
@@ -55,43 +41,20 @@ module _ (p : Elaborated) where
     where
       by_end : (end : End A) → Keeps (go_on m.out end f)
       by_end (Gives x) = record { each = rw (changes-append m.out (f x).out) (All-append (Permitted p) _ _ k.each (h x).each) }
-      by_end (Fails number place) = record { each = k.each }
+      by_end (Fails error place) = record { each = k.each }
       by_end Beyond = record { each = k.each }
 
-  checked_keeps : (z : ℤ) (place : Place) (store : Store) → Keeps (checked z place store)
-  checked_keeps z place store = by (fits z)
-    where
-      by : (b : Bool) → Keeps {A = Value × Store} (if b then gives (Number z, store) else fails 1 place)
-      by true = unchanged _ refl
-      by false = unchanged _ refl
+  value_keeps : (e : Expression) (place : Place) (store : Store) → Keeps (value e place store)
+  value_keeps e place store = unchanged (value e place store) (value_quiet e place store).changes_nothing
 
-  operand_keeps : (x : Primary) (place : Place) (store : Store) → Keeps (operand x place store)
-  operand_keeps (primary.Literal z) place store = unchanged _ refl
-  operand_keeps (primary.Variable x) place store = unchanged _ refl
-
-  term_keeps : (sum : Value) (t : Term) (place : Place) (store : Store) → Keeps (term_onto sum t place store)
-  term_keeps sum t place store =
-      bind_keeps (operand_keeps t.primary place store) (λ x. checked_keeps (signed_sum t.minus (number_of sum) (number_of x.0)) place x.1)
-
-  sum_keeps : (sum : Value) (ts : List Term) (place : Place) (store : Store) → Keeps (sum_onto sum ts place store)
-  sum_keeps sum [] place store = unchanged _ refl
-  sum_keeps sum (t ∷ ts) place store =
-      bind_keeps (term_keeps sum t place store) (λ next. sum_keeps next.0 ts place next.1)
+  items_keep : (es : List Item) (place : Place) (store : Store) → Keeps (items es place store)
+  items_keep es place store = unchanged (items es place store) (items_quiet es place store).changes_nothing
 
   printed_keeps : (bytes : List ℕ) (store : Store) → Keeps (prints_bytes bytes store)
-  printed_keeps bytes store = unchanged _ (changes-printed bytes)
+  printed_keeps bytes store = unchanged (prints_bytes bytes store) (printed_quiet bytes store).changes_nothing
 
   begin_keeps : (store : Store) → Keeps (begin store)
   begin_keeps store = unchanged _ refl
-
-  item_keeps : (x : Item) (place : Place) (store : Store) → Keeps (item x place store)
-  item_keeps (shown.Value e) place store =
-      bind_keeps (sum_keeps (Number (pos 0)) e.terms.items place store) (λ x. bind_keeps (printed_keeps (32 ∷ []) x.1) (printed_keeps (signed_decimal (number_of x.0))))
-  item_keeps (shown.Text t) place store = bind_keeps (printed_keeps (32 ∷ []) store) (printed_keeps t.items)
-
-  items_keep : (es : List Item) (place : Place) (store : Store) → Keeps (items es place store)
-  items_keep [] place store = unchanged _ refl
-  items_keep (e ∷ es) place store = bind_keeps (item_keeps e place store) (λ s. items_keep es place s)
 
   here : (x : ℕ) → ((home : ℕ) → IsProtectedOf p home (Variable x) → home ≡ p.main) → Permitted p (record { reference = named p p.main x; executing = p.main })
   here x h = record {
@@ -101,7 +64,7 @@ module _ (p : Elaborated) where
 
   act_keeps : (a : Action) → MayAct p a → (place : Place) (store : Store) → Keeps (act p a place store)
   act_keeps (Assign x e) h place store =
-      bind_keeps (sum_keeps (Number (pos 0)) e.terms.items place store) (λ y. record { each = All-cons (Permitted p) _ [] (here x h) (All-nil (Permitted p)) })
+      bind_keeps (value_keeps e place store) (λ y. record { each = All-cons (Permitted p) _ [] (here x h) (All-nil (Permitted p)) })
   act_keeps (Print es) h place store =
       bind_keeps (items_keep es.items place store) (printed_keeps (10 ∷ []))
 

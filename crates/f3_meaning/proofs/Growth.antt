@@ -10,7 +10,7 @@ same {A = A} r = record { as_said = by_end r.end }
   where
     by_end : (end : End A) → GrowsAs r.out r.out end end
     by_end (Gives x) = (refl, refl)
-    by_end (Fails number place) = (refl, refl)
+    by_end (Fails error place) = (refl, refl)
     by_end Beyond = ([], sym (append-nil r.out))
 
 pub prints_grows : (p : Elaborated) (refused : List ℕ) (n m : ℕ) → n ≤ m → Grows (prints p n refused) (prints p m refused)

@@ -1,5 +1,9 @@
 pub mod Behind
 pub mod Growth
+pub mod Quiet
 pub mod Changes
 pub mod Beginning
 pub mod Agreeing
+pub mod Owns
+pub mod Stages
+pub mod Holding

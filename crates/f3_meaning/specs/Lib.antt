@@ -1,3 +1,4 @@
+pub mod RunError
 pub mod Value
 pub mod Store
 pub mod Reference

@@ -13,6 +13,7 @@ use Rattle.f3_meaning.specs.declared.elaborated.Action.{Action}
 use Rattle.f3_meaning.specs.declared.elaborated.Action.TheVariants.{Assign, Print}
 use Rattle.f3_meaning.specs.declared.elaborated.Statement.{Statement}
 use Rattle.f3_meaning.specs.declared.elaborated.Elaborated.{Elaborated}
+use Rattle.f3_meaning.specs.declared.run_error.RunError.TheVariants.{IntegerOverflow}
 use Rattle.f3_meaning.specs.Value.{Value, Number, number_of}
 use Rattle.f3_meaning.specs.Store.{Store, Variable, get, put}
 use Rattle.f3_meaning.specs.Reference.{Reference, named}
@@ -24,9 +25,9 @@ abbrev pub fits : ℤ → Bool
 fits (pos n) = nat_lt n (2 ^ 31)
 fits (negsuc n) = nat_lt n (2 ^ 31)
 
--- a result, or error 1 (own rule: integer overflow)
+-- a result, or the error of integer overflow (own rule)
 abbrev pub checked : ℤ → Place → Store → Ran (Value × Store)
-checked z place store = if fits z then gives (Number z, store) else fails 1 place
+checked z place store = if fits z then gives (Number z, store) else fails IntegerOverflow place
 
 abbrev pub operand : Primary → Place → Store → Ran (Value × Store)
 operand (primary.Literal z) place store = gives (Number z, store)
@@ -113,14 +114,14 @@ initial p = record { variables = map (λ (x : v.Variable). Number x.initial) p.v
 unfoldable pub prints : Elaborated → (turns : ℕ) → (refused : List ℕ) → Ran Store
 prints p turns refused = block p p.statements.items (initial p)
 
--- whether a run has come to its end
+-- a run goes on from a store, or has come to its end
 pub data Course : Type 0 where
-  Running : Course
+  Running : (store : Store) → Course
   Finished : Course
 
 -- so many steps: a step is one executed statement, and the END is the last
 abbrev pub steps : Elaborated → ℕ → List Statement → Store → Ran Course
-steps p zero ss store = gives Running
+steps p zero ss store = gives (Running store)
 steps p (suc k) [] store = begin store >>= λ store. gives Finished
 steps p (suc k) (s ∷ ss) store = exec p s store >>= steps p k ss
 

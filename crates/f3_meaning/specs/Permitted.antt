@@ -19,9 +19,13 @@ pub record Permitted (p : Elaborated) (c : Change) : Type 0 where
   pub by_right : c.reference.right ≡ Define
   pub from_home : (home : ℕ) → IsProtectedOf p home c.reference.root → c.reference.origin ≡ home
 
+-- the variable is no protected one of another unit than the main program
+abbrev pub MayAssign : Elaborated → ℕ → Type 0
+MayAssign p x = (home : ℕ) → IsProtectedOf p home (Variable x) → home ≡ p.main
+
 -- the assignment is to no protected variable of another unit
 abbrev pub MayAct : Elaborated → Action → Type 0
-MayAct p (Assign x e) = (home : ℕ) → IsProtectedOf p home (Variable x) → home ≡ p.main
+MayAct p (Assign x e) = MayAssign p x
 MayAct p (Print es) = Unit {0}
 
 -- no assignment of the program is to a protected variable of another unit

@@ -1,13 +1,14 @@
 -- Parts of runs, one behind another.
 use Rattle.std.specs.Prelude.{ℕ, List, [], ◌∷◌, ◌++◌, map}
 use Rattle.f3_rules.specs.declared.source.Place.{Place}
+use Rattle.f3_meaning.specs.declared.run_error.RunError.{RunError}
 use Rattle.f3_meaning.specs.Event.{Event, Printed}
 
--- How a part of a run ends: it gives something and the run goes on, it fails with an error's number
--- and place, or a loop needs more turns than it may make.
+-- How a part of a run ends: it gives something and the run goes on, it fails with an error
+-- at a place, or a loop needs more turns than it may make.
 pub data End (A : Type 0) : Type 0 where
   Gives : A → End A
-  Fails : (number : ℕ) (place : Place) → End A
+  Fails : (error : RunError) (place : Place) → End A
   Beyond : End A
 
 -- what happened in a part of a run, and how it ended
@@ -21,7 +22,7 @@ behind front r = record { out = front ++ r.out; end = r.end }
 
 abbrev pub go_on : {A B : Type 0} → List Event → End A → (A → Ran B) → Ran B
 go_on out (Gives x) f = behind out (f x)
-go_on out (Fails number place) f = record { out = out; end = Fails number place }
+go_on out (Fails error place) f = record { out = out; end = Fails error place }
 go_on out Beyond f = record { out = out; end = Beyond }
 
 -- goes on with what the first part gives
@@ -33,8 +34,8 @@ m >>= f = go_on m.out m.end f
 abbrev pub gives : {A : Type 0} → A → Ran A
 gives x = record { out = []; end = Gives x }
 
-abbrev pub fails : {A : Type 0} → ℕ → Place → Ran A
-fails number place = record { out = []; end = Fails number place }
+abbrev pub fails : {A : Type 0} → RunError → Place → Ran A
+fails error place = record { out = []; end = Fails error place }
 
 abbrev pub beyond : {A : Type 0} → Ran A
 beyond = record { out = []; end = Beyond }

@@ -1,6 +1,6 @@
 //! Laws of the meaning.
 
-ghost use Rattle.f3_meaning.specs.Laws.{ChangesArePermitted, OnlyChangesChange, RunsGrow, StepsBegin};
+ghost use Rattle.f3_meaning.specs.Laws.{ChangesArePermitted, OnlyChangesChange, AssignmentsChangeOnce, RunsGrow, StepsBegin, StagesAreStores, ProtectedVariablesHold};
 
 /// Every change that a run makes is permitted, whatever the bound on the turns of loops and
 /// whichever requests of the heap are refused, where no assignment is to a protected variable of
@@ -24,4 +24,22 @@ pub fn runs_grow()
 /// end, and else the first of its events.
 pub fn steps_begin()
     ensures { StepsBegin }
+{}
+
+/// An assignment that comes to its end makes one change, of the variable that it names and by the unit in which it
+/// stands; any other statement makes none.
+pub fn assignments_change_once()
+    ensures { AssignmentsChangeOnce }
+{}
+
+/// Wherever a run goes on, the stages that it has told are as many as its steps, and the next one is the store that
+/// it has there.
+pub fn stages_are_stores()
+    ensures { StagesAreStores }
+{}
+
+/// Where no assignment is to a protected variable of another unit, a protected variable of a unit that executes nothing
+/// holds in every stage and at the end what it holds as the run begins (ISO/IEC 1539-1:2004, 5.1.2.12).
+pub fn protected_variables_hold()
+    ensures { ProtectedVariablesHold }
 {}

@@ -3,3 +3,4 @@
 
 pub mod elaborated;
 pub mod laws;
+pub mod run_error;

@@ -13,7 +13,7 @@ use Rattle.f3_scopes.specs.declared.outline.Outline.{Outline}
 use Rattle.f3_scopes.specs.Outlines.{Scope, Using, Own, Listed, scope_view, using_view, own_view, listed_view}
 use Rattle.f3_access.specs.declared.table.Tables.{Tables}
 use Rattle.f3_access.specs.Access.{IsModule}
-use Rattle.f3_access.specs.Listing.{is_module}
+use Rattle.f3_scopes.specs.Kinds.{is_module}
 use Rattle.f3_access.specs.Tables.{AreTables, lookup_of, private_of, module_of}
 use Rattle.f3_access.proofs.Members.{Has, has_of, contains_of, has_left, has_right, has_parts, has_piece, piece_of, has_mapped, mapped_of}
 use Rattle.f3_name_rules.specs.NameBreaks.{UsesName, GivesAttribute, declared, protects, RefersTo, AccessBreaks, no_such_name, private_there, attribute_on_used, access_to_nothing, not_accessible, of_several}

@@ -1,24 +1,16 @@
 -- The breaks of the rules on names (phases 3 and 4).
-use Rattle.std.specs.Prelude.{◌≡◌, ◌≢◌, ◌⊎◌, ℕ, false, List, [], Some, Contains, slice_get}
-use Rattle.std.specs.List.{slice_index_or}
+use Rattle.std.specs.Prelude.{◌≡◌, ◌⊎◌, ℕ, List, Contains, Some, slice_get}
 use Rattle.f3_rules.specs.declared.breaks.Break.{Break}
-use Rattle.f3_rules.specs.declared.rule.Rule.{Rule}
-use Rattle.f3_rules.specs.declared.rule.Rule.TheVariants.{N1, N2, N4, N7, N10, N11}
+use Rattle.f3_rules.specs.declared.rule.Rule.TheVariants.{N1, N2, N4, N7}
 use Rattle.f3_tree.specs.declared.expression.Name.{Name}
 use Rattle.f3_scopes.specs.declared.outline.ScopeKind.TheVariants.{Module}
 use Rattle.f3_scopes.specs.declared.outline.UseItem.{UseItem}
 use Rattle.f3_scopes.specs.Outlines.{Own, Using, Listed, Scope}
 use Rattle.f3_access.specs.Access.{IsModule, IsPrivate, IsUsed, IsVisible}
+pub use Rattle.f3_breaks.specs.At.{at}
 use Rattle.f3_scope_rules.specs.ScopeBreaks.{ScopeBreaks}
-use Rattle.f3_name_rules.specs.Intrinsics.{is_intrinsic}
-
--- a rule of a phase is broken at a name
-abbrev pub at : ℕ → Rule → Name → Break
-at phase rule name = record { phase = phase; place = name.place; rule = rule; name = Some name.symbol }
-
--- the text of a name by its number, where these are the texts of all; nothing where there is none
-abbrev pub text_of : List (List ℕ) → ℕ → List ℕ
-text_of texts symbol = slice_index_or texts symbol []
+use Rattle.f3_name_rules.specs.References as references
+pub use Rattle.f3_name_rules.specs.References.{text_of}
 
 -- A USE of the module of this number, in some scope, has an item with this use-name (11.2.1).
 abbrev pub UsesName : List Scope → ℕ → Name → Type 0
@@ -53,15 +45,13 @@ AccessToNothing scopes b = (number : ℕ) × (scope : Scope) × (slice_get scope
 abbrev pub RefersTo : List Scope → ℕ → Name → Type 0
 RefersTo scopes number name = (scope : Scope) × (slice_get scopes number ≡ Some scope) × Contains scope.references name
 
--- N10: a reference to a name that no entity and no intrinsic procedure has; the name (5.3: there is no implicit typing)
+-- N10 at such a reference
 abbrev pub NotAccessible : List Scope → List (List ℕ) → Break → Type 0
-NotAccessible scopes texts b = (number : ℕ) × (name : Name) × RefersTo scopes number name × ((entity : ℕ) → IsVisible scopes number name.symbol entity → ⊥)
-    × (is_intrinsic (text_of texts name.symbol) ≡ false) × (b ≡ at 4 N10 name)
+NotAccessible scopes texts b = references.NotAccessible 4 scopes (RefersTo scopes) texts b
 
--- N11: a reference to a name that several entities have; the name (11.2.1)
+-- N11 at such a reference
 abbrev pub OfSeveral : List Scope → Break → Type 0
-OfSeveral scopes b = (number : ℕ) × (name : Name) × RefersTo scopes number name
-    × (d : ℕ) × (e : ℕ) × IsVisible scopes number name.symbol d × IsVisible scopes number name.symbol e × (d ≢ e) × (b ≡ at 4 N11 name)
+OfSeveral scopes b = references.OfSeveral 4 scopes (RefersTo scopes) b
 
 -- the breaks of the rules on what is visible, where these are the texts of the names
 pub data AccessBreaks (scopes : List Scope) (texts : List (List ℕ)) (b : Break) : Type 0 where

@@ -12,10 +12,11 @@ use Rattle.f3_scopes.specs.declared.outline.Outline.{Outline}
 use Rattle.f3_access.specs.declared.table.Lookup.{Lookup}
 use Rattle.f3_access.specs.declared.table.Lookup.TheVariants.{One, Nothing, Several}
 use Rattle.f3_access.specs.declared.table.Tables.{Tables}
-use Rattle.f3_access.specs.Listing.{is_module}
+use Rattle.f3_scopes.specs.Kinds.{is_module}
 use Rattle.f3_access.specs.Tables.{used_of, lookup_of, private_of, module_of}
 use Rattle.f3_name_rules.specs.Intrinsics.{is_intrinsic}
-use Rattle.f3_name_rules.specs.NameBreaks.{at, text_of}
+use Rattle.f3_breaks.specs.At.{at}
+use Rattle.f3_name_rules.specs.NameBreaks.{text_of}
 
 -- a use-name, by what its module has under it and whether that is private there
 abbrev pub seen_row : Lookup → Bool → Name → List Break

@@ -5,9 +5,9 @@ ghost use Rattle.std.specs.List.{flat_map};
 ghost use Rattle.f3_rules.specs.Least.{first_of};
 ghost use Rattle.f3_name_rules.specs.Rows.{attribute_row, declared_row, attributes_row};
 
-use crate::broken::at;
 use f3_access::table::Tables;
 use f3_access::used;
+use f3_breaks::{at, first_among};
 use f3_rules::breaks::{Break, earlier};
 use f3_rules::rule::Rule;
 use f3_scopes::outline::{Declared, Outline};
@@ -28,22 +28,17 @@ fn at_attribute(tables: &Tables, number: usize, name: &Name) -> Option<Break>
 fn first_in_declared(tables: &Tables, number: usize, declared: &[Declared]) -> Option<Break>
     ensures { result ≡ first_of (flat_map (declared_row tables.now number) declared.now) }
 {
-    let mut first = None;
-    for declaration in declared {
-        first = earlier(first, at_attribute(tables, number, &declaration.name));
-    }
-    first
+    first_among(
+        declared,
+        |declaration| at_attribute(tables, number, &declaration.name),
+    )
 }
 
 /// The first break at a name of a PROTECTED statement.
 fn first_in_protects(tables: &Tables, number: usize, protects: &[Name]) -> Option<Break>
     ensures { result ≡ first_of (flat_map (attribute_row tables.now number) protects.now) }
 {
-    let mut first = None;
-    for name in protects {
-        first = earlier(first, at_attribute(tables, number, name));
-    }
-    first
+    first_among(protects, |name| at_attribute(tables, number, name))
 }
 
 /// The first declaration or PROTECTED, in the scope of this number, of a name that a USE of the scope brings (N4).

@@ -2,7 +2,6 @@
 #![tactic(auto)]
 
 mod attributes;
-mod broken;
 mod mentions;
 mod uses;
 

@@ -3,15 +3,15 @@
 ghost use Rattle.std.specs.Prelude.{◌≡◌, map, string_bytes};
 ghost use Rattle.std.specs.List.{flat_map};
 ghost use Rattle.f3_rules.specs.Least.{first_of};
-ghost use Rattle.f3_access.specs.Listing.{is_module};
+ghost use Rattle.f3_scopes.specs.Kinds.{is_module};
 ghost use Rattle.f3_name_rules.specs.Intrinsics.{is_intrinsic};
 ghost use Rattle.f3_name_rules.specs.NameBreaks.{text_of};
 ghost use Rattle.f3_name_rules.specs.Rows.{listed_row, access_row, accesses_row, reference_row, mentions_row};
 
-use crate::broken::at;
 use crate::is_intrinsic;
 use f3_access::lookup;
 use f3_access::table::{Lookup, Tables};
+use f3_breaks::{at, first_among};
 use f3_rules::breaks::{Break, earlier};
 use f3_rules::rule::Rule;
 use f3_scopes::outline::{AccessOutline, Outline, ScopeKind};
@@ -32,22 +32,17 @@ fn at_listed(tables: &Tables, number: usize, name: &Name) -> Option<Break>
 fn first_in_list(tables: &Tables, number: usize, names: &[Name]) -> Option<Break>
     ensures { result ≡ first_of (flat_map (listed_row tables.now number) names.now) }
 {
-    let mut first = None;
-    for name in names {
-        first = earlier(first, at_listed(tables, number, name));
-    }
-    first
+    first_among(names, |name| at_listed(tables, number, name))
 }
 
 /// The first break in access statements.
 fn first_in_accesses(tables: &Tables, number: usize, statements: &[AccessOutline]) -> Option<Break>
     ensures { result ≡ first_of (flat_map (access_row tables.now number) statements.now) }
 {
-    let mut first = None;
-    for statement in statements {
-        first = earlier(first, first_in_list(tables, number, &statement.names));
-    }
-    first
+    first_among(
+        statements,
+        |statement| first_in_list(tables, number, &statement.names),
+    )
 }
 
 /// The first break in the access statements of a module; elsewhere they have none of this rule.
@@ -101,11 +96,7 @@ fn first_in_references(
 ) -> Option<Break>
     ensures { result ≡ first_of (flat_map (reference_row tables.now (map string_bytes names.now.keys) number) references.now) }
 {
-    let mut first = None;
-    for name in references {
-        first = earlier(first, at_reference(tables, names, number, name));
-    }
-    first
+    first_among(references, |name| at_reference(tables, names, number, name))
 }
 
 /// The first name that the scope of this number gives an access although nothing has it there (N7), or refers to although

@@ -5,13 +5,13 @@ ghost use Rattle.std.specs.List.{flat_map};
 ghost use Rattle.f3_rules.specs.Least.{first_of};
 ghost use Rattle.f3_rules.specs.declared.rule.Rule.TheVariants.{N2};
 ghost use Rattle.f3_access.specs.Tables.{private_of};
-ghost use Rattle.f3_name_rules.specs.NameBreaks.{at};
+ghost use Rattle.f3_breaks.specs.At.{at};
 ghost use Rattle.f3_name_rules.specs.Rows.{item_row, use_row};
 
-use crate::broken::at;
 use f3_access::table::{Lookup, Tables};
 use f3_access::{is_private, lookup, module};
-use f3_rules::breaks::{Break, earlier};
+use f3_breaks::{at, first_among};
+use f3_rules::breaks::Break;
 use f3_rules::rule::Rule;
 use f3_scopes::outline::{UseItem, UseOutline};
 use f3_tree::expression::Name;
@@ -41,11 +41,7 @@ fn at_item(tables: &Tables, source: usize, item: &UseItem) -> Option<Break>
 fn first_in_items(tables: &Tables, source: usize, items: &[UseItem]) -> Option<Break>
     ensures { result ≡ first_of (flat_map (item_row tables.now source) items.now) }
 {
-    let mut first = None;
-    for item in items {
-        first = earlier(first, at_item(tables, source, item));
-    }
-    first
+    first_among(items, |item| at_item(tables, source, item))
 }
 
 /// The first break in a USE.
@@ -62,9 +58,5 @@ fn first_in_use(tables: &Tables, outline: &UseOutline) -> Option<Break>
 pub fn first_in_uses(tables: &Tables, uses: &[UseOutline]) -> Option<Break>
     ensures { result ≡ first_of (flat_map (use_row tables.now) uses.now) }
 {
-    let mut first = None;
-    for outline in uses {
-        first = earlier(first, first_in_use(tables, outline));
-    }
-    first
+    first_among(uses, |outline| first_in_use(tables, outline))
 }

@@ -62,7 +62,7 @@ fn access_word(kind: UnitKind, is_private: bool) -> &'static str
 fn add_entity(text: &mut String, names: &Names, number: usize) -> Result<(), AllocError>
     ensures { OnOk result (string_bytes text.new ≡ string_bytes text.old ++ entity_text (texts_of names.now) (slice_get names.now.entities.items number)) }
 {
-    let Some(entity) = names.entities.get(number) else {
+    let Some(entity) = names.entities().get(number) else {
         return Ok(());
     };
     let kind = kind_word(entity.kind);

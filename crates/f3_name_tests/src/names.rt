@@ -184,7 +184,7 @@ fn entities() -> [Entity; 6] {
 #[test]
 fn a_program_has_its_entities(rt: HostRuntime) -> Result<(), Fail> {
     match small(rt.alloc()) {
-        Ok(names) => assert_eq!(rt; names.entities.as_slice(), &entities()[..]),
+        Ok(names) => assert_eq!(rt; names.entities(), &entities()[..]),
         Err(_) => panic!(rt; "the program breaks no rule"),
     }
     Ok(())
@@ -204,8 +204,11 @@ fn a_scope_sees_its_names(rt: HostRuntime) -> Result<(), Fail> {
     match small(alloc) {
         Ok(names) => {
             assert_eq!(rt; names.exports(UnitId { number: 0 }), &exported()[..]);
-            let seen = names.visible(alloc, ScopeId { number: 1 })?;
-            assert_eq!(rt; seen.as_slice(), &visible()[..]);
+            let mut seen = names.visible(ScopeId { number: 1 });
+            for pair in visible() {
+                assert_eq!(rt; seen.next(), Some(pair));
+            }
+            assert_eq!(rt; seen.next(), None);
         }
         Err(_) => panic!(rt; "the program breaks no rule"),
     }

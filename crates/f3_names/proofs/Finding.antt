@@ -1,11 +1,13 @@
 -- Where a text stands among distinct texts, and texts in lower case.
-use Rattle.std.proofs.Common.{◌≡◌, ℕ, zero, suc, ◌+◌, ◌↔◌, List, [], ◌∷◌, Bool, true, false, cond, nat_lt, Option, None, Some, IsTrue, ◌&&◌, not, length, map, slice_get, position, refl, sym, ◌∙◌, ap, subst, arith}
+use Rattle.std.proofs.Common.{◌≡◌, ℕ, zero, suc, ◌+◌, ◌<◌, ◌≤◌, max, ◌↔◌, List, [], ◌∷◌, Bool, true, false, cond, nat_lt, Option, None, Some, IsTrue, ◌&&◌, not, length, map, slice_get, position, refl, sym, ◌∙◌, ap, subst, arith}
 use Rattle.std.specs.List.{list_all, position_or_len, IsDistinct, AllByRecursion}
 use Rattle.std.specs.Bool.{one_answer}
 use Rattle.std.specs.Str.{bytes_eq}
 use Rattle.std.specs.Char.{to_ascii_lowercase, is_ascii_uppercase}
 use Rattle.std.proofs.lemmas.Slice.Eq.{bytes_eq-Decides}
 use Rattle.std.proofs.lemmas.Str.Ascii.{lowercase-lowercase, lowercase_is}
+use Rattle.std.proofs.lemmas.List.{length-map}
+use Rattle.f3_names.specs.Texts.{lowered, longest_from}
 
 pub lowered_again : (text : List ℕ) → map to_ascii_lowercase (map to_ascii_lowercase text) ≡ map to_ascii_lowercase text
 lowered_again [] = refl
@@ -101,3 +103,19 @@ pub found_at : {K : Type 0} (v : K → List ℕ) (text : List ℕ) (ks : List K)
     → (position (λ k. bytes_eq text (v k)) ks ≡ Some symbol) ↔ (slice_get (map v ks) symbol ≡ Some text)
 unfolding Stands
 found_at v text ks distinct = stands v text ks distinct
+
+-- no text is longer than the longest
+longest_kept : (long : ℕ) (texts : List (List ℕ)) → long ≤ longest_from long texts
+longest_kept long [] = omega arith
+longest_kept long (text ∷ texts) = omega (arith, longest_kept (max long (length text)) texts)
+
+within_longest : (long : ℕ) (texts : List (List ℕ)) (symbol : ℕ) (text : List ℕ) → slice_get texts symbol ≡ Some text → length text ≤ longest_from long texts
+within_longest long [] symbol text at = cc
+within_longest long (t ∷ texts) zero text at = let same : t ≡ text = cc in omega (arith, longest_kept (max long (length t)) texts, ap length same)
+within_longest long (t ∷ texts) (suc symbol) text at = within_longest (max long (length t)) texts symbol text at
+
+pub none_longer : (texts : List (List ℕ)) (name : List ℕ) (long : ℕ) → long ≡ longest_from 0 texts → long < length name → (symbol : ℕ) → (None ≡ Some symbol) ↔ (slice_get texts symbol ≡ Some (lowered name))
+none_longer texts name long is longer symbol = (
+  λ h. cc,
+  λ at. absurd (let within = within_longest 0 texts symbol (lowered name) at in let same = length-map name to_ascii_lowercase in omega (arith, within, same, is, longer)),
+)

@@ -1,25 +1,26 @@
 -- When tables of names are those of a program.
-use Rattle.std.specs.Prelude.{◌≡◌, ℕ, ◌+◌, List, [], ◌∷◌, Option, None, Some, length, map, slice_get, string_bytes}
-use Rattle.f3_tree.specs.Tree.{UnitTree, Tree}
+use Rattle.std.specs.Prelude.{◌≡◌, ℕ, List, [], Option, None, Some, map, slice_get, string_bytes}
+use Rattle.f3_tree.specs.Tree.{Tree}
 use Rattle.f3_scopes.specs.Scopes.{scopes_of}
 use Rattle.f3_access.specs.declared.table.Visible.{Visible}
 use Rattle.f3_access.specs.declared.table.Lookup.{Lookup}
 use Rattle.f3_access.specs.Access.{IsVisible}
-use Rattle.f3_access.specs.Tables.{AreTables, exports_of, lookup_of}
+use Rattle.f3_access.specs.Tables.{exports_of, lookup_of}
+use Rattle.f3_names.specs.declared.entity.Entity.{Entity}
 use Rattle.f3_names.specs.declared.table.Names.{Names}
-use Rattle.f3_names.specs.Entities.{described}
+pub use Rattle.f3_names.specs.Parts.{scope_numbers}
+use Rattle.f3_names.specs.Parts.{AreNamesOf}
 
--- the numbers of the units among the scopes, where the first unit has this one: a unit's procedures come behind it
-abbrev pub scope_numbers : ℕ → List UnitTree → List ℕ
-scope_numbers number [] = []
-scope_numbers number (u ∷ us) = number ∷ scope_numbers (number + (1 + length u.procedures)) us
+-- the entities of a program, and the texts of its names in lower case
+abbrev pub entities_of : Names → List Entity
+entities_of names = names.entities.items
+
+abbrev pub texts_of : Names → List (List ℕ)
+texts_of names = map string_bytes names.texts.keys
 
 -- the entities, what each scope sees, the texts of the names and the numbers of the units are the program's
-pub record AreNames (t : Tree) (names : Names) : Type 0 where
-  pub tables : AreTables (scopes_of t) names.tables
-  pub entities : names.entities.items ≡ described (scopes_of t)
-  pub texts : map string_bytes names.texts.keys ≡ t.names
-  pub units : names.units.items ≡ scope_numbers 0 t.units
+abbrev pub AreNames : Tree → Names → Type 0
+AreNames t names = AreNamesOf t (entities_of names) names.tables (texts_of names) names.units.items
 
 -- what the tables have for a name of a scope
 abbrev pub lookup_at : Names → ℕ → ℕ → Lookup

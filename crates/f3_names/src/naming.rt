@@ -34,11 +34,10 @@ pub fn names(alloc: Global, program: &Program, order: &UnitOrder) -> Result<Name
             let refusal = refusal_of(alloc, &program.names, found)?;
             Err(CheckFault::Refused(refusal))
         }
-        None => Ok(Names {
-            entities: described(alloc, &outlines)?,
-            tables,
-            texts: program.names.clone()?,
-            units,
-        }),
+        None => {
+            let entities = described(alloc, &outlines)?;
+            let texts = program.names.clone()?;
+            Ok(Names::new(entities, tables, texts, units))
+        }
     }
 }

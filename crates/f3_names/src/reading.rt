@@ -1,20 +1,21 @@
 //! What is visible in a scope, and what an entity is.
 
-ghost use Rattle.std.specs.Prelude.{◌≡◌, ℕ, ◌<◌, Some, IfOk, option_map, length, map, slice_get, string_bytes};
+ghost use Rattle.std.specs.Prelude.{◌≡◌, ℕ, ◌<◌, Some, option_map, length, slice_get};
 ghost use Rattle.f3_access.specs.Lookups.{Resolves};
+ghost use Rattle.f3_access.specs.Pairs.{pairs_left};
 ghost use Rattle.f3_access.specs.Tables.{own_of, visible_of, private_of};
 ghost use Rattle.f3_name_rules.specs.NameBreaks.{text_of};
 ghost use Rattle.f3_names.specs.Entities.{VisibleIsEntity};
-ghost use Rattle.f3_names.specs.Tables.{AreNames, lookup_at, exports_at, IsVisibleAs};
+ghost use Rattle.f3_names.specs.Tables.{AreNames, entities_of, texts_of, lookup_at, exports_at, IsVisibleAs};
 ghost use Rattle.f3_names.specs.Texts.{lowered};
 ghost use Rattle.f3_tree.specs.Tree.{Tree};
 
 use crate::entity::Entity;
 use crate::table::{Names, ScopeId};
 use crate::texts::symbol_of;
+use f3_access::pairs::VisiblePairs;
 use f3_access::table::{EntityId, Lookup, Visible};
 use f3_graph::UnitId;
-use std::alloc::{AllocError, Global};
 
 /// What is visible in a scope under a name, by the number of the name among the program's.
 ///
@@ -27,22 +28,30 @@ pub fn lookup(names: &Names, scope: ScopeId, symbol: usize) -> Lookup
 
 /// What is visible in a scope under a name, by its text; letters count without their case (3.1.1).
 ///
-/// It takes no memory, and looks a name of the language's length up in hashed tables. In a scope that is none of the
+/// It takes no memory, and looks a name of the language's length up in hashed tables; a text that is longer than each name
+/// of the program has no entity, and none of them is looked at. In a scope that is none of the
 /// program's nothing is visible.
 pub fn resolve(names: &Names, scope: ScopeId, name: &str) -> Lookup
     ensures { (t : Tree) → AreNames t names.now → Resolves result (IsVisibleAs t scope.number (lowered name.now)) }
 {
-    match symbol_of(&names.texts, name) {
+    match symbol_of(&names.texts, names.longest, name) {
         Some(symbol) => lookup(names, scope, symbol),
         None => Lookup::Nothing,
     }
 }
 
 impl Names {
+    /// The entities of the program, by their numbers: scope by scope, each scope's in the order of their places.
+    pub fn entities(&self) -> &[Entity]
+        ensures { result.now ≡ entities_of self.now }
+    {
+        &self.entities
+    }
+
     /// An entity by its number.
     pub fn entity(&self, entity: EntityId) -> &Entity
-        requires { entity < length self.now.entities.items }
-        ensures { slice_get self.now.entities.items entity ≡ Some result.now }
+        requires { entity < length (entities_of self.now) }
+        ensures { slice_get (entities_of self.now) entity ≡ Some result.now }
     {
         &self.entities[entity]
     }
@@ -59,12 +68,11 @@ impl Names {
 
     /// What is visible in a scope, each entity once under each name: its own, and in a procedure then what its module has
     /// under names that none of its own has, in their order (own rule).
-    ///
-    /// AllocError: a growth of the host's memory was refused.
-    pub fn visible(&self, alloc: Global, scope: ScopeId) -> Result<Vec<Visible>, AllocError>
-        ensures { IfOk result (λ v. v.items ≡ visible_of self.now.tables scope.number) }
+    /// The walk takes no memory, and looks at each pair of the scope and of its module once.
+    pub fn visible(&self, scope: ScopeId) -> VisiblePairs<'_>
+        ensures { pairs_left result ≡ visible_of self.now.tables scope.number }
     {
-        f3_access::visible(alloc, &self.tables, scope.number)
+        f3_access::visible(&self.tables, scope.number)
     }
 
     /// What a scope has of its own, each entity once under each name: what its USE statements bring, then what it declares
@@ -77,7 +85,7 @@ impl Names {
 
     /// The text of a name in lower case, by its number; empty where there is no such name.
     pub fn text(&self, symbol: usize) -> &str
-        ensures { result.now ≡ text_of (map string_bytes self.now.texts.keys) symbol }
+        ensures { result.now ≡ text_of (texts_of self.now) symbol }
     {
         match self.texts.get_index(symbol) {
             Some(text) => text.as_str(),

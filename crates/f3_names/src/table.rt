@@ -1,6 +1,11 @@
 //! The names of a program.
 
+ghost use Rattle.std.specs.Prelude.{◌≡◌, map, string_bytes};
+ghost use Rattle.f3_names.specs.Parts.{AreOfAProgram};
+ghost use Rattle.f3_names.specs.Texts.{longest_from};
+
 use crate::entity::Entity;
+use crate::texts::longest;
 use f3_access::table::Tables;
 use indexmap::IndexSet;
 
@@ -10,15 +15,45 @@ pub struct ScopeId {
     pub number: usize,
 }
 
-/// The entities of a program, and what each of its scopes sees of them.
+/// The entities of a program, and what each of its scopes sees of them. They are those of one program: only `names` makes
+/// them.
 #[derive(Drop)]
 pub struct Names {
     /// The entities, scope by scope, each scope's in the order of their places.
-    pub entities: Vec<Entity>,
+    pub(crate) entities: Vec<Entity>,
     /// What each scope sees.
-    pub tables: Tables,
+    pub(crate) tables: Tables,
     /// The texts of the names in lower case, each once.
-    pub texts: IndexSet<String>,
+    pub(crate) texts: IndexSet<String>,
+    /// The length of the longest text, in bytes.
+    pub(crate) longest: usize,
     /// The number of each unit among the scopes.
-    pub units: Vec<usize>,
+    pub(crate) units: Vec<usize>,
+    pub ghost of_a_program: { ∥ AreOfAProgram entities.items tables (map string_bytes texts.keys) units.items ∥₁ },
+    ghost longest_is: { longest ≡ longest_from 0 (map string_bytes texts.keys) },
+}
+
+impl Names {
+    /// The names of a program, from their parts.
+    pub(crate) fn new(
+        entities: Vec<Entity>,
+        tables: Tables,
+        texts: IndexSet<String>,
+        units: Vec<usize>,
+    ) -> Self
+        requires { ∥ AreOfAProgram entities.items tables (map string_bytes texts.keys) units.items ∥₁ }
+        ensures entities { result.entities ≡ entities }
+        ensures tables { result.tables ≡ tables }
+        ensures texts { result.texts ≡ texts }
+        ensures units { result.units ≡ units }
+    {
+        let longest = longest(texts.as_slice());
+        Names {
+            entities,
+            tables,
+            texts,
+            longest,
+            units,
+        }
+    }
 }

@@ -127,10 +127,10 @@ pub stops : (sources : List Source) (left behind : Parts) (seen : Seen) (sp : Sp
     → Stops (ends_of (bytes_of sources)) s l b → Tells r b → Parses (Err (Refused r)) sources
 stops sources left behind seen sp s l b r p is line stop tells = refuses sources s b r (stops_breaks (ends_of (bytes_of sources)) (parts_of_sources sources) left behind seen sp s l b p is line stop) tells
 
-pub stops_with : (sources : List Source) (left behind : Parts) (seen : Seen) (sp : Spelled) (s : State) (l : Line) (fault : TextFault) → Progress (parts_of_sources sources) seen s left → left ≡ with_first sp behind → l ≡ line_of seen sp
-    → Goes (ends_of (bytes_of sources)) (Err fault) s l → Parses (Err fault) sources
-stops_with sources left behind seen sp s l (Refused r) p is line h = stops sources left behind seen sp s l h.0 r p is line h.2 h.1
-stops_with sources left behind seen sp s l Memory p is line h = tt
+pub stops_with : (sources : List Source) (left behind : Parts) (seen : Seen) (sp : Spelled) (s t : State) (l : Line) (fault : TextFault) → Progress (parts_of_sources sources) seen s left → left ≡ with_first sp behind → l ≡ line_of seen sp
+    → Goes {U = Unit {0}} (ends_of (bytes_of sources)) (Err fault) s t l → Parses (Err fault) sources
+stops_with sources left behind seen sp s t l (Refused r) p is line h = stops sources left behind seen sp s l h.0 r p is line h.2 h.1
+stops_with sources left behind seen sp s t l Memory p is line h = tt
 
 -- a fault of the text
 nothing_ahead : (parts : Parts) (seen : Seen) (s : State) (left : Parts) (p : Progress parts seen s left) → left.statements ≡ [] → lines_of nothing_seen parts.statements ≡ p.front ++ []

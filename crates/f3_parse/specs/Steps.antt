@@ -14,8 +14,7 @@ use Rattle.f3_words.specs.Lines.{Line, Seen, broken}
 use Rattle.f3_forms.specs.Forms.{FormTree}
 use Rattle.f3_forms.specs.Grammar.{IsForm}
 use Rattle.f3_blocks.specs.Pieces.{Placed}
-use Rattle.f3_units.specs.declared.builder.Builder.{Builder}
-use Rattle.f3_units.specs.Machine.{Begun, State, step, builder_view, IsDeeper}
+use Rattle.f3_units.specs.Machine.{Begun, State, step, IsDeeper}
 use Rattle.f3_parse.specs.declared.advance.LineFault.{LineFault}
 use Rattle.f3_parse.specs.declared.advance.LineFault.TheVariants.{Memory, Broken}
 use Rattle.f3_parse.specs.Phase.{place_of, file_of, placed_at, EachForm}
@@ -50,10 +49,11 @@ pub record GoesTo (s : State) (l : Line) (t : State) : Type 0 where
   pub next : step (placed_at l form) s ≡ Some t
   pub shallow : IsDeeper s t → ⊥
 
-abbrev pub Advances : Result Builder LineFault → State → Line → Type 0
-Advances (Ok b) s l = GoesTo s l (builder_view b)
-Advances (Err Memory) s l = Unit {0}
-Advances (Err (Broken b)) s l = Least (Some b) (StopsAt s l)
+-- from s to t; nothing is said of t where a statement stops
+abbrev pub Advances : {U : Type 0} → Result U LineFault → State → State → Line → Type 0
+Advances (Ok u) s t l = GoesTo s l t
+Advances (Err Memory) s t l = Unit {0}
+Advances (Err (Broken b)) s t l = Least (Some b) (StopsAt s l)
 
 -- a unit is open in another source
 abbrev pub LeavesOpen : (ℕ → Place) → State → ℕ → Break → Type 0
@@ -63,10 +63,10 @@ abbrev pub Stops : (ℕ → Place) → State → Line → Break → Type 0
 Stops ends s l b = (GoesOnAt s (file_of l) × Least (Some b) (StopsAt s l)) ⊎ LeavesOpen ends s (file_of l) b
 
 -- a statement
-abbrev pub Goes : (ℕ → Place) → Result Builder TextFault → State → Line → Type 0
-Goes ends (Ok b) s l = GoesTo s l (builder_view b)
-Goes ends (Err (text.Refused r)) s l = (b : Break) × Tells r b × Stops ends s l b
-Goes ends (Err text.Memory) s l = Unit {0}
+abbrev pub Goes : {U : Type 0} → (ℕ → Place) → Result U TextFault → State → State → Line → Type 0
+Goes ends (Ok u) s t l = GoesTo s l t
+Goes ends (Err (text.Refused r)) s t l = (b : Break) × Tells r b × Stops ends s l b
+Goes ends (Err text.Memory) s t l = Unit {0}
 
 -- a fault of the text
 abbrev pub EndsText : (ℕ → Place) → Refusal → State → Break → Type 0

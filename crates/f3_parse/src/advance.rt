@@ -7,11 +7,12 @@ ghost use Rattle.f3_units.specs.Machine.{builder_view};
 ghost use Rattle.f3_parse.specs.Phase.{first_place};
 ghost use Rattle.f3_parse.specs.Steps.{Advances};
 
+use f3_blocks::error::StepError;
 use f3_forms::statements::statement;
 use f3_rules::breaks::{Break, is_before};
 use f3_rules::rule::Rule;
 use f3_rules::source::Place;
-use f3_units::builder::{Builder, StepError};
+use f3_units::builder::Builder;
 use f3_words::error::ReadError;
 use f3_words::item::Item;
 use f3_words::line::{Line, broken};
@@ -58,9 +59,10 @@ fn first_of(fault: Option<Break>, other: Break) -> Break
 
 /// Goes on with a statement. `Memory` where a growth of the host's memory was refused, `Broken` of the first of what it
 /// breaks: S3 and S4 at a token; S5 where it has no form, S6 where units cannot go on with it, S8 where it opens a 65th
-/// construct, each at its first token (own rules).
-pub fn advance(alloc: Global, builder: Builder, line: Line) -> Result<Builder, LineFault>
-    ensures { Advances result (builder_view builder) (line_view line) }
+/// construct, each at its first token (own rules). Behind a fault the builder is not to be used again: it may have lost
+/// statements.
+pub fn advance(alloc: Global, builder: &mut Builder, line: Line) -> Result<(), LineFault>
+    ensures { Advances result (builder_view builder.old) (builder_view builder.new) (line_view line) }
 {
     let place = first_place(&line.items);
     match statement(alloc, &line.items) {
@@ -76,9 +78,9 @@ pub fn advance(alloc: Global, builder: Builder, line: Line) -> Result<Builder, L
             Err(StepError::TooDeep) => {
                 Err(LineFault::Broken(first_of(line.fault, broken(Rule::S8, place))))
             }
-            Ok(next) => match line.fault {
+            Ok(_) => match line.fault {
                 Some(found) => Err(LineFault::Broken(found)),
-                None => Ok(next),
+                None => Ok(()),
             },
         },
     }

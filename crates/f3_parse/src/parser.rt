@@ -93,16 +93,16 @@ fn left_open(sources: &[Source], builder: &Builder, file: usize) -> Option<Break
 fn go_on(
     alloc: Global,
     sources: &[Source],
-    builder: Builder,
+    builder: &mut Builder,
     line: Line,
-) -> Result<Builder, TextFault>
-    ensures { Goes (ends_of (bytes_of sources.now)) result (builder_view builder) (line_view line) }
+) -> Result<(), TextFault>
+    ensures { Goes (ends_of (bytes_of sources.now)) result (builder_view builder.old) (builder_view builder.new) (line_view line) }
 {
     let file = first_place(&line.items).file;
-    match left_open(sources, &builder, file) {
+    match left_open(sources, builder, file) {
         Some(found) => Err(TextFault::Refused(refusal(alloc, found))),
         None => match advance(alloc, builder, line) {
-            Ok(next) => Ok(next),
+            Ok(_) => Ok(()),
             Err(LineFault::Memory) => Err(TextFault::Memory),
             Err(LineFault::Broken(found)) => Err(TextFault::Refused(refusal(alloc, found))),
         },
@@ -163,8 +163,8 @@ pub fn parse(alloc: Global, sources: &[Source]) -> Result<Program, TextFault>
             Ok(None) => return finish(alloc, sources, tables, builder),
             Ok(Some(statement)) => match line(alloc, &mut tables, &statement) {
                 Err(_) => return Err(TextFault::Memory),
-                Ok(line) => match go_on(alloc, sources, builder, line) {
-                    Ok(next) => builder = next,
+                Ok(line) => match go_on(alloc, sources, &mut builder, line) {
+                    Ok(_) => {}
                     Err(fault) => return Err(fault),
                 },
             },

@@ -6,9 +6,9 @@ use Rattle.f3_tree.specs.declared.expression.Name.{Name}
 use Rattle.f3_tree.specs.declared.declaration.Accessibility.{Accessibility}
 use Rattle.f3_tree.specs.declared.declaration.Accessibility.TheVariants.{Private, Public}
 use Rattle.f3_tree.specs.Declarations.{UseTree, AccessTree, DeclarationTree, TypeTree, SpecificationTree, declares, accesses, protects, saves, defines, PartTree, part_tree, type_view}
+use Rattle.f3_blocks.specs.declared.error.StepError.{StepError}
+use Rattle.f3_blocks.specs.declared.error.StepError.TheVariants.{Memory, OutOfPlace, TooDeep}
 use Rattle.f3_parts.specs.declared.builder.PartBuilder.{PartBuilder}
-use Rattle.f3_parts.specs.declared.builder.PartError.{PartError}
-use Rattle.f3_parts.specs.declared.builder.PartError.TheVariants.{Memory, OutOfPlace}
 use Rattle.f3_parts.specs.Pieces.{Piece, use_of, implicit, declare, access, protect, save, type_begins, contains, final, type_ends}
 use Rattle.f3_parts.specs.Parts.{fits_label}
 
@@ -115,8 +115,9 @@ run of_module (p ∷ ps) s = option_and_then (run of_module ps) (step of_module 
 abbrev pub builder_view : PartBuilder → State
 builder_view b = record { part = part_tree b.part; open_type = option_map type_view b.open_type }
 
--- what something becomes, or that it cannot
-abbrev pub Becomes : {A X : Type 0} → (X → A) → Result X PartError → Option A → Type 0
-Becomes seen (Ok x) next = next ≡ Some (seen x)
-Becomes seen (Err Memory) next = Unit {0}
-Becomes seen (Err OutOfPlace) next = next ≡ None
+-- What something becomes, or that it cannot: `next` is what the machine makes of it. Nothing is said of t behind an error.
+abbrev pub Becomes : {A U : Type 0} → Result U StepError → A → Option A → Type 0
+Becomes (Ok u) t next = next ≡ Some t
+Becomes (Err Memory) t next = Unit {0}
+Becomes (Err OutOfPlace) t next = next ≡ None
+Becomes (Err TooDeep) t next = ⊥

@@ -1,21 +1,21 @@
 //! A specification part, as it grows statement by statement.
 
-ghost use Rattle.std.specs.Prelude.{◌≡◌, ◌&&◌, if◌then◌else◌, Bool, Option, Some, None};
+ghost use Rattle.std.specs.Prelude.{◌≡◌, ◌&&◌, if◌then◌else◌, Some, None, IsSome};
 ghost use Rattle.std.specs.Option.{option_map};
-ghost use Rattle.f3_tree.specs.Declarations.{TypeTree, PartTree, use_view, access_view, declaration_view, type_view, specification_view, part_tree, defines};
+ghost use Rattle.f3_tree.specs.Declarations.{use_view, access_view, declaration_view, type_view, specification_view, part_tree};
 ghost use Rattle.f3_forms.specs.Forms.{form_view};
-ghost use Rattle.f3_parts.specs.declared.builder.PartError.TheVariants.{Memory};
 ghost use Rattle.f3_parts.specs.Pieces.{piece};
 ghost use Rattle.f3_parts.specs.Parts.{fits_label};
-ghost use Rattle.f3_parts.specs.Machine.{State, is_nil, is_none, start, step, at_uses, with_use, with_implicit, with_specification, begun, is_private, with_private, with_component, with_contains, with_finals, open_in, closed, ended, in_type, outside, builder_view, Becomes};
+ghost use Rattle.f3_parts.specs.Machine.{is_nil, is_none, start, step, step_from, at_uses, with_use, with_implicit, with_specification, begun, is_private, with_private, with_component, with_contains, with_finals, open_in, closed, ended, in_type, outside, builder_view, Becomes};
 
+use f3_blocks::error::StepError;
 use f3_forms::form::{Ended, Form};
 use f3_rules::source::Place;
 use f3_tree::declaration::{
     Access, Accessibility, Declaration, Specification, SpecificationPart, TypeDefinition, Use,
 };
 use f3_tree::expression::Name;
-use std::alloc::{AllocError, AllocFailed, Global};
+use std::alloc::Global;
 
 /// A specification part so far.
 #[derive(Drop)]
@@ -23,31 +23,6 @@ pub struct PartBuilder {
     pub part: SpecificationPart,
     /// The type definition that is open in it.
     pub open_type: Option<TypeDefinition>,
-}
-
-/// Why a specification part cannot go on with a statement.
-#[derive(Clone, Copy, PartialEq, Eq, Debug)]
-pub enum PartError {
-    /// A growth of the host's memory was refused.
-    Memory,
-    /// No specification part goes on so (2.2, 4.5).
-    OutOfPlace,
-}
-
-impl From<AllocError> for PartError {
-    ghost from_gives = { λ _ e. e ≡ Memory };
-
-    fn from(_error: AllocError) -> Self {
-        PartError::Memory
-    }
-}
-
-impl<T: Drop> From<AllocFailed<T>> for PartError {
-    ghost from_gives = { λ _ e. e ≡ Memory };
-
-    fn from(_error: AllocFailed<T>) -> Self {
-        PartError::Memory
-    }
 }
 
 /// Whether an END may name this name, or none.
@@ -70,47 +45,34 @@ fn at_uses(part: &SpecificationPart) -> bool
     }
 }
 
-fn with_use(part: SpecificationPart, statement: Use) -> Result<SpecificationPart, PartError>
-    ensures { Becomes part_tree result (with_use (use_view statement) (part_tree part)) }
+fn with_use(part: &mut SpecificationPart, statement: Use) -> Result<(), StepError>
+    ensures { Becomes result (part_tree part.new) (with_use (use_view statement) (part_tree part.old)) }
 {
-    if !at_uses(&part) {
-        return Err(PartError::OutOfPlace);
+    if !at_uses(part) {
+        return Err(StepError::OutOfPlace);
     }
-    let mut uses = part.uses;
-    uses.push(statement)?;
-    Ok(SpecificationPart {
-        uses,
-        implicit_none: part.implicit_none,
-        specifications: part.specifications,
-    })
+    part.uses.push(statement)?;
+    Ok(())
 }
 
-fn with_implicit(part: SpecificationPart, place: Place) -> Result<SpecificationPart, PartError>
-    ensures { Becomes part_tree result (with_implicit place (part_tree part)) }
+fn with_implicit(part: &mut SpecificationPart, place: Place) -> Result<(), StepError>
+    ensures { Becomes result (part_tree part.new) (with_implicit place (part_tree part.old)) }
 {
-    if !at_uses(&part) {
-        return Err(PartError::OutOfPlace);
+    if !at_uses(part) {
+        return Err(StepError::OutOfPlace);
     }
-    Ok(SpecificationPart {
-        uses: part.uses,
-        implicit_none: Some(place),
-        specifications: part.specifications,
-    })
+    part.implicit_none = Some(place);
+    Ok(())
 }
 
 fn with_specification(
-    part: SpecificationPart,
+    part: &mut SpecificationPart,
     statement: Specification,
-) -> Result<SpecificationPart, PartError>
-    ensures { Becomes part_tree result (Some (with_specification (specification_view statement) (part_tree part))) }
+) -> Result<(), StepError>
+    ensures { Becomes result (part_tree part.new) (Some (with_specification (specification_view statement) (part_tree part.old))) }
 {
-    let mut specifications = part.specifications;
-    specifications.push(statement)?;
-    Ok(SpecificationPart {
-        uses: part.uses,
-        implicit_none: part.implicit_none,
-        specifications,
-    })
+    part.specifications.push(statement)?;
+    Ok(())
 }
 
 /// A type definition behind its TYPE statement.
@@ -153,248 +115,58 @@ fn at_private(definition: &TypeDefinition) -> bool
     }
 }
 
-fn with_private(definition: TypeDefinition, access: Access) -> Result<TypeDefinition, PartError>
-    ensures { Becomes type_view result (with_private (access_view access) (type_view definition)) }
+fn with_private(definition: &mut TypeDefinition, access: Access) -> Result<(), StepError>
+    ensures { Becomes result (type_view definition.new) (with_private (access_view access) (type_view definition.old)) }
 {
     if !is_private(&access) {
-        return Err(PartError::OutOfPlace);
+        return Err(StepError::OutOfPlace);
     }
-    if !at_private(&definition) {
-        return Err(PartError::OutOfPlace);
+    if !at_private(definition) {
+        return Err(StepError::OutOfPlace);
     }
-    Ok(TypeDefinition {
-        place: definition.place,
-        access: definition.access,
-        name: definition.name,
-        private: Some(access.place),
-        components: definition.components,
-        contains: definition.contains,
-        finals: definition.finals,
-    })
+    definition.private = Some(access.place);
+    Ok(())
 }
 
 fn with_component(
-    definition: TypeDefinition,
+    definition: &mut TypeDefinition,
     declaration: Declaration,
-) -> Result<TypeDefinition, PartError>
-    ensures { Becomes type_view result (with_component (declaration_view declaration) (type_view definition)) }
+) -> Result<(), StepError>
+    ensures { Becomes result (type_view definition.new) (with_component (declaration_view declaration) (type_view definition.old)) }
 {
     match definition.contains {
-        Some(_) => Err(PartError::OutOfPlace),
+        Some(_) => Err(StepError::OutOfPlace),
         None => {
-            let mut components = definition.components;
-            components.push(declaration)?;
-            Ok(TypeDefinition {
-                place: definition.place,
-                access: definition.access,
-                name: definition.name,
-                private: definition.private,
-                components,
-                contains: None,
-                finals: definition.finals,
-            })
+            definition.components.push(declaration)?;
+            Ok(())
         }
     }
 }
 
-fn with_contains(definition: TypeDefinition, place: Place) -> Result<TypeDefinition, PartError>
-    ensures { Becomes type_view result (with_contains place (type_view definition)) }
+fn with_contains(definition: &mut TypeDefinition, place: Place) -> Result<(), StepError>
+    ensures { Becomes result (type_view definition.new) (with_contains place (type_view definition.old)) }
 {
     match definition.contains {
-        Some(_) => Err(PartError::OutOfPlace),
+        Some(_) => Err(StepError::OutOfPlace),
         None => {
             if definition.components.is_empty() {
-                return Err(PartError::OutOfPlace);
+                return Err(StepError::OutOfPlace);
             }
-            Ok(TypeDefinition {
-                place: definition.place,
-                access: definition.access,
-                name: definition.name,
-                private: definition.private,
-                components: definition.components,
-                contains: Some(place),
-                finals: definition.finals,
-            })
+            definition.contains = Some(place);
+            Ok(())
         }
     }
 }
 
-fn with_finals(definition: TypeDefinition, names: Vec<Name>) -> Result<TypeDefinition, PartError>
-    ensures { Becomes type_view result (with_finals names.items (type_view definition)) }
+fn with_finals(definition: &mut TypeDefinition, names: Vec<Name>) -> Result<(), StepError>
+    ensures { Becomes result (type_view definition.new) (with_finals names.items (type_view definition.old)) }
 {
     match definition.contains {
-        None => Err(PartError::OutOfPlace),
-        Some(place) => {
-            let mut finals = definition.finals;
-            finals.extend_from_slice(&names)?;
-            Ok(TypeDefinition {
-                place: definition.place,
-                access: definition.access,
-                name: definition.name,
-                private: definition.private,
-                components: definition.components,
-                contains: Some(place),
-                finals,
-            })
+        None => Err(StepError::OutOfPlace),
+        Some(_) => {
+            definition.finals.extend_from_slice(&names)?;
+            Ok(())
         }
-    }
-}
-
-/// A part in which a type definition is open.
-fn open_in(
-    part: SpecificationPart,
-    definition: Result<TypeDefinition, PartError>,
-) -> Result<PartBuilder, PartError>
-    ensures { (next : Option TypeTree) → Becomes type_view definition next → Becomes builder_view result (option_map (open_in (part_tree part)) next) }
-{
-    match definition {
-        Ok(definition) => Ok(PartBuilder {
-            part,
-            open_type: Some(definition),
-        }),
-        Err(PartError::Memory) => Err(PartError::Memory),
-        Err(PartError::OutOfPlace) => Err(PartError::OutOfPlace),
-    }
-}
-
-/// A part in which no type definition is open.
-fn closed(part: Result<SpecificationPart, PartError>) -> Result<PartBuilder, PartError>
-    ensures { (next : Option PartTree) → Becomes part_tree part next → Becomes builder_view result (option_map closed next) }
-{
-    match part {
-        Ok(part) => Ok(PartBuilder {
-            part,
-            open_type: None,
-        }),
-        Err(PartError::Memory) => Err(PartError::Memory),
-        Err(PartError::OutOfPlace) => Err(PartError::OutOfPlace),
-    }
-}
-
-/// The part behind the END of a type definition.
-fn ended(
-    part: SpecificationPart,
-    label: Option<Name>,
-    definition: TypeDefinition,
-) -> Result<PartBuilder, PartError>
-    ensures { Becomes builder_view result (ended (part_tree part) label (type_view definition)) }
-{
-    if definition.components.is_empty() {
-        return Err(PartError::OutOfPlace);
-    }
-    if !fits_label(label, definition.name) {
-        return Err(PartError::OutOfPlace);
-    }
-    closed(with_specification(part, Specification::Type(definition)))
-}
-
-/// Goes on with a statement in a type definition.
-fn in_type(
-    part: SpecificationPart,
-    definition: TypeDefinition,
-    place: Place,
-    form: Form,
-) -> Result<PartBuilder, PartError>
-    ensures { Becomes builder_view result (in_type (piece place (form_view form)) (part_tree part) (type_view definition)) }
-{
-    match form {
-        Form::Access(access) => open_in(part, with_private(definition, access)),
-        Form::Declare(declaration) => open_in(part, with_component(definition, declaration)),
-        Form::Contains => open_in(part, with_contains(definition, place)),
-        Form::Final(names) => open_in(part, with_finals(definition, names)),
-        Form::End(Some(Ended::Type), label) => ended(part, label, definition),
-        Form::End(_, _) => Err(PartError::OutOfPlace),
-        Form::Unit(_, _) => Err(PartError::OutOfPlace),
-        Form::Procedure(_) => Err(PartError::OutOfPlace),
-        Form::Use(_) => Err(PartError::OutOfPlace),
-        Form::ImplicitNone => Err(PartError::OutOfPlace),
-        Form::Protected(_) => Err(PartError::OutOfPlace),
-        Form::Save => Err(PartError::OutOfPlace),
-        Form::Type(_, _) => Err(PartError::OutOfPlace),
-        Form::Act(_) => Err(PartError::OutOfPlace),
-        Form::LogicalIf(_, _, _) => Err(PartError::OutOfPlace),
-        Form::IfThen(_) => Err(PartError::OutOfPlace),
-        Form::ElseIf(_) => Err(PartError::OutOfPlace),
-        Form::Else => Err(PartError::OutOfPlace),
-        Form::Select(_) => Err(PartError::OutOfPlace),
-        Form::Case(_) => Err(PartError::OutOfPlace),
-        Form::Do(_) => Err(PartError::OutOfPlace),
-    }
-}
-
-/// Goes on with a statement that stands only in the part of a module.
-fn of_module(
-    of_module: bool,
-    part: SpecificationPart,
-    statement: Specification,
-) -> Result<SpecificationPart, PartError>
-    ensures { Becomes part_tree result (if of_module then Some (with_specification (specification_view statement) (part_tree part)) else None) }
-{
-    if of_module {
-        with_specification(part, statement)
-    } else {
-        Err(PartError::OutOfPlace)
-    }
-}
-
-/// Goes on with a TYPE statement, which stands only in the part of a module.
-fn opened(
-    alloc: Global,
-    of_module: bool,
-    part: SpecificationPart,
-    place: Place,
-    access: Option<(Place, Accessibility)>,
-    name: Name,
-) -> Result<PartBuilder, PartError>
-    ensures { Becomes builder_view result (if of_module then Some (open_in (part_tree part) (begun place access name)) else None) }
-{
-    if of_module {
-        Ok(PartBuilder {
-            part,
-            open_type: Some(begun(alloc, place, access, name)),
-        })
-    } else {
-        Err(PartError::OutOfPlace)
-    }
-}
-
-/// Goes on with a statement outside of type definitions.
-fn outside(
-    alloc: Global,
-    of_a_module: bool,
-    part: SpecificationPart,
-    place: Place,
-    form: Form,
-) -> Result<PartBuilder, PartError>
-    ensures { Becomes builder_view result (outside of_a_module (piece place (form_view form)) (part_tree part)) }
-{
-    match form {
-        Form::Use(statement) => closed(with_use(part, statement)),
-        Form::ImplicitNone => closed(with_implicit(part, place)),
-        Form::Declare(declaration) => closed(with_specification(
-            part,
-            Specification::Declaration(declaration),
-        )),
-        Form::Access(access) => closed(with_specification(part, Specification::Access(access))),
-        Form::Protected(names) => closed(with_specification(
-            part,
-            Specification::Protected(place, names),
-        )),
-        Form::Save => closed(of_module(of_a_module, part, Specification::Save(place))),
-        Form::Type(access, name) => opened(alloc, of_a_module, part, place, access, name),
-        Form::Contains => Err(PartError::OutOfPlace),
-        Form::Final(_) => Err(PartError::OutOfPlace),
-        Form::End(_, _) => Err(PartError::OutOfPlace),
-        Form::Unit(_, _) => Err(PartError::OutOfPlace),
-        Form::Procedure(_) => Err(PartError::OutOfPlace),
-        Form::Act(_) => Err(PartError::OutOfPlace),
-        Form::LogicalIf(_, _, _) => Err(PartError::OutOfPlace),
-        Form::IfThen(_) => Err(PartError::OutOfPlace),
-        Form::ElseIf(_) => Err(PartError::OutOfPlace),
-        Form::Else => Err(PartError::OutOfPlace),
-        Form::Select(_) => Err(PartError::OutOfPlace),
-        Form::Case(_) => Err(PartError::OutOfPlace),
-        Form::Do(_) => Err(PartError::OutOfPlace),
     }
 }
 
@@ -414,20 +186,123 @@ impl PartBuilder {
     }
 
     /// Goes on with a statement of the part of a module, or of another part. Answers `Memory` where a growth of the
-    /// host's memory is refused, and `OutOfPlace` where no specification part goes on so (2.2, 4.5).
+    /// host's memory is refused, and `OutOfPlace` where no specification part goes on so (2.2, 4.5). Behind an error the
+    /// builder is not to be used again: it may have lost statements.
     pub fn step(
-        self,
+        &mut self,
         alloc: Global,
         of_module: bool,
         place: Place,
         form: Form,
-    ) -> Result<PartBuilder, PartError>
-        ensures { Becomes builder_view result (step of_module (piece place (form_view form)) (builder_view self)) }
+    ) -> Result<(), StepError>
+        ensures { Becomes result (builder_view self.new) (step of_module (piece place (form_view form)) (builder_view self.old)) }
     {
-        let PartBuilder { part, open_type } = self;
-        match open_type {
-            Some(definition) => in_type(part, definition, place, form),
-            None => outside(alloc, of_module, part, place, form),
+        match self.open_type {
+            None => self.outside(alloc, of_module, place, form),
+            Some(_) => match self.open_type.take() {
+                None => Err(StepError::OutOfPlace),
+                Some(definition) => self.in_type(definition, place, form),
+            },
+        }
+    }
+
+    /// Goes on with a statement in this type definition, which was taken out.
+    fn in_type(
+        &mut self,
+        definition: TypeDefinition,
+        place: Place,
+        form: Form,
+    ) -> Result<(), StepError>
+        requires { self.old.open_type ≡ None }
+        ensures { Becomes result (builder_view self.new) (in_type (piece place (form_view form)) (part_tree self.old.part) (type_view definition)) }
+    {
+        let mut definition = definition;
+        match form {
+            Form::Access(access) => {
+                with_private(&mut definition, access)?;
+                self.open(definition)
+            }
+            Form::Declare(declaration) => {
+                with_component(&mut definition, declaration)?;
+                self.open(definition)
+            }
+            Form::Contains => {
+                with_contains(&mut definition, place)?;
+                self.open(definition)
+            }
+            Form::Final(names) => {
+                with_finals(&mut definition, names)?;
+                self.open(definition)
+            }
+            Form::End(what, label) => match what {
+                Some(Ended::Type) => self.end(label, definition),
+                _ => Err(StepError::OutOfPlace),
+            },
+            _ => Err(StepError::OutOfPlace),
+        }
+    }
+
+    /// The type definition is open.
+    fn open(&mut self, definition: TypeDefinition) -> Result<(), StepError>
+        ensures { Becomes result (builder_view self.new) (Some (open_in (part_tree self.old.part) (type_view definition))) }
+    {
+        self.open_type = Some(definition);
+        Ok(())
+    }
+
+    /// The END of this type definition, which was taken out.
+    fn end(&mut self, label: Option<Name>, definition: TypeDefinition) -> Result<(), StepError>
+        requires { self.old.open_type ≡ None }
+        ensures { Becomes result (builder_view self.new) (ended (part_tree self.old.part) label (type_view definition)) }
+    {
+        if definition.components.is_empty() {
+            return Err(StepError::OutOfPlace);
+        }
+        if !fits_label(label, definition.name) {
+            return Err(StepError::OutOfPlace);
+        }
+        with_specification(&mut self.part, Specification::Type(definition))
+    }
+
+    /// Goes on with a statement outside of type definitions.
+    fn outside(
+        &mut self,
+        alloc: Global,
+        of_module: bool,
+        place: Place,
+        form: Form,
+    ) -> Result<(), StepError>
+        requires { self.old.open_type ≡ None }
+        ensures { Becomes result (builder_view self.new) (outside of_module (piece place (form_view form)) (part_tree self.old.part)) }
+    {
+        match form {
+            Form::Use(statement) => with_use(&mut self.part, statement),
+            Form::ImplicitNone => with_implicit(&mut self.part, place),
+            Form::Declare(declaration) => with_specification(
+                &mut self.part,
+                Specification::Declaration(declaration),
+            ),
+            Form::Access(access) => with_specification(
+                &mut self.part,
+                Specification::Access(access),
+            ),
+            Form::Protected(names) => with_specification(
+                &mut self.part,
+                Specification::Protected(place, names),
+            ),
+            Form::Save => {
+                if !of_module {
+                    return Err(StepError::OutOfPlace);
+                }
+                with_specification(&mut self.part, Specification::Save(place))
+            }
+            Form::Type(access, name) => {
+                if !of_module {
+                    return Err(StepError::OutOfPlace);
+                }
+                self.open(begun(alloc, place, access, name))
+            }
+            _ => Err(StepError::OutOfPlace),
         }
     }
 }

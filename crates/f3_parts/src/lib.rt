@@ -2,3 +2,4 @@
 #![tactic(auto)]
 
 pub mod builder;
+pub mod laws;

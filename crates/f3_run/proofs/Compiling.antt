@@ -1,5 +1,5 @@
 -- What the check of sources gives to compiling them.
-use Rattle.std.proofs.Common.{ℕ, List, Option}
+use Rattle.std.proofs.Common.{ℕ, List}
 use Rattle.std.specs.Prelude.{Ok, Err}
 use Rattle.f3_rules.specs.declared.source.Source.{Source}
 use Rattle.f3_graph.specs.declared.CheckFault.{CheckFault}
@@ -11,7 +11,8 @@ use Rattle.f3_run.specs.Compiled.{program_of}
 use Rattle.f3_run.specs.Compiles.{Compiles, ChecksAndRuns}
 use Rattle.f3_tree.specs.Tree as whole
 use Rattle.f3_run.specs.Elaboration.{IsElaborated, Found, HasMain, texts_of}
-use Rattle.f3_run.proofs.Outputs.{wrote_none}
+use Rattle.f3_output.specs.Output.{State}
+use Rattle.f3_output.proofs.Outputs.{wrote_none}
 use Rattle.f3_run.proofs.Meant.{has_main, elaborated_is_meaning}
 
 module _ (sources : List Source) where
@@ -26,6 +27,6 @@ module _ (sources : List Source) where
   checked_means checked h compiled e =
       (record { tree = whole.view checked.whole; program = checked.program; accepted = h.0; meaning = elaborated_is_meaning (whole.view checked.whole) checked.program (λ b u. h.0.unbroken b (of_uses u)) checked.names (program_of compiled) h.1 e }, h.2)
 
-  pub not_run : (steps : ℕ) (a : Option (List ℕ)) (Refuses : Type 0) (fault : CheckFault) → Compiles sources (Err fault) → ChecksAndRuns sources steps a a Refuses (Err fault)
-  not_run steps a Refuses (Refused refusal) h = (h, wrote_none)
-  not_run steps a Refuses Memory h = wrote_none
+  pub not_run : (steps : ℕ) (a : State) (fault : CheckFault) → Compiles sources (Err fault) → ChecksAndRuns sources steps a a (Err fault)
+  not_run steps a (Refused refusal) h = (h, wrote_none)
+  not_run steps a Memory h = wrote_none

@@ -1,5 +1,5 @@
 -- The course of a run, statement by statement.
-use Rattle.std.proofs.Common.{◌≡◌, ℤ, List, [], ◌∷◌, ◌++◌, Option, ℕ, suc, ◌+◌, ◌<◌, length, drop, get_or, map, ap, sym, subst, refl, ◌∙◌, append-nil, append_assoc, arith}
+use Rattle.std.proofs.Common.{◌≡◌, ℤ, List, [], ◌∷◌, ◌++◌, ℕ, suc, ◌+◌, ◌<◌, length, drop, get_or, map, ap, sym, subst, refl, ◌∙◌, append-nil, append_assoc, arith}
 use Rattle.std.specs.Prelude.{Ok, Err}
 use Rattle.f3_meaning.specs.declared.elaborated.Elaborated.{Elaborated}
 use Rattle.f3_meaning.specs.declared.elaborated.Statement.{Statement}
@@ -12,11 +12,13 @@ use Rattle.f3_meaning.specs.Meaning.{steps, after, prints, Course, Running, Fini
 use Rattle.f3_meaning.specs.Laws.{BeginsAs}
 use Rattle.f3_meaning.proofs.Behind.{then_gives, then_fails, output-append}
 use Rattle.f3_meaning.proofs.Beginning.{steps_begin}
-use Rattle.f3_run.specs.declared.end.RunError.{RunError}
+use Rattle.f3_output.specs.Output.{State, Wrote}
+use Rattle.f3_output.proofs.Outputs.{faulted_before}
+use Rattle.f3_run.specs.declared.end.RunFault.{RunFault}
 use Rattle.f3_run.specs.declared.end.Stop.{Stop}
 use Rattle.f3_run.specs.declared.end.Stop.TheVariants as stop
 use Rattle.f3_run.specs.declared.end.End.TheVariants as end
-use Rattle.f3_run.specs.Performs.{Performs, Wrote, store_of, end_of}
+use Rattle.f3_run.specs.Performs.{Performs, store_of, end_of}
 use Rattle.f3_run.specs.Answers.{Answers, Begins, EndsWithin}
 use Rattle.f3_run.proofs.Outputs.{wrote_behind, behind_performs, performs_stop, from_element, past_element}
 
@@ -29,9 +31,9 @@ events_begin : (p : Elaborated) (k : ℕ) → (rest : List Event) × ((prints p 
 events_begin p k = by_end (after p k).end (steps_begin p 0 [] k).as_said
   where
     by_end : (end : End Course) → BeginsAs (prints p 0 []) (after p k).out end → (rest : List Event) × ((prints p 0 []).out ≡ (after p k).out ++ rest)
-    by_end (Gives Running) h = h
+    by_end (Gives (Running store)) h = h
     by_end (Gives Finished) h = ([], h.1 ∙ sym (append-nil _))
-    by_end (Fails number place) h = ([], h.0 ∙ sym (append-nil _))
+    by_end (Fails error place) h = ([], h.0 ∙ sym (append-nil _))
     by_end Beyond h = h
 
 -- and so do the bytes that they print, and each front of these
@@ -60,36 +62,39 @@ at_start p k values e = ap (λ l. steps p k p.statements.items (record { variabl
 pub from_statement : (p : Elaborated) (k left i : ℕ) (store : Store) (front : List Event) (s : Statement) → i < length p.statements.items → s ≡ get_or p.statements.items i s → after p k ≡ behind front (steps p left (drop i p.statements.items) store) → after p k ≡ behind front (steps p left (s ∷ drop (i + 1) p.statements.items) store)
 from_statement p k left i store front s lt is h = from_element (λ ss. steps p left ss store) p.statements.items i s front (after p k) lt is h
 
-module _ (p : Elaborated) (k : ℕ) (a b c : Option (List ℕ)) (Refused : Type 0) (front : List Event) where
-  pub at_limit : after p k ≡ behind front (gives Running) → Wrote a b (output front) → Answers p k a b Refused end.StepLimit
-  at_limit s w =
+module _ (p : Elaborated) (k : ℕ) (a b : State) (front : List Event) where
+  pub at_limit : (store : Store) → after p k ≡ behind front (gives (Running store)) → Wrote a b (output front) → Answers p k a b end.StepLimit
+  at_limit store s w =
       let out : output (after p k).out ≡ output front = ap (λ r. output r.out) s ∙ ap output (append-nil front) in
-      record { runs = ap (λ r. r.end) s; wrote = rw out w; begins = bytes_begin p k _ [] (sym (append-nil _)) }
+      record { store = store; runs = ap (λ r. r.end) s; wrote = rw out w; begins = bytes_begin p k _ [] (sym (append-nil _)) }
 
-  pub at_end : (left : ℕ) (store : Store) → after p k ≡ behind front (steps p (suc left) [] store) → Wrote a b (output front) → Answers p k a b Refused end.Done
+  pub at_end : (left : ℕ) (store : Store) → after p k ≡ behind front (steps p (suc left) [] store) → Wrote a b (output front) → Answers p k a b end.Done
   at_end left store s w =
       let ends : (after p k).end ≡ Gives Finished = ap (λ r. r.end) s in
       let l = at_its_end p k (Gives Finished) ends in
       let out : output (prints p 0 []).out ≡ output front = ap output l.1 ∙ ap (λ r. output r.out) s ∙ printed_before front store in
       (l.0, record { turns = 0; ends = l.2; wrote = rw out w }, within p k (Gives Finished) ends)
 
-  at_error : (X : Type 0) (m : Ran Store) (f : Store → Ran Course) (store : Store) (e : RunError) → after p k ≡ behind front (m >>= f) → Wrote a b (output front) → Performs {X = X} b c Refused (Err (stop.Error e)) store m → Answers p k a c Refused (end.Error e.number e.place)
+module _ (p : Elaborated) (k : ℕ) (a b c : State) (front : List Event) where
+  at_error : (X : Type 0) (m : Ran Store) (f : Store → Ran Course) (store : Store) (e : RunFault) → after p k ≡ behind front (m >>= f) → Wrote a b (output front) → Performs {X = X} b c (Err (stop.Error e)) store m → Answers p k a c (end.Error e.error e.place)
   at_error X m f store e s w q =
-      let s' = s ∙ ap (behind front) (then_fails m f e.number e.place q.as_said.0) in
-      let ends : (after p k).end ≡ Fails e.number e.place = ap (λ r. r.end) s' in
-      let l = at_its_end p k (Fails e.number e.place) ends in
+      let s' = s ∙ ap (behind front) (then_fails m f e.error e.place q.as_said.0) in
+      let ends : (after p k).end ≡ Fails e.error e.place = ap (λ r. r.end) s' in
+      let l = at_its_end p k (Fails e.error e.place) ends in
       let out : output (prints p 0 []).out ≡ output (front ++ m.out) = ap output l.0 ∙ ap (λ r. output r.out) s' in
-      (record { turns = 0; ends = l.1; wrote = rw out (wrote_behind front m.out w q.as_said.1) }, within p k (Fails e.number e.place) ends)
+      (record { turns = 0; ends = l.1; wrote = rw out (wrote_behind front m.out w q.as_said.1) }, within p k (Fails e.error e.place) ends)
 
-  at_fault : (X : Type 0) (m : Ran Store) (f : Store → Ran Course) (store : Store) (course : Course) → after p k ≡ behind front (m >>= f) → Wrote a b (output front) → Performs {X = X} b c Refused (Err stop.WriteFault) store m → Answers p k a c Refused end.WriteFault
+  at_fault : (X : Type 0) (m : Ran Store) (f : Store → Ran Course) (store : Store) (course : Course) → after p k ≡ behind front (m >>= f) → Wrote a b (output front) → Performs {X = X} b c (Err stop.WriteFault) store m → Answers p k a c end.WriteFault
   at_fault X m f store course s w q =
       let t = (behind_performs front (Err stop.WriteFault) w (performs_stop X f course stop.WriteFault q)).as_said in
-      record { written = t.front; wrote = t.wrote; begins = bytes_begin p k t.front t.rest (ap (λ r. output r.out) s ∙ t.whole); refused = t.refused }
+      let b = events_begin p k in
+      let whole : output (prints p 0 []).out ≡ output (behind front (m >>= f)).out ++ output b.0 = ap output b.1 ∙ output-append (after p k).out b.0 ∙ ap (λ r. output r.out ++ output b.0) s in
+      record { turns = 0; faulted = rw whole (faulted_before (output b.0) t) }
 
-  pub at_stop : (X : Type 0) (m : Ran Store) (f : Store → Ran Course) (store : Store) (stop : Stop) → after p k ≡ behind front (m >>= f) → Wrote a b (output front) → Performs {X = X} b c Refused (Err stop) store m → Answers p k a c Refused (end_of stop)
+  pub at_stop : (X : Type 0) (m : Ran Store) (f : Store → Ran Course) (store : Store) (stop : Stop) → after p k ≡ behind front (m >>= f) → Wrote a b (output front) → Performs {X = X} b c (Err stop) store m → Answers p k a c (end_of stop)
   at_stop X m f store (stop.Error e) s w q = at_error X m f store e s w q
-  at_stop X m f store stop.WriteFault s w q = at_fault X m f store Running s w q
+  at_stop X m f store stop.WriteFault s w q = at_fault X m f store Finished s w q
 
-  pub past_statement : (X : Type 0) (u : X) (m : Ran Store) (f : Store → Ran Course) (store : Store) → after p k ≡ behind front (m >>= f) → Wrote a b (output front) → Performs b c Refused (Ok u) store m → (front : List Event) × (after p k ≡ behind front (f store)) × Wrote a c (output front)
+  pub past_statement : (X : Type 0) (u : X) (m : Ran Store) (f : Store → Ran Course) (store : Store) → after p k ≡ behind front (m >>= f) → Wrote a b (output front) → Performs b c (Ok u) store m → (front : List Event) × (after p k ≡ behind front (f store)) × Wrote a c (output front)
   past_statement X u m f store s w q =
       (front ++ m.out, past_element front m.out _ _ _ s (then_gives m f store q.as_said.0), wrote_behind front m.out w q.as_said.1)

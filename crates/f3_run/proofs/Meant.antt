@@ -37,6 +37,7 @@ use Rattle.f3_name_rules.specs.NameBreaks.{text_of}
 use Rattle.f3_names.specs.declared.entity.Entity.{Entity}
 use Rattle.f3_names.specs.declared.table.Names.{Names}
 use Rattle.f3_names.specs.Entities.{described}
+use Rattle.f3_names.specs.Meant.{IsMeant}
 use Rattle.f3_names.specs.Tables.{lookup_at, AreNames}
 use Rattle.f3_taken.specs.Tree as small
 use Rattle.f3_taken.specs.Tree.{view, unit_view, statement_view, action_view, item_view, sum_view}
@@ -54,7 +55,7 @@ use Rattle.f3_meaning.specs.declared.elaborated.Action.TheVariants.{Assign, Prin
 use Rattle.f3_meaning.specs.declared.elaborated.Statement.{Statement}
 use Rattle.f3_meaning.specs.declared.elaborated.Elaborated.{Elaborated}
 use Rattle.f3_meaning.specs.Permitted.{MayAct, MayDefine}
-use Rattle.f3_run.specs.Elaboration.{Each, EachAs, SameOperand, SameTerm, SameExpression, SameItem, SameAction, SameStatement, IsElaborated, IsMeant, IsMeaning, Found, entity_found, initials_of, variable_of, variables_of, HasMain}
+use Rattle.f3_run.specs.Elaboration.{Each, EachAs, SameOperand, SameTerm, SameExpression, SameItem, SameAction, SameStatement, IsElaborated, IsMeaning, Found, entity_found, initials_of, variable_of, variables_of, HasMain}
 
 -- the first and the others of a list
 in_front : {X : Type 0} (x : X) (xs : List X) → Contains (x ∷ xs) x

@@ -1,5 +1,5 @@
 -- What compiling and running sources answers.
-use Rattle.std.specs.Prelude.{ℕ, List, [], Option, Result, Ok, Err}
+use Rattle.std.specs.Prelude.{ℕ, List, [], Result, Ok, Err}
 use Rattle.f3_rules.specs.declared.source.Source.{Source}
 use Rattle.f3_rules.specs.declared.refusal.Refusal.{Refusal}
 use Rattle.f3_taken.specs.declared.program.Program.{Program}
@@ -9,9 +9,9 @@ use Rattle.f3_graph.specs.declared.CheckFault.{CheckFault}
 use Rattle.f3_graph.specs.declared.CheckFault.TheVariants.{Refused, Memory}
 use Rattle.f3_check.specs.Refusals.{Accepted, First}
 use Rattle.f3_meaning.specs.declared.elaborated.Elaborated.{Elaborated}
+use Rattle.f3_output.specs.Output.{State, Wrote}
 use Rattle.f3_run.specs.declared.compiled.Compiled.{Compiled}
 use Rattle.f3_run.specs.declared.end.End.{End}
-use Rattle.f3_run.specs.Performs.{Wrote}
 use Rattle.f3_run.specs.Answers.{Answers}
 use Rattle.f3_run.specs.Compiled.{program_of}
 use Rattle.f3_run.specs.Elaboration.{IsMeaning}
@@ -34,9 +34,9 @@ Compiles sources (Ok compiled) = Means sources (program_of compiled) × ((refusa
 Compiles sources (Err (Refused refusal)) = IsRefused sources refusal
 Compiles sources (Err Memory) = Unit {0}
 
--- What `check_and_run` answers, of the steps that the run may make, and of the bytes that the writer held before and
--- holds now: nothing is written where the sources are refused, or memory is wanting before the run.
-abbrev pub ChecksAndRuns : List Source → ℕ → Option (List ℕ) → Option (List ℕ) → Type 0 → Result End CheckFault → Type 0
-ChecksAndRuns sources steps old new Refuses (Ok end) = (p : Elaborated) × Means sources p × Answers p steps old new Refuses end
-ChecksAndRuns sources steps old new Refuses (Err (Refused refusal)) = IsRefused sources refusal × Wrote old new []
-ChecksAndRuns sources steps old new Refuses (Err Memory) = Wrote old new []
+-- What `check_and_run` answers, of the steps that the run may make, and of the output before and now: nothing is written
+-- where the sources are refused, or memory is wanting before the run.
+abbrev pub ChecksAndRuns : List Source → ℕ → State → State → Result End CheckFault → Type 0
+ChecksAndRuns sources steps old new (Ok end) = (p : Elaborated) × Means sources p × Answers p steps old new end
+ChecksAndRuns sources steps old new (Err (Refused refusal)) = IsRefused sources refusal × Wrote old new []
+ChecksAndRuns sources steps old new (Err Memory) = Wrote old new []

@@ -20,11 +20,11 @@ use Rattle.f3_tree.specs.Tree as whole
 use Rattle.f3_scopes.specs.Scopes.{scopes_of}
 use Rattle.f3_access.specs.declared.table.Lookup.{Lookup}
 use Rattle.f3_access.specs.declared.table.Lookup.TheVariants.{One, Nothing, Several}
-use Rattle.f3_access.specs.Access.{IsVisible}
 use Rattle.f3_names.specs.declared.entity.Entity.{Entity}
 use Rattle.f3_names.specs.declared.table.Names.{Names}
 use Rattle.f3_names.specs.Tables.{lookup_at}
 use Rattle.f3_names.specs.Entities.{described}
+use Rattle.f3_names.specs.Meant.{IsMeant}
 use Rattle.f3_meaning.specs.declared.elaborated.Variable.{Variable}
 use Rattle.f3_meaning.specs.declared.elaborated.Primary.{Primary}
 use Rattle.f3_meaning.specs.declared.elaborated.Primary.TheVariants as primary
@@ -129,11 +129,6 @@ entity_found Several = 0
 -- the entity that the tables have for a name of a unit
 abbrev pub Found : Names → ℕ → ℕ → ℕ → Type 0
 Found names unit symbol entity = entity ≡ entity_found (lookup_at names unit symbol)
-
--- the one entity that is visible under a name of a unit (ISO/IEC 1539-1:2004, 11.2, 16.2; that there is one alone
--- where a statement refers to the name, is an own rule)
-abbrev pub IsMeant : whole.Tree → ℕ → ℕ → ℕ → Type 0
-IsMeant t unit symbol entity = IsVisible (scopes_of t) unit symbol entity × ((d : ℕ) → IsVisible (scopes_of t) unit symbol d → d ≡ entity)
 
 -- The program without names says what the trees say: the whole one, and the one that is compiled. Each declared name is an
 -- entity, in their order, and a unit's number is that of its scope.

@@ -1,14 +1,15 @@
 //! From source bytes to output bytes.
 
+ghost use Rattle.f3_output.specs.Output.{state_of};
 ghost use Rattle.f3_run.specs.Compiles.{Compiles, ChecksAndRuns};
 
 use crate::compiled::Compiled;
 use crate::elaborate::elaborate;
 use crate::end::{End, Limits};
-use crate::outlet::Outlet;
-use crate::run::run_on;
+use crate::run::run;
 use f3_check::check::check;
 use f3_graph::CheckFault;
+use f3_output::output::Output;
 use f3_rules::source::Source;
 use std::alloc::Global;
 use std::io::Write;
@@ -30,22 +31,10 @@ pub fn check_and_run<W: Write>(
     alloc: Global,
     sources: &[Source],
     limits: Limits,
-    writer: &mut W,
+    output: &mut Output<W>,
 ) -> Result<End, CheckFault>
-    ensures { ChecksAndRuns sources.now limits.steps (W.contents writer.old) (W.contents writer.new) (Unit {0}) result }
-{
-    check_and_run_on(alloc, sources, limits, writer)
-}
-
-/// The same on any outlet, which says whether it has refused.
-pub fn check_and_run_on<O: Outlet>(
-    alloc: Global,
-    sources: &[Source],
-    limits: Limits,
-    writer: &mut O,
-) -> Result<End, CheckFault>
-    ensures { ChecksAndRuns sources.now limits.steps (O.held writer.old) (O.held writer.new) (O.has_refused writer.new) result }
+    ensures { ChecksAndRuns sources.now limits.steps (state_of W.contents output.old) (state_of W.contents output.new) result }
 {
     let compiled = compile(alloc, sources)?;
-    Ok(run_on(alloc, &compiled, limits, writer))
+    Ok(run(alloc, &compiled, limits, output))
 }

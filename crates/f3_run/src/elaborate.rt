@@ -24,8 +24,8 @@ use f3_tree::program as whole;
 use f3_tree::program::UnitKind;
 use std::alloc::{AllocError, Global};
 
-/// Replaces each name of the main program by the entity that the tables have for it.
-pub fn elaborate(
+// Replaces each name of the main program by the entity that the tables have for it.
+pub(crate) fn elaborate(
     alloc: Global,
     whole: &whole::Program,
     program: &Program,
@@ -128,7 +128,7 @@ fn variables_of(
     ensures { IfOk result (λ v. v.items ≡ variables_of names.now.entities.items (initials_of (view program.now))) }
 {
     let initials = initials_of(alloc, program)?;
-    begun(alloc, &names.entities, &initials)
+    begun(alloc, names.entities(), &initials)
 }
 
 // The entity that the tables have for a name of a unit.

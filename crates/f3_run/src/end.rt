@@ -1,5 +1,6 @@
 //! How runs end.
 
+use f3_meaning::run_error::RunError;
 use f3_rules::source::Place;
 
 /// How a run ends.
@@ -10,7 +11,7 @@ pub enum End {
     /// At a STOP statement, with its digits where it has any. No statement of today stops.
     Stopped(Option<u32>),
     /// With a run error, and the first token of the statement at work.
-    Error { number: u32, place: Place },
+    Error { error: RunError, place: Place },
     /// After as many steps as it may make.
     StepLimit,
     /// Where the writer failed, or took no byte.
@@ -28,16 +29,16 @@ pub struct Limits {
     pub heap_words: usize,
 }
 
-/// A run error, and the first token of the statement at work.
+// A run error, and the first token of the statement at work.
 #[derive(Clone, Copy, PartialEq, Eq, Debug)]
-pub struct RunError {
-    pub number: u32,
-    pub place: Place,
+pub(crate) struct RunFault {
+    pub(crate) error: RunError,
+    pub(crate) place: Place,
 }
 
-/// Why a statement stops.
+// Why a statement stops.
 #[derive(Clone, Copy, PartialEq, Eq, Debug)]
-pub enum Stop {
-    Error(RunError),
+pub(crate) enum Stop {
+    Error(RunFault),
     WriteFault,
 }

@@ -5,8 +5,9 @@ ghost use Rattle.f3_meaning.specs.Value.{Number};
 ghost use Rattle.f3_meaning.specs.Meaning.{operand, term_onto, value};
 ghost use Rattle.f3_run.specs.Performs.{store_of, valued};
 
-use crate::end::RunError;
+use crate::end::RunFault;
 use f3_meaning::elaborated::{Expression, Primary, Term};
+use f3_meaning::run_error::RunError;
 use f3_rules::source::Place;
 
 // The value of an operand.
@@ -20,7 +21,7 @@ fn operand(primary: Primary, place: Place, variables: &[i32]) -> i32
 }
 
 // A sum with a term more, in the statement at a place.
-fn add_term(sum: i32, term: Term, place: Place, variables: &[i32]) -> Result<i32, RunError>
+fn add_term(sum: i32, term: Term, place: Place, variables: &[i32]) -> Result<i32, RunFault>
     ensures { valued (store_of variables.now) result ≡ term_onto (Number sum) term place (store_of variables.now) }
 {
     let value = operand(term.primary, place, variables);
@@ -31,12 +32,19 @@ fn add_term(sum: i32, term: Term, place: Place, variables: &[i32]) -> Result<i32
     };
     match next {
         Some(next) => Ok(next),
-        None => Err(RunError { number: 1, place }),
+        None => Err(RunFault {
+            error: RunError::IntegerOverflow,
+            place,
+        }),
     }
 }
 
-/// The value of an expression in the statement at a place, over the values of the variables.
-pub fn evaluate(expression: &Expression, place: Place, variables: &[i32]) -> Result<i32, RunError>
+// The value of an expression in the statement at a place, over the values of the variables.
+pub(crate) fn evaluate(
+    expression: &Expression,
+    place: Place,
+    variables: &[i32],
+) -> Result<i32, RunFault>
     ensures { valued (store_of variables.now) result ≡ value expression.now place (store_of variables.now) }
 {
     let mut sum = 0i32;

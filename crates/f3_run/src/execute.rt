@@ -4,22 +4,24 @@ ghost use Rattle.f3_meaning.specs.declared.elaborated.Elaborated.{Elaborated};
 ghost use Rattle.f3_meaning.specs.Meaning.{value, item as item_run, items, sum_item, text_item, exec};
 ghost use Rattle.f3_meaning.specs.Ran.{prints_bytes};
 ghost use Rattle.f3_meaning.specs.Store.{Store};
+ghost use Rattle.f3_output.specs.Output.{state_of};
 ghost use Rattle.f3_run.specs.Performs.{Performs, ValueAt, store_of};
 
 use crate::end::Stop;
 use crate::evaluate::evaluate;
-use crate::outlet::Outlet;
 use f3_meaning::elaborated::{Action, Expression, Item, Statement};
+use f3_output::output::Output;
 use f3_rules::source::Place;
 use itoa::Buffer;
+use std::io::Write;
 
-/// Executes a statement over the values of the variables.
-pub fn execute<O: Outlet>(
+// Executes a statement over the values of the variables.
+pub(crate) fn execute<W: Write>(
     statement: &Statement,
     variables: &mut Vec<i32>,
-    writer: &mut O,
+    output: &mut Output<W>,
 ) -> Result<(), Stop>
-    ensures { (program : Elaborated) → Performs (O.held writer.old) (O.held writer.new) (O.has_refused writer.new)
+    ensures { (program : Elaborated) → Performs (state_of W.contents output.old) (state_of W.contents output.new)
         result (store_of variables.new.items) (exec program statement.now (store_of variables.old.items)) }
 {
     match &statement.action {
@@ -35,9 +37,9 @@ pub fn execute<O: Outlet>(
                 items.as_slice(),
                 statement.place,
                 variables.as_slice(),
-                writer,
+                output,
             )?;
-            send(writer, b"\n")
+            send(output, b"\n")
         }
     }
 }
@@ -53,73 +55,69 @@ fn value_of(expression: &Expression, place: Place, variables: &[i32]) -> Result<
 }
 
 // Prints the items of the statement at a place, each behind a blank.
-fn print_items<O: Outlet>(
+fn print_items<W: Write>(
     printed: &[Item],
     place: Place,
     variables: &[i32],
-    writer: &mut O,
+    output: &mut Output<W>,
 ) -> Result<(), Stop>
-    ensures { Performs (O.held writer.old) (O.held writer.new) (O.has_refused writer.new)
+    ensures { Performs (state_of W.contents output.old) (state_of W.contents output.new)
         result (store_of variables.now) (items printed.now place (store_of variables.now)) }
 {
     for item in printed {
-        print_item(item, place, variables, writer)?;
+        print_item(item, place, variables, output)?;
     }
     Ok(())
 }
 
 // Prints an item behind a blank.
-fn print_item<O: Outlet>(
+fn print_item<W: Write>(
     item: &Item,
     place: Place,
     variables: &[i32],
-    writer: &mut O,
+    output: &mut Output<W>,
 ) -> Result<(), Stop>
-    ensures { Performs (O.held writer.old) (O.held writer.new) (O.has_refused writer.new)
+    ensures { Performs (state_of W.contents output.old) (state_of W.contents output.new)
         result (store_of variables.now) (item_run item.now place (store_of variables.now)) }
 {
     match item {
-        Item::Value(expression) => print_sum(expression, place, variables, writer),
-        Item::Text(text) => print_text(text.as_slice(), writer),
+        Item::Value(expression) => print_sum(expression, place, variables, output),
+        Item::Text(text) => print_text(text.as_slice(), output),
     }
 }
 
 // Prints a character constant behind a blank.
-fn print_text<O: Outlet>(text: &[u8], writer: &mut O) -> Result<(), Stop>
-    ensures { (store : Store) → Performs (O.held writer.old) (O.held writer.new) (O.has_refused writer.new)
+fn print_text<W: Write>(text: &[u8], output: &mut Output<W>) -> Result<(), Stop>
+    ensures { (store : Store) → Performs (state_of W.contents output.old) (state_of W.contents output.new)
         result store (text_item text.now store) }
 {
-    send(writer, b" ")?;
-    send(writer, text)
+    send(output, b" ")?;
+    send(output, text)
 }
 
 // Prints the value of a sum behind a blank.
-fn print_sum<O: Outlet>(
+fn print_sum<W: Write>(
     expression: &Expression,
     place: Place,
     variables: &[i32],
-    writer: &mut O,
+    output: &mut Output<W>,
 ) -> Result<(), Stop>
-    ensures { Performs (O.held writer.old) (O.held writer.new) (O.has_refused writer.new)
+    ensures { Performs (state_of W.contents output.old) (state_of W.contents output.new)
         result (store_of variables.now) (sum_item expression.now place (store_of variables.now)) }
 {
     let value = value_of(expression, place, variables)?;
     let mut buffer = Buffer::new();
-    send(writer, b" ")?;
-    send(writer, buffer.format(value).as_bytes())
+    send(output, b" ")?;
+    send(output, buffer.format(value).as_bytes())
 }
 
-// Writes the bytes, some at a time.
-fn send<O: Outlet>(writer: &mut O, bytes: &[u8]) -> Result<(), Stop>
-    ensures { (store : Store) → Performs (O.held writer.old) (O.held writer.new) (O.has_refused writer.new)
+// Writes the bytes.
+fn send<W: Write>(output: &mut Output<W>, bytes: &[u8]) -> Result<(), Stop>
+    ensures { (store : Store) → Performs (state_of W.contents output.old) (state_of W.contents output.new)
         result store (prints_bytes bytes.now store) }
 {
-    let mut rest = bytes;
-    while !rest.is_empty() {
-        match writer.put(rest) {
-            Some(n) => rest = &rest[n..],
-            None => return Err(Stop::WriteFault),
-        }
+    match output.write(bytes) {
+        Ok(()) => Ok(()),
+        Err(_) => Err(Stop::WriteFault),
     }
-    Ok(())
 }

@@ -3,10 +3,9 @@
 
 pub mod compile;
 pub mod compiled;
-pub mod elaborate;
+mod elaborate;
 pub mod end;
-pub mod evaluate;
-pub mod execute;
+mod evaluate;
+mod execute;
 pub mod laws;
-pub mod outlet;
 pub mod run;

@@ -2,6 +2,7 @@
 
 ghost use Rattle.std.specs.Prelude.{◌≡◌, map, IfOk};
 ghost use Rattle.f3_meaning.specs.declared.elaborated.Variable.{Variable};
+ghost use Rattle.f3_output.specs.Output.{state_of};
 ghost use Rattle.f3_run.specs.Answers.{Answers};
 ghost use Rattle.f3_run.specs.Compiled.{program_of};
 ghost use Rattle.f3_run.specs.Performs.{end_of};
@@ -9,8 +10,8 @@ ghost use Rattle.f3_run.specs.Performs.{end_of};
 use crate::compiled::Compiled;
 use crate::end::{End, Limits, Stop};
 use crate::execute::execute;
-use crate::outlet::Outlet;
 use f3_meaning::elaborated::Elaborated;
+use f3_output::output::Output;
 use std::alloc::{AllocError, Global};
 use std::io::Write;
 
@@ -20,23 +21,27 @@ use std::io::Write;
 /// was reached in at most `limits.steps` steps. StepLimit: the program has come to no end after so many
 /// steps, and what it has printed by then was written. WriteFault: the writer failed or took no byte; what
 /// it took begins the output. Memory: a growth was refused before the first statement, and nothing was
-/// written. What each item of a PRINT prints is written before the next is evaluated (own rule).
-pub fn run<W: Write>(alloc: Global, compiled: &Compiled, limits: Limits, writer: &mut W) -> End
-    ensures { Answers (program_of compiled.now) limits.steps (W.contents writer.old) (W.contents writer.new) (Unit {0}) result }
+/// written. The writer has refused nothing but at WriteFault. What each item of a PRINT prints is written before
+/// the next is evaluated (own rule).
+pub fn run<W: Write>(
+    alloc: Global,
+    compiled: &Compiled,
+    limits: Limits,
+    output: &mut Output<W>,
+) -> End
+    ensures { Answers (program_of compiled.now) limits.steps (state_of W.contents output.old) (state_of W.contents output.new) result }
 {
-    run_on(alloc, compiled, limits, writer)
-}
-
-/// The same on any outlet, which says whether it has refused.
-pub fn run_on<O: Outlet>(alloc: Global, compiled: &Compiled, limits: Limits, writer: &mut O) -> End
-    ensures { Answers (program_of compiled.now) limits.steps (O.held writer.old) (O.held writer.new) (O.has_refused writer.new) result }
-{
-    run_steps(alloc, compiled.program(), limits.steps, writer)
+    run_steps(alloc, compiled.program(), limits.steps, output)
 }
 
 // Runs a program, for so many steps at most.
-fn run_steps<O: Outlet>(alloc: Global, program: &Elaborated, steps: u64, writer: &mut O) -> End
-    ensures { Answers program.now steps (O.held writer.old) (O.held writer.new) (O.has_refused writer.new) result }
+fn run_steps<W: Write>(
+    alloc: Global,
+    program: &Elaborated,
+    steps: u64,
+    output: &mut Output<W>,
+) -> End
+    ensures { Answers program.now steps (state_of W.contents output.old) (state_of W.contents output.new) result }
 {
     let mut variables = match initial_values(alloc, program) {
         Ok(variables) => variables,
@@ -48,7 +53,7 @@ fn run_steps<O: Outlet>(alloc: Global, program: &Elaborated, steps: u64, writer:
             return End::StepLimit;
         }
         left -= 1;
-        match execute(statement, &mut variables, writer) {
+        match execute(statement, &mut variables, output) {
             Ok(()) => {}
             Err(stop) => return end_of(stop),
         }
@@ -72,9 +77,9 @@ fn end_of(stop: Stop) -> End
     ensures { result ≡ end_of stop }
 {
     match stop {
-        Stop::Error(error) => End::Error {
-            number: error.number,
-            place: error.place,
+        Stop::Error(fault) => End::Error {
+            error: fault.error,
+            place: fault.place,
         },
         Stop::WriteFault => End::WriteFault,
     }

@@ -67,7 +67,7 @@ end program p
         Ok(checked) => {
             assert_eq!(rt; checked.whole.units.len(), 2);
             assert_eq!(rt; checked.program.units.len(), 2);
-            assert_eq!(rt; checked.names.entities.len(), 3);
+            assert_eq!(rt; checked.names.entities().len(), 3);
         }
         Err(_) => assert!(rt; false),
     }
@@ -140,4 +140,58 @@ fn protected_defined(rt: HostRuntime) -> Result<(), Fail> {
         2,
         33,
     )
+}
+
+/// A program at every limit that one source of some megabytes can meet: a name of 63 letters, 100,000 names in a statement
+/// of 100,000 lines, as many character constants in another, and one of a megabyte; 200,003 lines.
+fn large(alloc: Global) -> Result<String, AllocError> {
+    let mut text = String::from_str(alloc, "program p\ninteger :: ")?;
+    for _ in 0..63 {
+        text.push('n')?;
+    }
+    text.push_str("\ninteger :: v00000")?;
+    for number in 1..100_000u32 {
+        text.push_str(format!(in alloc; ", &\nv{number:05}")?.as_str())?;
+    }
+    text.push_str("\nprint *, 'c00000'")?;
+    for number in 1..100_000u32 {
+        text.push_str(format!(in alloc; ", &\n'c{number:05}'")?.as_str())?;
+    }
+    text.push_str("\nprint *, '")?;
+    for _ in 0..1_000_000 {
+        text.push('x')?;
+    }
+    text.push_str("'\n")?;
+    Ok(text)
+}
+
+/// 64 parentheses in one another, and then 64 constructs: no statement of today.
+fn deep(alloc: Global) -> Result<String, AllocError> {
+    let mut text = String::from_str(alloc, "print *, ")?;
+    for _ in 0..64 {
+        text.push('(')?;
+    }
+    text.push('1')?;
+    for _ in 0..64 {
+        text.push(')')?;
+    }
+    for _ in 0..64 {
+        text.push_str("\ndo")?;
+    }
+    for _ in 0..64 {
+        text.push_str("\nend do")?;
+    }
+    text.push_str("\n")?;
+    Ok(text)
+}
+
+#[test]
+fn at_every_limit(rt: HostRuntime) -> Result<(), Fail> {
+    let alloc = rt.alloc();
+    let large = large(alloc)?;
+    let deep = deep(alloc)?;
+    let accepted = format!(in alloc; "{large}end\n")?;
+    assert_eq!(rt; refused(alloc, accepted.as_str())?, None);
+    let parsed = format!(in alloc; "{large}{deep}end\n")?;
+    refuse(&rt, alloc, parsed.as_str(), Rule::S5, 200_004, 1)
 }

@@ -1,6 +1,8 @@
 //! Runs on writers that take little at a time, refuse or stop.
 
 use f3_graph::CheckFault;
+use f3_meaning::run_error::RunError;
+use f3_output::output::Output;
 use f3_rules::rule::Rule;
 use f3_rules::source::{Place, Source};
 use f3_run::compile::{check_and_run, compile};
@@ -8,7 +10,7 @@ use f3_run::compiled::Compiled;
 use f3_run::end::{End, Limits};
 use f3_run::run::run;
 use std::alloc::{AllocError, Global};
-use std::io::{self, ErrorKind, Write};
+use std::io::{self, BufWriter, ErrorKind, Write};
 use std::test::Fail;
 
 /// Takes at most so many bytes at a call; once it holds `room`, it fails or takes none.
@@ -86,19 +88,23 @@ fn a_step_is_a_statement_and_the_end_is_the_last(rt: HostRuntime) -> Result<(), 
         (u64::MAX, End::Done, " 3\n -2 2\n"),
     ];
     for (steps, end, text) in table {
-        let mut bytes = Vec::new(alloc);
+        let mut output = Output::new(Vec::<u8>::new(alloc));
         assert_eq!(rt;
-            run(alloc, &compiled, limits(steps), &mut bytes),
+            run(alloc, &compiled, limits(steps), &mut output),
             end,
             "after {steps}"
         );
-        assert_eq!(rt; bytes.as_slice(), text.as_bytes(), "after {steps}");
+        assert_eq!(rt;
+            output.writer().as_slice(),
+            text.as_bytes(),
+            "after {steps}"
+        );
     }
     let empty = program(alloc, "program p; end\n")?;
-    let mut bytes = Vec::new(alloc);
-    assert_eq!(rt; run(alloc, &empty, limits(0), &mut bytes), End::StepLimit);
-    assert_eq!(rt; run(alloc, &empty, limits(1), &mut bytes), End::Done);
-    assert_eq!(rt; bytes.len(), 0);
+    let mut output = Output::new(Vec::<u8>::new(alloc));
+    assert_eq!(rt; run(alloc, &empty, limits(0), &mut output), End::StepLimit);
+    assert_eq!(rt; run(alloc, &empty, limits(1), &mut output), End::Done);
+    assert_eq!(rt; output.writer().len(), 0);
     Ok(())
 }
 
@@ -108,23 +114,25 @@ fn a_writer_takes_a_front(rt: HostRuntime) -> Result<(), Fail> {
     let compiled = program(alloc, THREE)?;
     let text = b" 3\n -2 2\n".as_slice();
     for each in [1, 2, 5] {
-        let mut writer = slow_writer(alloc, each, text.len(), true);
+        let mut output = Output::new(slow_writer(alloc, each, text.len(), true));
         assert_eq!(rt;
-            run(alloc, &compiled, limits(9), &mut writer),
+            run(alloc, &compiled, limits(9), &mut output),
             End::Done,
             "{each} each"
         );
-        assert_eq!(rt; writer.bytes.as_slice(), text, "{each} each");
+        assert_eq!(rt; output.writer().bytes.as_slice(), text, "{each} each");
+        assert!(rt; !output.is_refused(), "{each} each");
     }
     for fails in [true, false] {
         for room in 0..text.len() {
-            let mut writer = slow_writer(alloc, 2, room, fails);
+            let mut output = Output::new(slow_writer(alloc, 2, room, fails));
             assert_eq!(rt;
-                run(alloc, &compiled, limits(9), &mut writer),
+                run(alloc, &compiled, limits(9), &mut output),
                 End::WriteFault,
                 "{room}"
             );
-            assert_eq!(rt; writer.bytes.as_slice(), &text[..room], "{room}");
+            assert_eq!(rt; output.writer().bytes.as_slice(), &text[..room], "{room}");
+            assert!(rt; output.is_refused(), "{room}");
         }
     }
     Ok(())
@@ -134,10 +142,10 @@ fn a_writer_takes_a_front(rt: HostRuntime) -> Result<(), Fail> {
 fn a_character_constant_is_printed_as_it_stands(rt: HostRuntime) -> Result<(), Fail> {
     let alloc = rt.alloc();
     let compiled = program(alloc, "program p; print *, 'it''s a\tb', 7, ''; end\n")?;
-    let mut bytes = Vec::new(alloc);
-    assert_eq!(rt; run(alloc, &compiled, limits(9), &mut bytes), End::Done);
+    let mut output = Output::new(Vec::<u8>::new(alloc));
+    assert_eq!(rt; run(alloc, &compiled, limits(9), &mut output), End::Done);
     let text = b" it's a\tb 7 \n".as_slice();
-    assert_eq!(rt; bytes.as_slice(), text);
+    assert_eq!(rt; output.writer().as_slice(), text);
     Ok(())
 }
 
@@ -145,7 +153,7 @@ fn a_character_constant_is_printed_as_it_stands(rt: HostRuntime) -> Result<(), F
 fn an_overflow_is_error_1(rt: HostRuntime) -> Result<(), Fail> {
     let alloc = rt.alloc();
     let overflow = End::Error {
-        number: 1,
+        error: RunError::IntegerOverflow,
         place: Place {
             file: 2,
             line: 1,
@@ -163,9 +171,13 @@ fn an_overflow_is_error_1(rt: HostRuntime) -> Result<(), Fail> {
             alloc,
             &format!(in alloc; "program p; print *, 7, {terms}; end\n")?,
         )?;
-        let mut bytes = Vec::new(alloc);
-        assert_eq!(rt; run(alloc, &compiled, limits(9), &mut bytes), end, "{text}");
-        assert_eq!(rt; bytes.as_slice(), text.as_bytes());
+        let mut output = Output::new(Vec::<u8>::new(alloc));
+        assert_eq!(rt;
+            run(alloc, &compiled, limits(9), &mut output),
+            end,
+            "{text}"
+        );
+        assert_eq!(rt; output.writer().as_slice(), text.as_bytes());
     }
     Ok(())
 }
@@ -174,12 +186,38 @@ fn an_overflow_is_error_1(rt: HostRuntime) -> Result<(), Fail> {
 fn sources_are_run(rt: HostRuntime) -> Result<(), Fail> {
     let alloc = rt.alloc();
     let sources = protected_and(alloc, "program p; use m; print *, n; end\n")?;
-    let mut bytes = Vec::new(alloc);
-    let end = check_and_run(alloc, sources.as_slice(), limits(9), &mut bytes)?;
+    let mut output = Output::new(Vec::<u8>::new(alloc));
+    let end = check_and_run(alloc, sources.as_slice(), limits(9), &mut output)?;
     assert_eq!(rt; end, End::Done);
     let text = " 3\n";
-    assert_eq!(rt; bytes.as_slice(), text.as_bytes());
+    assert_eq!(rt; output.writer().as_slice(), text.as_bytes());
     Ok(())
+}
+
+#[test]
+fn an_output_hands_on_what_its_writer_keeps(rt: HostRuntime) -> Result<(), Fail> {
+    let alloc = rt.alloc();
+    let inner = slow_writer(alloc, 2, 3, true);
+    let mut output = Output::new(BufWriter::new(alloc, inner)?);
+    assert!(rt; output.write(b"abcd").is_ok());
+    assert!(rt; !output.is_refused());
+    assert!(rt; output.flush().is_err());
+    assert!(rt; output.is_refused());
+    assert_eq!(rt;
+        output.writer().get_ref().bytes.as_slice(),
+        b"abc".as_slice()
+    );
+    Ok(())
+}
+
+#[test]
+fn the_numbers_of_run_errors(rt: HostRuntime) {
+    assert_eq!(rt; RunError::IntegerOverflow.number(), 1);
+    assert_eq!(rt; RunError::ArrayTooLarge.number(), 11);
+    assert_eq!(rt;
+        RunError::InUseByAnArgument.words(),
+        "in use by an argument"
+    );
 }
 
 fn rule_and_place(fault: &CheckFault) -> Option<(Rule, Place)> {

@@ -1,5 +1,5 @@
 -- What the passes over one scope look for.
-use Rattle.std.specs.Prelude.{◌≡◌, ℕ, Bool, true, false, not, List, [], ◌∷◌, ◌++◌, Option, None, Some, Contains, map, length, nat_eq, nat_lt, if◌then◌else◌, ◌&&◌, ◌||◌, ◌==◌}
+use Rattle.std.specs.Prelude.{◌≡◌, ℕ, Bool, true, false, not, List, [], ◌∷◌, ◌++◌, Option, None, Some, map, length, nat_eq, nat_lt, if◌then◌else◌, ◌&&◌, ◌||◌, ◌==◌}
 use Rattle.std.specs.List.{list_any}
 use Rattle.std.specs.Global.{Vec}
 use Rattle.indexmap.specs.IndexSet.{insert_key, insert_all}
@@ -16,12 +16,9 @@ use Rattle.f3_scopes.specs.declared.outline.EntityKind.{EntityKind}
 use Rattle.f3_scopes.specs.declared.outline.EntityKind.TheVariants as entity
 use Rattle.f3_scopes.specs.declared.outline.Component.{Component}
 use Rattle.f3_scopes.specs.declared.outline.AccessOutline.{AccessOutline}
+use Rattle.f3_breaks.specs.Among.{Among}
 use Rattle.f3_scopes.specs.Outlines.{Own, Listed, part_view}
 use Rattle.f3_scope_rules.specs.ScopeBreaks.{at, at_keyword, Again, component_names}
-
--- a break of one of these
-abbrev pub Among : {X : Type 0} → (X → Break → Type 0) → List X → Break → Type 0
-Among {X} P xs b = (x : X) × Contains xs x × P x b
 
 -- this break, where the answer is yes
 abbrev pub If : Bool → Break → Break → Type 0
@@ -62,12 +59,6 @@ abbrev pub OwnName : Bool → ℕ → Name → Break → Type 0
 OwnName has_other symbol n = If (has_other && (n.symbol == symbol)) (at N3 n)
 
 -- ---- access
-
-abbrev pub is_module : ScopeKind → Bool
-is_module Module = true
-is_module Program = false
-is_module Subroutine = false
-is_module Function = false
 
 abbrev pub StatementOutside : Bool → AccessOutline → Break → Type 0
 StatementOutside is_outside s = If is_outside (at_keyword N5 s.place)

@@ -1,5 +1,5 @@
 -- The breaks of the rules on what one scope declares (phase 4).
-use Rattle.std.specs.Prelude.{◌≡◌, ◌≢◌, ◌⊎◌, ℕ, true, List, [], ◌∷◌, ◌++◌, None, Some, Contains, map, drop, if◌then◌else◌, option_to_list}
+use Rattle.std.specs.Prelude.{◌≡◌, ◌≢◌, ◌⊎◌, ℕ, true, List, [], ◌∷◌, ◌++◌, Some, Contains, map, drop, if◌then◌else◌, option_to_list}
 use Rattle.f3_rules.specs.declared.source.Place.{Place}
 use Rattle.f3_rules.specs.declared.breaks.Break.{Break}
 use Rattle.f3_rules.specs.declared.rule.Rule.{Rule}
@@ -8,17 +8,18 @@ use Rattle.f3_tree.specs.declared.expression.Name.{Name}
 use Rattle.f3_tree.specs.declared.declaration.Accessibility.{Accessibility}
 use Rattle.f3_tree.specs.declared.declaration.Intent.{Intent}
 use Rattle.f3_tree.specs.declared.declaration.Intent.TheVariants.{In}
+use Rattle.f3_breaks.specs.At as breaks
 use Rattle.f3_scopes.specs.declared.outline.ScopeKind.TheVariants.{Module, Subroutine, Function}
 use Rattle.f3_scopes.specs.declared.outline.EntityKind.TheVariants.{Variable}
 use Rattle.f3_scopes.specs.Outlines.{Own, Listed, Part, Scope}
 
 -- a rule is broken at a name
 abbrev pub at : Rule → Name → Break
-at rule name = record { phase = 4; place = name.place; rule = rule; name = Some name.symbol }
+at rule name = breaks.at 4 rule name
 
 -- a rule is broken at a keyword
 abbrev pub at_keyword : Rule → Place → Break
-at_keyword rule place = record { phase = 4; place = place; rule = rule; name = None }
+at_keyword rule place = breaks.at_keyword 4 rule place
 
 -- The name stands in the list behind the same name.
 abbrev pub Again : List Name → Name → Type 0

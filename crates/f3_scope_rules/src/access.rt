@@ -4,10 +4,13 @@ ghost use Rattle.std.specs.Prelude.{◌≡◌, ◌==◌, false, None, nat_lt, le
 ghost use Rattle.f3_rules.specs.Least.{Least, first_of};
 ghost use Rattle.f3_scopes.specs.Outlines.{listed_view, scope_view};
 ghost use Rattle.f3_scope_rules.specs.ScopeBreaks.{AccessOutside, AccessTwice};
-ghost use Rattle.f3_scope_rules.specs.Rows.{Among, pass, is_module, StatementOutside, AttributeOutside, ComponentTwice, ComponentsTwice, default_row, default_next};
+ghost use Rattle.f3_scopes.specs.Kinds.{is_module};
+ghost use Rattle.f3_breaks.specs.Among.{Among};
+ghost use Rattle.f3_scope_rules.specs.Rows.{pass, StatementOutside, AttributeOutside, ComponentTwice, ComponentsTwice, default_row, default_next};
 
 use crate::again::first_again;
 use crate::at::{break_at, break_at_keyword};
+use f3_breaks::first_among;
 use f3_rules::breaks::{Break, earlier};
 use f3_rules::rule::Rule;
 use f3_rules::source::Place;
@@ -32,23 +35,20 @@ pub fn is_module(kind: ScopeKind) -> bool
 fn first_statement_outside(is_outside: bool, statements: &[AccessOutline]) -> Option<Break>
     ensures { Least result (Among (StatementOutside is_outside) statements.now) }
 {
-    let mut first = None;
-    for statement in statements {
-        let found = break_at_keyword(is_outside, Rule::N5, &statement.place);
-        first = earlier(first, found);
-    }
-    first
+    first_among(
+        statements,
+        |statement| break_at_keyword(is_outside, Rule::N5, &statement.place),
+    )
 }
 
 /// The first access attribute, outside a module.
 fn first_attribute_outside(is_outside: bool, places: &[Place]) -> Option<Break>
     ensures { Least result (Among (AttributeOutside is_outside) places.now) }
 {
-    let mut first = None;
-    for place in places {
-        first = earlier(first, break_at_keyword(is_outside, Rule::N5, place));
-    }
-    first
+    first_among(
+        places,
+        |place| break_at_keyword(is_outside, Rule::N5, place),
+    )
 }
 
 /// The first PUBLIC or PRIVATE outside a module.
@@ -73,23 +73,17 @@ fn is_given_twice(accesses: &[Accessibility]) -> bool
 fn first_component_twice(parts: &[Component]) -> Option<Break>
     ensures { Least result (Among ComponentTwice parts.now) }
 {
-    let mut first = None;
-    for part in parts {
-        let is_broken = is_given_twice(&part.accesses);
-        first = earlier(first, break_at(is_broken, Rule::N6, &part.name));
-    }
-    first
+    first_among(
+        parts,
+        |part| break_at(is_given_twice(&part.accesses), Rule::N6, &part.name),
+    )
 }
 
 /// The first component of these types that is given two accesses.
 fn first_component_of_types(types: &[Vec<Component>]) -> Option<Break>
     ensures { Least result (Among ComponentsTwice types.now) }
 {
-    let mut first = None;
-    for parts in types {
-        first = earlier(first, first_component_twice(parts));
-    }
-    first
+    first_among(types, |parts| first_component_twice(parts))
 }
 
 /// Whether PUBLIC or PRIVATE has no list.

@@ -5,10 +5,12 @@ ghost use Rattle.f3_rules.specs.Least.{Least};
 ghost use Rattle.f3_rules.specs.declared.rule.Rule.TheVariants.{N3};
 ghost use Rattle.f3_scopes.specs.Outlines.{part_view, scope_view};
 ghost use Rattle.f3_scope_rules.specs.ScopeBreaks.{declared_names, component_names, DeclaredTwice};
-ghost use Rattle.f3_scope_rules.specs.Rows.{Among, AgainIn, ComponentAgain, OwnName, has_other_result};
+ghost use Rattle.f3_breaks.specs.Among.{Among};
+ghost use Rattle.f3_scope_rules.specs.Rows.{AgainIn, ComponentAgain, OwnName, has_other_result};
 
 use crate::at::break_at;
 use crate::names::{component_names, header_names};
+use f3_breaks::first_among;
 use f3_rules::breaks::{Break, earlier};
 use f3_rules::rule::Rule;
 use f3_scopes::outline::{Component, Outline, ScopeKind};
@@ -68,12 +70,11 @@ fn has_other_result(kind: ScopeKind, outcome: Option<Name>) -> bool
 fn first_own_name(has_other_result: bool, own: &Name, declared: &[Name]) -> Option<Break>
     ensures { Least result (Among (OwnName has_other_result own.now.symbol) declared.now) }
 {
-    let mut first = None;
-    for name in declared {
-        let is_own = has_other_result & (name.symbol == own.symbol);
-        first = earlier(first, break_at(is_own, Rule::N3, name));
-    }
-    first
+    let symbol = own.symbol;
+    first_among(
+        declared,
+        |name| break_at(has_other_result & (name.symbol == symbol), Rule::N3, name),
+    )
 }
 
 /// The first name that its scope has declared before, in the declarations or in the header, or its type as a component.

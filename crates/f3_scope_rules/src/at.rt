@@ -5,6 +5,7 @@ ghost use Rattle.f3_rules.specs.Least.{Least, first_of};
 ghost use Rattle.f3_scope_rules.specs.ScopeBreaks.{at, at_keyword};
 ghost use Rattle.f3_scope_rules.specs.Rows.{If};
 
+use f3_breaks::{at, at_keyword};
 use f3_rules::breaks::Break;
 use f3_rules::rule::Rule;
 use f3_rules::source::Place;
@@ -17,12 +18,7 @@ pub fn break_at(is_broken: bool, rule: Rule, name: &Name) -> Option<Break>
     ensures least { Least result (If is_broken (at rule name.now)) }
 {
     if is_broken {
-        Some(Break {
-            phase: 4,
-            place: name.place,
-            rule,
-            name: Some(name.symbol),
-        })
+        Some(at(4, rule, *name))
     } else {
         None
     }
@@ -35,12 +31,7 @@ pub fn break_at_keyword(is_broken: bool, rule: Rule, place: &Place) -> Option<Br
     ensures least { Least result (If is_broken (at_keyword rule place.now)) }
 {
     if is_broken {
-        Some(Break {
-            phase: 4,
-            place: *place,
-            rule,
-            name: None,
-        })
+        Some(at_keyword(4, rule, *place))
     } else {
         None
     }

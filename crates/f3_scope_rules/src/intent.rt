@@ -5,11 +5,13 @@ ghost use Rattle.std.specs.List.{list_any};
 ghost use Rattle.f3_rules.specs.Least.{Least};
 ghost use Rattle.f3_scopes.specs.Outlines.{own_view, scope_view};
 ghost use Rattle.f3_scope_rules.specs.ScopeBreaks.{specified, IntentMisplaced};
-ghost use Rattle.f3_scope_rules.specs.Rows.{Among, Misintended, is_other, is_misplaced, is_function};
+ghost use Rattle.f3_breaks.specs.Among.{Among};
+ghost use Rattle.f3_scope_rules.specs.Rows.{Misintended, is_other, is_misplaced, is_function};
 
 use crate::at::break_at;
 use crate::names::{is_known, symbols};
-use f3_rules::breaks::{Break, earlier};
+use f3_breaks::first_among;
+use f3_rules::breaks::Break;
 use f3_rules::rule::Rule;
 use f3_scopes::outline::{Declared, Outline, ScopeKind};
 use f3_tree::declaration::Intent;
@@ -95,11 +97,10 @@ fn first_misintended(
 ) -> Option<Break>
     ensures { Least result (Among (λ d. Misintended is_function dummies.now.keys (own_view d)) declared.now) }
 {
-    let mut first = None;
-    for declaration in declared {
-        first = earlier(first, misintended(is_function, dummies, declaration));
-    }
-    first
+    first_among(
+        declared,
+        |declaration| misintended(is_function, dummies, declaration),
+    )
 }
 
 /// The first declared dummy argument without INTENT, or, in a function, not INTENT(IN); or INTENT on something else.

@@ -5,12 +5,14 @@ ghost use Rattle.std.specs.List.{flat_map};
 ghost use Rattle.f3_rules.specs.Least.{Least};
 ghost use Rattle.f3_scopes.specs.Outlines.{own_view, scope_view};
 ghost use Rattle.f3_scope_rules.specs.ScopeBreaks.{ProtectedMisplaced};
-ghost use Rattle.f3_scope_rules.specs.Rows.{Among, Misprotected, is_variable, variable_name, protected_name};
+ghost use Rattle.f3_breaks.specs.Among.{Among};
+ghost use Rattle.f3_scope_rules.specs.Rows.{Misprotected, is_variable, variable_name, protected_name};
 
 use crate::access::is_module;
 use crate::at::break_at;
 use crate::names::{is_known, symbols};
-use f3_rules::breaks::{Break, earlier};
+use f3_breaks::first_among;
+use f3_rules::breaks::Break;
 use f3_rules::rule::Rule;
 use f3_scopes::outline::{Declared, EntityKind, Outline};
 use f3_tree::expression::Name;
@@ -72,12 +74,10 @@ fn first_misprotected(
 ) -> Option<Break>
     ensures { Least result (Among (Misprotected is_outside variables.now.keys) names.now) }
 {
-    let mut first = None;
-    for name in names {
-        let is_broken = is_outside | !is_known(variables, name);
-        first = earlier(first, break_at(is_broken, Rule::N8, name));
-    }
-    first
+    first_among(
+        names,
+        |name| break_at(is_outside | !is_known(variables, name), Rule::N8, name),
+    )
 }
 
 /// The first name under PROTECTED that is no variable of this module.

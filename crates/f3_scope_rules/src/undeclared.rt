@@ -4,11 +4,13 @@ ghost use Rattle.std.specs.Prelude.{◌≡◌, ◌++◌, IfOk, option_to_list};
 ghost use Rattle.f3_rules.specs.Least.{Least};
 ghost use Rattle.f3_scopes.specs.Outlines.{scope_view};
 ghost use Rattle.f3_scope_rules.specs.ScopeBreaks.{declared_names, Undeclared};
-ghost use Rattle.f3_scope_rules.specs.Rows.{Among, Missing};
+ghost use Rattle.f3_breaks.specs.Among.{Among};
+ghost use Rattle.f3_scope_rules.specs.Rows.{Missing};
 
 use crate::at::break_at;
 use crate::names::{is_known, symbols};
-use f3_rules::breaks::{Break, earlier};
+use f3_breaks::first_among;
+use f3_rules::breaks::Break;
 use f3_rules::rule::Rule;
 use f3_scopes::outline::Outline;
 use f3_tree::expression::Name;
@@ -19,12 +21,10 @@ use std::alloc::{AllocError, Global};
 fn first_missing(declared: &IndexSet<usize>, names: &[Name]) -> Option<Break>
     ensures { Least result (Among (Missing declared.now.keys) names.now) }
 {
-    let mut first = None;
-    for name in names {
-        let is_missing = !is_known(declared, name);
-        first = earlier(first, break_at(is_missing, Rule::N10, name));
-    }
-    first
+    first_among(
+        names,
+        |name| break_at(!is_known(declared, name), Rule::N10, name),
+    )
 }
 
 /// The names of a header that are to be declared: the dummy arguments and the result.

@@ -1,3 +1,4 @@
 pub mod Outlines
 pub mod Names
 pub mod Scopes
+pub mod Kinds

@@ -45,13 +45,11 @@ pub fn statements(alloc: Global, sources: &[Source]) -> Result<Cut, AllocError>
 
 /// The place just past the last byte of a source, which the limit on sources lets be examined.
 pub fn source_end(file: usize, bytes: &[u8]) -> Place
-    ensures { length bytes.now ≤ 16777216 → result ≡ end_of file bytes.now }
+    requires { length bytes.now ≤ 16777216 }
+    ensures { result ≡ end_of file bytes.now }
 {
     let mut line: u32 = 1;
     let mut column: u32 = 1;
-    if bytes.len() > Statements::LIMIT {
-        return Place { file, line, column };
-    }
     for byte in bytes {
         if *byte == b'\n' {
             line += 1;

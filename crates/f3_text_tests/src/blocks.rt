@@ -1,6 +1,7 @@
 //! Blocks that grow with ample memory.
 
-use f3_blocks::builder::{BlockBuilder, BlockError};
+use f3_blocks::builder::BlockBuilder;
+use f3_blocks::error::StepError;
 use f3_forms::form::{Ended, Form};
 use f3_rules::source::Place;
 use f3_tree::statement::{Action, Control};
@@ -16,10 +17,10 @@ fn somewhere() -> Place {
 }
 
 /// A block of a program with so many open DO constructs.
-fn opened(alloc: Global, count: usize) -> Result<BlockBuilder, BlockError> {
+fn opened(alloc: Global, count: usize) -> Result<BlockBuilder, StepError> {
     let mut block = BlockBuilder::new(alloc);
     for _ in 0..count {
-        block = block.step(alloc, false, somewhere(), Form::Do(Control::Forever))?;
+        block.step(alloc, false, somewhere(), Form::Do(Control::Forever))?;
     }
     Ok(block)
 }
@@ -27,9 +28,9 @@ fn opened(alloc: Global, count: usize) -> Result<BlockBuilder, BlockError> {
 #[test]
 fn exit_in_a_do(rt: HostRuntime) -> Result<(), Fail> {
     let alloc = rt.alloc();
-    let block = opened(alloc, 1)?;
-    let block = block.step(alloc, false, somewhere(), Form::Act(Action::Exit))?;
-    let block = block.step(alloc, false, somewhere(), Form::End(Some(Ended::Do), None))?;
+    let mut block = opened(alloc, 1)?;
+    block.step(alloc, false, somewhere(), Form::Act(Action::Exit))?;
+    block.step(alloc, false, somewhere(), Form::End(Some(Ended::Do), None))?;
     assert_eq!(rt; block.constructs.len(), 0);
     assert_eq!(rt; block.body.len(), 1);
     Ok(())
@@ -38,9 +39,10 @@ fn exit_in_a_do(rt: HostRuntime) -> Result<(), Fail> {
 #[test]
 fn exit_outside_of_a_do(rt: HostRuntime) -> Result<(), Fail> {
     let alloc = rt.alloc();
-    match opened(alloc, 0)?.step(alloc, false, somewhere(), Form::Act(Action::Exit)) {
+    let mut block = opened(alloc, 0)?;
+    match block.step(alloc, false, somewhere(), Form::Act(Action::Exit)) {
         Ok(_) => assert!(rt; false),
-        Err(error) => assert_eq!(rt; error, BlockError::OutOfPlace),
+        Err(error) => assert_eq!(rt; error, StepError::OutOfPlace),
     }
     Ok(())
 }
@@ -51,7 +53,7 @@ fn sixty_five_constructs(rt: HostRuntime) -> Result<(), Fail> {
     assert_eq!(rt; opened(alloc, 64)?.constructs.len(), 64);
     match opened(alloc, 65) {
         Ok(_) => assert!(rt; false),
-        Err(error) => assert_eq!(rt; error, BlockError::TooDeep),
+        Err(error) => assert_eq!(rt; error, StepError::TooDeep),
     }
     Ok(())
 }

@@ -2,3 +2,4 @@ pub mod Roles
 pub mod Units
 pub mod Machine
 pub mod Depth
+pub mod Laws

@@ -1,5 +1,5 @@
 -- Program units statement by statement.
-use Rattle.std.specs.Prelude.{◌≡◌, ◌<◌, ℕ, Bool, true, false, ◌&&◌, ◌==◌, if◌then◌else◌, List, [], ◌∷◌, ◌++◌, length, map, Option, Some, None, Result, Ok, Err, option_and_then}
+use Rattle.std.specs.Prelude.{◌≡◌, ◌<◌, ℕ, Bool, true, false, ◌&&◌, ◌==◌, if◌then◌else◌, List, [], ◌∷◌, ◌++◌, length, map, Option, Some, None, Result, option_and_then}
 use Rattle.std.specs.Option.{option_map}
 use Rattle.f3_rules.specs.declared.source.Place.{Place}
 use Rattle.f3_tree.specs.declared.expression.Name.{Name}
@@ -8,8 +8,7 @@ use Rattle.f3_tree.specs.declared.program.UnitKind.TheVariants.{Module, Program}
 use Rattle.f3_tree.specs.Statements.{block_of}
 use Rattle.f3_tree.specs.Tree.{HeaderTree, header_view, ProcedureTree, procedure_view, UnitTree, unit_view}
 use Rattle.f3_forms.specs.declared.form.Ended.{Ended}
-use Rattle.f3_forms.specs.declared.form.Form.TheVariants as form
-use Rattle.f3_forms.specs.Forms.{FormTree, form_view}
+use Rattle.f3_blocks.specs.declared.error.StepError.{StepError}
 use Rattle.f3_blocks.specs.Pieces.{Placed}
 use Rattle.f3_blocks.specs.Pieces as blocks_pieces
 use Rattle.f3_blocks.specs.Machine as blocks
@@ -17,11 +16,7 @@ use Rattle.f3_parts.specs.Parts.{fits_label}
 use Rattle.f3_parts.specs.Pieces as parts_pieces
 use Rattle.f3_parts.specs.Machine as parts
 use Rattle.f3_parts.specs.Machine.{is_nil, is_none}
-use Rattle.f3_units.specs.declared.error.StepError.{StepError}
-use Rattle.f3_units.specs.declared.error.StepError.TheVariants.{Memory, OutOfPlace, TooDeep}
 use Rattle.f3_units.specs.declared.scope.Scope.{Scope as CodeScope}
-use Rattle.f3_units.specs.declared.scope.Sorted.{Sorted}
-use Rattle.f3_units.specs.declared.scope.Sorted.TheVariants as sorted
 use Rattle.f3_units.specs.declared.builder.OpenProcedure.{OpenProcedure}
 use Rattle.f3_units.specs.declared.builder.OpenUnit.{OpenUnit}
 use Rattle.f3_units.specs.declared.builder.Builder.{Builder}
@@ -194,24 +189,6 @@ IsDeeper s t = (depth s < depth t) × (64 < depth t)
 
 -- ---- what the builder holds
 
--- what a statement is, apart from its place
-abbrev pub sorted_role : Sorted → Role
-sorted_role (sorted.Begins kind name) = begins kind name
-sorted_role sorted.Contains = contains
-sorted_role (sorted.Heads header) = heads (header_view header)
-sorted_role (sorted.Ends what label) = ends what label
-sorted_role (sorted.Specifies f) = specifies
-sorted_role (sorted.Executes f) = executes
-
--- what is kept of the statement's form
-abbrev pub Keeps : Sorted → FormTree → Type 0
-Keeps (sorted.Begins kind name) f = Unit {0}
-Keeps sorted.Contains f = form_view form.Contains ≡ f
-Keeps (sorted.Heads header) f = Unit {0}
-Keeps (sorted.Ends what label) f = Unit {0}
-Keeps (sorted.Specifies g) f = form_view g ≡ f
-Keeps (sorted.Executes g) f = form_view g ≡ f
-
 abbrev pub scope_view : CodeScope → Scope
 scope_view s = record { part = parts.builder_view s.part; block = blocks.builder_view s.block }
 
@@ -233,28 +210,16 @@ begun_view u = record {
 abbrev pub builder_view : Builder → State
 builder_view b = record { done = map unit_view b.units.items; unit = option_map begun_view b.unit }
 
--- the same unit before CONTAINS, and behind it
-abbrev pub before_contains : Begun → Begun
-before_contains u = record u { contains = None; procedure = None }
-
-abbrev pub behind_contains : Place → Begun → Begun
-behind_contains place u = record u { contains = Some place }
-
 abbrev pub scope_depth : Scope → ℕ
 scope_depth s = length s.block.opens
 
 abbrev pub begun_depth : Begun → ℕ
 begun_depth u = body_depth u.contains u.procedure u.scope
 
--- What something becomes, or why it cannot, where so many constructs are open in it.
-abbrev pub Becomes : {A X : Type 0} → (X → A) → (A → ℕ) → Result X StepError → A → Option A → Type 0
-Becomes {A} seen deep (Ok x) s next = (next ≡ Some (seen x)) × ((deep s < deep (seen x)) × (64 < deep (seen x)) → ⊥)
-Becomes {A} seen deep (Err Memory) s next = Unit {0}
-Becomes {A} seen deep (Err OutOfPlace) s next = next ≡ None
-Becomes {A} seen deep (Err TooDeep) s next = (t : A) × (next ≡ Some t) × (deep s < deep t) × (64 < deep t)
+-- What something becomes, or why it cannot, where so many constructs are open in it: from s to t, where the machine goes
+-- from s to `next`. Nothing is said of t behind an error.
+abbrev pub Becomes : {A U : Type 0} → (A → ℕ) → Result U StepError → A → A → Option A → Type 0
+Becomes deep result s t next = blocks.Steps (λ x y. (deep x < deep y) × (64 < deep y)) result s t next
 
-abbrev pub Steps : Result Builder StepError → State → Option State → Type 0
-Steps (Ok b) s next = (next ≡ Some (builder_view b)) × (IsDeeper s (builder_view b) → ⊥)
-Steps (Err Memory) s next = Unit {0}
-Steps (Err OutOfPlace) s next = next ≡ None
-Steps (Err TooDeep) s next = (t : State) × (next ≡ Some t) × IsDeeper s t
+abbrev pub Steps : {U : Type 0} → Result U StepError → State → State → Option State → Type 0
+Steps result s t next = blocks.Steps IsDeeper result s t next

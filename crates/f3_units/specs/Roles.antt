@@ -1,5 +1,5 @@
 -- What a statement is among units and procedures.
-use Rattle.std.specs.Prelude.{Option, Some}
+use Rattle.std.specs.Prelude.{◌≡◌, Option, Some}
 use Rattle.f3_tree.specs.declared.expression.Name.{Name}
 use Rattle.f3_tree.specs.declared.program.UnitKind.{UnitKind}
 use Rattle.f3_tree.specs.Tree.{HeaderTree}
@@ -7,6 +7,8 @@ use Rattle.f3_forms.specs.declared.form.Ended.{Ended}
 use Rattle.f3_forms.specs.declared.form.Ended.TheVariants as ended
 use Rattle.f3_forms.specs.Forms.{FormTree}
 use Rattle.f3_forms.specs.Forms as form
+use Rattle.f3_units.specs.declared.scope.Role.{Role as CodeRole}
+use Rattle.f3_units.specs.declared.scope.Role.TheVariants as code
 
 pub data Role : Type 0 where
   -- MODULE or PROGRAM
@@ -49,3 +51,18 @@ role form.else_alone = executes
 role (form.select_case e) = executes
 role (form.case_of s) = executes
 role (form.repeats c) = executes
+
+-- ---- what the code says of it
+
+abbrev pub IsEnd : Role → Type 0
+IsEnd (ends what n) = Unit {0}
+IsEnd _ = ⊥
+
+-- the role that is told, but for a header
+abbrev pub Tells : CodeRole → Role → Type 0
+Tells (code.Begins kind n) r = r ≡ begins kind n
+Tells code.Contains r = r ≡ contains
+Tells code.Heads r = (h : HeaderTree) × (r ≡ heads h)
+Tells (code.Ends what n) r = r ≡ ends what n
+Tells code.Specifies r = r ≡ specifies
+Tells code.Executes r = r ≡ executes

@@ -1,15 +1,17 @@
 //! Program units, as they grow statement by statement.
 
-ghost use Rattle.std.specs.Prelude.{◌≡◌, true, false, Option, Some, None, map};
+ghost use Rattle.std.specs.Prelude.{◌≡◌, true, Some, None, map};
 ghost use Rattle.std.specs.Option.{option_map};
-ghost use Rattle.f3_tree.specs.Tree.{UnitTree, header_view, procedure_view, unit_view};
-ghost use Rattle.f3_forms.specs.Forms.{FormTree, form_view};
+ghost use Rattle.f3_tree.specs.Tree.{procedure_view, unit_view};
 ghost use Rattle.f3_tree.specs.declared.program.UnitKind.TheVariants.{Module};
-ghost use Rattle.f3_units.specs.Units.{is_module, fits_unit, fits_procedure, role_of};
-ghost use Rattle.f3_units.specs.Machine.{State, Begun, start, step, step_from, fresh, begun, in_procedure, between_procedures, with_contains, in_own, in_unit, in_scope, to_part, with_scope, with_procedure, with_closed, before_contains, behind_contains, procedure_closed, unit_closed, busy, still, ended, inside, between_units, sorted_role, Keeps, scope_view, opened_view, begun_view, builder_view, scope_depth, begun_depth, Becomes, Steps};
+ghost use Rattle.f3_forms.specs.Forms.{form_view};
+ghost use Rattle.f3_blocks.specs.Pieces.{Placed};
+ghost use Rattle.f3_units.specs.Roles.{role, ends, IsEnd};
+ghost use Rattle.f3_units.specs.Units.{fits_unit, fits_procedure};
+ghost use Rattle.f3_units.specs.Machine.{State, start, step, begun, between_procedures, in_own, in_unit, in_scope, with_procedure, with_closed, procedure_closed, unit_closed, busy, still, ended, inside, between_units, opened_view, begun_view, builder_view, begun_depth, Becomes, Steps};
 
-pub use crate::error::StepError;
-use crate::scope::{Scope, Sorted, sort};
+use crate::scope::{Role, Scope, role_of};
+use f3_blocks::error::StepError;
 use f3_forms::form::{Ended, Form};
 use f3_parts::builder::fits_label;
 use f3_rules::source::Place;
@@ -58,12 +60,7 @@ fn fits_unit(written: Option<Ended>, kind: UnitKind) -> bool
         None => true,
         Some(Ended::Module) => kind == UnitKind::Module,
         Some(Ended::Program) => kind == UnitKind::Program,
-        Some(Ended::Subroutine) => false,
-        Some(Ended::Function) => false,
-        Some(Ended::Type) => false,
-        Some(Ended::If) => false,
-        Some(Ended::Select) => false,
-        Some(Ended::Do) => false,
+        _ => false,
     }
 }
 
@@ -81,12 +78,7 @@ fn fits_procedure(written: Option<Ended>, kind: ProcedureKind) -> bool
             ProcedureKind::Subroutine => false,
             ProcedureKind::Function(_, _) => true,
         },
-        Some(Ended::Module) => false,
-        Some(Ended::Program) => false,
-        Some(Ended::Type) => false,
-        Some(Ended::If) => false,
-        Some(Ended::Select) => false,
-        Some(Ended::Do) => false,
+        _ => false,
     }
 }
 
@@ -166,304 +158,101 @@ impl OpenUnit {
         }
     }
 
-    /// Goes on before CONTAINS with a statement of the specification part.
-    fn in_part(
-        self,
-        alloc: Global,
-        of_module: bool,
-        place: Place,
-        form: Form,
-    ) -> Result<OpenUnit, StepError>
-        ensures { Becomes begun_view begun_depth result (before_contains (begun_view self)) (option_map (with_scope (before_contains (begun_view self))) (to_part of_module (record { place = place; form = form_view form }) (scope_view self.scope))) }
-    {
-        match self.scope.specify(alloc, of_module, place, form) {
-            Ok(scope) => Ok(OpenUnit {
-                scope,
-                contains: None,
-                procedure: None,
-                ..self
-            }),
-            Err(StepError::Memory) => Err(StepError::Memory),
-            Err(StepError::OutOfPlace) => Err(StepError::OutOfPlace),
-            Err(StepError::TooDeep) => Err(StepError::TooDeep),
-        }
-    }
-
-    /// Goes on before CONTAINS in a program.
-    fn in_program(
-        self,
-        alloc: Global,
-        place: Place,
-        statement: Sorted,
-    ) -> Result<OpenUnit, StepError>
-        ensures { (f : FormTree) → Keeps statement f → Becomes begun_view begun_depth result (before_contains (begun_view self)) (option_map (with_scope (before_contains (begun_view self))) (in_scope false (sorted_role statement) (record { place = place; form = f }) (scope_view self.scope))) }
-    {
-        match self.scope.step(alloc, false, place, statement) {
-            Ok(scope) => Ok(OpenUnit {
-                scope,
-                contains: None,
-                procedure: None,
-                ..self
-            }),
-            Err(StepError::Memory) => Err(StepError::Memory),
-            Err(StepError::OutOfPlace) => Err(StepError::OutOfPlace),
-            Err(StepError::TooDeep) => Err(StepError::TooDeep),
-        }
-    }
-
     /// Goes on before CONTAINS in a module.
-    fn in_module(
-        self,
-        alloc: Global,
-        place: Place,
-        statement: Sorted,
-    ) -> Result<OpenUnit, StepError>
-        ensures { (f : FormTree) → Keeps statement f → Becomes begun_view begun_depth result (before_contains (begun_view self)) (in_own Module (sorted_role statement) (record { place = place; form = f }) (before_contains (begun_view self))) }
+    fn in_module(&mut self, alloc: Global, place: Place, form: Form) -> Result<(), StepError>
+        requires contains { self.old.contains ≡ None }
+        requires procedure { self.old.procedure ≡ None }
+        ensures { Becomes begun_depth result (begun_view self.old) (begun_view self.new) (in_own Module (role (form_view form)) (record { place = place; form = form_view form }) (begun_view self.old)) }
     {
-        match statement {
-            Sorted::Specifies(form) => self.in_part(alloc, true, place, form),
-            Sorted::Contains => {
+        match role_of(&form) {
+            Role::Specifies => self.scope.specify(alloc, true, place, form),
+            Role::Contains => {
                 if self.scope.is_over() {
-                    Ok(OpenUnit {
-                        contains: Some(place),
-                        procedure: None,
-                        ..self
-                    })
+                    self.contains = Some(place);
+                    Ok(())
                 } else {
-                    self.in_part(alloc, true, place, Form::Contains)
+                    self.scope.specify(alloc, true, place, form)
                 }
             }
-            Sorted::Begins(_, _) => Err(StepError::OutOfPlace),
-            Sorted::Heads(_) => Err(StepError::OutOfPlace),
-            Sorted::Ends(_, _) => Err(StepError::OutOfPlace),
-            Sorted::Executes(_) => Err(StepError::OutOfPlace),
+            _ => Err(StepError::OutOfPlace),
         }
     }
 
-    /// Goes on between procedures, behind this CONTAINS.
-    fn between_procedures(
-        self,
-        alloc: Global,
-        contains: Place,
-        statement: Sorted,
-    ) -> Result<OpenUnit, StepError>
-        ensures { (s : Begun) → Becomes begun_view begun_depth result s (between_procedures (sorted_role statement) (behind_contains contains (begun_view self))) }
+    /// Goes on before CONTAINS.
+    fn before_contains(&mut self, alloc: Global, place: Place, form: Form) -> Result<(), StepError>
+        requires contains { self.old.contains ≡ None }
+        requires procedure { self.old.procedure ≡ None }
+        ensures { Becomes begun_depth result (begun_view self.old) (begun_view self.new) (in_own self.old.kind (role (form_view form)) (record { place = place; form = form_view form }) (begun_view self.old)) }
     {
-        match statement {
-            Sorted::Heads(header) => Ok(OpenUnit {
-                contains: Some(contains),
-                procedure: Some(OpenProcedure {
+        match self.kind {
+            UnitKind::Program => self.scope.step(alloc, false, place, form),
+            UnitKind::Module => self.in_module(alloc, place, form),
+        }
+    }
+
+    /// Goes on between procedures.
+    fn between_procedures(&mut self, alloc: Global, form: Form) -> Result<(), StepError>
+        ensures { (place : Place) → self.old.contains ≡ Some place → Becomes begun_depth result (begun_view self.old) (begun_view self.new) (between_procedures (role (form_view form)) (begun_view self.old)) }
+    {
+        match form {
+            Form::Procedure(header) => {
+                self.procedure = Some(OpenProcedure {
                     header,
                     scope: Scope::new(alloc),
-                }),
-                ..self
-            }),
-            Sorted::Contains => Err(StepError::OutOfPlace),
-            Sorted::Begins(_, _) => Err(StepError::OutOfPlace),
-            Sorted::Ends(_, _) => Err(StepError::OutOfPlace),
-            Sorted::Specifies(_) => Err(StepError::OutOfPlace),
-            Sorted::Executes(_) => Err(StepError::OutOfPlace),
+                });
+                Ok(())
+            }
+            _ => Err(StepError::OutOfPlace),
         }
     }
 
-    /// Goes on in this procedure, behind this CONTAINS.
-    fn within(
-        self,
-        alloc: Global,
-        contains: Place,
-        procedure: OpenProcedure,
-        place: Place,
-        statement: Sorted,
-    ) -> Result<OpenUnit, StepError>
-        ensures { (f : FormTree) (s : Begun) → Keeps statement f → begun_depth s ≡ scope_depth (scope_view procedure.scope)
-            → Becomes begun_view begun_depth result s (option_map (with_procedure (behind_contains contains (begun_view self)) (header_view procedure.header)) (in_scope true (sorted_role statement) (record { place = place; form = f }) (scope_view procedure.scope))) }
+    /// Goes on in the open procedure.
+    fn in_procedure(&mut self, alloc: Global, place: Place, form: Form) -> Result<(), StepError>
+        ensures { (at : Place) (o : OpenProcedure) → self.old.contains ≡ Some at → self.old.procedure ≡ Some o
+            → Becomes begun_depth result (begun_view self.old) (begun_view self.new) (option_map (with_procedure (begun_view self.old) (opened_view o).header) (in_scope true (role (form_view form)) (record { place = place; form = form_view form }) (opened_view o).scope)) }
     {
-        let OpenProcedure { header, scope } = procedure;
-        match scope.step(alloc, true, place, statement) {
-            Ok(scope) => Ok(OpenUnit {
-                contains: Some(contains),
-                procedure: Some(OpenProcedure { header, scope }),
-                ..self
-            }),
-            Err(StepError::Memory) => Err(StepError::Memory),
-            Err(StepError::OutOfPlace) => Err(StepError::OutOfPlace),
-            Err(StepError::TooDeep) => Err(StepError::TooDeep),
-        }
-    }
-
-    /// Behind this CONTAINS, with a procedure more.
-    fn with_closed(
-        self,
-        contains: Place,
-        procedure: Option<Procedure>,
-    ) -> Result<OpenUnit, StepError>
-        ensures { (s : Begun) → Becomes begun_view begun_depth result s (option_map (with_closed (behind_contains contains (begun_view self))) (option_map procedure_view procedure)) }
-    {
-        match procedure {
+        match &mut self.procedure {
+            Some(open) => open.scope.step(alloc, true, place, form),
             None => Err(StepError::OutOfPlace),
-            Some(procedure) => {
-                let mut procedures = self.procedures;
-                procedures.push(procedure)?;
-                Ok(OpenUnit {
-                    contains: Some(contains),
-                    procedures,
-                    procedure: None,
-                    ..self
-                })
-            }
         }
     }
 
-    /// Goes on in this procedure, or ends it, behind this CONTAINS.
-    fn in_procedure(
-        self,
-        alloc: Global,
-        contains: Place,
-        procedure: OpenProcedure,
-        place: Place,
-        statement: Sorted,
-    ) -> Result<OpenUnit, StepError>
-        ensures { (f : FormTree) (s : Begun) → Keeps statement f → begun_depth s ≡ scope_depth (scope_view procedure.scope)
-            → Becomes begun_view begun_depth result s (in_procedure (sorted_role statement) (record { place = place; form = f }) (behind_contains contains (begun_view self)) (opened_view procedure)) }
+    /// Goes on with a statement that ends neither the unit nor a procedure.
+    fn step(&mut self, alloc: Global, place: Place, form: Form) -> Result<(), StepError>
+        ensures { (IsEnd (role (form_view form)) → ⊥) → Becomes begun_depth result (begun_view self.old) (begun_view self.new) (in_unit (begun_view self.old).contains (begun_view self.old).procedure (role (form_view form)) (record { place = place; form = form_view form }) (begun_view self.old)) }
     {
-        match statement {
-            Sorted::Ends(what, label) => self.with_closed(
-                contains,
-                procedure_closed(procedure, place, what, label),
-            ),
-            Sorted::Specifies(form) => self.within(
-                alloc,
-                contains,
-                procedure,
-                place,
-                Sorted::Specifies(form),
-            ),
-            Sorted::Executes(form) => self.within(
-                alloc,
-                contains,
-                procedure,
-                place,
-                Sorted::Executes(form),
-            ),
-            Sorted::Contains => self.within(alloc, contains, procedure, place, Sorted::Contains),
-            Sorted::Begins(_, _) => Err(StepError::OutOfPlace),
-            Sorted::Heads(_) => Err(StepError::OutOfPlace),
-        }
-    }
-
-    /// Goes on with a statement that does not end the unit.
-    fn step(self, alloc: Global, place: Place, statement: Sorted) -> Result<OpenUnit, StepError>
-        ensures { (f : FormTree) → Keeps statement f → Becomes begun_view begun_depth result (begun_view self) (in_unit (begun_view self).contains (begun_view self).procedure (sorted_role statement) (record { place = place; form = f }) (begun_view self)) }
-    {
-        let OpenUnit {
-            file,
-            place: at,
-            kind,
-            name,
-            scope,
-            contains,
-            procedures,
-            procedure,
-        } = self;
-        let unit = OpenUnit {
-            file,
-            place: at,
-            kind,
-            name,
-            scope,
-            contains,
-            procedures,
-            procedure: None,
-        };
-        match (contains, procedure) {
-            (None, Some(_)) => Err(StepError::OutOfPlace),
-            (None, None) => match kind {
-                UnitKind::Program => unit.in_program(alloc, place, statement),
-                UnitKind::Module => unit.in_module(alloc, place, statement),
+        match self.procedure {
+            None => match self.contains {
+                None => self.before_contains(alloc, place, form),
+                Some(_) => self.between_procedures(alloc, form),
             },
-            (Some(contains), None) => unit.between_procedures(alloc, contains, statement),
-            (Some(contains), Some(procedure)) => {
-                unit.in_procedure(alloc, contains, procedure, place, statement)
-            }
+            Some(_) => match self.contains {
+                None => Err(StepError::OutOfPlace),
+                Some(_) => self.in_procedure(alloc, place, form),
+            },
         }
     }
-}
 
-/// The units with this one open.
-fn still(units: Vec<Unit>, unit: Result<OpenUnit, StepError>) -> Result<Builder, StepError>
-    ensures { (u : Begun) (next : Option Begun) → Becomes begun_view begun_depth unit u next → Steps result (busy (map unit_view units.items) u) (still (map unit_view units.items) next) }
-{
-    match unit {
-        Ok(unit) => Ok(Builder {
-            units,
-            unit: Some(unit),
-        }),
-        Err(error) => Err(error),
-    }
-}
-
-/// The units with this one behind them.
-fn ended(units: Vec<Unit>, unit: Option<Unit>) -> Result<Builder, StepError>
-    ensures { (s : State) → Steps result s (ended (map unit_view units.items) (option_map unit_view unit)) }
-{
-    match unit {
-        None => Err(StepError::OutOfPlace),
-        Some(unit) => {
-            let mut units = units;
-            units.push(unit)?;
-            Ok(Builder { units, unit: None })
+    /// Ends the open procedure.
+    fn end_procedure(
+        &mut self,
+        place: Place,
+        what: Option<Ended>,
+        label: Option<Name>,
+    ) -> Result<(), StepError>
+        ensures { (at : Place) (o : OpenProcedure) → self.old.contains ≡ Some at → self.old.procedure ≡ Some o
+            → Becomes begun_depth result (begun_view self.old) (begun_view self.new) (option_map (with_closed (begun_view self.old)) (procedure_closed place what label (opened_view o))) }
+    {
+        match self.procedure.take() {
+            None => Err(StepError::OutOfPlace),
+            Some(open) => match procedure_closed(open, place, what, label) {
+                None => Err(StepError::OutOfPlace),
+                Some(procedure) => {
+                    self.procedures.push(procedure)?;
+                    Ok(())
+                }
+            },
         }
-    }
-}
-
-/// Goes on in an open unit.
-fn inside(
-    alloc: Global,
-    units: Vec<Unit>,
-    unit: OpenUnit,
-    place: Place,
-    statement: Sorted,
-) -> Result<Builder, StepError>
-    ensures { (f : FormTree) → Keeps statement f → Steps result (busy (map unit_view units.items) (begun_view unit)) (inside (begun_view unit).procedure (sorted_role statement) (record { place = place; form = f }) (map unit_view units.items) (begun_view unit)) }
-{
-    match statement {
-        Sorted::Ends(what, label) => {
-            if unit.procedure.is_some() {
-                still(units, unit.step(alloc, place, Sorted::Ends(what, label)))
-            } else {
-                ended(units, unit_closed(unit, place, what, label))
-            }
-        }
-        Sorted::Begins(kind, name) => still(
-            units,
-            unit.step(alloc, place, Sorted::Begins(kind, name)),
-        ),
-        Sorted::Contains => still(units, unit.step(alloc, place, Sorted::Contains)),
-        Sorted::Heads(header) => still(units, unit.step(alloc, place, Sorted::Heads(header))),
-        Sorted::Specifies(form) => still(units, unit.step(alloc, place, Sorted::Specifies(form))),
-        Sorted::Executes(form) => still(units, unit.step(alloc, place, Sorted::Executes(form))),
-    }
-}
-
-/// Goes on between units.
-fn between_units(
-    alloc: Global,
-    units: Vec<Unit>,
-    place: Place,
-    statement: Sorted,
-) -> Result<Builder, StepError>
-    ensures { (f : FormTree) (s : State) → Keeps statement f → Steps result s (between_units (sorted_role statement) (record { place = place; form = f }) (map unit_view units.items)) }
-{
-    match statement {
-        Sorted::Begins(kind, name) => Ok(Builder {
-            units,
-            unit: Some(OpenUnit::begun(alloc, place, kind, name)),
-        }),
-        Sorted::Contains => Err(StepError::OutOfPlace),
-        Sorted::Heads(_) => Err(StepError::OutOfPlace),
-        Sorted::Ends(_, _) => Err(StepError::OutOfPlace),
-        Sorted::Specifies(_) => Err(StepError::OutOfPlace),
-        Sorted::Executes(_) => Err(StepError::OutOfPlace),
     }
 }
 
@@ -480,20 +269,114 @@ impl Builder {
 
     /// Goes on with a statement, from its place. Answers `Memory` where a growth of the host's memory is refused,
     /// `OutOfPlace` where no list of units goes on so (2.2, 11.1), and `TooDeep` where it opens a 65th construct in a
-    /// procedure or in a program (own rule).
-    pub fn step(self, alloc: Global, place: Place, form: Form) -> Result<Builder, StepError>
-        ensures { Steps result (builder_view self) (step (record { place = place; form = form_view form }) (builder_view self)) }
+    /// procedure or in a program (own rule). Behind an error the builder is not to be used again: it may have lost
+    /// statements.
+    pub fn step(&mut self, alloc: Global, place: Place, form: Form) -> Result<(), StepError>
+        ensures { Steps result (builder_view self.old) (builder_view self.new) (step (record { place = place; form = form_view form }) (builder_view self.old)) }
     {
-        let Builder { units, unit } = self;
-        let statement = sort(form);
-        match unit {
-            None => between_units(alloc, units, place, statement),
+        match &self.unit {
+            None => self.begin(alloc, place, form),
             Some(unit) => {
                 if unit.file == place.file {
-                    inside(alloc, units, unit, place, statement)
+                    self.inside(alloc, place, form)
                 } else {
                     Err(StepError::OutOfPlace)
                 }
+            }
+        }
+    }
+
+    /// Goes on between units.
+    fn begin(&mut self, alloc: Global, place: Place, form: Form) -> Result<(), StepError>
+        requires { self.old.unit ≡ None }
+        ensures { Steps result (builder_view self.old) (builder_view self.new) (between_units (role (form_view form)) (record { place = place; form = form_view form }) (map unit_view self.old.units.items)) }
+    {
+        match role_of(&form) {
+            Role::Begins(kind, name) => {
+                self.unit = Some(OpenUnit::begun(alloc, place, kind, name));
+                Ok(())
+            }
+            _ => Err(StepError::OutOfPlace),
+        }
+    }
+
+    /// Goes on in the open unit.
+    fn inside(&mut self, alloc: Global, place: Place, form: Form) -> Result<(), StepError>
+        ensures { (u : OpenUnit) → self.old.unit ≡ Some u
+            → Steps result (builder_view self.old) (builder_view self.new) (inside (begun_view u).procedure (role (form_view form)) (record { place = place; form = form_view form }) (map unit_view self.old.units.items) (begun_view u)) }
+    {
+        match role_of(&form) {
+            Role::Ends(what, label) => self.end(place, what, label),
+            _ => self.go_on(alloc, place, form),
+        }
+    }
+
+    /// Goes on in the open unit with a statement that ends neither it nor a procedure.
+    fn go_on(&mut self, alloc: Global, place: Place, form: Form) -> Result<(), StepError>
+        ensures { (u : OpenUnit) → self.old.unit ≡ Some u → (IsEnd (role (form_view form)) → ⊥)
+            → Steps result (builder_view self.old) (builder_view self.new) (still (map unit_view self.old.units.items) (in_unit (begun_view u).contains (begun_view u).procedure (role (form_view form)) (record { place = place; form = form_view form }) (begun_view u))) }
+    {
+        match &mut self.unit {
+            Some(unit) => unit.step(alloc, place, form),
+            None => Err(StepError::OutOfPlace),
+        }
+    }
+
+    /// Ends the open procedure, or else the open unit.
+    fn end(
+        &mut self,
+        place: Place,
+        what: Option<Ended>,
+        label: Option<Name>,
+    ) -> Result<(), StepError>
+        ensures { (u : OpenUnit) (p : Placed) → self.old.unit ≡ Some u → p.place ≡ place
+            → Steps result (builder_view self.old) (builder_view self.new) (inside (begun_view u).procedure (ends what label) p (map unit_view self.old.units.items) (begun_view u)) }
+    {
+        match self.unit.take() {
+            None => Err(StepError::OutOfPlace),
+            Some(unit) => match unit.procedure {
+                None => self.close(unit, place, what, label),
+                Some(_) => match unit.contains {
+                    None => Err(StepError::OutOfPlace),
+                    Some(_) => self.end_procedure(unit, place, what, label),
+                },
+            },
+        }
+    }
+
+    /// Ends the open procedure of this unit, which was taken out.
+    fn end_procedure(
+        &mut self,
+        unit: OpenUnit,
+        place: Place,
+        what: Option<Ended>,
+        label: Option<Name>,
+    ) -> Result<(), StepError>
+        ensures { (at : Place) (o : OpenProcedure) → unit.contains ≡ Some at → unit.procedure ≡ Some o
+            → Steps result (busy (map unit_view self.old.units.items) (begun_view unit)) (builder_view self.new) (still (map unit_view self.old.units.items) (option_map (with_closed (begun_view unit)) (procedure_closed place what label (opened_view o)))) }
+    {
+        let mut unit = unit;
+        let ended = unit.end_procedure(place, what, label);
+        self.unit = Some(unit);
+        ended
+    }
+
+    /// Ends this unit, which was taken out.
+    fn close(
+        &mut self,
+        unit: OpenUnit,
+        place: Place,
+        what: Option<Ended>,
+        label: Option<Name>,
+    ) -> Result<(), StepError>
+        requires { self.old.unit ≡ None }
+        ensures { (s : State) → Steps result s (builder_view self.new) (ended (map unit_view self.old.units.items) (unit_closed place what label (begun_view unit))) }
+    {
+        match unit_closed(unit, place, what, label) {
+            None => Err(StepError::OutOfPlace),
+            Some(unit) => {
+                self.units.push(unit)?;
+                Ok(())
             }
         }
     }

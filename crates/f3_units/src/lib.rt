@@ -2,5 +2,5 @@
 #![tactic(auto)]
 
 pub mod builder;
-pub mod error;
+pub mod laws;
 pub mod scope;

@@ -2,7 +2,7 @@ use Rattle.std.proofs.Common.{take}
 use Rattle.f3_rules.specs.Least.{Least}
 use Rattle.f3_scopes.specs.Outlines.{scope_view}
 use Rattle.f3_scope_rules.specs.ScopeBreaks.{BreaksOf}
-use Rattle.f3_scope_rules.specs.Rows.{Among}
+use Rattle.f3_breaks.specs.Among.{Among}
 use Rattle.f3_scope_rules.proofs.first_scope_break.Given as goal
 
 abbrev pub invariant-loop-outline : goal.invariant-loop-outline

@@ -1,4 +1,4 @@
-use Rattle.std.proofs.Common.{◌≡◌, ◌≤◌, length, ◌-◌}
+use Rattle.std.proofs.Common.{◌≤◌, length, ◌-◌}
 use Rattle.f3.proofs.Reading.{Taken}
 use Rattle.f3.proofs.files.read_up_to.Given as goal
 

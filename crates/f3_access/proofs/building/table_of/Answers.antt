@@ -6,7 +6,8 @@ use Rattle.f3_scopes.specs.declared.outline.UseOutline.{UseOutline}
 use Rattle.f3_scopes.specs.Outlines.{using_view, scope_view}
 use Rattle.f3_access.specs.declared.table.Visible.{Visible}
 use Rattle.f3_access.specs.declared.table.Lookup.TheVariants.{Nothing}
-use Rattle.f3_access.specs.Listing.{same_pair, exports_of, called, modules_of, is_module, exported}
+use Rattle.f3_scopes.specs.Kinds.{is_module}
+use Rattle.f3_access.specs.Listing.{same_pair, exports_of, called, modules_of, exported}
 use Rattle.f3_access.specs.Tables.{meaning, exports_at, places_from}
 use Rattle.f3_access.proofs.Steps.{insert_more}
 use Rattle.f3_access.proofs.building.table_of.Goals as goal

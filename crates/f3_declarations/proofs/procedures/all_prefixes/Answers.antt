@@ -2,10 +2,9 @@ use Rattle.std.proofs.Common.{◌≡◌, true, false, None, Some, sym}
 use Rattle.std.proofs.lemmas.Result.{err_from_is_err_and}
 use Rattle.f3_words.specs.Lists.{starts}
 use Rattle.f3_words.specs.Reads.{Fails}
-use Rattle.f3_declarations.specs.Parts.{is_prefix}
+use Rattle.f3_declarations.specs.Specifications.{is_prefix}
 use Rattle.f3_declarations.specs.Specifications.{EatsPrefix, EatsPrefixes, with_prefix}
-use Rattle.f3_declarations.proofs.Lists.{refused}
-use Rattle.f3_declarations.proofs.Prefixes.{one_more, is_over, no_prefix_next, twice}
+use Rattle.f3_declarations.proofs.Prefixes.{one_more, is_over, no_prefix_next, twice, refused}
 use Rattle.f3_declarations.proofs.procedures.all_prefixes.Goals as goal
 
 pub returns-in_err-element : goal.returns-in_err-element

@@ -1,28 +1,9 @@
-use Rattle.std.proofs.Common.{arith, map}
-use Rattle.std.proofs.lemmas.List.{map_push}
-use Rattle.std.proofs.lemmas.Result.{err_from_is_err_and}
+use Rattle.std.proofs.Common.{rules}
 use Rattle.f3_tree.specs.Declarations.{bounds_view}
-use Rattle.f3_words.specs.Reads.{Fails}
+use Rattle.f3_reading.proofs.Elements.{list_reads, at_tokens}
 use Rattle.f3_declarations.specs.Specifications.{EatsBounds, AreBounds}
-use Rattle.f3_declarations.proofs.Lists.{begins, one_more, is_over, no_element, refused}
 use Rattle.f3_declarations.proofs.shapes.all_bounds.Goals as goal
 
-pub elements-init : goal.elements-init
-elements-init c = rw c.new-found.ensures.items (begins EatsBounds c.args.items.now)
-
-pub returns-in_err-element-clause-read : goal.returns-in_err-element-clause-read
+pub returns-clause-read : goal.returns-clause-read
 unfolding AreBounds
-returns-in_err-element-clause-read c =
-    let p = err_from_is_err_and c.from_residual.result c.from_residual.ensures.1 in
-    rw (p.1, p.2) (refused _ (Fails EatsBounds c.elements.rest.now) (Fails AreBounds c.args.items.now) (no_element EatsBounds c.args.items.now c.elements.rest.now (map bounds_view c.elements.found.items) c.elements.invariant) c.in_err-element.ensures.read)
-
-pub elements-preserved : goal.elements-preserved
-elements-preserved c =
-    let more = one_more EatsBounds c.args.items.now c.elements.rest.now c.in_ok-element.after.now c.in-Some.tail.now (map bounds_view c.elements.found.items) (bounds_view c.in_ok-element.element) c.elements.invariant c.in_ok-element.ensures.read c.in-Some.ensures.read.0 (omega (arith, c.in_ok-element.ensures.shorter, c.in-Some.ensures.shorter)) in
-    rw (c.in_ok-push.ensures.items, map_push) more
-
-pub returns-in-None-clause-read : goal.returns-in-None-clause-read
-unfolding AreBounds
-returns-in-None-clause-read c =
-    let all = is_over EatsBounds c.args.items.now c.elements.rest.now c.in_ok-element.after.now (map bounds_view c.elements.found.items) (bounds_view c.in_ok-element.element) c.elements.invariant c.in_ok-element.ensures.read c.in-None.ensures.read in
-    rw (c.in_ok-push.ensures.items, map_push) all
+returns-clause-read c = list_reads EatsBounds bounds_view c.list.ensures.read (λ us one k. at_tokens EatsBounds bounds_view k.shown.now us one k.shows (search rules))

@@ -1,28 +1,16 @@
-use Rattle.std.proofs.Common.{◌≡◌, List, false, refl, ap, subst}
-use Rattle.f3_tree.specs.declared.expression.Name.{Name as Identifier}
-use Rattle.f3_tree.specs.declared.declaration.Only.{Only}
-use Rattle.f3_tree.specs.declared.declaration.Only.TheVariants.{Name, Rename}
-use Rattle.f3_words.specs.declared.item.Word.TheVariants.{Arrow}
-use Rattle.f3_words.specs.declared.item.Item.{Item}
-use Rattle.f3_words.specs.Lists.{starts}
-use Rattle.f3_words.specs.Reads.{IsRead}
-use Rattle.f3_declarations.specs.Parts.{is_arrow, EatsName, EatsWord}
-use Rattle.f3_declarations.specs.Specifications.{EatsOnly, EatsRename}
-use Rattle.f3_declarations.proofs.Words.{not_word}
+use Rattle.std.proofs.lemmas.Result.{err_from_is_err_and}
+use Rattle.f3_declarations.proofs.Prefixes.{refused}
+use Rattle.f3_declarations.proofs.Turns.{only_name, only_rename, only_fails}
 use Rattle.f3_declarations.proofs.uses.only.Goals as goal
 
-name_alone : (ts r : List Item) (n : Identifier) → IsRead EatsName ts n r → starts is_arrow r ≡ false → (y : Only) (s : List Item) → EatsOnly y ts s → (y ≡ Name n) × (s ≡ r)
-unfolding EatsOnly EatsRename
-name_alone ts r n a none (Name m) s h = let same = a.only m s h.0 in (ap (λ (x : Identifier). Name x) same.0, same.1)
-name_alone ts r n a none (Rename x) s h =
-    let same = a.only h.0 h.2 h.4 in
-    absurd (not_word is_arrow Arrow r h.3 refl none (subst (λ (l : List Item). EatsWord Arrow l h.3) same.1 h.5))
+pub returns-in_err-original-in-Some-clause-read : goal.returns-in_err-original-in-Some-clause-read
+returns-in_err-original-in-Some-clause-read c =
+    let p = err_from_is_err_and c.from_residual-in_err-original-in-Some.result c.from_residual-in_err-original-in-Some.ensures.1 in
+    rw (p.1, p.2) (refused _ _ _ (only_fails c.args.items.now c.in_ok-local.rest.now c.in-Some.tail.now c.in_ok-local.local c.in_ok-local.ensures.read c.in-Some.ensures.0) c.in_err-original-in-Some.ensures.read)
 
-pub returns-then-not-starts_arrow-clause-read : goal.returns-then-not-starts_arrow-clause-read
-unfolding EatsOnly
-returns-then-not-starts_arrow-clause-read c =
-    let none : starts is_arrow c.in_ok-local.rest.now ≡ false = cc in
-    record {
-      eats = (c.in_ok-local.ensures.read.eats, none);
-      only = name_alone c.args.items.now c.in_ok-local.rest.now c.in_ok-local.local c.in_ok-local.ensures.read none;
-    }
+pub returns-in-None-clause-read : goal.returns-in-None-clause-read
+returns-in-None-clause-read c = only_name c.args.items.now c.in_ok-local.rest.now c.in_ok-local.local c.in_ok-local.ensures.read c.in-None.ensures
+
+pub returns-in_ok-original-in-Some-clause-read : goal.returns-in_ok-original-in-Some-clause-read
+returns-in_ok-original-in-Some-clause-read c =
+    only_rename c.args.items.now c.in_ok-local.rest.now c.in-Some.tail.now c.in_ok-local.local c.in_ok-original-in-Some.original c.in_ok-original-in-Some.rest.now c.in_ok-local.ensures.read c.in-Some.ensures.0 c.in_ok-original-in-Some.ensures.read

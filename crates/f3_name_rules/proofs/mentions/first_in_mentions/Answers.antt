@@ -2,7 +2,7 @@ use Rattle.std.proofs.Common.{List, map, string_bytes, ap, ◌∙◌}
 use Rattle.std.specs.List.{flat_map}
 use Rattle.f3_rules.specs.Least.{first_of}
 use Rattle.f3_tree.specs.declared.expression.Name.{Name}
-use Rattle.f3_access.specs.Listing.{is_module}
+use Rattle.f3_scopes.specs.Kinds.{is_module}
 use Rattle.f3_name_rules.specs.Rows.{accesses_row, reference_row}
 use Rattle.f3_name_rules.proofs.Steps.{joined}
 use Rattle.f3_name_rules.proofs.mentions.first_in_mentions.Goals as goal

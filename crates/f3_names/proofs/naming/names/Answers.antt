@@ -1,4 +1,4 @@
-use Rattle.std.proofs.Common.{◌≡◌, map, string_bytes, ap, subst, ◌∙◌}
+use Rattle.std.proofs.Common.{◌≡◌, map, string_bytes, ap, sym, subst, ◌∙◌}
 use Rattle.f3_tree.specs.Tree.{view}
 use Rattle.f3_scopes.specs.Outlines.{scope_view}
 use Rattle.f3_scopes.specs.Scopes.{scopes_of}
@@ -36,6 +36,22 @@ returns-in-Some c =
     let scopes : map scope_view c.deref-6.result.now ≡ scopes_of t = ap (map scope_view) c.deref-6.ensures.value ∙ c.in_ok-outlines.ensures in
     (c.in-Some.found, first_found t (map scope_view c.deref-6.result.now) c.in_ok-found.field-0 c.in-Some.found scopes c.in-Some.is c.in_ok-found.ensures, c.in_ok-refusal-in-Some.ensures)
 
+pub new-requires : goal.new-requires
+new-requires c =
+    let t = view c.args.program.now in
+    let four : map scope_view c.deref-4.result.now ≡ scopes_of t = ap (map scope_view) c.deref-4.ensures.value ∙ c.in_ok-outlines.ensures in
+    let first : map scope_view c.deref.result.now ≡ scopes_of t = ap (map scope_view) c.deref.ensures.value ∙ c.in_ok-outlines.ensures in
+    let last : map scope_view c.deref-in-None.result.now ≡ scopes_of t = ap (map scope_view) c.deref-in-None.ensures.value ∙ c.in_ok-outlines.ensures in
+    ∣ (
+      t,
+      record {
+        tables = subst (λ ss. AreTables ss c.in_ok-tables.tables) four c.in_ok-tables.ensures;
+        entities = c.in_ok-entities-in-None.ensures ∙ ap described last;
+        texts = copied string_bytes c.args.program.now.names.keys c.in_ok-texts-in-None.texts.keys c.in_ok-texts-in-None.ensures.cases;
+        units = numbers_are t (map scope_view c.deref.result.now) c.in_ok-units.units.items first c.in_ok-units.ensures;
+      },
+    ) ∣₁
+
 pub returns : goal.returns
 returns c =
     let t = view c.args.program.now in
@@ -44,10 +60,10 @@ returns c =
     let first : map scope_view c.deref.result.now ≡ scopes_of t = ap (map scope_view) c.deref.ensures.value ∙ c.in_ok-outlines.ensures in
     let last : map scope_view c.deref-in-None.result.now ≡ scopes_of t = ap (map scope_view) c.deref-in-None.ensures.value ∙ c.in_ok-outlines.ensures in (
       record {
-        tables = subst (λ ss. AreTables ss c.in_ok-tables.tables) four c.in_ok-tables.ensures;
-        entities = c.in_ok-described-in-None.ensures ∙ ap described last;
-        texts = copied string_bytes c.args.program.now.names.keys c.in_ok-clone-in-None.field-0.keys c.in_ok-clone-in-None.ensures.cases;
-        units = numbers_are t (map scope_view c.deref.result.now) c.in_ok-units.units.items first c.in_ok-units.ensures;
+        tables = subst (AreTables (scopes_of t)) (sym c.new.ensures.tables) (subst (λ ss. AreTables ss c.in_ok-tables.tables) four c.in_ok-tables.ensures);
+        entities = ap (λ v. v.items) c.new.ensures.entities ∙ c.in_ok-entities-in-None.ensures ∙ ap described last;
+        texts = ap (λ s. map string_bytes s.keys) c.new.ensures.texts ∙ copied string_bytes c.args.program.now.names.keys c.in_ok-texts-in-None.texts.keys c.in_ok-texts-in-None.ensures.cases;
+        units = ap (λ v. v.items) c.new.ensures.units ∙ numbers_are t (map scope_view c.deref.result.now) c.in_ok-units.units.items first c.in_ok-units.ensures;
       },
       none_found t (map scope_view c.deref-6.result.now) c.in_ok-found.field-0 six c.in-None.is c.in_ok-found.ensures,
     )

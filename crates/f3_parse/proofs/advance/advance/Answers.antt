@@ -14,7 +14,7 @@ returns-in-Err-NoForm c =
     let first : earlier_of c.args.line.fault (Some (broken S5 (place_of (line_view c.args.line)))) ≡ Some c.first_of.result = rw (sym place) (rw (← c.broken.ensures) c.first_of.ensures) in
     let none = rw c.in-Err-NoForm.field-0-is at c.in-Err-NoForm.ensures in
     let none_here = rw c.deref-2.ensures.value at none in
-    stops_no_form (builder_view c.args.builder) (line_view c.args.line) c.first_of.result first none_here
+    stops_no_form (builder_view c.args.builder.now) (line_view c.args.line) c.first_of.result first none_here
 
 pub returns-in-Err-OutOfPlace : goal.returns-in-Err-OutOfPlace
 returns-in-Err-OutOfPlace c =
@@ -23,7 +23,7 @@ returns-in-Err-OutOfPlace c =
     let out = rw c.in-Err-OutOfPlace.field-0-is at c.in-Err-OutOfPlace.ensures in
     let out_here = rw place at out in
     let is = rw c.deref-2.ensures.value at c.in-Ok.ensures in
-    stops_out (builder_view c.args.builder) (line_view c.args.line) c.first_of-in-Err-OutOfPlace.result (form_view c.in-Ok.form) first is.0 is.1 out_here
+    stops_out (builder_view c.args.builder.now) (line_view c.args.line) c.first_of-in-Err-OutOfPlace.result (form_view c.in-Ok.form) first is.0 is.1 out_here
 
 pub returns-in-Err-TooDeep : goal.returns-in-Err-TooDeep
 returns-in-Err-TooDeep c =
@@ -32,14 +32,14 @@ returns-in-Err-TooDeep c =
     let deep = rw c.in-Err-TooDeep.field-0-is at c.in-Err-TooDeep.ensures in
     let deep_here = rw place at deep in
     let is = rw c.deref-2.ensures.value at c.in-Ok.ensures in
-    stops_deep (builder_view c.args.builder) deep_here.0 (line_view c.args.line) c.first_of-in-Err-TooDeep.result (form_view c.in-Ok.form) first is.0 is.1 deep_here.1 deep_here.2
+    stops_deep (builder_view c.args.builder.now) deep_here.0 (line_view c.args.line) c.first_of-in-Err-TooDeep.result (form_view c.in-Ok.form) first is.0 is.1 deep_here.1 deep_here.2
 
 pub returns-in-Some : goal.returns-in-Some
 returns-in-Some c =
     let place : c.first_place-place.result ≡ place_of (line_view c.args.line) = c.first_place-place.ensures ∙ ap first_place c.deref.ensures.value in
     let on = rw place at c.in-Ok-step.ensures in
     let is = rw c.deref-2.ensures.value at c.in-Ok.ensures in
-    stops_fault (builder_view c.args.builder) (builder_view c.in-Ok-step.next) (line_view c.args.line) c.in-Some.found (form_view c.in-Ok.form) c.in-Some.is is.0 on.0 on.1
+    stops_fault (builder_view c.args.builder.now) (builder_view c.step.new.self) (line_view c.args.line) c.in-Some.found (form_view c.in-Ok.form) c.in-Some.is is.0 on.0 on.1
 
 pub returns : goal.returns
 returns c =

@@ -11,4 +11,4 @@ use Rattle.f3_parse.proofs.parser.go_on.Goals as goal
 pub returns-in-Some : goal.returns-in-Some
 returns-in-Some c =
     let place : c.first_place-file.result ≡ place_of (line_view c.args.line) = c.first_place-file.ensures ∙ ap first_place c.deref.ensures.value in
-    (c.in-Some.found, c.refusal.ensures, inr (subst (λ (p : Place). LeavesOpen (ends_of (bytes_of c.args.sources.now)) (builder_view c.args.builder) p.file c.in-Some.found) place c.in-Some.ensures))
+    (c.in-Some.found, c.refusal.ensures, inr (subst (λ (p : Place). LeavesOpen (ends_of (bytes_of c.args.sources.now)) (builder_view c.args.builder.now) p.file c.in-Some.found) place c.in-Some.ensures))

@@ -23,7 +23,7 @@ returns-in-Ok-None c =
 pub returns-in-Err-go_on : goal.returns-in-Err-go_on
 returns-in-Err-go_on c =
     let given = rw c.in-Ok-Some.field-0-is at c.in-Ok-Some.ensures.given in
-    stops_with c.args.sources.now (left c.loop-builder.reader) (left c.next.new.self) (seen_of c.loop-builder.tables) (spelled_of c.in-Ok-Some.statement) (builder_view c.loop-builder.builder) (line_view c.in-Ok.line) c.in-Err-go_on.fault c.loop-builder.invariant given c.in-Ok.ensures.0 c.in-Err-go_on.ensures
+    stops_with c.args.sources.now (left c.loop-builder.reader) (left c.next.new.self) (seen_of c.loop-builder.tables) (spelled_of c.in-Ok-Some.statement) (builder_view c.loop-builder.builder) (builder_view c.go_on.new.builder) (line_view c.in-Ok.line) c.in-Err-go_on.fault c.loop-builder.invariant given c.in-Ok.ensures.0 c.in-Err-go_on.ensures
 
 pub loop-builder-smaller : goal.loop-builder-smaller
 loop-builder-smaller c =
@@ -35,4 +35,4 @@ pub loop-builder-preserved : goal.loop-builder-preserved
 loop-builder-preserved c =
     let given = rw c.in-Ok-Some.field-0-is at c.in-Ok-Some.ensures.given in
     let on = c.in-Ok-go_on.ensures in
-    goes (parts_of_sources c.args.sources.now) (left c.loop-builder.reader) (left c.next.new.self) (seen_of c.loop-builder.tables) (seen_of c.line.new.tables) (spelled_of c.in-Ok-Some.statement) (builder_view c.loop-builder.builder) (builder_view c.in-Ok-go_on.next) (line_view c.in-Ok.line) c.loop-builder.invariant given c.in-Ok.ensures.0 c.in-Ok.ensures.1 on
+    goes (parts_of_sources c.args.sources.now) (left c.loop-builder.reader) (left c.next.new.self) (seen_of c.loop-builder.tables) (seen_of c.line.new.tables) (spelled_of c.in-Ok-Some.statement) (builder_view c.loop-builder.builder) (builder_view c.go_on.new.builder) (line_view c.in-Ok.line) c.loop-builder.invariant given c.in-Ok.ensures.0 c.in-Ok.ensures.1 on

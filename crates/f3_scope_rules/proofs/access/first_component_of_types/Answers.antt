@@ -1,8 +1,7 @@
+use Rattle.std.proofs.Common.{rules}
+use Rattle.f3_breaks.proofs.Finding.{least_among}
 use Rattle.f3_scope_rules.specs.Rows.{ComponentsTwice}
-use Rattle.f3_scope_rules.proofs.Passing.{among_more}
 use Rattle.f3_scope_rules.proofs.access.first_component_of_types.Goals as goal
 
-pub loop-parts-preserved : goal.loop-parts-preserved
-loop-parts-preserved c =
-    among_more ComponentsTwice c.args.types.now c.loop-parts.parts-index c.parts-item.result c.loop-parts.first c.first_component_twice.result c.earlier-first.result c.loop-parts-test.true c.parts-item.is
-    c.earlier-first.ensures c.loop-parts.invariant (rw c.deref.ensures.value at c.first_component_twice.ensures)
+pub returns : goal.returns
+returns c = least_among (ComponentsTwice) _ c.args.types.now c.first_among.result (λ x here is. search rules) c.first_among.ensures

@@ -1,8 +1,7 @@
+use Rattle.std.proofs.Common.{rules}
+use Rattle.f3_breaks.proofs.Finding.{least_among}
 use Rattle.f3_scope_rules.specs.Rows.{ComponentTwice}
-use Rattle.f3_scope_rules.proofs.Passing.{among_more}
 use Rattle.f3_scope_rules.proofs.access.first_component_twice.Goals as goal
 
-pub loop-part-preserved : goal.loop-part-preserved
-loop-part-preserved c =
-    among_more ComponentTwice c.args.parts.now c.loop-part.part-index c.part-item.result c.loop-part.first c.break_at.result c.earlier-first.result c.loop-part-test.true c.part-item.is
-    c.earlier-first.ensures c.loop-part.invariant (rw c.deref.ensures.value at (rw c.is_given_twice-is_broken.ensures at c.break_at.ensures.least))
+pub returns : goal.returns
+returns c = least_among (ComponentTwice) _ c.args.parts.now c.first_among.result (λ x here is. search rules) c.first_among.ensures

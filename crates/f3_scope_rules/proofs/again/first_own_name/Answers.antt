@@ -1,8 +1,7 @@
+use Rattle.std.proofs.Common.{rules}
+use Rattle.f3_breaks.proofs.Finding.{least_among}
 use Rattle.f3_scope_rules.specs.Rows.{OwnName}
-use Rattle.f3_scope_rules.proofs.Passing.{among_step, no_name}
 use Rattle.f3_scope_rules.proofs.again.first_own_name.Goals as goal
 
-pub loop-name-preserved : goal.loop-name-preserved
-loop-name-preserved c =
-    among_step (OwnName c.args.has_other_result c.args.own.now.symbol) c.args.declared.now c.loop-name.name-index no_name c.loop-name.first c.break_at.result c.earlier-first.result c.loop-name-test.true
-    c.earlier-first.ensures c.loop-name.invariant c.break_at.ensures.least
+pub returns : goal.returns
+returns c = least_among (OwnName c.args.has_other_result c.args.own.now.symbol) _ c.args.declared.now c.first_among.result (λ x here is. search rules) c.first_among.ensures

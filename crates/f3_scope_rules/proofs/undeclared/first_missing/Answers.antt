@@ -1,8 +1,7 @@
+use Rattle.std.proofs.Common.{rules}
+use Rattle.f3_breaks.proofs.Finding.{least_among}
 use Rattle.f3_scope_rules.specs.Rows.{Missing}
-use Rattle.f3_scope_rules.proofs.Passing.{among_step, no_name}
 use Rattle.f3_scope_rules.proofs.undeclared.first_missing.Goals as goal
 
-pub loop-name-preserved : goal.loop-name-preserved
-loop-name-preserved c =
-    among_step (Missing c.args.declared.now.keys) c.args.names.now c.loop-name.name-index no_name c.loop-name.first c.break_at.result c.earlier-first.result c.loop-name-test.true
-    c.earlier-first.ensures c.loop-name.invariant (rw c.is_known-is_missing.ensures at c.break_at.ensures.least)
+pub returns : goal.returns
+returns c = least_among (Missing c.args.declared.now.keys) _ c.args.names.now c.first_among.result (λ x here is. search rules) c.first_among.ensures

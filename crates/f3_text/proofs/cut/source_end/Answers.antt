@@ -20,7 +20,7 @@ loop-byte-preserved c = elim c.if-byte-eq10.branch [
 
 pub returns : goal.returns
 unfolding end_of
-returns c = λ small.
+returns c =
     rw (
       line_end c.loop-byte.line c.loop-byte.byte-index _ c.args.bytes.now c.loop-byte-test.false c.loop-byte.invariant.line,
       column_end c.loop-byte.column c.loop-byte.byte-index _ c.args.bytes.now c.loop-byte-test.false c.loop-byte.invariant.column,

@@ -1,0 +1,4 @@
+pub mod Report
+pub mod Reading
+pub mod Work
+pub mod Task
