@@ -12,8 +12,8 @@ use Rattle.f3_scope_rules.specs.ScopeBreaks as scope_rules
 use Rattle.f3_name_rules.specs.NameBreaks.{NameBreaks, AccessBreaks}
 use Rattle.f3_name_rules.specs.NameBreaks as name_rules
 use Rattle.f3_names.specs.Answers.{BreaksOfNames}
-use Rattle.f3_check.specs.UseBreaks.{UseBreaks, attribute_twice, not_accessible, of_several, no_variable, protected_defined}
-use Rattle.f3_check.specs.Refusals.{Breaks, of_units, of_names, of_uses}
+use Rattle.f3_use_rules.specs.UseBreaks.{UseBreaks, attribute_twice, not_accessible, of_several, no_variable, protected_defined}
+use Rattle.f3_check.specs.Accepted.{Breaks, of_units, of_names, of_uses}
 
 later : (x y : ℕ) (xs ys : List ℕ) → y < x → before (x ∷ xs) (y ∷ ys) ≡ false
 later x y xs ys h = rw (le-ltb x y (omega arith), ne_eqb x y (omega arith)) refl

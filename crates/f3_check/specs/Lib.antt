@@ -1,5 +1,3 @@
-pub mod References
-pub mod UseBreaks
-pub mod Times
-pub mod Rows
+pub mod Accepted
+pub mod Checked
 pub mod Refusals

@@ -15,28 +15,15 @@ use Rattle.f3_taken.specs.Taken.{IsTaken, IsFirstNotTaken}
 use Rattle.f3_parse.specs.Spells.{Spells, IsFirstFault}
 use Rattle.f3_graph.specs.declared.CheckFault.{CheckFault}
 use Rattle.f3_graph.specs.declared.CheckFault.TheVariants.{Refused, Memory}
-use Rattle.f3_graph.specs.Breaks.{UnitBreaks}
 use Rattle.f3_graph.specs.Order.{IsRefusal}
-use Rattle.f3_names.specs.Answers.{BreaksOfNames}
 use Rattle.f3_names.specs.Tables.{AreNames}
-use Rattle.f3_check.specs.declared.check.Checked.{Checked}
-use Rattle.f3_check.specs.UseBreaks.{UseBreaks}
+use Rattle.f3_check.specs.declared.checked.Checked.{Checked}
+use Rattle.f3_check.specs.Accepted.{Breaks, Accepted}
+use Rattle.f3_check.specs.Checked.{whole_of, taken_of, names_of}
 
 -- S5 at a statement that is not taken
 abbrev pub not_compiled : Place → Break
 not_compiled place = record { phase = 1; place = place; rule = S5; name = None }
-
--- The breaks of a program in phases 2 to 7, where this is its whole tree and this the one that is compiled.
-pub data Breaks (t : whole.Tree) (program : Tree) (b : Break) : Type 0 where
-  of_units : UnitBreaks t b → Breaks t program b
-  of_names : BreaksOfNames t b → Breaks t program b
-  of_uses : UseBreaks t program b → Breaks t program b
-
--- Accepted: the sources spell this tree, of which each statement is taken, and nothing in it breaks a rule.
-pub record Accepted (sources : List Source) (t : whole.Tree) (program : Tree) : Type 0 where
-  pub spelled : Spells t sources
-  pub taken : IsTaken t program
-  pub unbroken : (b : Break) → Breaks t program b → ⊥
 
 -- The first break is that of phase 1, where there is one. Else the sources spell a program, and it is S5 at the first
 -- statement, in the order written, that is not taken: as in phase 1 nothing behind it is examined. Where each is
@@ -48,7 +35,9 @@ pub data First (sources : List Source) (refusal : Refusal) : Type 0 where
 
 -- what `check` answers
 abbrev pub Checks : Result Checked CheckFault → List Source → Type 0
-Checks (Ok checked) sources = Accepted sources (whole.view checked.whole) (view checked.program) × AreNames (whole.view checked.whole) checked.names × ((refusal : Refusal) → First sources refusal → ⊥)
+Checks (Ok checked) sources =
+    Accepted sources (whole.view (whole_of checked)) (view (taken_of checked)) × AreNames (whole.view (whole_of checked)) (names_of checked)
+    × ((refusal : Refusal) → First sources refusal → ⊥)
 Checks (Err (Refused refusal)) sources = First sources refusal × ((t : whole.Tree) (program : Tree) → Accepted sources t program → ⊥)
 Checks (Err Memory) sources = Unit {0}
 

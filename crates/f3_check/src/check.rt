@@ -4,27 +4,17 @@ ghost use Rattle.std.specs.Prelude.{◌≡◌};
 ghost use Rattle.f3_check.specs.Refusals.{Checks, fault_of_text, not_compiled};
 ghost use Rattle.f3_text.specs.Reader.{Tells};
 
-use crate::rows::first_use_break;
+use crate::checked::Checked;
 use f3_graph::{CheckFault, order, refusal_of};
 use f3_names::names;
-use f3_names::table::Names;
 use f3_parse::parser::parse;
 use f3_rules::refusal::Refusal;
 use f3_rules::rule::Rule;
 use f3_rules::source::{Place, Source};
-use f3_taken::program::Program;
 use f3_taken::take::{TakeFault, taken};
 use f3_text::statement::TextFault;
-use f3_tree::program as whole;
+use f3_use_rules::first_use_break;
 use std::alloc::Global;
-
-/// Sources that break no rule: their whole tree, the program of it that is compiled, and what its names mean.
-#[derive(Drop)]
-pub struct Checked {
-    pub whole: whole::Program,
-    pub program: Program,
-    pub names: Names,
-}
 
 /// The program that the sources spell, where each of its statements is taken and it breaks no rule. Else the refusal
 /// of the first break: of phase 1, then S5 at the first statement that is not taken, then of phases 2 to 7. Memory where

@@ -2,5 +2,6 @@
 #![tactic(auto)]
 
 pub mod check;
-mod rows;
-mod times;
+pub mod checked;
+
+

@@ -41,8 +41,8 @@ use Rattle.f3_names.specs.Meant.{IsMeant}
 use Rattle.f3_names.specs.Tables.{lookup_at, AreNames}
 use Rattle.f3_taken.specs.Tree as small
 use Rattle.f3_taken.specs.Tree.{view, unit_view, statement_view, action_view, item_view, sum_view}
-use Rattle.f3_check.specs.References.{operand_names, term_names, item_names, act_names, defined_names, RefersTo, Defines}
-use Rattle.f3_check.specs.UseBreaks.{UseBreaks, not_accessible, of_several, no_variable, protected_defined}
+use Rattle.f3_use_rules.specs.References.{operand_names, term_names, item_names, act_names, defined_names, RefersTo, Defines}
+use Rattle.f3_use_rules.specs.UseBreaks.{UseBreaks, not_accessible, of_several, no_variable, protected_defined}
 use Rattle.f3_meaning.specs.declared.elaborated.Variable.{Variable}
 use Rattle.f3_meaning.specs.declared.elaborated.Primary.{Primary}
 use Rattle.f3_meaning.specs.declared.elaborated.Primary.TheVariants as primary

@@ -7,7 +7,8 @@ use Rattle.f3_taken.specs.Tree.{Tree, view}
 use Rattle.f3_tree.specs.Tree as whole
 use Rattle.f3_graph.specs.declared.CheckFault.{CheckFault}
 use Rattle.f3_graph.specs.declared.CheckFault.TheVariants.{Refused, Memory}
-use Rattle.f3_check.specs.Refusals.{Accepted, First}
+use Rattle.f3_check.specs.Accepted.{Accepted}
+use Rattle.f3_check.specs.Refusals.{First}
 use Rattle.f3_meaning.specs.declared.elaborated.Elaborated.{Elaborated}
 use Rattle.f3_output.specs.Output.{State, Wrote}
 use Rattle.f3_run.specs.declared.compiled.Compiled.{Compiled}

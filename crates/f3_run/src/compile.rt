@@ -20,7 +20,7 @@ pub fn compile(alloc: Global, sources: &[Source]) -> Result<Compiled, CheckFault
     ensures { Compiles sources.now result }
 {
     let checked = check(alloc, sources)?;
-    match elaborate(alloc, &checked.whole, &checked.program, &checked.names) {
+    match elaborate(alloc, &checked) {
         Ok(compiled) => Ok(compiled),
         Err(_) => Err(CheckFault::Memory),
     }

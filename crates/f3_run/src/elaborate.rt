@@ -6,11 +6,13 @@ ghost use Rattle.f3_taken.specs.Tree.{view, unit_view, specification_view, decla
 ghost use Rattle.f3_taken.specs.declared.program.Unit.{Unit as ProgramUnit};
 ghost use Rattle.f3_tree.specs.declared.program.UnitKind.TheVariants as kind;
 ghost use Rattle.f3_names.specs.Tables.{lookup_at};
+ghost use Rattle.f3_check.specs.Checked.{whole_of, taken_of, names_of};
 ghost use Rattle.f3_run.specs.Compiled.{program_of};
 ghost use Rattle.f3_run.specs.Elaboration.{Each, SameOperand, SameExpression, SameItem, SameAction, SameStatement, initials_in, initials_of_unit, initials_of, variables_of, entity_found, Found, HasMain, IsElaborated, constant_of, texts_of};
 
 use crate::compiled::Compiled;
 use f3_access::table::Lookup;
+use f3_check::checked::Checked;
 use f3_meaning::elaborated::{
     Action, Elaborated, Expression, Item, Primary, Statement, Term, Variable,
 };
@@ -20,23 +22,18 @@ use f3_names::table::{Names, ScopeId};
 use f3_taken::program::{Program, Unit};
 use f3_taken::statement::{Declaration, Specification};
 use f3_taken::{expression as named, statement as source};
-use f3_tree::program as whole;
 use f3_tree::program::UnitKind;
 use std::alloc::{AllocError, Global};
 
 // Replaces each name of the main program by the entity that the tables have for it.
-pub(crate) fn elaborate(
-    alloc: Global,
-    whole: &whole::Program,
-    program: &Program,
-    names: &Names,
-) -> Result<Compiled, AllocError>
-    requires { HasMain program.now }
-    ensures { IfOk result (λ c. IsElaborated (texts_of whole.now.texts.items) program.now names.now.entities.items (Found names.now) (program_of c)) }
+pub(crate) fn elaborate(alloc: Global, checked: &Checked) -> Result<Compiled, AllocError>
+    ensures { IfOk result (λ c. IsElaborated (texts_of (whole_of checked.now).texts.items) (taken_of checked.now) (names_of checked.now).entities.items (Found (names_of checked.now)) (program_of c)) }
 {
+    let program = checked.program();
+    let names = checked.names();
     let main = main_unit(program);
     let unit = &program.units[main];
-    let texts = whole.texts.as_slice();
+    let texts = checked.whole().texts.as_slice();
     Ok(Compiled::new(Elaborated {
         variables: variables_of(alloc, program, names)?,
         main,
@@ -47,7 +44,7 @@ pub(crate) fn elaborate(
 
 // The number of the main program.
 fn main_unit(program: &Program) -> usize
-    requires { HasMain program.now }
+    requires { ∥ HasMain program.now ∥₁ }
     ensures { (source : ProgramUnit) × (slice_get program.now.units.items result ≡ Some source) × (source.kind ≡ kind.Program) }
 {
     for (number, unit) in program.units.iter().enumerate() {

@@ -65,9 +65,9 @@ end program p
     let sources = one(alloc, text)?;
     match check(alloc, &sources) {
         Ok(checked) => {
-            assert_eq!(rt; checked.whole.units.len(), 2);
-            assert_eq!(rt; checked.program.units.len(), 2);
-            assert_eq!(rt; checked.names.entities().len(), 3);
+            assert_eq!(rt; checked.whole().units.len(), 2);
+            assert_eq!(rt; checked.program().units.len(), 2);
+            assert_eq!(rt; checked.names().entities().len(), 3);
         }
         Err(_) => assert!(rt; false),
     }

@@ -27,7 +27,7 @@ pub returns-in-Ok-None : goal.returns-in-Ok-None
 returns-in-Ok-None c =
     let w = whole.view c.in-Ok.whole in
     let p = view c.in-Ok-taken.program in
-    let least = rw c.in-Ok-None.field-0-is at (c.in-Ok-None.ensures.least w c.in_ok-names.ensures.0) in (
+    let least = rw c.in-Ok-None.field-0-is at (c.in-Ok-None.ensures w c.in_ok-names.ensures.0) in (
       accepted c.args.sources.now w c.in-Ok.ensures.0 c.in-Ok.ensures.1 p c.in-Ok-taken.ensures.0 c.in_ok-order.ensures.1 c.in_ok-names.ensures.1 least.as_said,
       c.in_ok-names.ensures.0,
       not_first c.args.sources.now w c.in-Ok.ensures.0 c.in-Ok.ensures.1 p c.in-Ok-taken.ensures.0 c.in_ok-order.ensures.1 c.in_ok-names.ensures.1 c.in-Ok.ensures.2 c.in-Ok-taken.ensures.1 least.as_said,
@@ -36,6 +36,19 @@ returns-in-Ok-None c =
 pub returns-in-Ok-refusal_of : goal.returns-in-Ok-refusal_of
 returns-in-Ok-refusal_of c =
     let w = whole.view c.in-Ok.whole in
-    let least = rw c.in-Ok-Some.field-0-is at (c.in-Ok-Some.ensures.least w c.in_ok-names.ensures.0) in
+    let least = rw c.in-Ok-Some.field-0-is at (c.in-Ok-Some.ensures w c.in_ok-names.ensures.0) in
     uses_refused c.args.sources.now w c.in-Ok.ensures.0 c.in-Ok.ensures.1 (view c.in-Ok-taken.program) c.in-Ok-taken.ensures.0 c.in_ok-order.ensures.1 c.in_ok-names.ensures.1
     c.in-Ok-Some.found c.in-Ok-refusal_of.refusal least c.in-Ok-refusal_of.ensures
+
+pub invariant_of-result : goal.invariant_of-result
+invariant_of-result c =
+    let w = whole.view c.in-Ok.whole in
+    let p = view c.in-Ok-taken.program in
+    let least = rw c.in-Ok-None.field-0-is at (c.in-Ok-None.ensures w c.in_ok-names.ensures.0) in
+    record {
+      are_accepted = ∣ (
+        c.args.sources.now,
+        accepted c.args.sources.now w c.in-Ok.ensures.0 c.in-Ok.ensures.1 p c.in-Ok-taken.ensures.0 c.in_ok-order.ensures.1 c.in_ok-names.ensures.1 least.as_said,
+        c.in_ok-names.ensures.0,
+      ) ∣₁;
+    }

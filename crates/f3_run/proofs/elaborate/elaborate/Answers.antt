@@ -1,6 +1,10 @@
 use Rattle.std.proofs.Common.{◌≡◌, ◌∙◌, ap}
 use Rattle.std.proofs.lemmas.Option.{get_or_from_slice_get}
 use Rattle.f3_taken.specs.declared.program.Unit.{Unit as ProgramUnit}
+use Rattle.std.proofs.Math.Logic.{∥∥₁_elim}
+use Rattle.f3_tree.specs.Tree as whole
+use Rattle.f3_check.specs.Checked.{whole_of, taken_of, names_of}
+use Rattle.f3_run.proofs.Compiling.{checked_has_main}
 use Rattle.f3_run.proofs.elaborate.elaborate.Goals as goal
 
 pub returns : goal.returns

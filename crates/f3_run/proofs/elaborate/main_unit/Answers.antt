@@ -1,4 +1,5 @@
 use Rattle.std.proofs.Common.{below_more}
+use Rattle.std.proofs.Math.Logic.{∥∥₁_elim}
 use Rattle.f3_run.proofs.Elaborating.{IsNoMain, unit_at, no_main_here, no_main_past}
 use Rattle.f3_run.proofs.elaborate.main_unit.Goals as goal
 
@@ -17,4 +18,4 @@ loop-number-preserved c =
 pub unreachable-requires : goal.unreachable-requires
 unreachable-requires c =
     let past = rw c.deref-unit-items.ensures.value at c.loop-number-test.false in
-    no_main_past c.args.program.now c.loop-number.number past c.loop-number.invariant c.requires
+    ∥∥₁_elim c.requires ⊥-prop (no_main_past c.args.program.now c.loop-number.number past c.loop-number.invariant)

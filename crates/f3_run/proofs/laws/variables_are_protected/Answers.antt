@@ -1,4 +1,4 @@
-use Rattle.f3_check.specs.Refusals.{of_uses}
+use Rattle.f3_check.specs.Accepted.{of_uses}
 use Rattle.f3_meaning.proofs.Changes.{changes_are_permitted}
 use Rattle.f3_run.proofs.Meant.{may_define}
 use Rattle.f3_run.proofs.laws.variables_are_protected.Goals as goal

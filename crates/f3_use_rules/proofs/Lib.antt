@@ -1,0 +1,4 @@
+pub mod Counting
+pub mod Fused
+pub mod Said
+pub mod Walk

@@ -1,0 +1,4 @@
+pub mod References
+pub mod UseBreaks
+pub mod Times
+pub mod Rows
