@@ -22,7 +22,7 @@ use Rattle.f3_run.proofs.Meant.{has_main, elaborated_is_meaning}
 
 -- what was accepted has a main program
 pub checked_has_main : (t : whole.Tree) (program : Program) (names : Names) → AreAccepted t (view program) names → HasMain program
-checked_has_main t program names a = has_main t program a.1.0.taken (λ b u. a.1.0.unbroken b (of_units u))
+checked_has_main t program names a = has_main t program a.1.taken (λ b u. a.1.unbroken b (of_units u))
 
 module _ (sources : List Source) where
   pub not_checked : (fault : CheckFault) → Checks (Err fault) sources → Compiles sources (Err fault)

@@ -1,22 +1,33 @@
-use Rattle.std.proofs.Common.{◌≡◌, ◌∙◌, ap}
+use Rattle.std.proofs.Common.{◌≡◌, ◌∙◌, ap, sym, subst}
 use Rattle.std.proofs.lemmas.Option.{get_or_from_slice_get}
-use Rattle.f3_taken.specs.declared.program.Unit.{Unit as ProgramUnit}
-use Rattle.std.proofs.Math.Logic.{∥∥₁_elim}
+use Rattle.std.proofs.Math.Logic.{∥∥₁_map}
 use Rattle.f3_tree.specs.Tree as whole
+use Rattle.f3_taken.specs.declared.program.Unit.{Unit as ProgramUnit}
+use Rattle.f3_taken.specs.Tree.{view}
 use Rattle.f3_check.specs.Checked.{whole_of, taken_of, names_of}
+use Rattle.f3_run.specs.Compiled.{program_of}
+use Rattle.f3_run.specs.Elaboration.{HasMain, IsElaborated, Found, texts_of}
 use Rattle.f3_run.proofs.Compiling.{checked_has_main}
 use Rattle.f3_run.proofs.elaborate.elaborate.Goals as goal
+
+pub main_unit-main-requires : goal.main_unit-main-requires
+main_unit-main-requires c =
+    subst (λ p. ∥ HasMain p ∥₁) (sym c.program-program.ensures)
+    (∥∥₁_map c.args.checked.now.are_accepted (checked_has_main (whole.view (whole_of c.args.checked.now)) (taken_of c.args.checked.now) (names_of c.args.checked.now)))
 
 pub returns : goal.returns
 returns c =
     let m = c.main_unit-main.ensures in
-    let s = rw (c.as_slice-texts.ensures.value, c.as_slice.ensures.value) at c.in_ok-statements_of.ensures in
-    let same : c.index-unit.result.now ≡ m.0 = c.index-unit.ensures ∙ get_or_from_slice_get c.args.program.now.units.items c.main_unit-main.result m.0 c.index-unit.result.now m.1 in
-    rw c.new.ensures (record {
+    let p = c.program-program.result.now in
+    let n = c.names-names.result.now in
+    let said = rw (c.as_slice-texts.ensures.value, c.as_slice.ensures.value) at c.in_ok-statements_of.ensures in
+    let same : c.index-unit.result.now ≡ m.0 = c.index-unit.ensures ∙ get_or_from_slice_get p.units.items c.main_unit-main.result m.0 c.index-unit.result.now m.1 in
+    let elaborated : IsElaborated (texts_of c.whole.result.now.texts.items) p n.entities.items (Found n) (program_of c.new.result) = rw c.new.ensures (record {
       source = m.0;
       is_unit = m.1;
       is_main = m.2;
       variables = c.in_ok-variables_of.ensures;
-      statements = rw same at s;
+      statements = rw same at said;
       end = ap (λ (u : ProgramUnit). u.end) same;
-    })
+    }) in
+    rw (c.program-program.ensures, c.names-names.ensures, c.whole.ensures) at elaborated

@@ -18,4 +18,4 @@ loop-number-preserved c =
 pub unreachable-requires : goal.unreachable-requires
 unreachable-requires c =
     let past = rw c.deref-unit-items.ensures.value at c.loop-number-test.false in
-    ∥∥₁_elim c.requires ⊥-prop (no_main_past c.args.program.now c.loop-number.number past c.loop-number.invariant)
+    ∥∥₁_elim c.requires (λ x y. absurd x) (no_main_past c.args.program.now c.loop-number.number past c.loop-number.invariant)
