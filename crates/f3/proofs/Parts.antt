@@ -4,19 +4,21 @@ use Rattle.std.specs.Prelude.{Result, Ok, Err, OnOk, OnErr, String, string_bytes
 use Rattle.std.specs.Global.{Global}
 use Rattle.std.specs.Io.KnownBytes.{Appends}
 use Rattle.std.proofs.KnownBytes.{Appends-trans}
+use Rattle.f3_graph.specs.declared.CheckFault.{CheckFault}
+use Rattle.f3_graph.specs.declared.CheckFault.TheVariants as fault
 use Rattle.f3_name_table.specs.Answers as table
 use Rattle.f3_rules.specs.declared.source.Source.{Source}
 use Rattle.f3_meaning.specs.declared.elaborated.Elaborated.{Elaborated}
 use Rattle.f3_meaning.specs.Event.{output}
 use Rattle.f3_meaning.specs.Meaning.{prints}
 use Rattle.f3_output.specs.Output.{State, Wrote, Faulted}
-use Rattle.f3_output.proofs.Outputs.{wrote_more, faulted_behind, faulted_before}
+use Rattle.f3_output.proofs.Outputs.{wrote_none, wrote_more, faulted_behind, faulted_before}
 use Rattle.f3_run.specs.declared.end.End.{End}
 use Rattle.f3_run.specs.declared.end.End.TheVariants.{Done, Stopped, Error, StepLimit, WriteFault, Memory}
 use Rattle.f3_run.specs.Answers.{Answers, Refuses}
 use Rattle.f3_run.specs.Compiles.{Means}
 use Rattle.f3.specs.declared.report.Outcome.TheVariants.{Ended}
-use Rattle.f3.specs.Work.{Runs, Shows, Shown}
+use Rattle.f3.specs.Work.{Runs, Shows, Shown, outcome_of}
 use Rattle.f3.specs.Reading.{IsOf, AreOf}
 
 pub on_ok : {T E : Type 0} {P Q : Type 0} (r : Result T E) → (P → Q) → OnOk r P → OnOk r Q
@@ -99,3 +101,8 @@ shows_so sources text a b (Error error place) is w = absurd w
 shows_so sources text a b StepLimit is w = absurd w
 shows_so sources text a b WriteFault is w = (text, is, w)
 shows_so sources text a b Memory is w = absurd w
+
+-- a fault of the table of names, with nothing written
+pub fault_so : (sources : List Source) (s : State) (f : CheckFault) → table.Answers (Err f) sources → Shows sources s s (outcome_of f)
+fault_so sources s (fault.Refused refusal) is = (is, wrote_none)
+fault_so sources s fault.Memory is = wrote_none
