@@ -1,21 +1,8 @@
 //! f3 checks, compiles and runs libraries of Fortran modules.
 #![tactic(auto)]
 
-mod command;
-mod files;
-#[cfg(test)]
-mod names_tests;
-mod program;
-mod report;
-#[cfg(test)]
-mod tests;
-#[cfg(test)]
-mod text_tests;
-#[cfg(test)]
-mod visibility_tests;
-mod work;
-
-use crate::files::Disk;
+use f3_command::files::Disk;
+use f3_command::program;
 use f3_output::output::Output;
 use std::env;
 use std::io::{self, BufWriter, Write};

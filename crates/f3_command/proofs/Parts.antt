@@ -1,0 +1,108 @@
+-- Outputs and files, part by part.
+use Rattle.std.proofs.Common.{◌≡◌, ℕ, List, [], ◌∷◌, ◌++◌, Option, refl, sym, ap, subst, ◌∙◌, append-nil}
+use Rattle.std.specs.Prelude.{Result, Ok, Err, OnOk, OnErr, String, string_bytes}
+use Rattle.std.specs.Global.{Global}
+use Rattle.std.specs.Io.KnownBytes.{Appends}
+use Rattle.std.proofs.KnownBytes.{Appends-trans}
+use Rattle.f3_graph.specs.declared.CheckFault.{CheckFault}
+use Rattle.f3_graph.specs.declared.CheckFault.TheVariants as fault
+use Rattle.f3_name_table.specs.Answers as table
+use Rattle.f3_rules.specs.declared.source.Source.{Source}
+use Rattle.f3_meaning.specs.declared.elaborated.Elaborated.{Elaborated}
+use Rattle.f3_meaning.specs.Event.{output}
+use Rattle.f3_meaning.specs.Meaning.{prints}
+use Rattle.f3_output.specs.Output.{State, Wrote, Faulted}
+use Rattle.f3_output.proofs.Outputs.{wrote_none, wrote_more, faulted_behind, faulted_before}
+use Rattle.f3_run.specs.declared.end.End.{End}
+use Rattle.f3_run.specs.declared.end.End.TheVariants.{Done, Stopped, Error, StepLimit, WriteFault, Memory}
+use Rattle.f3_run.specs.Answers.{Answers, Refuses}
+use Rattle.f3_run.specs.Compiles.{Means}
+use Rattle.f3_command.specs.declared.report.Outcome.TheVariants.{Ended}
+use Rattle.f3_command.specs.Work.{Runs, Shows, Shown, outcome_of}
+use Rattle.f3_command.specs.Reading.{IsOf, AreOf}
+
+pub on_ok : {T E : Type 0} {P Q : Type 0} (r : Result T E) → (P → Q) → OnOk r P → OnOk r Q
+on_ok (Ok x) f p = f p
+on_ok (Err e) f p = p
+
+pub on_err : {T E : Type 0} {P Q : Type 0} (r : Result T E) → (P → Q) → OnErr r P → OnErr r Q
+on_err (Ok x) f p = p
+on_err (Err e) f p = f p
+
+-- a writer that hands on what it holds
+pub wrote_on : {a b c : State} {x : List ℕ} → Wrote a b x → Wrote b c [] → Wrote a c x
+wrote_on {x = x} p q = rw (sym (append-nil x)) (wrote_more p q)
+
+pub faulted_on : {a b c : State} {x : List ℕ} → Wrote a b x → Faulted b c [] → Faulted a c x
+faulted_on {x = x} p q = rw (sym (append-nil x)) (faulted_behind p q)
+
+-- one source more
+pub one_more : {contents : List ℕ → Option (List ℕ)} (names : List (List ℕ)) (sources : List Source) (name : List ℕ) (source : Source) → AreOf contents names sources → IsOf contents name source → AreOf contents (names ++ name ∷ []) (sources ++ source ∷ [])
+one_more [] [] name source are is = (is, tt)
+one_more [] (s ∷ ss) name source are is = absurd are
+one_more (n ∷ ns) [] name source are is = absurd are
+one_more (n ∷ ns) (s ∷ ss) name source are is = (are.0, one_more ns ss name source are.1 is)
+
+-- a writer that has refused before
+faulted_kept : {a b c : State} {x : List ℕ} → Faulted a b x → Wrote b c [] → Faulted a c x
+faulted_kept {a} {b} {c} f w = record {
+  front = f.front;
+  rest = f.rest;
+  whole = f.whole;
+  appended = subst (λ l. Appends a.bytes c.bytes l) (append-nil f.front) (Appends-trans a.bytes b.bytes c.bytes f.front [] f.appended w.appended);
+  refused = w.same ∙ f.refused;
+}
+
+no_front : (front rest : List ℕ) → [] ≡ front ++ rest → front ≡ []
+no_front [] rest e = refl
+no_front (x ∷ xs) rest e = absurd cc
+
+faulted_again : {a b c : State} {x : List ℕ} → Faulted a b x → Faulted b c [] → Faulted a c x
+faulted_again {a} {b} {c} f g = record {
+  front = f.front;
+  rest = f.rest;
+  whole = f.whole;
+  appended = subst (λ l. Appends a.bytes c.bytes l) (ap (λ l. f.front ++ l) (no_front g.front g.rest g.whole) ∙ append-nil f.front) (Appends-trans a.bytes b.bytes c.bytes f.front g.front f.appended g.appended);
+  refused = g.refused;
+}
+
+-- an answer of a run stays one when the output is handed on
+pub handed_on : (p : Elaborated) (steps : ℕ) (a b c : State) (end : End) → Answers p steps a b end → Wrote b c [] → Answers p steps a c end
+handed_on p steps a b c Done h w = (h.0, record { turns = h.1.turns; ends = h.1.ends; wrote = wrote_on h.1.wrote w }, h.2)
+handed_on p steps a b c (Stopped code) h w = absurd h
+handed_on p steps a b c (Error error place) h w = (record { turns = h.0.turns; ends = h.0.ends; wrote = wrote_on h.0.wrote w }, h.1)
+handed_on p steps a b c StepLimit h w = record { store = h.store; runs = h.runs; wrote = wrote_on h.wrote w; begins = h.begins }
+handed_on p steps a b c WriteFault h w = record { turns = h.turns; faulted = faulted_kept h.faulted w }
+handed_on p steps a b c Memory h w = wrote_on h w
+
+-- and is a write fault where the writer refuses then
+pub not_handed_on : (p : Elaborated) (steps : ℕ) (a b c : State) (end : End) → Answers p steps a b end → Faulted b c [] → Refuses p a c
+not_handed_on p steps a b c Done h f = record { turns = h.1.turns; faulted = faulted_on h.1.wrote f }
+not_handed_on p steps a b c (Stopped code) h f = absurd h
+not_handed_on p steps a b c (Error error place) h f = record { turns = h.0.turns; faulted = faulted_on h.0.wrote f }
+not_handed_on p steps a b c StepLimit h f = record { turns = h.begins.turns; faulted = rw h.begins.whole (faulted_before h.begins.more (faulted_on h.wrote f)) }
+not_handed_on p steps a b c WriteFault h f = record { turns = h.turns; faulted = faulted_again h.faulted f }
+not_handed_on p steps a b c Memory h f = record { turns = 0; faulted = faulted_before (output (prints p 0 []).out) (faulted_on h f) }
+
+-- what runs answer, memory wanting among it
+pub runs_so : (sources : List Source) (steps : ℕ) (a b : State) (end : End) (p : Elaborated) → Means sources p → Answers p steps a b end → Runs sources steps a b (Ended end)
+runs_so sources steps a b Done p m h = (p, m, h)
+runs_so sources steps a b (Stopped code) p m h = (p, m, h)
+runs_so sources steps a b (Error error place) p m h = (p, m, h)
+runs_so sources steps a b StepLimit p m h = (p, m, h)
+runs_so sources steps a b WriteFault p m h = (p, m, h)
+runs_so sources steps a b Memory p m h = h
+
+-- the table of names that is shown
+pub shows_so : (sources : List Source) (text : String Global) (a b : State) (end : End) → table.Answers (Ok text) sources → Shown a b (string_bytes text) end → Shows sources a b (Ended end)
+shows_so sources text a b Done is w = (text, is, w)
+shows_so sources text a b (Stopped code) is w = absurd w
+shows_so sources text a b (Error error place) is w = absurd w
+shows_so sources text a b StepLimit is w = absurd w
+shows_so sources text a b WriteFault is w = (text, is, w)
+shows_so sources text a b Memory is w = absurd w
+
+-- a fault of the table of names, with nothing written
+pub fault_so : (sources : List Source) (s : State) (f : CheckFault) → table.Answers (Err f) sources → Shows sources s s (outcome_of f)
+fault_so sources s (fault.Refused refusal) is = (is, wrote_none)
+fault_so sources s fault.Memory is = wrote_none

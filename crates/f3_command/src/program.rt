@@ -1,0 +1,88 @@
+//! The program over its words, its files and its writers.
+
+ghost use Rattle.std.specs.Prelude.{◌≡◌, ℕ, List, Option, codes, unwrap_or};
+ghost use Rattle.clap.specs.Words.{found_of, one_text, ReadsOne};
+ghost use Rattle.f3_command.specs.Task.{IsTask, OfRun};
+
+use crate::command::command;
+use crate::files::Opener;
+use crate::report::{Outcome, USAGE, finish, want_of_memory};
+use crate::work::{Task, perform, shown};
+use clap::ArgMatches;
+use clap::error::ErrorKind;
+use f3_output::output::Output;
+use f3_run::end::Limits;
+use std::alloc::Global;
+use std::io::Write;
+use std::str::FromStr;
+
+/// Does what the words ask for, and answers the exit status. The first word is the program's own name.
+pub fn f3<F: Opener, O: Write, E: Write>(
+    alloc: Global,
+    words: &[String],
+    files: &F,
+    output: &mut Output<O>,
+    errors: &mut Output<E>,
+) -> u8 {
+    let Ok(command) = command(alloc) else {
+        return want_of_memory(errors);
+    };
+    match command.try_get_matches_from(words) {
+        Ok(matches) => act(alloc, &matches, files, output, errors),
+        Err(error) => usage(alloc, &error, output, errors),
+    }
+}
+
+/// Writes what the reader of the command line says, and answers its status.
+fn usage<O: Write, E: Write>(
+    alloc: Global,
+    error: &clap::Error,
+    output: &mut Output<O>,
+    errors: &mut Output<E>,
+) -> u8 {
+    if error.kind() == ErrorKind::OutOfMemory {
+        return want_of_memory(errors);
+    }
+    let Ok(text) = error.to_string(alloc) else {
+        return want_of_memory(errors);
+    };
+    if error.use_stderr() {
+        let _told = errors.write(text.as_bytes());
+        return USAGE;
+    }
+    let outcome = Outcome::Ended(shown(text.as_str(), output));
+    finish(alloc, &[], &outcome, errors)
+}
+
+/// Does what the subcommand says, with its files.
+fn act<'a, F: Opener, O: Write, E: Write>(
+    alloc: Global,
+    matches: &ArgMatches<'a>,
+    files: &F,
+    output: &mut Output<O>,
+    errors: &mut Output<E>,
+) -> u8 {
+    let Some((name, inner)) = matches.subcommand() else {
+        return USAGE;
+    };
+    let names = inner.get_strs("FILE").unwrap_or(&[]);
+    perform(alloc, task(name, inner), names, files, output, errors)
+}
+
+/// What a subcommand of this name asks for.
+fn task(name: &str, inner: &ArgMatches<'_>) -> Task
+    ensures name { IsTask name.now result }
+    ensures steps { (text : List ℕ) → one_text (found_of inner.now) (codes "steps") ≡ Some text
+        → OfRun result (λ steps. (number : Option ℕ) × ReadsOne ⟦<u64 as FromStr>⟧.from_str_gives text number × (steps ≡ unwrap_or number 0)) }
+{
+    if name == "check" {
+        return Task::Check;
+    }
+    if name == "names" {
+        return Task::Names;
+    }
+    Task::Run(Limits {
+        steps: inner.get_one::<u64>("steps").unwrap_or(0),
+        heap_words: inner.get_one::<usize>("heap").unwrap_or(0),
+    })
+}
