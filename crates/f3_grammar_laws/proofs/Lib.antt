@@ -1,0 +1,4 @@
+pub mod Levels
+pub mod Bounds
+pub mod Trees
+pub mod Ones
