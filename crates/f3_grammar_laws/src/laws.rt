@@ -1,10 +1,16 @@
-//! Laws on the grammar: a front of the tokens spells one tree at most.
+//! Laws on the grammar: what tokens spell is one.
 
-ghost use Rattle.f3_grammar_laws.specs.Laws.{LevelsAreOne, ExpressionsAreOne};
+ghost use Rattle.f3_grammar_laws.specs.Laws.{LevelsAreOne, ExpressionsAreOne, DeclarationsAreOne};
 
 /// A front of the tokens spells one expression at most, and what stands behind it is the same; so for each level of
 /// expressions, for designators, and for the arguments of a procedure (7.1, 6.1.2, 12.4).
 pub fn expressions_are_one()
     ensures levels { LevelsAreOne }
     ensures expressions { ExpressionsAreOne }
+{}
+
+/// All that stands behind USE, PUBLIC or PRIVATE, all of a type declaration, of a header, and of the beginning of a type
+/// definition spells one at most (11.2.1, 5.2.1, 5.1, 12.5.2, 4.5).
+pub fn declarations_are_one()
+    ensures { DeclarationsAreOne }
 {}
