@@ -5,3 +5,6 @@ pub mod Ones
 pub mod Parts
 pub mod Declarations
 pub mod Headers
+pub mod Actions
+pub mod Constructs
+pub mod Forms

@@ -8,6 +8,8 @@ use Rattle.f3_words.specs.declared.item.Item.{Item}
 use Rattle.f3_reading.specs.Laws.{IsOne, IsOneWhole}
 use Rattle.f3_expressions.specs.Levels.{Ends}
 use Rattle.f3_expressions.specs.Grammar.{Eats, EatsExpression, EatsDesignator, EatsArguments}
+use Rattle.f3_forms.specs.Actions.{IsAction}
+use Rattle.f3_forms.specs.Grammar.{IsForm}
 use Rattle.f3_declarations.specs.Specifications.{IsUse, IsAccess, IsDeclaration, IsHeader, IsTypeBegin}
 
 -- two expressions of a level, each up to where nothing of that level goes on, are one, and so is what stands behind
@@ -28,3 +30,6 @@ DeclarationsAreOne =
     × ((place : Place) → IsOneWhole (IsDeclaration place))
     × ((place : Place) → IsOneWhole (IsHeader place))
     × TypesBeginAsOne
+
+abbrev pub FormsAreOne : Type 0
+FormsAreOne = IsOneWhole IsAction × IsOneWhole IsForm

@@ -1,6 +1,6 @@
 //! Laws on the grammar: what tokens spell is one.
 
-ghost use Rattle.f3_grammar_laws.specs.Laws.{LevelsAreOne, ExpressionsAreOne, DeclarationsAreOne};
+ghost use Rattle.f3_grammar_laws.specs.Laws.{LevelsAreOne, ExpressionsAreOne, DeclarationsAreOne, FormsAreOne};
 
 /// A front of the tokens spells one expression at most, and what stands behind it is the same; so for each level of
 /// expressions, for designators, and for the arguments of a procedure (7.1, 6.1.2, 12.4).
@@ -13,4 +13,9 @@ pub fn expressions_are_one()
 /// definition spells one at most (11.2.1, 5.2.1, 5.1, 12.5.2, 4.5).
 pub fn declarations_are_one()
     ensures { DeclarationsAreOne }
+{}
+
+/// All tokens of a statement spell one form at most (clauses 4, 5, 7, 8, 11, 12), and one action at most.
+pub fn forms_are_one()
+    ensures { FormsAreOne }
 {}
