@@ -1,0 +1,17 @@
+//! Laws on whole sources: what statements and sources spell is one.
+
+ghost use Rattle.f3_source_laws.specs.Laws.{StatementsHaveOneForm, BlocksAreOne, PartsAreOne, UnitsAreOne, SourcesSpellOneTree};
+
+/// The statements of sources have one list of forms at most, and statements of these forms spell one block, one
+/// specification part and one list of units at most (2.2, 4.5, 8.1, 11.1).
+pub fn statements_and_units_are_one()
+    ensures forms { StatementsHaveOneForm }
+    ensures blocks { BlocksAreOne }
+    ensures parts { PartsAreOne }
+    ensures units { UnitsAreOne }
+{}
+
+/// Two trees that the same sources spell are one tree.
+pub fn sources_spell_one_tree()
+    ensures { SourcesSpellOneTree }
+{}
