@@ -8,3 +8,7 @@ pub mod Headers
 pub mod Actions
 pub mod Constructs
 pub mod Forms
+pub mod Enclosures
+pub mod Assigned
+pub mod Heads
+pub mod Alternatives
