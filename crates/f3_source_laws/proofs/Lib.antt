@@ -1,1 +1,3 @@
 pub mod Ones
+pub mod Headers
+pub mod Roles
