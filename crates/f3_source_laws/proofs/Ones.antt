@@ -1,6 +1,9 @@
 -- What statements and sources spell is one.
-use Rattle.std.proofs.Common.{◌≡◌, ℕ, List, [], ◌∷◌, Some, refl, sym, ap, subst, ◌∙◌}
+use Rattle.std.proofs.Common.{◌≡◌, ℕ, List, [], ◌∷◌, Option, Some, refl, sym, ap, subst, ◌∙◌}
 use Rattle.f3_rules.specs.declared.source.Place.{Place}
+use Rattle.f3_rules.specs.declared.source.Source.{Source}
+use Rattle.f3_rules.specs.declared.breaks.Break.{Break}
+use Rattle.f3_text.specs.Reader.{bytes_of}
 use Rattle.f3_tree.specs.Statements.{block_of}
 use Rattle.f3_tree.specs.Tree.{UnitTree, Tree}
 use Rattle.f3_forms.specs.Forms.{FormTree}
@@ -12,9 +15,12 @@ use Rattle.f3_parts.proofs.Reading as part_reading
 use Rattle.f3_units.specs.Units.{AreUnits}
 use Rattle.f3_units.specs.Machine.{State, free}
 use Rattle.f3_units.proofs.Nesting.{units_read}
+use Rattle.f3_parse.specs.Phase.{BreaksOf}
+use Rattle.f3_parse.specs.Spells.{Spells, lines_in, ends_of}
+use Rattle.f3_parse.proofs.Fronts.{SoFar, no_break}
 use Rattle.f3_grammar_laws.proofs.Parts.{ap2, ap3}
 use Rattle.f3_grammar_laws.proofs.Forms as grammar
-use Rattle.f3_source_laws.specs.Laws.{StatementsHaveOneForm, BlocksAreOne, PartsAreOne, UnitsAreOne, SourcesSpellOneTree}
+use Rattle.f3_source_laws.specs.Laws.{StatementsHaveOneForm, BlocksAreOne, PartsAreOne, UnitsAreOne, SourcesSpellOneTree, SpelledSourcesBreakNothing}
 
 abbrev placed : Place → FormTree → Placed
 placed p f = record { place = p; form = f }
@@ -58,3 +64,18 @@ trees t u sources a b =
     let all_units : t.units ≡ u.units = units t.units u.units b.forms (subst (λ (ps : List Placed). AreUnits t.units ps) same a.units) b.units in
     let ends : t.end ≡ u.end = a.end ∙ sym b.end in
     ap3 (λ (x y : List (List ℕ)) (z : List UnitTree). tree_of x y z t.end) names texts all_units ∙ ap (λ (p : Place). tree_of u.names u.texts u.units p) ends
+
+-- the statements of sources that spell a tree are read as its units
+whole : (t : Tree) (sources : List Source) → Spells t sources → SoFar (lines_in sources) (free t.units)
+whole t sources a = record {
+  forms = a.forms;
+  have = a.have;
+  runs = units_read t.units a.forms a.units;
+  shallow = a.shallow;
+  only = λ qs h. forms qs a.forms (lines_in sources) h a.have;
+}
+
+pub no_breaks : SpelledSourcesBreakNothing
+no_breaks t sources b a h =
+    let ends = ends_of (bytes_of sources) in
+    no_break ends (lines_in sources) (free t.units) (whole t sources a) refl b (subst (λ (f : Option Break). BreaksOf ends (lines_in sources) f b) a.no_fault h)

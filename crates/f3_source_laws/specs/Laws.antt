@@ -1,6 +1,7 @@
 -- Sources, and the statements in them, spell one tree at most.
 use Rattle.std.specs.Prelude.{◌≡◌, Bool, List}
 use Rattle.f3_rules.specs.declared.source.Source.{Source}
+use Rattle.f3_rules.specs.declared.breaks.Break.{Break}
 use Rattle.f3_tree.specs.Statements.{Block}
 use Rattle.f3_tree.specs.Declarations.{PartTree}
 use Rattle.f3_tree.specs.Tree.{UnitTree, Tree}
@@ -10,7 +11,7 @@ use Rattle.f3_blocks.specs.Blocks.{IsBlock}
 use Rattle.f3_parts.specs.Parts.{IsPart}
 use Rattle.f3_units.specs.Units.{AreUnits}
 use Rattle.f3_parse.specs.Phase.{HaveForms}
-use Rattle.f3_parse.specs.Spells.{Spells}
+use Rattle.f3_parse.specs.Spells.{Spells, PhaseOne}
 
 abbrev pub StatementsHaveOneForm : Type 0
 StatementsHaveOneForm = (ps qs : List Placed) (ls : List Line) → HaveForms ps ls → HaveForms qs ls → ps ≡ qs
@@ -27,3 +28,7 @@ UnitsAreOne = (us vs : List UnitTree) (ps : List Placed) → AreUnits us ps → 
 -- two trees that the same sources spell are one
 abbrev pub SourcesSpellOneTree : Type 0
 SourcesSpellOneTree = (t u : Tree) (sources : List Source) → Spells t sources → Spells u sources → t ≡ u
+
+-- sources that spell a tree break no rule of the first phase
+abbrev pub SpelledSourcesBreakNothing : Type 0
+SpelledSourcesBreakNothing = (t : Tree) (sources : List Source) (b : Break) → Spells t sources → PhaseOne sources b → ⊥

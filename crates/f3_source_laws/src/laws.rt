@@ -1,6 +1,6 @@
 //! Laws on whole sources: what statements and sources spell is one.
 
-ghost use Rattle.f3_source_laws.specs.Laws.{StatementsHaveOneForm, BlocksAreOne, PartsAreOne, UnitsAreOne, SourcesSpellOneTree};
+ghost use Rattle.f3_source_laws.specs.Laws.{StatementsHaveOneForm, BlocksAreOne, PartsAreOne, UnitsAreOne, SourcesSpellOneTree, SpelledSourcesBreakNothing};
 ghost use Rattle.f3_source_laws.specs.Roles.{RolesAreSpelled, FormsHaveRoles};
 
 /// The statements of sources have one list of forms at most, and statements of these forms spell one block, one
@@ -12,9 +12,10 @@ pub fn statements_and_units_are_one()
     ensures units { UnitsAreOne }
 {}
 
-/// Two trees that the same sources spell are one tree.
+/// Two trees that the same sources spell are one tree, and sources that spell one break no rule of the first phase.
 pub fn sources_spell_one_tree()
-    ensures { SourcesSpellOneTree }
+    ensures one { SourcesSpellOneTree }
+    ensures no_break { SpelledSourcesBreakNothing }
 {}
 
 /// Which roles statements have among units and procedures (2.2, 11.1): each of these is that of a form that some tokens
