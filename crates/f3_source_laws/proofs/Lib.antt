@@ -1,3 +1,4 @@
 pub mod Ones
 pub mod Headers
 pub mod Roles
+pub mod Firsts

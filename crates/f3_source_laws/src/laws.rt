@@ -1,6 +1,6 @@
 //! Laws on whole sources: what statements and sources spell is one.
 
-ghost use Rattle.f3_source_laws.specs.Laws.{StatementsHaveOneForm, BlocksAreOne, PartsAreOne, UnitsAreOne, SourcesSpellOneTree, SpelledSourcesBreakNothing};
+ghost use Rattle.f3_source_laws.specs.Laws.{StatementsHaveOneForm, BlocksAreOne, PartsAreOne, UnitsAreOne, SourcesSpellOneTree, SpelledSourcesBreakNothing, FirstBreaksAreOne};
 ghost use Rattle.f3_source_laws.specs.Roles.{RolesAreSpelled, FormsHaveRoles};
 
 /// The statements of sources have one list of forms at most, and statements of these forms spell one block, one
@@ -16,6 +16,11 @@ pub fn statements_and_units_are_one()
 pub fn sources_spell_one_tree()
     ensures one { SourcesSpellOneTree }
     ensures no_break { SpelledSourcesBreakNothing }
+{}
+
+/// Two refusals that tell of the first break of the first phase tell the same.
+pub fn first_break_is_one()
+    ensures { FirstBreaksAreOne }
 {}
 
 /// Which roles statements have among units and procedures (2.2, 11.1): each of these is that of a form that some tokens
