@@ -1,0 +1,14 @@
+pub mod Levels
+pub mod Bounds
+pub mod Trees
+pub mod Ones
+pub mod Parts
+pub mod Declarations
+pub mod Headers
+pub mod Actions
+pub mod Constructs
+pub mod Forms
+pub mod Enclosures
+pub mod Assigned
+pub mod Heads
+pub mod Alternatives

@@ -1,0 +1,4 @@
+pub mod Ones
+pub mod Headers
+pub mod Roles
+pub mod Firsts
