@@ -70,7 +70,7 @@ fn act<'a, F: Opener, O: Write, E: Write>(
 }
 
 /// What a subcommand of this name asks for.
-fn task(name: &str, inner: &ArgMatches<'_>) -> Task
+pub fn task(name: &str, inner: &ArgMatches<'_>) -> Task
     ensures name { IsTask name.now result }
     ensures steps { (text : List ℕ) → one_text (found_of inner.now) (codes "steps") ≡ Some text
         → OfRun result (λ steps. (number : Option ℕ) × ReadsOne ⟦<u64 as FromStr>⟧.from_str_gives text number × (steps ≡ unwrap_or number 0)) }
