@@ -282,7 +282,7 @@ primaries::primary-returns-in-KindDigit-clause-read t c = rw c.integer.ensures (
 pub primaries::primary-returns-in-ShortInteger-clause-read : goal.primaries::primary-returns-in-ShortInteger-clause-read
 primaries::primary-returns-in-ShortInteger-clause-read t c =
     let whole : is_integer c.in-Some.item.word ≡ true = elim c.in-ShortInteger.is [ inl e ↦ ap is_integer e | inr e ↦ ap is_integer e ] in
-    rw c.integer.ensures (integer_reads c.args.items.now c.in-Some.item c.in-Some.tail.now c.in-Some.ensures whole)
+    rw c.integer-in-ShortInteger.ensures (integer_reads c.args.items.now c.in-Some.item c.in-Some.tail.now c.in-Some.ensures whole)
 
 pub primaries::primary-returns-in-Truth-clause-read : goal.primaries::primary-returns-in-Truth-clause-read
 primaries::primary-returns-in-Truth-clause-read t c = rw (view_truth c.in-Some.item.place c.in-Truth.truth) (truth_reads c.args.items.now c.in-Some.item c.in-Some.tail.now c.in-Truth.truth c.in-Some.ensures c.in-Truth.is)
