@@ -176,6 +176,11 @@ fn accepted(rt: HostRuntime) -> Result<(), Fail> {
     accept(
         &rt,
         alloc,
+        "module m; contains; integer(kind=8) function f(); f = 2_8 ** 62; end; end",
+    )?;
+    accept(
+        &rt,
+        alloc,
         "program p; end = 3; end%do = 4; type(1) = 5; end",
     )?;
     accept(&rt, alloc, "")?;
@@ -194,6 +199,16 @@ fn no_form(rt: HostRuntime) -> Result<(), Fail> {
         12,
     )?;
     check(&rt, alloc, "99999999999 x", Rule::S4, 1)?;
+    check(&rt, alloc, "program p; integer(2) :: n; end", Rule::S5, 12)?;
+    check(&rt, alloc, "program p; integer(04) :: n; end", Rule::S5, 12)?;
+    check(&rt, alloc, "program p; print *, 1_88; end", Rule::S5, 12)?;
+    check(
+        &rt,
+        alloc,
+        "program p; print *, 9223372036854775808_8; end",
+        Rule::S4,
+        21,
+    )?;
     check(&rt, alloc, "program p; stop 123456; end", Rule::S5, 12)?;
     check(&rt, alloc, "program p; print *, 12abc; end", Rule::S5, 12)?;
     check(&rt, alloc, "program p; print * 1; end", Rule::S5, 12)?;
