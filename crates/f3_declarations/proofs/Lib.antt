@@ -1,2 +1,3 @@
+mod KindNames
 mod Prefixes
 pub mod Turns

@@ -28,6 +28,7 @@ use Rattle.f3_declarations.specs.declared.procedures.Prefix.TheVariants as prefi
 use Rattle.f3_declarations.specs.declared.procedures.Prefixes.{Prefixes}
 use Rattle.f3_reading.specs.Parts.{EatsWord, EatsName, EatsKeyword, Lacks, Enclosed, Perhaps, BehindComma}
 use Rattle.f3_reading.specs.Names.{EatsEnclosedName, EatsNames, EatsColons, IsName, IsNameList}
+use Rattle.f3_declarations.specs.Kinds.{EatsInteger}
 
 -- ---- USE (11.2.1): [::] n [, n => n {, n => n}], or [::] n, ONLY: [only {, only}]
 
@@ -79,7 +80,7 @@ EatsDerived s ts r = (n : Identifier) × EatsEnclosedName n ts r × (s ≡ speci
 
 -- behind the keyword of a specifier (5.1.1)
 abbrev pub EatsSpecifierOf : Keyword → TypeSpecifier → List Item → List Item → Type 0
-EatsSpecifierOf keyword.Integer s ts r = (ts ≡ r) × (s ≡ specifier.Integer)
+EatsSpecifierOf keyword.Integer s ts r = EatsInteger s ts r
 EatsSpecifierOf keyword.Logical s ts r = (ts ≡ r) × (s ≡ specifier.Logical)
 EatsSpecifierOf keyword.Type s ts r = EatsDerived s ts r
 EatsSpecifierOf _ s ts r = ⊥

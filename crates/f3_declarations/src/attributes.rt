@@ -7,6 +7,7 @@ ghost use Rattle.f3_tree.specs.Declarations.{attribute_view, placed_view};
 ghost use Rattle.f3_words.specs.Reads.{Reads};
 ghost use Rattle.f3_declarations.specs.Specifications.{EatsDerived, EatsSpecifier, EatsSpecifierOf, EatsIntent, EatsEnclosedIntent, EatsDimension, EatsIntentOf, EatsAttributeOf, EatsAttribute, EatsAttributes};
 
+use crate::kinds::integer;
 use crate::shapes::shape;
 use f3_reading::lists::others;
 use f3_reading::names::enclosed_name;
@@ -33,7 +34,7 @@ pub fn specifier_of(keyword: Keyword, items: &[Item]) -> Result<(TypeSpecifier, 
     ensures shorter { IfOk result (λ x. length x.1.now ≤ length items.now) }
 {
     match keyword {
-        Keyword::Integer => Ok((TypeSpecifier::Integer, items)),
+        Keyword::Integer => integer(items),
         Keyword::Logical => Ok((TypeSpecifier::Logical, items)),
         Keyword::Type => derived(items),
         _ => Err(ReadError::NoForm),

@@ -4,6 +4,7 @@
 pub mod access;
 pub mod attributes;
 pub mod declarations;
+mod kinds;
 pub mod procedures;
 pub mod shapes;
 pub mod uses;

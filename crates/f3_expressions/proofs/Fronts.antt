@@ -79,6 +79,7 @@ ends_unsigned l r h = elim (cases_lt l 3) [
 -- the lowest level of which an expression may begin with a word
 abbrev pub rank : Word → ℕ
 rank (word.Name k) = 0
+rank (word.KindDigit k) = 0
 rank word.ShortInteger = 0
 rank word.LongInteger = 0
 rank (word.Truth b) = 0
@@ -92,6 +93,7 @@ rank word.Not = 6
 rank _ = 10
 
 integer_rank : (w : Word) → is_integer w ≡ true → rank w ≡ 0
+integer_rank (word.KindDigit k) h = refl
 integer_rank word.ShortInteger h = refl
 integer_rank word.LongInteger h = refl
 integer_rank w h = absurd (cc)
@@ -170,6 +172,7 @@ other_first : (i j : Item) (ts us : List Item) → i ∷ ts ≡ j ∷ us → is_
 other_first i j ts us e n o = let same : i ≡ j = cc in true≢false (sym n ∙ ap (λ (x : Item). is_name x.word) same ∙ o)
 
 integer_no_name : (w : Word) → is_integer w ≡ true → is_name w ≡ false
+integer_no_name (word.KindDigit k) h = refl
 integer_no_name word.ShortInteger h = refl
 integer_no_name word.LongInteger h = refl
 integer_no_name w h = absurd (cc)

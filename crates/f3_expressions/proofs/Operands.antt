@@ -8,6 +8,7 @@ use Rattle.std.specs.Borrow.{Bor}
 use Rattle.f3_tree.specs.declared.expression.Argument.{Argument}
 use Rattle.f3_tree.specs.declared.expression.Operator.{Operator}
 use Rattle.f3_tree.specs.declared.expression.Operator.TheVariants.{Add, Subtract}
+use Rattle.f3_tree.specs.declared.expression.IntegerKind.{IntegerKind}
 use Rattle.f3_tree.specs.Expressions.{Tree, integer, truth, text, designator, group, array, signed, negation, comparison, chain, Trees, no_trees, trees, trees_of, Parts, no_parts, parts, Behind, bare, within, Arguments, no_arguments, arguments, ArgumentTree, arguments_of, argument_view, part_view, parts_list, designator_view}
 use Rattle.f3_words.specs.declared.item.Word.{Word}
 use Rattle.f3_words.specs.declared.item.Word.TheVariants as word
@@ -45,6 +46,7 @@ kind_of_tree (array p es) = listed
 kind_of_tree _ = other
 
 abbrev kind_of : Word → Kind
+kind_of (word.KindDigit k) = number
 kind_of word.ShortInteger = number
 kind_of word.LongInteger = number
 kind_of (word.Truth b) = boolean
@@ -56,6 +58,7 @@ kind_of word.OpenSlash = listed
 kind_of _ = other
 
 number_kind : (w : Word) → is_integer w ≡ true → kind_of w ≡ number
+number_kind (word.KindDigit k) h = refl
 number_kind word.ShortInteger h = refl
 number_kind word.LongInteger h = refl
 number_kind w h = absurd (cc)
@@ -489,17 +492,18 @@ operator_rank Subtract = omega arith
 operator_rank o = omega arith
 
 -- a word that begins no primary
-pub other_rank : (w : Word) → ((k : Keyword) → w ≡ word.Name k → ⊥) → (w ≡ word.ShortInteger → ⊥) → (w ≡ word.LongInteger → ⊥) → ((b : Bool) → w ≡ word.Truth b → ⊥) → (w ≡ word.Text → ⊥) → (w ≡ word.Open → ⊥) → (w ≡ word.OpenSlash → ⊥) → (w ≡ word.OpenBracket → ⊥) → 0 < rank w
-other_rank (word.Name k) a b c d e f g h = absurd (a k refl)
-other_rank word.ShortInteger a b c d e f g h = absurd (b refl)
-other_rank word.LongInteger a b c d e f g h = absurd (c refl)
-other_rank (word.Truth v) a b c d e f g h = absurd (d v refl)
-other_rank word.Text a b c d e f g h = absurd (e refl)
-other_rank word.Open a b c d e f g h = absurd (f refl)
-other_rank word.OpenSlash a b c d e f g h = absurd (g refl)
-other_rank word.OpenBracket a b c d e f g h = absurd (h refl)
-other_rank (word.Operator o) a b c d e f g h = operator_rank o
-other_rank w a b c d e f g h = omega arith
+pub other_rank : (w : Word) → ((k : Keyword) → w ≡ word.Name k → ⊥) → ((k : IntegerKind) → w ≡ word.KindDigit k → ⊥) → (w ≡ word.ShortInteger → ⊥) → (w ≡ word.LongInteger → ⊥) → ((b : Bool) → w ≡ word.Truth b → ⊥) → (w ≡ word.Text → ⊥) → (w ≡ word.Open → ⊥) → (w ≡ word.OpenSlash → ⊥) → (w ≡ word.OpenBracket → ⊥) → 0 < rank w
+other_rank (word.Name k) a z b c d e f g h = absurd (a k refl)
+other_rank (word.KindDigit k) a z b c d e f g h = absurd (z k refl)
+other_rank word.ShortInteger a z b c d e f g h = absurd (b refl)
+other_rank word.LongInteger a z b c d e f g h = absurd (c refl)
+other_rank (word.Truth v) a z b c d e f g h = absurd (d v refl)
+other_rank word.Text a z b c d e f g h = absurd (e refl)
+other_rank word.Open a z b c d e f g h = absurd (f refl)
+other_rank word.OpenSlash a z b c d e f g h = absurd (g refl)
+other_rank word.OpenBracket a z b c d e f g h = absurd (h refl)
+other_rank (word.Operator o) a z b c d e f g h = operator_rank o
+other_rank w a z b c d e f g h = omega arith
 
 pub starts_no_open : (ts : List Item) → ((j : Item) (tail : List Item) → ts ≡ j ∷ tail → j.word ≡ word.Open → ⊥) → starts is_open ts ≡ false
 starts_no_open [] h = refl

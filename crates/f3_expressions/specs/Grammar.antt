@@ -10,6 +10,7 @@ use Rattle.f3_words.specs.Lists.{starts}
 use Rattle.f3_expressions.specs.Levels.{term, sum, compared, negated, whole, signed_term, level_of, unsigned, operator_of, Ends}
 
 abbrev pub is_integer : Word → Bool
+is_integer (word.KindDigit k) = true
 is_integer word.ShortInteger = true
 is_integer word.LongInteger = true
 is_integer _ = false

@@ -27,6 +27,7 @@ pub fn primary(alloc: Global, items: &[Item]) -> Result<(Expression, &[Item]), R
     match front(items) {
         None => Err(ReadError::NoForm),
         Some((item, tail)) => match item.word {
+            Word::KindDigit(_) => Ok((integer(item), tail)),
             Word::ShortInteger | Word::LongInteger => Ok((integer(item), tail)),
             Word::Truth(truth) => Ok((Expression::Truth(item.place, truth), tail)),
             Word::Text => Ok((Expression::Text(item.place, item.symbol), tail)),

@@ -1,6 +1,8 @@
 -- Executable statements.
-use Rattle.std.specs.Prelude.{◌≡◌, ◌≢◌, ◌⊎◌, Bool, true, false, List, [], ◌∷◌, Option, Some, None}
+use Rattle.std.specs.Prelude.{◌≡◌, ◌≢◌, ◌⊎◌, ℤ, Bool, true, false, List, [], ◌∷◌, Option, Some, None}
 use Rattle.f3_tree.specs.declared.expression.Name.{Name as Identifier}
+use Rattle.f3_tree.specs.declared.expression.IntegerLiteral.{IntegerLiteral}
+use Rattle.f3_tree.specs.declared.expression.IntegerLiteral.TheVariants as literal
 use Rattle.f3_tree.specs.declared.expression.Operator.TheVariants.{Multiply}
 use Rattle.f3_tree.specs.Expressions.{Tree, Parts, ArgumentTree}
 use Rattle.f3_tree.specs.Statements.{Act, assign, call, allocate, deallocate, print, stop, return, cycle, exit, continue, CaseTree, one, from, up_to, range, Selects, values, default, Controls, forever, counted, while}
@@ -68,9 +70,15 @@ EatsItems es ts r = BehindComma AreItems es ts r
 unfoldable pub IsPrint : Act → List Item → Type 0
 IsPrint a ts = (es : List Tree) × (b : List Item) × EatsWord (word.Operator Multiply) ts b × EatsItems es b [] × (a ≡ print es)
 
--- at most one integer, of one to five digits (8.4)
+-- the value of an integer of one to five digits (8.4), without a suffix
+abbrev pub stop_code : Word → IntegerLiteral → Option ℤ
+stop_code (word.KindDigit k) (literal.Four z) = Some z
+stop_code word.ShortInteger (literal.Four z) = Some z
+stop_code _ _ = None
+
+-- at most one such integer
 unfoldable pub IsStop : Act → List Item → Type 0
-IsStop a ts = ((ts ≡ []) × (a ≡ stop None)) ⊎ ((i : Item) × (ts ≡ i ∷ []) × (i.word ≡ word.ShortInteger) × (a ≡ stop (Some i.value)))
+IsStop a ts = ((ts ≡ []) × (a ≡ stop None)) ⊎ ((i : Item) × (z : ℤ) × (ts ≡ i ∷ []) × (stop_code i.word i.value ≡ Some z) × (a ≡ stop (Some z)))
 
 -- the keyword alone
 abbrev pub IsAlone : Act → Act → List Item → Type 0

@@ -1,10 +1,10 @@
 //! Action statements.
 
-ghost use Rattle.std.specs.Prelude.{map};
+ghost use Rattle.std.specs.Prelude.{◌≡◌, map};
 ghost use Rattle.f3_tree.specs.Expressions.{expression_view, argument_view};
 ghost use Rattle.f3_tree.specs.Statements.{action_view};
 ghost use Rattle.f3_words.specs.Reads.{Reads, Finds};
-ghost use Rattle.f3_forms.specs.Actions.{IsAssignment, IsCallArguments, IsCall, IsAllocate, IsDeallocate, EatsItems, IsPrint, IsStop, IsAlone, IsActionOf, IsHeadedAction, IsAction};
+ghost use Rattle.f3_forms.specs.Actions.{IsAssignment, IsCallArguments, IsCall, IsAllocate, IsDeallocate, EatsItems, IsPrint, stop_code, IsStop, IsAlone, IsActionOf, IsHeadedAction, IsAction};
 
 use crate::allocations::allocation;
 use f3_expressions::arguments::arguments;
@@ -12,7 +12,7 @@ use f3_expressions::designators::designator;
 use f3_expressions::expressions::expression;
 use f3_reading::lists::others;
 use f3_reading::signs::{is_over, name, skip};
-use f3_tree::expression::{Argument, Expression, Operator};
+use f3_tree::expression::{Argument, Expression, IntegerLiteral, Operator};
 use f3_tree::statement::Action;
 use f3_words::error::ReadError;
 use f3_words::item::{Item, Keyword, Word};
@@ -99,6 +99,20 @@ fn print(alloc: Global, items: &[Item]) -> Result<Action, ReadError>
     }
 }
 
+/// The value of an integer of one to five digits without a suffix (8.4).
+fn stop_code(word: Word, value: IntegerLiteral) -> Option<i32>
+    ensures { result ≡ stop_code word value }
+{
+    match value {
+        IntegerLiteral::Four(code) => match word {
+            Word::KindDigit(_) => Some(code),
+            Word::ShortInteger => Some(code),
+            _ => None,
+        },
+        IntegerLiteral::Eight(_) => None,
+    }
+}
+
 /// What stands behind STOP.
 #[tactic(auto, unfolding(crate::specs::Actions::IsStop))]
 fn stop(items: &[Item]) -> Result<Action, ReadError>
@@ -106,15 +120,15 @@ fn stop(items: &[Item]) -> Result<Action, ReadError>
 {
     match front(items) {
         None => Ok(Action::Stop(None)),
-        Some((digits, tail)) => match digits.word {
-            Word::ShortInteger => {
+        Some((digits, tail)) => match stop_code(digits.word, digits.value) {
+            Some(code) => {
                 if is_over(tail) {
-                    Ok(Action::Stop(Some(digits.value)))
+                    Ok(Action::Stop(Some(code)))
                 } else {
                     Err(ReadError::NoForm)
                 }
             }
-            _ => Err(ReadError::NoForm),
+            None => Err(ReadError::NoForm),
         },
     }
 }

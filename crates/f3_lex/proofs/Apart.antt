@@ -13,8 +13,7 @@ no_name bytes e = rw e refl
 
 pub no_digits : (bytes : List ℕ) → is_ascii_digit (slice_index bytes 0) ≡ false → integer_length bytes ≡ 0
 unfolding integer_length
-no_digits [] e = refl
-no_digits (b ∷ bytes) e = rw e refl
+no_digits bytes e = rw e refl
 
 pub no_constant : (bytes : List ℕ) → is_quote (slice_index bytes 0) ≡ false → constant_length bytes ≡ 0
 unfolding constant_length

@@ -1,12 +1,12 @@
 -- The token at the front has a length, within the bytes.
-use Rattle.std.proofs.Common.{◌≡◌, ◌==◌, ℕ, ◌+◌, ◌<◌, ◌≤◌, zero, suc, List, [], ◌∷◌, length, slice_index, Bool, true, false, ◌&&◌, cond, Option, None, Some, unwrap_or, refl, sym, ap, arith}
+use Rattle.std.proofs.Common.{◌≡◌, ◌==◌, ℕ, ◌+◌, ◌<◌, ◌≤◌, zero, suc, List, [], ◌∷◌, length, drop, slice_index, Bool, true, false, ◌&&◌, cond, Option, None, Some, unwrap_or, refl, sym, ap, arith}
 use Rattle.std.specs.Char.{is_ascii_alphabetic, is_ascii_digit, to_ascii_lowercase}
 use Rattle.std.specs.Option.{option_map}
-use Rattle.std.proofs.lemmas.List.{length-map}
+use Rattle.std.proofs.lemmas.List.{length-map, length-drop}
 use Rattle.std.proofs.lemmas.List.Sums.{prefix_len-le-length}
 use Rattle.f3_lex.specs.declared.token.TokenKind.{TokenKind}
 use Rattle.f3_lex.specs.declared.token.TokenKind.TheVariants.{Name, Integer, Truth, Word, Text, Sign, Other}
-use Rattle.f3_lex.specs.Tokens.{lower, is_name_byte, is_quote, begins, listed_length, name_length, integer_length, to_closing, behind_quote, constant_length, first_found, front, truths, dot_words, signs}
+use Rattle.f3_lex.specs.Tokens.{lower, is_name_byte, is_quote, begins, listed_length, name_length, suffixes, suffix_length, digits_length, integer_length, to_closing, behind_quote, constant_length, first_found, front, truths, dot_words, signs}
 
 -- a choice is within what both are within
 either : (b : Bool) (m n k : ℕ) → m ≤ k → n ≤ k → cond b m n ≤ k
@@ -16,10 +16,6 @@ either false m n k h g = g
 name_within : (bytes : List ℕ) → name_length bytes ≤ length bytes
 unfolding name_length
 name_within bytes = either (is_ascii_alphabetic (slice_index bytes 0)) _ _ _ (prefix_len-le-length is_name_byte bytes) (omega arith)
-
-integer_within : (bytes : List ℕ) → integer_length bytes ≤ length bytes
-unfolding integer_length
-integer_within bytes = prefix_len-le-length is_ascii_digit bytes
 
 second : (p q : Bool) → (p && q) ≡ true → q ≡ true
 second true q h = h
@@ -38,6 +34,18 @@ listed_within : (words : List (List ℕ)) (bytes : List ℕ) → listed_length w
 unfolding listed_length
 listed_within [] bytes = omega arith
 listed_within (word ∷ words) bytes = if_so (begins word bytes) _ _ _ (begins_within word bytes) (listed_within words bytes)
+
+suffix_within : (bytes : List ℕ) → suffix_length bytes ≤ length bytes
+unfolding suffix_length
+suffix_within bytes = either (is_name_byte (slice_index bytes 2)) _ _ _ (omega arith) (listed_within suffixes bytes)
+
+integer_within : (bytes : List ℕ) → integer_length bytes ≤ length bytes
+unfolding integer_length
+integer_within bytes =
+    let digits = prefix_len-le-length is_ascii_digit bytes in
+    let suffix = suffix_within (drop (digits_length bytes) bytes) in
+    let size = length-drop (digits_length bytes) bytes in
+    either (is_ascii_digit (slice_index bytes 0)) _ _ _ (omega (arith, digits, suffix, size)) (omega arith)
 
 mapped : (k : ℕ) (found : Option ℕ) → unwrap_or (option_map (λ n. k + n) found) 0 ≤ k + unwrap_or found 0
 mapped k None = omega arith

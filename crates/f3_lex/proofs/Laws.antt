@@ -33,7 +33,7 @@ all_ascii (b ∷ text) h zero = name_byte_ascii b h.0
 all_ascii (b ∷ text) h (suc i) = all_ascii text h.1 i
 
 name_spelled : (depth : ℕ) (bytes : List ℕ) (kind : TokenKind) (n : ℕ) → IsFront depth bytes kind n → kind ≡ Name → AllByRecursion (λ b. is_name_byte b ≡ true) (take n bytes)
-name_spelled depth bytes kind n (inl longest) e = let P : TokenKind → Type 0 = λ k. IsSpelled depth k (take n bytes) in (subst P e longest.0).1
+name_spelled depth bytes kind n (inl longest) e = let P : TokenKind → Type 0 = λ k. IsSpelled depth k (take n bytes) (drop n bytes) in (subst P e longest.0).1
 name_spelled depth bytes kind n (inr none) e = absurd (let apart : Name ≡ Other = sym e ∙ none.0 in cc)
 
 pub name_is_ascii : (bytes : List ℕ) (token : Token) → Contains (tokens_of bytes) token → token.kind ≡ Name → IsAscii (text_of token bytes)

@@ -1,8 +1,8 @@
 -- The lengths of tokens at the front.
-use Rattle.std.proofs.Common.{◌≡◌, ◌≢◌, ℕ, ◌+◌, ◌<◌, ◌≤◌, zero, suc, List, [], ◌∷◌, length, slice_index, get_or, drop, Option, None, Some, unwrap_or, eq-eqb, ◌⊎◌, inl, inr, Bool, true, false, ◌&&◌, refl, ap, ◌∙◌, arith, ne_eqb}
+use Rattle.std.proofs.Common.{◌≡◌, ◌≢◌, ℕ, ◌+◌, ◌<◌, ◌≤◌, zero, suc, List, [], ◌∷◌, length, slice_index, get_or, drop, Option, None, Some, unwrap_or, eq-eqb, ◌⊎◌, inl, inr, Bool, true, false, ◌&&◌, refl, ap, ◌∙◌, arith, ne_eqb, cond, if◌then◌else◌}
 use Rattle.std.proofs.lemmas.List.{at_drop_more, at_drop_all}
 use Rattle.std.specs.Option.{option_map, option_or}
-use Rattle.f3_lex.specs.Tokens.{lower, begins, listed_length, signs, to_closing, behind_quote}
+use Rattle.f3_lex.specs.Tokens.{lower, is_name_byte, begins, listed_length, suffixes, suffix_length, signs, to_closing, behind_quote}
 
 never : (b : Bool) → (b && false) ≡ false
 never true = refl
@@ -57,6 +57,37 @@ alone depth a b (inl e) = no_colon depth a b (λ h. omega arith) ∙ rw e refl
 alone depth a b (inr (inl e)) = no_colon depth a b (λ h. omega arith) ∙ rw e refl
 alone depth a b (inr (inr (inl e))) = no_colon depth a b (λ h. omega arith) ∙ rw e refl
 alone depth a b (inr (inr (inr e))) = no_colon depth a b (λ h. omega arith) ∙ rw e refl
+
+-- only three bytes decide on a suffix
+pub three_bytes : (bytes : List ℕ) → suffix_length bytes ≡ (if is_name_byte (slice_index bytes 2) then 0 else listed_length suffixes (slice_index bytes 0 ∷ slice_index bytes 1 ∷ []))
+unfolding suffix_length listed_length
+three_bytes [] = refl
+three_bytes (b ∷ []) = refl
+three_bytes (b ∷ c ∷ bytes) = refl
+
+module _ (bytes : List ℕ) where
+  pub name_next : is_name_byte (slice_index bytes 2) ≡ true → suffix_length bytes ≡ 0
+  name_next e = three_bytes bytes ∙ rw e refl
+
+  behind : (n : ℕ) → listed_length suffixes (slice_index bytes 0 ∷ slice_index bytes 1 ∷ []) ≡ n → is_name_byte (slice_index bytes 2) ≡ false → suffix_length bytes ≡ n
+  behind n h e = three_bytes bytes ∙ rw e h
+
+  pub no_underscore : slice_index bytes 0 ≢ 95 → suffix_length bytes ≡ 0
+  unfolding listed_length
+  no_underscore h = three_bytes bytes ∙ rw (ne_eqb _ _ h) (same (is_name_byte (slice_index bytes 2)))
+    where
+      same : (t : Bool) → cond t zero zero ≡ zero
+      same true = refl
+      same false = refl
+
+  pub is_kind : slice_index bytes 0 ≡ 95 → is_name_byte (slice_index bytes 2) ≡ false → (slice_index bytes 1 ≡ 52) ⊎ (slice_index bytes 1 ≡ 56) → suffix_length bytes ≡ 2
+  unfolding listed_length
+  is_kind u e (inl h) = behind 2 (rw (u, h) refl) e
+  is_kind u e (inr h) = behind 2 (rw (u, h) refl) e
+
+  pub no_kind : slice_index bytes 0 ≡ 95 → is_name_byte (slice_index bytes 2) ≡ false → slice_index bytes 1 ≢ 52 → slice_index bytes 1 ≢ 56 → suffix_length bytes ≡ 0
+  unfolding listed_length
+  no_kind u e f g = behind 0 (rw (u, ne_eqb _ _ f, ne_eqb _ _ g) refl) e
 
 -- inside a character constant, at a byte of the list
 module _ (quote : ℕ) (bytes : List ℕ) (n : ℕ) (there : n < length bytes) where

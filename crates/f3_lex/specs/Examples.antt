@@ -16,5 +16,7 @@ Examples =
     × (pieces (codes "(/1,[2]/)::") ≡ (Sign, codes "(/") ∷ (Integer, codes "1") ∷ (Sign, codes ",") ∷ (Sign, codes "[") ∷ (Integer, codes "2") ∷ (Sign, codes "]") ∷ (Sign, codes "/)") ∷ (Sign, codes "::") ∷ [])
     × (pieces (codes "'it''s'\"a\"") ≡ (Text, codes "'it''s'") ∷ (Text, codes "\"a\"") ∷ [])
     × (pieces (codes ".Not..TRUE..eqv.1.ge.2") ≡ (Word, codes ".Not.") ∷ (Truth, codes ".TRUE.") ∷ (Word, codes ".eqv.") ∷ (Integer, codes "1") ∷ (Word, codes ".ge.") ∷ (Integer, codes "2") ∷ [])
-    × (pieces (codes "12abc 1_8 .x. 'a") ≡ (Integer, codes "12") ∷ (Name, codes "abc") ∷ (Integer, codes "1") ∷ (Other, codes "_") ∷ (Integer, codes "8") ∷ (Other, codes ".") ∷ (Name, codes "x") ∷ (Other, codes ".") ∷ (Other, codes "'") ∷ (Name, codes "a") ∷ [])
+    × (pieces (codes "12abc 1_k .x. 'a") ≡ (Integer, codes "12") ∷ (Name, codes "abc") ∷ (Integer, codes "1") ∷ (Other, codes "_") ∷ (Name, codes "k") ∷ (Other, codes ".") ∷ (Name, codes "x") ∷ (Other, codes ".") ∷ (Other, codes "'") ∷ (Name, codes "a") ∷ [])
+    × (pieces (codes "04_4+1_8.lt.n_8") ≡ (Integer, codes "04_4") ∷ (Sign, codes "+") ∷ (Integer, codes "1_8") ∷ (Word, codes ".lt.") ∷ (Name, codes "n_8") ∷ [])
+    × (pieces (codes "1_88 1_8x 1_4_") ≡ (Integer, codes "1") ∷ (Other, codes "_") ∷ (Integer, codes "88") ∷ (Integer, codes "1") ∷ (Other, codes "_") ∷ (Integer, codes "8") ∷ (Name, codes "x") ∷ (Integer, codes "1") ∷ (Other, codes "_") ∷ (Integer, codes "4") ∷ (Other, codes "_") ∷ [])
     × (pieces (codes "a(/=b)") ≡ (Name, codes "a") ∷ (Sign, codes "(/") ∷ (Sign, codes "=") ∷ (Name, codes "b") ∷ (Sign, codes ")") ∷ [])

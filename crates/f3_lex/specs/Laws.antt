@@ -7,7 +7,7 @@ use Rattle.std.specs.Char.{is_ascii_alphabetic, is_ascii_digit}
 use Rattle.f3_lex.specs.declared.token.Token.{Token}
 use Rattle.f3_lex.specs.declared.token.TokenKind.{TokenKind}
 use Rattle.f3_lex.specs.declared.token.TokenKind.TheVariants.{Name, Integer, Truth, Word, Text, Sign, Other}
-use Rattle.f3_lex.specs.Tokens.{lower, is_name_byte, is_blank, is_quote, truths, dot_words, signs, text_of, depth_after, tokens_of}
+use Rattle.f3_lex.specs.Tokens.{lower, is_name_byte, is_blank, is_quote, suffixes, truths, dot_words, signs, text_of, depth_after, tokens_of}
 
 -- characters as they stand between these quotes: a quote among them is doubled (4.4.4)
 abbrev pub doubled : ℕ → List ℕ → List ℕ
@@ -18,23 +18,28 @@ abbrev pub IsOneOf : List (List ℕ) → List ℕ → Type 0
 IsOneOf [] text = ⊥
 IsOneOf (word ∷ words) text = (text ≡ word) ⊎ IsOneOf words text
 
--- this text spells a token of the kind, where so many parentheses and brackets are open
-abbrev pub IsSpelled : ℕ → TokenKind → List ℕ → Type 0
-IsSpelled depth Name text = (is_ascii_alphabetic (slice_index text 0) ≡ true) × AllByRecursion (λ b. is_name_byte b ≡ true) text
-IsSpelled depth Integer text = AllByRecursion (λ b. is_ascii_digit b ≡ true) text × (0 < length text)
-IsSpelled depth Truth text = IsOneOf truths (lower text)
-IsSpelled depth Word text = IsOneOf dot_words (lower text)
-IsSpelled depth Text text = (quote : ℕ) × (characters : List ℕ) × (is_quote quote ≡ true) × (text ≡ quote ∷ (doubled quote characters ++ quote ∷ []))
-IsSpelled depth Sign text = IsOneOf (signs depth) text
-IsSpelled depth Other text = ⊥
+-- no suffix of an integer, or one that no letter, digit or underscore follows
+abbrev pub IsSuffix : List ℕ → List ℕ → Type 0
+IsSuffix text next = (text ≡ []) ⊎ (IsOneOf suffixes text × (is_name_byte (slice_index next 0) ≡ false))
+
+-- this text spells a token of the kind, where so many parentheses and brackets are open and these bytes come next
+abbrev pub IsSpelled : ℕ → TokenKind → List ℕ → List ℕ → Type 0
+IsSpelled depth Name text next = (is_ascii_alphabetic (slice_index text 0) ≡ true) × AllByRecursion (λ b. is_name_byte b ≡ true) text
+IsSpelled depth Integer text next =
+    (digits : List ℕ) × (suffix : List ℕ) × (text ≡ digits ++ suffix) × AllByRecursion (λ b. is_ascii_digit b ≡ true) digits × (0 < length digits) × IsSuffix suffix next
+IsSpelled depth Truth text next = IsOneOf truths (lower text)
+IsSpelled depth Word text next = IsOneOf dot_words (lower text)
+IsSpelled depth Text text next = (quote : ℕ) × (characters : List ℕ) × (is_quote quote ≡ true) × (text ≡ quote ∷ (doubled quote characters ++ quote ∷ []))
+IsSpelled depth Sign text next = IsOneOf (signs depth) text
+IsSpelled depth Other text next = ⊥
 
 -- the first n of these bytes spell a token of the kind, and no more of them spell any
 abbrev pub IsLongest : ℕ → List ℕ → TokenKind → ℕ → Type 0
-IsLongest depth bytes kind n = IsSpelled depth kind (take n bytes) × ((other : TokenKind) (m : ℕ) → IsSpelled depth other (take m bytes) → length (take m bytes) ≤ n)
+IsLongest depth bytes kind n = IsSpelled depth kind (take n bytes) (drop n bytes) × ((other : TokenKind) (m : ℕ) → IsSpelled depth other (take m bytes) (drop m bytes) → length (take m bytes) ≤ n)
 
 -- no token stands at the front of these bytes
 abbrev pub NoneStands : ℕ → List ℕ → Type 0
-NoneStands depth bytes = (kind : TokenKind) (m : ℕ) → IsSpelled depth kind (take m bytes) → ⊥
+NoneStands depth bytes = (kind : TokenKind) (m : ℕ) → IsSpelled depth kind (take m bytes) (drop m bytes) → ⊥
 
 -- the token at the front is the longest one, or one byte where none stands
 abbrev pub IsFront : ℕ → List ℕ → TokenKind → ℕ → Type 0

@@ -1,5 +1,5 @@
 -- The tokens of a statement (3.2; own rules: the longest token first, and `::` only outside parentheses and brackets).
-use Rattle.std.specs.Prelude.{ℕ, zero, suc, ◌++◌, ◌+◌, ◌-◌, ◌==◌, Bool, true, false, ◌&&◌, ◌||◌, Option, None, Some, List, [], ◌∷◌, length, take, map, codes, if◌then◌else◌, slice_index, slice_range, unwrap_or}
+use Rattle.std.specs.Prelude.{ℕ, zero, suc, ◌++◌, ◌+◌, ◌-◌, ◌==◌, Bool, true, false, ◌&&◌, ◌||◌, Option, None, Some, List, [], ◌∷◌, length, take, drop, map, codes, if◌then◌else◌, slice_index, slice_range, unwrap_or}
 use Rattle.std.specs.List.{prefix_len}
 use Rattle.std.specs.Char.{to_ascii_lowercase, is_ascii_alphabetic, is_ascii_alphanumeric, is_ascii_digit}
 use Rattle.std.specs.Option.{option_map}
@@ -29,10 +29,6 @@ text_of token bytes = slice_range bytes token.start token.end
 unfoldable pub name_length : List ℕ → ℕ
 name_length bytes = if is_ascii_alphabetic (slice_index bytes 0) then prefix_len is_name_byte bytes else 0
 
--- digits (4.4.1)
-unfoldable pub integer_length : List ℕ → ℕ
-integer_length bytes = prefix_len is_ascii_digit bytes
-
 -- the word stands at the front
 abbrev pub begins : List ℕ → List ℕ → Bool
 begins [] bytes = true
@@ -43,6 +39,22 @@ begins (w ∷ word) (b ∷ bytes) = (b == w) && begins word bytes
 unfoldable pub listed_length : List (List ℕ) → List ℕ → ℕ
 listed_length [] bytes = 0
 listed_length (word ∷ words) bytes = if begins word bytes then length word else listed_length words bytes
+
+-- the suffixes of integers, which name their kinds (4.4.1)
+abbrev pub suffixes : List (List ℕ)
+suffixes = codes "_4" ∷ codes "_8" ∷ []
+
+-- a suffix, behind which no letter, digit or underscore comes next
+unfoldable pub suffix_length : List ℕ → ℕ
+suffix_length bytes = if is_name_byte (slice_index bytes 2) then 0 else listed_length suffixes bytes
+
+-- digits (4.4.1)
+abbrev pub digits_length : List ℕ → ℕ
+digits_length bytes = prefix_len is_ascii_digit bytes
+
+-- digits, and directly behind them a suffix where one stands there
+unfoldable pub integer_length : List ℕ → ℕ
+integer_length bytes = if is_ascii_digit (slice_index bytes 0) then digits_length bytes + suffix_length (drop (digits_length bytes) bytes) else 0
 
 -- the logical literals (4.4.4)
 abbrev pub truths : List (List ℕ)

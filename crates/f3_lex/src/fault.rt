@@ -12,7 +12,7 @@ use f3_rules::rule::Rule;
 const LONGEST: usize = 63;
 
 /// The rule that a token of this kind and these bytes breaks.
-#[tactic(auto, unfolding(crate::specs::Faults::integer_of))]
+#[tactic(auto, unfolding(crate::specs::Faults::integer_of, crate::specs::Faults::value_within))]
 fn broken_by(kind: TokenKind, text: &[u8]) -> Option<Rule>
     ensures { result ≡ broken_by kind text.now }
 {

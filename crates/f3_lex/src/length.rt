@@ -2,8 +2,7 @@
 
 ghost use Rattle.std.specs.Prelude.{◌≡◌, ◌≤◌, List, [], ◌∷◌, length, slice_index, IfSome};
 ghost use Rattle.std.specs.List.{prefix_len};
-ghost use Rattle.std.specs.Char.{is_ascii_digit};
-ghost use Rattle.f3_lex.specs.Tokens.{lower, is_name_byte, name_length, integer_length, begins, listed_length, truths, dot_words, signs, to_closing, constant_length};
+ghost use Rattle.f3_lex.specs.Tokens.{lower, is_name_byte, name_length, suffix_length, digits_length, integer_length, begins, listed_length, truths, dot_words, signs, to_closing, constant_length};
 
 fn is_name_byte(byte: u8) -> bool
     ensures { result ≡ is_name_byte byte }
@@ -38,15 +37,44 @@ pub fn name_length(bytes: &[u8]) -> usize
     }
 }
 
-#[tactic(auto, unfolding(crate::specs::Tokens::integer_length))]
-pub fn integer_length(bytes: &[u8]) -> usize
-    ensures { result ≡ integer_length bytes.now }
+/// How many digits there are at the front.
+pub fn digits_length(bytes: &[u8]) -> usize
+    ensures value { result ≡ digits_length bytes.now }
+    ensures within { result ≤ length bytes.now }
 {
     let mut n = 0;
     while n < bytes.len() && bytes[n].is_ascii_digit() {
         n += 1;
     }
     n
+}
+
+/// The length of the suffix of an integer: it names a kind, and no letter, digit or underscore comes next.
+fn suffix_length(bytes: &[u8]) -> usize
+    ensures value { result ≡ suffix_length bytes.now }
+    ensures within { result ≤ length bytes.now }
+{
+    if byte_at(bytes, 0) != b'_' {
+        return 0;
+    }
+    if is_name_byte(byte_at(bytes, 2)) {
+        return 0;
+    }
+    match byte_at(bytes, 1) {
+        b'4' | b'8' => 2,
+        _ => 0,
+    }
+}
+
+#[tactic(auto, unfolding(crate::specs::Tokens::integer_length))]
+pub fn integer_length(bytes: &[u8]) -> usize
+    ensures { result ≡ integer_length bytes.now }
+{
+    if !byte_at(bytes, 0).is_ascii_digit() {
+        return 0;
+    }
+    let digits = digits_length(bytes);
+    digits + suffix_length(&bytes[digits..])
 }
 
 /// Whether a word, which is in lower case, stands at the front. Letters compare without case.

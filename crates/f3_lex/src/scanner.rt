@@ -127,7 +127,7 @@ fn scan(alloc: Global, bytes: &[u8]) -> Result<Vec<Token>, AllocError>
 }
 
 /// The tokens of a statement, spans in order, and the first break of S3 or S4: a name of more than 63 bytes is a
-/// name still, and a literal past 2147483647 an integer. AllocError where the host's memory has no room.
+/// name still, and a literal past the largest of its kind an integer. AllocError where the host's memory has no room.
 pub fn tokens(alloc: Global, statement: &RawStatement) -> Result<Lexed, AllocError>
     ensures tokens { IfOk result (λ lexed. lexed.tokens.items ≡ tokens_of statement.now.bytes.items) }
     ensures fault { IfOk result (λ lexed. HasFault lexed.fault (fault_of statement.now)) }

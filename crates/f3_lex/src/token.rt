@@ -7,7 +7,7 @@ use f3_rules::refusal::Refusal;
 pub enum TokenKind {
     /// A letter, and then letters, digits and underscores.
     Name,
-    /// Digits.
+    /// Digits, and directly behind them the suffix of a kind where one stands there.
     Integer,
     /// `.true.` or `.false.`
     Truth,

@@ -12,7 +12,7 @@ use f3_tree::declaration::{
     Access, Accessibility, Declaration, Entity as Written, Selection, Specification,
     SpecificationPart, TypeSpecifier, Use,
 };
-use f3_tree::expression::Name;
+use f3_tree::expression::{IntegerKind, Name};
 use f3_tree::program::{Header, Procedure, ProcedureKind, Program, Unit, UnitKind};
 use indexmap::IndexSet;
 use std::alloc::{AllocError, Global};
@@ -47,7 +47,7 @@ fn integers(alloc: Global, declared: &[Name]) -> Result<Specification, AllocErro
     }
     Ok(Specification::Declaration(Declaration {
         place: place(1),
-        specifier: TypeSpecifier::Integer,
+        specifier: TypeSpecifier::Integer(IntegerKind::Four),
         attributes: Vec::new(alloc),
         entities,
     }))

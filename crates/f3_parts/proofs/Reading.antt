@@ -8,6 +8,7 @@ use Rattle.f3_rules.specs.declared.source.Place.{Place}
 use Rattle.f3_tree.specs.declared.expression.Name.{Name}
 use Rattle.f3_tree.specs.declared.declaration.Accessibility.{Accessibility}
 use Rattle.f3_tree.specs.declared.declaration.Accessibility.TheVariants.{Private, Public}
+use Rattle.f3_tree.specs.declared.expression.IntegerKind.TheVariants as kind
 use Rattle.f3_tree.specs.declared.declaration.TypeSpecifier.TheVariants.{Integer}
 use Rattle.f3_tree.specs.Declarations.{UseTree, DeclarationTree, TypeTree, SpecificationTree, declares, accesses, protects, saves, defines, PartTree}
 use Rattle.f3_forms.specs.declared.form.Ended.TheVariants.{«Type»}
@@ -383,7 +384,7 @@ run-append m [] qs s = refl
 run-append m (p ∷ ps) qs s = under (run m (ps ++ qs)) (run m qs) (run m ps) (step m p s) (run-append m ps qs)
 
 abbrev a_component : Place → DeclarationTree
-a_component p = record { place = p; specifier = Integer; attributes = []; entities = [] }
+a_component p = record { place = p; specifier = Integer kind.Four; attributes = []; entities = [] }
 
 -- how an open type definition goes on to its END, at a place: with a component where it has none
 abbrev pub type_closers : Place → List DeclarationTree → List Placed

@@ -6,7 +6,7 @@ ghost use Rattle.f3_words.specs.declared.item.Word.TheVariants as sign;
 ghost use Rattle.f3_words.specs.Reads.{Reads};
 ghost use Rattle.f3_reading.specs.Parts.{EatsWord, EatsName, Lacks, IsBehind, Skips};
 
-use f3_tree::expression::{Name, Operator, Relation};
+use f3_tree::expression::{IntegerKind, Name, Operator, Relation};
 use f3_words::error::ReadError;
 use f3_words::item::{Item, Word};
 use f3_words::reading::{front, is_keyword, name_front};
@@ -44,6 +44,8 @@ fn is(word: Word, other: Word) -> bool
         Word::Relation(relation) => is_relation(other, relation),
         Word::Truth(true) => matches!(other, Word::Truth(true)),
         Word::Truth(false) => matches!(other, Word::Truth(false)),
+        Word::KindDigit(IntegerKind::Four) => matches!(other, Word::KindDigit(IntegerKind::Four)),
+        Word::KindDigit(IntegerKind::Eight) => matches!(other, Word::KindDigit(IntegerKind::Eight)),
         Word::ShortInteger => matches!(other, Word::ShortInteger),
         Word::LongInteger => matches!(other, Word::LongInteger),
         Word::Text => matches!(other, Word::Text),

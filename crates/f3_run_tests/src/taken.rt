@@ -10,7 +10,7 @@ use f3_tree::declaration::{
     Declaration as WrittenDeclaration, Entity, Only, Rename, Selection,
     Specification as WrittenSpecification, SpecificationPart, TypeSpecifier, Use,
 };
-use f3_tree::expression::{Expression, Name, Operator, Sign};
+use f3_tree::expression::{Expression, IntegerKind, IntegerLiteral, Name, Operator, Sign};
 use f3_tree::program::{Program as Whole, Unit, UnitKind};
 use f3_tree::statement::{Action as WrittenAction, Control, Statement};
 use indexmap::IndexSet;
@@ -37,7 +37,7 @@ fn variable(alloc: Global, symbol: usize) -> Result<Expression, AllocError> {
 }
 
 fn literal(number: i32) -> Expression {
-    Expression::Integer(place(1, 9), number)
+    Expression::Integer(place(1, 9), IntegerLiteral::Four(number))
 }
 
 // - n + 3
@@ -92,7 +92,7 @@ fn declaration(alloc: Global) -> Result<WrittenDeclaration, AllocError> {
     };
     Ok(WrittenDeclaration {
         place: place(1, 21),
-        specifier: TypeSpecifier::Integer,
+        specifier: TypeSpecifier::Integer(IntegerKind::Four),
         attributes: vec![in alloc; protected, private]?,
         entities: vec![in alloc; entity]?,
     })
@@ -301,6 +301,34 @@ fn save_is_not_taken(rt: HostRuntime) -> Result<(), Fail> {
     assert_eq!(rt;
         not_taken(alloc, &whole),
         Some(TakeFault::NotTaken(place(1, 66)))
+    );
+    Ok(())
+}
+
+// print *, 3_8
+fn print_of_kind_8(alloc: Global, line: u32) -> Result<Statement, AllocError> {
+    let wide = Expression::Integer(place(line, 10), IntegerLiteral::Eight(3));
+    Ok(Statement::Action(place(line, 1), WrittenAction::Print(vec![in alloc; wide]?)))
+}
+
+#[test]
+fn kind_8_is_not_taken(rt: HostRuntime) -> Result<(), Fail> {
+    let alloc = rt.alloc();
+    let body = vec![in alloc; print(alloc, 2)?, print_of_kind_8(alloc, 3)?]?;
+    let whole = program(alloc, part(alloc, false)?, body)?;
+    assert_eq!(rt;
+        not_taken(alloc, &whole),
+        Some(TakeFault::NotTaken(place(3, 1)))
+    );
+    let mut wide = declaration(alloc)?;
+    wide.specifier = TypeSpecifier::Integer(IntegerKind::Eight);
+    let mut held = part(alloc, true)?;
+    held.specifications
+        .insert(0, WrittenSpecification::Declaration(wide))?;
+    let whole = program(alloc, held, Vec::new(alloc))?;
+    assert_eq!(rt;
+        not_taken(alloc, &whole),
+        Some(TakeFault::NotTaken(place(1, 21)))
     );
     Ok(())
 }

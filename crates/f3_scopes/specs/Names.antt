@@ -73,7 +73,7 @@ named_shape_in None = []
 named_shape_in (Some s) = named_shape s
 
 abbrev pub named_specifier : TypeSpecifier → List Name
-named_specifier Integer = []
+named_specifier (Integer k) = []
 named_specifier Logical = []
 named_specifier (Derived n) = n ∷ []
 

@@ -162,7 +162,7 @@ pub fn specifier(names: &mut Vec<Name>, specifier: TypeSpecifier) -> Result<(), 
             names.push(name)?;
             Ok(())
         }
-        TypeSpecifier::Integer => Ok(()),
+        TypeSpecifier::Integer(_) => Ok(()),
         TypeSpecifier::Logical => Ok(()),
     }
 }

@@ -7,6 +7,7 @@ use Rattle.std.specs.Option.{option_map}
 use Rattle.f3_rules.specs.declared.source.Place.{Place}
 use Rattle.f3_tree.specs.declared.expression.Name.{Name}
 use Rattle.f3_tree.specs.declared.declaration.TypeSpecifier.{TypeSpecifier}
+use Rattle.f3_tree.specs.declared.expression.IntegerKind.TheVariants as kind
 use Rattle.f3_tree.specs.declared.declaration.TypeSpecifier.TheVariants.{Integer, Logical, Derived}
 use Rattle.f3_tree.specs.Declarations as d
 use Rattle.f3_tree.specs.Tree as whole
@@ -113,9 +114,10 @@ entity_names_are ps (x ∷ xs) (y ∷ ys) h = rw (scalar_name x.name x.shape (in
 declared_entities : (specifier : TypeSpecifier) (ps : Option (List Attribute)) (es : Option (List Entity)) (y : Declares) → declares_of specifier ps es ≡ Some y → es ≡ Some y.entities
 declared_entities Logical ps es y e = absurd (cc)
 declared_entities (Derived n) ps es y e = absurd (cc)
-declared_entities Integer None es y e = absurd (cc)
-declared_entities Integer (Some ps) None y e = absurd (cc)
-declared_entities Integer (Some ps) (Some es) y e =
+declared_entities (Integer kind.Eight) ps es y e = absurd (cc)
+declared_entities (Integer kind.Four) None es y e = absurd (cc)
+declared_entities (Integer kind.Four) (Some ps) None y e = absurd (cc)
+declared_entities (Integer kind.Four) (Some ps) (Some es) y e =
     let same : record { attributes = ps; entities = es } ≡ y = cc in
     ap (λ (x : Declares). Some x.entities) same
 

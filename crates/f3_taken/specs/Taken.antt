@@ -5,6 +5,8 @@ use Rattle.std.specs.Option.{option_map}
 use Rattle.std.specs.List.{flat_map}
 use Rattle.f3_rules.specs.declared.source.Place.{Place}
 use Rattle.f3_tree.specs.declared.expression.Name.{Name}
+use Rattle.f3_tree.specs.declared.expression.IntegerKind.TheVariants as kind
+use Rattle.f3_tree.specs.declared.expression.IntegerLiteral.TheVariants as literal
 use Rattle.f3_tree.specs.declared.expression.Sign.TheVariants.{Plus, Minus}
 use Rattle.f3_tree.specs.declared.expression.Operator.{Operator}
 use Rattle.f3_tree.specs.declared.expression.Operator.TheVariants.{Add, Subtract}
@@ -43,9 +45,9 @@ abbrev pub alone_of : e.Parts → Option Name
 alone_of (e.parts n e.bare e.no_parts) = Some n
 alone_of _ = None
 
--- an operand: a literal integer, or a name alone
+-- an operand: a literal integer of kind 4, or a name alone
 abbrev pub operand_of : e.Tree → Option Primary
-operand_of (e.integer p z) = Some (Literal z)
+operand_of (e.integer p (literal.Four z)) = Some (Literal z)
 operand_of (e.designator ps) = option_map (λ n. Named n) (alone_of ps)
 operand_of _ = None
 
@@ -89,10 +91,10 @@ attribute_of _ = None
 abbrev pub placed_of : d.Placed → Option Attribute
 placed_of a = attribute_of a.attribute
 
--- no initializer, or a literal integer without a sign
+-- no initializer, or a literal integer of kind 4 without a sign
 abbrev pub initial_of : Option e.Tree → Option (Option ℤ)
 initial_of None = Some None
-initial_of (Some (e.integer p z)) = Some (Some z)
+initial_of (Some (e.integer p (literal.Four z))) = Some (Some z)
 initial_of (Some _) = None
 
 -- a declared name of no shape
@@ -105,14 +107,14 @@ abbrev pub entity_of : d.EntityTree → Option Entity
 entity_of x = scalar_of x.name x.shape (initial_of x.initial)
 
 abbrev pub declares_of : TypeSpecifier → Option (List Attribute) → Option (List Entity) → Option Declares
-declares_of Integer (Some attributes) (Some entities) = Some (record { attributes = attributes; entities = entities })
+declares_of (Integer kind.Four) (Some attributes) (Some entities) = Some (record { attributes = attributes; entities = entities })
 declares_of _ _ _ = None
 
--- a declaration of integers
+-- a declaration of integers of kind 4
 abbrev pub declaration_of : d.DeclarationTree → Option Declares
 declaration_of x = declares_of x.specifier (each_of placed_of x.attributes) (each_of entity_of x.entities)
 
--- a declaration of integers; PUBLIC, PRIVATE and PROTECTED as statements, with any names
+-- a declaration of integers of kind 4; PUBLIC, PRIVATE and PROTECTED as statements, with any names
 abbrev pub specification_of : d.SpecificationTree → Option Specifies
 specification_of (d.declares x) = option_map (λ y. declaring y) (declaration_of x)
 specification_of (d.accesses x) = Some accessing

@@ -16,7 +16,7 @@ use crate::program::{Program, Unit};
 use crate::statement::{Action, Attribute, Declaration, Entity, Item, Specification, Statement};
 use f3_rules::source::Place;
 use f3_tree::declaration::{AttributeKind, TypeSpecifier};
-use f3_tree::expression::{Argument, Name, Operator, Sign};
+use f3_tree::expression::{Argument, IntegerKind, IntegerLiteral, Name, Operator, Sign};
 use f3_tree::{
     declaration as declared, expression as written, program as whole, statement as stated,
 };
@@ -64,7 +64,9 @@ fn operand_of(expression: &written::Expression) -> Option<Primary>
     ensures { result ≡ t.operand_of (expression_view expression.now) }
 {
     match expression {
-        written::Expression::Integer(_, number) => Some(Primary::Literal(*number)),
+        written::Expression::Integer(_, IntegerLiteral::Four(number)) => {
+            Some(Primary::Literal(*number))
+        }
         written::Expression::Designator(parts) => match name_alone(parts) {
             Some(name) => Some(Primary::Name(name)),
             None => None,
@@ -264,7 +266,7 @@ fn initial_of(initial: &Option<written::Expression>) -> Option<Option<i32>>
 {
     match initial {
         None => Some(None),
-        Some(written::Expression::Integer(_, number)) => Some(Some(*number)),
+        Some(written::Expression::Integer(_, IntegerLiteral::Four(number))) => Some(Some(*number)),
         Some(_) => None,
     }
 }
@@ -307,10 +309,12 @@ fn declaration_of(
     let attributes = attributes_of(alloc, &declaration.attributes)?;
     let entities = entities_of(alloc, &declaration.entities)?;
     match (declaration.specifier, attributes, entities) {
-        (TypeSpecifier::Integer, Some(attributes), Some(entities)) => Ok(Some(Declaration {
-            attributes,
-            entities,
-        })),
+        (TypeSpecifier::Integer(IntegerKind::Four), Some(attributes), Some(entities)) => {
+            Ok(Some(Declaration {
+                attributes,
+                entities,
+            }))
+        }
         _ => Ok(None),
     }
 }

@@ -4,7 +4,9 @@ use f3_expressions::arguments::arguments;
 use f3_expressions::designators::designator;
 use f3_expressions::expressions::expression;
 use f3_rules::source::Place;
-use f3_tree::expression::{Argument, Expression, Name, Operator, Relation, Sign};
+use f3_tree::expression::{
+    Argument, Expression, IntegerLiteral, Name, Operator, Relation, Sign,
+};
 use f3_words::error::ReadError;
 use f3_words::item::{Item, Keyword, Word};
 use std::alloc::{AllocError, Global};
@@ -56,7 +58,7 @@ fn items(alloc: Global, text: &str) -> Result<Vec<Item>, AllocError> {
         items.push(Item {
             word: word(sign),
             symbol: sign as usize,
-            value,
+            value: IntegerLiteral::Four(value),
             place: Place {
                 file: 1,
                 line: 1,
@@ -306,7 +308,7 @@ fn places(rt: HostRuntime) -> Result<(), Fail> {
                 Argument::Value(Some(keyword), Expression::Integer(place, value)) => {
                     assert_eq!(rt; keyword.place.column, 2);
                     assert_eq!(rt; place.column, 4);
-                    assert_eq!(rt; *value, 4);
+                    assert_eq!(rt; *value, IntegerLiteral::Four(4));
                 }
                 _ => assert!(rt; false),
             }

@@ -122,6 +122,9 @@ fn procedures(rt: HostRuntime) -> Result<(), Fail> {
         ("INTEGER SUBROUTINE s", "none"),
         ("RECURSIVE INTEGER PURE FUNCTION f ( )", "procedure"),
         ("TYPE ( t ) FUNCTION f ( a ) RESULT ( r )", "procedure"),
+        ("INTEGER ( 8 ) PURE FUNCTION f ( )", "procedure"),
+        ("PURE INTEGER ( KIND = 4 ) FUNCTION f ( )", "procedure"),
+        ("INTEGER ( 8 ) SUBROUTINE s", "none"),
         ("FUNCTION f", "none"),
     ];
     assert_eq!(rt; first_wrong(rt.alloc(), &cases)?, None);
@@ -164,6 +167,33 @@ fn declarations(rt: HostRuntime) -> Result<(), Fail> {
         ("INTEGER a ( 1 : 2 , n )", "declare"),
         ("INTEGER , ALLOCATABLE :: a ( : , 1 : )", "declare"),
         ("INTEGER a ( 1 , : )", "none"),
+    ];
+    assert_eq!(rt; first_wrong(rt.alloc(), &cases)?, None);
+    Ok(())
+}
+
+#[test]
+fn kinds(rt: HostRuntime) -> Result<(), Fail> {
+    let cases = [
+        ("INTEGER ( 4 ) n", "declare"),
+        ("integer(kind=8), save :: n = 1_8", "declare"),
+        ("INTEGER ( KIND = 4 ) kind", "declare"),
+        ("INTEGER ( 2 ) n", "none"),
+        ("INTEGER ( 04 ) n", "none"),
+        ("INTEGER ( 4_4 ) n", "none"),
+        ("INTEGER ( k ) n", "none"),
+        ("INTEGER ( ) n", "none"),
+        ("INTEGER ( 4 n", "none"),
+        ("INTEGER ( KIND 8 ) n", "none"),
+        ("INTEGER ( KIND = kind ) n", "none"),
+        ("LOGICAL ( 4 ) n", "none"),
+        ("INTEGER ( 8 ) = 1", "assign"),
+        ("PRINT * , 1_8 , 1_4", "print"),
+        ("PRINT * , 1_88", "none"),
+        ("PRINT * , 1_k", "none"),
+        ("PRINT * , 1 _8", "none"),
+        ("STOP 4", "stop digits"),
+        ("STOP 4_4", "none"),
     ];
     assert_eq!(rt; first_wrong(rt.alloc(), &cases)?, None);
     Ok(())

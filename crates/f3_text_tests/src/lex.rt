@@ -6,6 +6,7 @@ use f3_lex::value::{integer, lower_case};
 use f3_rules::rule::Rule;
 use f3_rules::source::Place;
 use f3_text::statement::RawStatement;
+use f3_tree::expression::IntegerLiteral;
 use std::alloc::{AllocError, Global};
 use std::process::Abort;
 use std::test::Fail;
@@ -144,13 +145,30 @@ fn literal_too_large(rt: HostRuntime) -> Result<(), Fail> {
     assert_eq!(rt; fault, None);
     let fault = broken(alloc, b"print *, 2147483648")?;
     assert_eq!(rt; fault, Some((Rule::S4, 10)));
+    let fault = broken(alloc, b"print *, 2147483648_4")?;
+    assert_eq!(rt; fault, Some((Rule::S4, 10)));
+    let fault = broken(alloc, b"print *, 2147483648_8, 9223372036854775807_8")?;
+    assert_eq!(rt; fault, None);
+    let fault = broken(alloc, b"print *, 9223372036854775808_8")?;
+    assert_eq!(rt; fault, Some((Rule::S4, 10)));
     Ok(())
 }
 
 #[test]
+fn suffixes(rt: HostRuntime) -> Result<(), Fail> {
+    let alloc = rt.alloc();
+    check(&rt, alloc, b"04_4+1_8.lt.n_8", "04_4 + 1_8 .lt. n_8")?;
+    check(&rt, alloc, b"1_88 1_8x 1_8_ 1_k", "1 _ 88 1 _ 8 x 1 _ 8 _ 1 _ k")?;
+    check(&rt, alloc, b"1_", "1 _")
+}
+
+#[test]
 fn values(rt: HostRuntime) -> Result<(), Fail> {
-    assert_eq!(rt; integer(b"007"), Some(7));
-    assert_eq!(rt; integer(b"2147483647"), Some(2147483647));
+    assert_eq!(rt; integer(b"007"), Some(IntegerLiteral::Four(7)));
+    assert_eq!(rt; integer(b"2147483647_4"), Some(IntegerLiteral::Four(2147483647)));
+    assert_eq!(rt; integer(b"7_8"), Some(IntegerLiteral::Eight(7)));
+    assert_eq!(rt; integer(b"9223372036854775807_8"), Some(IntegerLiteral::Eight(9223372036854775807)));
+    assert_eq!(rt; integer(b"9223372036854775808_8"), None);
     assert_eq!(rt; integer(b"2147483648"), None);
     assert_eq!(rt; integer(b"99999999999999999999999999"), None);
     Ok(())

@@ -1,6 +1,7 @@
 //! Sources parsed with ample memory.
 
 use f3_parse::parser::parse;
+use f3_rules::refusal::render;
 use f3_rules::rule::Rule;
 use f3_rules::source::{Place, Source};
 use f3_text::statement::TextFault;
@@ -206,6 +207,57 @@ fn no_form(rt: HostRuntime) -> Result<(), Fail> {
         29,
     )?;
     check(&rt, alloc, "module m; foo bar; end if; end", Rule::S5, 11)
+}
+
+/// A source `a.f90` of this text is refused by this line.
+fn refuse(rt: &impl Abort, alloc: Global, text: &str, wanted: &str) -> Result<(), Fail> {
+    let mut sources = Vec::new(alloc);
+    sources.push(Source {
+        name: String::from_str(alloc, "a.f90")?,
+        bytes: Vec::from_slice(alloc, text.as_bytes())?,
+    })?;
+    match parse(alloc, &sources) {
+        Err(TextFault::Refused(refusal)) => {
+            let line = render(alloc, &sources, &refusal)?;
+            assert_eq!(rt; line.as_str(), wanted);
+        }
+        _ => assert!(rt; false),
+    }
+    Ok(())
+}
+
+#[test]
+fn kinds(rt: HostRuntime) -> Result<(), Fail> {
+    let alloc = rt.alloc();
+    refuse(
+        &rt,
+        alloc,
+        "program p; print *, 9223372036854775808_8; end",
+        "a.f90:1:21: S4 literal too large",
+    )?;
+    refuse(
+        &rt,
+        alloc,
+        "program p; integer(2) :: n; end",
+        "a.f90:1:12: S5 no statement of the profile",
+    )?;
+    refuse(
+        &rt,
+        alloc,
+        "program p; integer(04) :: n; end",
+        "a.f90:1:12: S5 no statement of the profile",
+    )?;
+    refuse(
+        &rt,
+        alloc,
+        "program p; print *, 1_88; end",
+        "a.f90:1:12: S5 no statement of the profile",
+    )?;
+    accept(
+        &rt,
+        alloc,
+        "module m; contains; integer(kind=8) function f(); f = 2_8 ** 62; end; end",
+    )
 }
 
 #[test]

@@ -3,7 +3,7 @@
 use f3_rules::rule::Rule;
 use f3_rules::source::Place;
 use f3_text::statement::RawStatement;
-use f3_tree::expression::{Operator, Relation};
+use f3_tree::expression::{IntegerKind, IntegerLiteral, Operator, Relation};
 use f3_words::constant::characters;
 use f3_words::item::{Item, Keyword, Word};
 use f3_words::items::line;
@@ -71,6 +71,37 @@ fn print_of_everything(rt: HostRuntime) -> Result<(), Fail> {
         symbols = symbols.saturating_add(item.symbol);
     }
     assert_eq!(rt; symbols, 2);
+    Ok(())
+}
+
+#[test]
+fn kinds(rt: HostRuntime) -> Result<(), Fail> {
+    let alloc = rt.alloc();
+    let mut tables = Tables::new(alloc);
+    let raw = statement(alloc, b"Integer(Kind=8), 4, 04, 4_4, 2147483648_8")?;
+    let Line { items, fault } = line(alloc, &mut tables, &raw)?;
+    let found = words(alloc, &items)?;
+    let wanted = [
+        Word::Name(Keyword::Integer),
+        Word::Open,
+        Word::Name(Keyword::Kind),
+        Word::Equals,
+        Word::KindDigit(IntegerKind::Eight),
+        Word::Close,
+        Word::Comma,
+        Word::KindDigit(IntegerKind::Four),
+        Word::Comma,
+        Word::ShortInteger,
+        Word::Comma,
+        Word::LongInteger,
+        Word::Comma,
+        Word::LongInteger,
+    ];
+    assert!(rt; found.as_slice() == wanted.as_slice());
+    assert!(rt; fault.is_none());
+    assert_eq!(rt; items[4].value, IntegerLiteral::Four(8));
+    assert_eq!(rt; items[11].value, IntegerLiteral::Four(4));
+    assert_eq!(rt; items[13].value, IntegerLiteral::Eight(2147483648));
     Ok(())
 }
 

@@ -1,9 +1,10 @@
 -- The view of each variant.
-use Rattle.std.proofs.Common.{◌≡◌, ℕ, ℤ, Bool, List, [], ◌∷◌, map, Option, Some, None, rules, refl, ap, ◌∙◌}
+use Rattle.std.proofs.Common.{◌≡◌, ℕ, Bool, List, [], ◌∷◌, map, Option, Some, None, rules, refl, ap, ◌∙◌}
 use Rattle.std.specs.Option.{option_map}
 use Rattle.std.specs.Global.{Box, Vec}
 use Rattle.f3_rules.specs.declared.source.Place.{Place}
 use Rattle.f3_tree.specs.declared.expression.Name.{Name}
+use Rattle.f3_tree.specs.declared.expression.IntegerLiteral.{IntegerLiteral}
 use Rattle.f3_tree.specs.declared.expression.Sign.{Sign}
 use Rattle.f3_tree.specs.declared.expression.Relation.{Relation}
 use Rattle.f3_tree.specs.declared.expression.Operator.{Operator}
@@ -12,7 +13,7 @@ use Rattle.f3_tree.specs.declared.expression.Argument.{Argument, Value, Triplet}
 use Rattle.f3_tree.specs.declared.expression.Argument.TheShapes.{former-Expression-Designator-0-at-4}
 use Rattle.f3_tree.specs.Expressions.{integer, truth, text, designator, group, array, signed, negation, comparison, chain, rest_of, trees_of, value, triplet, perhaps_of, ArgumentTree, Behind, Parts, parts, behind_of, behind_list, parts_of, parts_list, part_view, expression_view, argument_view, designator_view}
 
-pub view_integer : (p : Place) (n : ℤ) → expression_view (Integer p n) ≡ integer p n
+pub view_integer : (p : Place) (n : IntegerLiteral) → expression_view (Integer p n) ≡ integer p n
 view_integer p n = search (rules, the_lemmas)
 
 pub view_truth : (p : Place) (b : Bool) → expression_view (Truth p b) ≡ truth p b

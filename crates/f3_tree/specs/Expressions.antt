@@ -1,9 +1,10 @@
 -- Expressions without where they lie in memory: what two of them have to share to be the same.
-use Rattle.std.specs.Prelude.{ℕ, ℤ, Bool, List, [], ◌∷◌, map, Option, Some, None}
+use Rattle.std.specs.Prelude.{ℕ, Bool, List, [], ◌∷◌, map, Option, Some, None}
 use Rattle.std.specs.Option.{option_map}
 use Rattle.std.specs.Global.{Vec}
 use Rattle.f3_rules.specs.declared.source.Place.{Place}
 use Rattle.f3_tree.specs.declared.expression.Name.{Name}
+use Rattle.f3_tree.specs.declared.expression.IntegerLiteral.{IntegerLiteral}
 use Rattle.f3_tree.specs.declared.expression.Sign.{Sign}
 use Rattle.f3_tree.specs.declared.expression.Relation.{Relation}
 use Rattle.f3_tree.specs.declared.expression.Operator.{Operator}
@@ -13,7 +14,7 @@ use Rattle.f3_tree.specs.declared.expression.Argument.TheOpen.{Argument-F, Expre
 
 mutual
   pub data Tree : Type 0 where
-    integer : Place → ℤ → Tree
+    integer : Place → IntegerLiteral → Tree
     truth : Place → Bool → Tree
     text : Place → ℕ → Tree
     designator : Parts → Tree

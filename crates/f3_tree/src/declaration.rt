@@ -1,6 +1,6 @@
 //! The statements of a specification part.
 
-use crate::expression::{Expression, Name};
+use crate::expression::{Expression, IntegerKind, Name};
 use f3_rules::source::Place;
 
 /// A local name and the name that it stands for (R1111).
@@ -53,7 +53,7 @@ pub enum Intent {
 /// A type specifier (5.1.1).
 #[derive(Clone, Copy, PartialEq, Eq, Debug)]
 pub enum TypeSpecifier {
-    Integer,
+    Integer(IntegerKind),
     Logical,
     Derived(Name),
 }

@@ -42,13 +42,29 @@ pub enum Operator {
     NotEquivalent,
 }
 
+/// A kind of integers (4.4.1), which the number of their bytes names. INTEGER alone is of kind 4.
+#[derive(Clone, Copy, PartialEq, Eq, Debug)]
+pub enum IntegerKind {
+    Four,
+    Eight,
+}
+
+/// A literal integer, by its kind (4.4.1): 4 where no suffix names one.
+#[derive(Clone, Copy, PartialEq, Eq, Debug)]
+pub enum IntegerLiteral {
+    /// 0 to 2147483647.
+    Four(i32),
+    /// 0 to 9223372036854775807.
+    Eight(i64),
+}
+
 /// An expression (7.1.1). Operands of one level stand in a list, so an expression is nested no deeper than its
 /// parentheses and the levels of operators.
 #[cycle(expression)]
 #[derive(Drop)]
 pub enum Expression {
-    /// A literal integer, 0 to 2147483647.
-    Integer(Place, i32),
+    /// A literal integer.
+    Integer(Place, IntegerLiteral),
     /// `.TRUE.` or `.FALSE.`.
     Truth(Place, bool),
     /// A character constant: its number, from 0, among those of the program.

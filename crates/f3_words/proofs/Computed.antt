@@ -7,4 +7,4 @@ use Rattle.f3_words.specs.Examples.{Examples}
 
 pub computed : Examples
 unfolding keyword_of sign_of dot_word_of truth_of undoubled
-computed = (refl, refl, refl, refl, refl, refl, refl, refl, refl, refl, refl, refl, refl, refl, refl, refl, refl, refl, refl, refl)
+computed = (refl, refl, refl, refl, refl, refl, refl, refl, refl, refl, refl, refl, refl, refl, refl, refl, refl, refl, refl, refl, refl, refl, refl, refl)

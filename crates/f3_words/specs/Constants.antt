@@ -1,13 +1,24 @@
 -- Integers and character constants.
-use Rattle.std.specs.Prelude.{◌≡◌, ℕ, ◌-◌, ◌==◌, true, List, [], ◌∷◌, ◌++◌, length, if◌then◌else◌, nat_lt, slice_index, slice_range}
+use Rattle.std.specs.Prelude.{◌≡◌, ℕ, ◌-◌, ◌==◌, true, ◌&&◌, List, [], ◌∷◌, ◌++◌, length, codes, if◌then◌else◌, nat_le, slice_index, slice_range}
+use Rattle.std.specs.List.{list_all}
+use Rattle.std.specs.Char.{is_ascii_digit}
+use Rattle.f3_tree.specs.declared.expression.IntegerKind.TheVariants as kind
 use Rattle.f3_lex.specs.Tokens.{is_quote}
 use Rattle.f3_lex.specs.Laws.{doubled}
 use Rattle.f3_words.specs.declared.item.Word.{Word}
-use Rattle.f3_words.specs.declared.item.Word.TheVariants.{ShortInteger, LongInteger}
+use Rattle.f3_words.specs.declared.item.Word.TheVariants.{KindDigit, ShortInteger, LongInteger}
+use Rattle.f3_words.specs.Tables.{found}
 
--- an integer of one to five digits, which may stand behind STOP (8.4), or of more
+-- the digits that may name a kind (own rule: 4 and 8, each as that one digit)
+abbrev pub kind_digits : List (List ℕ × Word)
+kind_digits = (codes "4", KindDigit kind.Four) ∷ (codes "8", KindDigit kind.Eight) ∷ []
+
+-- an integer of one to five digits, which may stand behind STOP (8.4), or of more, or with a suffix
+abbrev pub length_word : List ℕ → Word
+length_word text = if nat_le (length text) 5 && list_all is_ascii_digit text then ShortInteger else LongInteger
+
 abbrev pub integer_word : List ℕ → Word
-integer_word digits = if nat_lt 5 (length digits) then LongInteger else ShortInteger
+integer_word text = found kind_digits (length_word text) text
 
 -- the characters between quotes: of two quotes side by side the second says nothing (4.4.4)
 unfoldable mutual

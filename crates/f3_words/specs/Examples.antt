@@ -1,5 +1,6 @@
 -- What some texts are, computed.
 use Rattle.std.specs.Prelude.{◌≡◌, codes, true, false}
+use Rattle.f3_tree.specs.declared.expression.IntegerKind.TheVariants as kind
 use Rattle.f3_tree.specs.declared.expression.Operator.TheVariants as operator
 use Rattle.f3_tree.specs.declared.expression.Relation.TheVariants as relation
 use Rattle.f3_words.specs.declared.item.Keyword.TheVariants as keyword
@@ -26,6 +27,10 @@ Examples =
     × (truth_of (codes ".false.") ≡ word.Truth false)
     × (integer_word (codes "99999") ≡ word.ShortInteger)
     × (integer_word (codes "000001") ≡ word.LongInteger)
+    × (integer_word (codes "4") ≡ word.KindDigit kind.Four)
+    × (integer_word (codes "8") ≡ word.KindDigit kind.Eight)
+    × (integer_word (codes "04") ≡ word.ShortInteger)
+    × (integer_word (codes "4_4") ≡ word.LongInteger)
     × (characters_of (codes "'it''s'") ≡ codes "it's")
     × (characters_of (codes "\"it''s\"") ≡ codes "it''s")
     × (characters_of (codes "''''") ≡ codes "'")

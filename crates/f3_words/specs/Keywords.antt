@@ -1,7 +1,7 @@
 -- The keywords (3.3, 2.5.2), by their lengths.
 use Rattle.std.specs.Prelude.{ℕ, List, [], ◌∷◌, ◌++◌, codes}
 use Rattle.f3_words.specs.declared.item.Keyword.{Keyword}
-use Rattle.f3_words.specs.declared.item.Keyword.TheVariants.{Plain, Allocatable, Allocate, Call, Case, Contains, Continue, Cycle, Deallocate, Default, Dimension, Do, Else, ElseIf, End, EndDo, EndFunction, EndIf, EndModule, EndProgram, EndSelect, EndSubroutine, EndType, Exit, Final, Function, If, Implicit, In, InOut, Integer, Intent, Logical, Module, NoneWord, Only, Out, Parameter, Print, Private, Program, Protected, Public, Pure, Recursive, ResultWord, Return, Save, Select, SelectCase, Stat, Stop, Subroutine, Then, «Type», Use, While}
+use Rattle.f3_words.specs.declared.item.Keyword.TheVariants.{Plain, Allocatable, Allocate, Call, Case, Contains, Continue, Cycle, Deallocate, Default, Dimension, Do, Else, ElseIf, End, EndDo, EndFunction, EndIf, EndModule, EndProgram, EndSelect, EndSubroutine, EndType, Exit, Final, Function, If, Implicit, In, InOut, Integer, Intent, Kind, Logical, Module, NoneWord, Only, Out, Parameter, Print, Private, Program, Protected, Public, Pure, Recursive, ResultWord, Return, Save, Select, SelectCase, Stat, Stop, Subroutine, Then, «Type», Use, While}
 use Rattle.f3_words.specs.Tables.{found}
 
 abbrev pub of_2 : List (List ℕ × Keyword)
@@ -12,7 +12,7 @@ of_3 = (codes "end", End) ∷ (codes "out", Out) ∷ (codes "use", Use) ∷ []
 
 abbrev pub of_4 : List (List ℕ × Keyword)
 of_4 = (codes "call", Call) ∷ (codes "case", Case) ∷ (codes "else", Else) ∷ (codes "exit", Exit)
-    ∷ (codes "none", NoneWord) ∷ (codes "only", Only) ∷ (codes "pure", Pure) ∷ (codes "save", Save)
+    ∷ (codes "kind", Kind) ∷ (codes "none", NoneWord) ∷ (codes "only", Only) ∷ (codes "pure", Pure) ∷ (codes "save", Save)
     ∷ (codes "stat", Stat) ∷ (codes "stop", Stop) ∷ (codes "then", Then) ∷ (codes "type", «Type») ∷ []
 
 -- words that may be joined (3.3.1.1) stand among the others

@@ -7,6 +7,8 @@ use Rattle.f3_rules.specs.declared.source.Place.{Place}
 use Rattle.f3_rules.specs.declared.rule.Rule.{Rule}
 use Rattle.f3_rules.specs.declared.breaks.Break.{Break}
 use Rattle.f3_text.specs.Statements.{Spelled}
+use Rattle.f3_tree.specs.declared.expression.IntegerLiteral.{IntegerLiteral}
+use Rattle.f3_tree.specs.declared.expression.IntegerLiteral.TheVariants as literal
 use Rattle.f3_lex.specs.declared.token.Token.{Token}
 use Rattle.f3_lex.specs.declared.token.TokenKind.{TokenKind}
 use Rattle.f3_lex.specs.declared.token.TokenKind.TheVariants as kind
@@ -58,16 +60,20 @@ with_name names text = if list_any (bytes_eq text) names then names else names +
 abbrev pub place_in : Spelled → ℕ → Place
 place_in s k = slice_index_or s.places k nowhere
 
+-- what stands for a value where there is none
+abbrev pub no_value : IntegerLiteral
+no_value = literal.Four (pos 0)
+
 abbrev pub plain_item : Word → Place → Item
-plain_item word place = record { word = word; symbol = 0; value = pos 0; place = place }
+plain_item word place = record { word = word; symbol = 0; value = no_value; place = place }
 
 -- a token, by its kind, its bytes and its place
 abbrev pub item_as : Seen → TokenKind → List ℕ → Place → Item
-item_as seen kind.Name text place = record { word = Name (keyword_of (lower text)); symbol = number seen.names (lower text); value = pos 0; place = place }
-item_as seen kind.Integer text place = record { word = integer_word text; symbol = 0; value = unwrap_or (integer_of text) (pos 0); place = place }
+item_as seen kind.Name text place = record { word = Name (keyword_of (lower text)); symbol = number seen.names (lower text); value = no_value; place = place }
+item_as seen kind.Integer text place = record { word = integer_word text; symbol = 0; value = unwrap_or (integer_of text) no_value; place = place }
 item_as seen kind.Truth text place = plain_item (truth_of text) place
 item_as seen kind.Word text place = plain_item (dot_word_of text) place
-item_as seen kind.Text text place = record { word = Text; symbol = length seen.texts; value = pos 0; place = place }
+item_as seen kind.Text text place = record { word = Text; symbol = length seen.texts; value = no_value; place = place }
 item_as seen kind.Sign text place = plain_item (sign_of text) place
 item_as seen kind.Other text place = plain_item Other place
 

@@ -1,22 +1,45 @@
 //! What integers and character constants say.
 
 ghost use Rattle.std.specs.Prelude.{◌≡◌, ◌-◌, IfOk, length, slice_range};
-ghost use Rattle.f3_words.specs.Constants.{integer_word, undoubled, characters_of};
+ghost use Rattle.std.specs.List.{list_all};
+ghost use Rattle.std.specs.Char.{is_ascii_digit};
+ghost use Rattle.f3_words.specs.Constants.{length_word, integer_word, undoubled, characters_of};
 
 use crate::item::Word;
+use f3_tree::expression::IntegerKind;
 use std::alloc::{AllocError, Global};
 
 /// The most digits of a STOP code (ISO/IEC 1539-1:2004, 8.4).
 const STOP_DIGITS: usize = 5;
 
-/// What an integer of these digits is.
-pub fn integer_word(digits: &[u8]) -> Word
-    ensures { result ≡ integer_word digits.now }
+/// Whether no suffix stands behind the digits.
+fn are_digits(text: &[u8]) -> bool
+    ensures { result ≡ list_all is_ascii_digit text.now }
 {
-    if digits.len() > STOP_DIGITS {
-        Word::LongInteger
-    } else {
+    text.iter().all(|byte| byte.is_ascii_digit())
+}
+
+/// What an integer is that names no kind.
+fn length_word(text: &[u8]) -> Word
+    ensures { result ≡ length_word text.now }
+{
+    if text.len() <= STOP_DIGITS && are_digits(text) {
         Word::ShortInteger
+    } else {
+        Word::LongInteger
+    }
+}
+
+/// What an integer of these bytes is.
+pub fn integer_word(text: &[u8]) -> Word
+    ensures { result ≡ integer_word text.now }
+{
+    if text == b"4".as_slice() {
+        Word::KindDigit(IntegerKind::Four)
+    } else if text == b"8".as_slice() {
+        Word::KindDigit(IntegerKind::Eight)
+    } else {
+        length_word(text)
     }
 }
 

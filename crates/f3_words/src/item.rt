@@ -4,7 +4,7 @@ ghost use Rattle.std.specs.Prelude.{◌≡◌};
 ghost use Rattle.f3_words.specs.Words.{is_name, name_of};
 
 use f3_rules::source::Place;
-use f3_tree::expression::{Name, Operator, Relation};
+use f3_tree::expression::{IntegerKind, IntegerLiteral, Name, Operator, Relation};
 
 /// The keyword that a name may be, where a form asks for it. Keywords are not reserved: each is a name as well
 /// (ISO/IEC 1539-1:2004, 2.5.2). Words that may be joined stand here as one keyword too (3.3.1.1).
@@ -43,6 +43,7 @@ pub enum Keyword {
     InOut,
     Integer,
     Intent,
+    Kind,
     Logical,
     Module,
     /// The NONE of IMPLICIT NONE.
@@ -76,9 +77,11 @@ pub enum Keyword {
 pub enum Word {
     /// A name, and the keyword that it may be.
     Name(Keyword),
-    /// An integer of one to five digits.
+    /// The digit 4 or 8, which may name a kind; it is an integer of one digit as well.
+    KindDigit(IntegerKind),
+    /// Another integer of one to five digits.
     ShortInteger,
-    /// An integer of more digits.
+    /// An integer of more digits, or with a suffix.
     LongInteger,
     /// `.TRUE.` or `.FALSE.`
     Truth(bool),
@@ -135,8 +138,8 @@ pub struct Item {
     /// Of a name, its number among the names of the program; of a character constant, its number among those of the
     /// program; else 0. Numbers are counted from 0.
     pub symbol: usize,
-    /// Of an integer, its value; 0 where it is too large.
-    pub value: i32,
+    /// Of an integer, its kind and value; 0 of kind 4 where it is too large, and of all else.
+    pub value: IntegerLiteral,
     /// Its first byte.
     pub place: Place,
 }

@@ -20,6 +20,7 @@ use f3_rules::breaks::Break;
 use f3_rules::refusal::Refusal;
 use f3_rules::source::Place;
 use f3_text::statement::RawStatement;
+use f3_tree::expression::IntegerLiteral;
 use indexmap::IndexSet;
 use std::alloc::{AllocError, Global};
 
@@ -38,7 +39,7 @@ fn plain(word: Word, place: Place) -> Item
     Item {
         word,
         symbol: 0,
-        value: 0,
+        value: IntegerLiteral::Four(0),
         place,
     }
 }
@@ -58,7 +59,7 @@ fn name_item(
     Ok(Item {
         word: Word::Name(keyword),
         symbol,
-        value: 0,
+        value: IntegerLiteral::Four(0),
         place,
     })
 }
@@ -78,19 +79,19 @@ fn text_item(
     Ok(Item {
         word: Word::Text,
         symbol,
-        value: 0,
+        value: IntegerLiteral::Four(0),
         place,
     })
 }
 
-/// An integer by its digits and its place.
-fn integer_item(digits: &[u8], place: Place) -> Item
-    ensures { result ≡ item_as nothing_seen kind.Integer digits.now place }
+/// An integer by its bytes and its place.
+fn integer_item(bytes: &[u8], place: Place) -> Item
+    ensures { result ≡ item_as nothing_seen kind.Integer bytes.now place }
 {
     Item {
-        word: integer_word(digits),
+        word: integer_word(bytes),
         symbol: 0,
-        value: integer(digits).unwrap_or(0),
+        value: integer(bytes).unwrap_or(IntegerLiteral::Four(0)),
         place,
     }
 }

@@ -49,6 +49,8 @@ fn of_four(text: &str) -> Keyword
         Keyword::Else
     } else if text == "exit" {
         Keyword::Exit
+    } else if text == "kind" {
+        Keyword::Kind
     } else if text == "none" {
         Keyword::NoneWord
     } else if text == "only" {

@@ -276,10 +276,13 @@ primaries::primary-returns-in_err-parts-in-Name-clause-read t c =
 pub primaries::primary-returns-in-None-clause-read : goal.primaries::primary-returns-in-None-clause-read
 primaries::primary-returns-in-None-clause-read t c = subst (λ (x : List Item). Fails (EatsUpTo 0) x) (sym c.in-None.ensures) nothing_fails
 
+pub primaries::primary-returns-in-KindDigit-clause-read : goal.primaries::primary-returns-in-KindDigit-clause-read
+primaries::primary-returns-in-KindDigit-clause-read t c = rw c.integer.ensures (integer_reads c.args.items.now c.in-Some.item c.in-Some.tail.now c.in-Some.ensures (ap is_integer c.in-KindDigit.is))
+
 pub primaries::primary-returns-in-ShortInteger-clause-read : goal.primaries::primary-returns-in-ShortInteger-clause-read
 primaries::primary-returns-in-ShortInteger-clause-read t c =
     let whole : is_integer c.in-Some.item.word ≡ true = elim c.in-ShortInteger.is [ inl e ↦ ap is_integer e | inr e ↦ ap is_integer e ] in
-    rw c.integer.ensures (integer_reads c.args.items.now c.in-Some.item c.in-Some.tail.now c.in-Some.ensures whole)
+    rw c.integer-in-ShortInteger.ensures (integer_reads c.args.items.now c.in-Some.item c.in-Some.tail.now c.in-Some.ensures whole)
 
 pub primaries::primary-returns-in-Truth-clause-read : goal.primaries::primary-returns-in-Truth-clause-read
 primaries::primary-returns-in-Truth-clause-read t c = rw (view_truth c.in-Some.item.place c.in-Truth.truth) (truth_reads c.args.items.now c.in-Some.item c.in-Some.tail.now c.in-Truth.truth c.in-Some.ensures c.in-Truth.is)
@@ -292,7 +295,7 @@ primaries::primary-returns-in_ok-parts-in-Name-clause-read t c = rw (view_design
 
 pub primaries::primary-returns-in_default : goal.primaries::primary-returns-in_default
 primaries::primary-returns-in_default t c =
-    let lt = other_rank c.in-Some.item.word c.in_default.not-Name c.in_default.not-ShortInteger c.in_default.not-LongInteger c.in_default.not-Truth c.in_default.not-Text c.in_default.not-Open c.in_default.not-OpenSlash c.in_default.not-OpenBracket in
+    let lt = other_rank c.in-Some.item.word c.in_default.not-Name c.in_default.not-KindDigit c.in_default.not-ShortInteger c.in_default.not-LongInteger c.in_default.not-Truth c.in_default.not-Text c.in_default.not-Open c.in_default.not-OpenSlash c.in_default.not-OpenBracket in
     record { read = subst (λ (x : List Item). Fails (EatsUpTo 0) x) (sym c.in-Some.ensures) (other_fails c.in-Some.item c.in-Some.tail.now lt); shorter = tt }
 
 pub expressions::signed_term-returns-in_err-term-in-Some-clause-read : goal.expressions::signed_term-returns-in_err-term-in-Some-clause-read
