@@ -1,7 +1,9 @@
 pub mod Access
 pub mod Listing
-pub mod Selecting
+pub mod Calling
 pub mod Tables
 pub mod Walk
 pub mod Lookups
 pub mod Pairs
+pub use Rattle.f3_selecting.specs.Sources
+pub use Rattle.f3_selecting.specs.Private

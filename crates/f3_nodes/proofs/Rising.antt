@@ -1,5 +1,5 @@
 -- Levels that rise along each step rise along each path.
-use Rattle.std.proofs.Common.{◌≡◌, ℕ, zero, suc, ◌+◌, ◌≤◌, List, [], ◌∷◌, refl, sym, ap, subst, ◌∙◌, arith, ◌⊎◌, inl, inr, Contains, Bool, true, false, ◌&&◌, get_or, map}
+use Rattle.std.proofs.Common.{◌≡◌, ℕ, zero, suc, ◌+◌, ◌≤◌, List, [], ◌∷◌, refl, sym, ap, subst, ◌∙◌, arith, inl, inr, Contains, Bool, true, false, ◌&&◌}
 use Rattle.std.proofs.lemmas.Bool.{true≢false, leb-true}
 use Rattle.f3_nodes.specs.Nodes.{Graph, targets_of, Leads}
 use Rattle.f3_nodes.specs.Levels.{level, may_lead, may_lead_to, all_rise, AreLevels}
