@@ -5,5 +5,3 @@ pub mod Tables
 pub mod Walk
 pub mod Lookups
 pub mod Pairs
-pub use Rattle.f3_selecting.specs.Sources
-pub use Rattle.f3_selecting.specs.Private

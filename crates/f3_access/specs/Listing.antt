@@ -9,8 +9,8 @@ use Rattle.f3_scopes.specs.Kinds.{is_module}
 use Rattle.f3_scopes.specs.Outlines.{Scope, Own, Using}
 use Rattle.f3_access.specs.declared.table.Visible.{Visible}
 use Rattle.f3_access.specs.Access.{first_entity}
-use Rattle.f3_selecting.specs.Sources.{modules_of}
-use Rattle.f3_selecting.specs.Private.{is_private}
+pub use Rattle.f3_selecting.specs.Sources.{modules_of}
+pub use Rattle.f3_selecting.specs.Private.{is_private}
 
 abbrev pub same_pair : Visible → Visible → Bool
 same_pair a b = (a.symbol == b.symbol) && (a.entity == b.entity)

@@ -26,12 +26,7 @@ use std::alloc::{AllocError, Global};
 fn at(rule: Rule, name: &Name) -> Break
     ensures { result ≡ at rule name.now }
 {
-    Break {
-        phase: 2,
-        place: name.place,
-        rule,
-        name: Some(name.symbol),
-    }
+    f3_breaks::at(2, rule, *name)
 }
 
 /// The break of a rule at a name, where it is broken.
