@@ -13,7 +13,8 @@ use Rattle.f3_access.specs.declared.table.Visible.{Visible}
 use Rattle.f3_access.specs.declared.table.ScopeTable.{ScopeTable}
 use Rattle.f3_selecting.specs.declared.choosing.Accesses.{Accesses}
 use Rattle.f3_access.specs.Access.{entities_of, first_entity, IsUnitOrder}
-use Rattle.f3_access.specs.Listing.{numbered, lists_from, module_from, module_named, called, exports_of, used_pairs, is_unit}
+use Rattle.f3_access.specs.Listing.{numbered, lists_from, module_named, called, exports_of, used_pairs, is_unit}
+use Rattle.f3_selecting.specs.Sources.{module_from}
 use Rattle.f3_selecting.specs.Sources.{modules_of}
 use Rattle.f3_selecting.specs.Private.{is_private}
 use Rattle.f3_access.specs.Tables.{exports_in, exports_at, IsTable, IsTableOf, Stands, UnitsStand, Done, AllStand}

@@ -9,7 +9,7 @@ use Rattle.f3_scopes.specs.Kinds.{is_module}
 use Rattle.f3_scopes.specs.Outlines.{Scope, Own, Using}
 use Rattle.f3_access.specs.declared.table.Visible.{Visible}
 use Rattle.f3_access.specs.Access.{first_entity}
-pub use Rattle.f3_selecting.specs.Sources.{modules_of}
+pub use Rattle.f3_selecting.specs.Sources.{modules_of, module_from}
 pub use Rattle.f3_selecting.specs.Private.{is_private}
 
 abbrev pub same_pair : Visible → Visible → Bool
@@ -22,11 +22,6 @@ pair symbol entity = record { symbol = symbol; entity = entity }
 abbrev pub numbered : ℕ → List Own → List Visible
 numbered number [] = []
 numbered number (d ∷ ds) = pair d.name.symbol number ∷ numbered (number + 1) ds
-
--- the number of the module of this name, among the scopes from a number on
-abbrev pub module_from : Option ℕ → ℕ → List Scope → ℕ → Option ℕ
-module_from found number [] symbol = found
-module_from found number (s ∷ ss) symbol = module_from (if is_module s.kind && (s.name.symbol == symbol) then Some number else found) (number + 1) ss symbol
 
 abbrev pub module_named : List Scope → ℕ → Option ℕ
 module_named scopes symbol = module_from None 0 scopes symbol

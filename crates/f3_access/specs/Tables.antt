@@ -1,10 +1,10 @@
 -- When tables are those of a program.
-use Rattle.std.specs.Prelude.{◌≡◌, ℕ, ◌<◌, ◌+◌, Vec, List, [], ◌∷◌, ◌++◌, ◌⊎◌, Bool, false, filter, Option, None, Some, true, Contains, ◌↔◌, ◌==◌, nat_eq, if◌then◌else◌, length, map, slice_get, slice_set}
-use Rattle.std.specs.Global.{Global}
+use Rattle.std.specs.Prelude.{◌≡◌, ℕ, ◌<◌, ◌+◌, List, [], ◌∷◌, ◌++◌, ◌⊎◌, Bool, false, filter, Option, None, Some, true, Contains, ◌↔◌, ◌==◌, nat_eq, if◌then◌else◌, length, map, slice_get, slice_set}
 use Rattle.indexmap.specs.IndexMap.{get}
 use Rattle.indexmap.specs.IndexSet.{insert_all}
 use Rattle.f3_scopes.specs.Outlines.{Scope}
 use Rattle.f3_selecting.specs.Private.{makes_private}
+use Rattle.f3_selecting.specs.Places.{places_in}
 use Rattle.f3_access.specs.declared.table.Visible.{Visible}
 use Rattle.f3_access.specs.declared.table.Lookup.{Lookup}
 use Rattle.f3_access.specs.declared.table.Lookup.TheVariants.{One, Nothing, Several}
@@ -55,10 +55,6 @@ own_at tables number = own_in (slice_get tables number)
 
 abbrev pub exports_at : List ScopeTable → ℕ → List Visible
 exports_at tables number = exports_in (slice_get tables number)
-
-abbrev pub places_in : Option (Vec ℕ Global) → List ℕ
-places_in None = []
-places_in (Some v) = v.items
 
 -- the places of a name among these pairs, of which the first stands at this place
 abbrev pub places_from : ℕ → List Visible → ℕ → List ℕ

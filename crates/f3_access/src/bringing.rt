@@ -2,18 +2,19 @@
 
 ghost use Rattle.std.specs.Prelude.{◌≡◌, ℕ, ◌<◌, [], OnOk, IfOk, IfSome, map, length, nat_eq};
 ghost use Rattle.std.specs.List.{All, flat_map};
-ghost use Rattle.std.specs.List.Sorted.{IsNonDecreasing, IsPermutation};
+ghost use Rattle.std.specs.List.Sorted.{IsNonDecreasing};
 ghost use Rattle.indexmap.specs.IndexSet.{insert_all};
 ghost use Rattle.indexmap.specs.IndexMap.{get};
 ghost use Rattle.f3_scopes.specs.Outlines.{using_view};
 ghost use Rattle.f3_access.specs.Listing.{same_pair, pair, exports_of, brought};
 ghost use Rattle.f3_selecting.specs.Selecting.{names_in};
 ghost use Rattle.f3_access.specs.Calling.{called_by, OnlyNamed};
-ghost use Rattle.f3_access.specs.Tables.{exports_at, places_in, HasPlaces};
+ghost use Rattle.f3_access.specs.Tables.{exports_at, HasPlaces};
 ghost use Rattle.f3_access.specs.Walk.{unseen, RestIsSilent};
 
 use crate::table::{ScopeTable, Visible};
 use f3_scopes::outline::UseOutline;
+use f3_selecting::places::sorted_places;
 use f3_selecting::selecting::{Selections, kept_by, locals_by, names_of, selections_of};
 use indexmap::{IndexMap, IndexSet};
 use std::alloc::{AllocError, Global};
@@ -103,45 +104,6 @@ fn add_places(
         }
     }
     Ok(())
-}
-
-/// The places of a name.
-fn places_in(places: &IndexMap<usize, Vec<usize>>, name: usize) -> &[usize]
-    ensures { result.now ≡ places_in (get nat_eq places.now name) }
-{
-    match places.get(&name) {
-        Some(places) => places,
-        None => &[],
-    }
-}
-
-/// The places of these names.
-fn gathered(
-    alloc: Global,
-    places: &IndexMap<usize, Vec<usize>>,
-    names: &[usize],
-) -> Result<Vec<usize>, AllocError>
-    ensures { IfOk result (λ v. v.items ≡ flat_map (λ n. places_in (get nat_eq places.now n)) names.now) }
-{
-    let mut gathered = Vec::new(alloc);
-    for name in names {
-        gathered.extend_from_slice(places_in(places, *name))?;
-    }
-    Ok(gathered)
-}
-
-/// The places of these names, in order.
-fn sorted_places(
-    alloc: Global,
-    places: &IndexMap<usize, Vec<usize>>,
-    names: &[usize],
-) -> Result<Vec<usize>, AllocError>
-    ensures places { IfOk result (λ v. IsPermutation (flat_map (λ n. places_in (get nat_eq places.now n)) names.now) v.items) }
-    ensures order { IfOk result (λ v. IsNonDecreasing v.items) }
-{
-    let mut sorted = gathered(alloc, places, names)?;
-    sorted.sort_unstable();
-    Ok(sorted)
 }
 
 /// Adds the local names of the exports of one module. Where all its USE statements have ONLY, just the names that they

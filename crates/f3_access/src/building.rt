@@ -9,13 +9,15 @@ ghost use Rattle.f3_scopes.specs.Kinds.{is_module};
 ghost use Rattle.f3_access.specs.declared.table.Lookup.TheVariants.{Nothing};
 ghost use Rattle.f3_access.specs.Listing.{same_pair, brought};
 ghost use Rattle.f3_selecting.specs.Private.{is_private, makes_private};
-ghost use Rattle.f3_access.specs.Tables.{note, meaning, found, exports_at, places_in, places_from, HasPlaces, IsTable};
+ghost use Rattle.f3_selecting.specs.Places.{places_in};
+ghost use Rattle.f3_access.specs.Tables.{note, meaning, found, exports_at, places_from, HasPlaces, IsTable};
 
 use crate::bringing::used_by;
 use crate::exporting::exported;
 use crate::table::{Lookup, ScopeTable, Visible};
 use f3_scopes::outline::{Outline, ScopeKind, UseOutline};
 use f3_selecting::choosing::Accesses;
+use f3_selecting::places::add_place;
 use indexmap::{IndexMap, IndexSet};
 use std::alloc::{AllocError, Global};
 
@@ -68,24 +70,6 @@ fn add_pairs(table: &mut IndexSet<Visible>, pairs: &[Visible]) -> Result<(), All
     for pair in pairs {
         table.insert(*pair)?;
     }
-    Ok(())
-}
-
-/// Adds a place to those of a name.
-fn add_place(
-    alloc: Global,
-    places: &mut IndexMap<usize, Vec<usize>>,
-    name: usize,
-    place: usize,
-) -> Result<(), AllocError>
-    ensures { OnOk result ((n : ℕ) → places_in (get nat_eq places.new n) ≡ places_in (get nat_eq places.old n) ++ (if name == n then place ∷ [] else [])) }
-{
-    let mut others = match places.swap_remove(&name) {
-        Some(others) => others,
-        None => Vec::new(alloc),
-    };
-    others.push(place)?;
-    places.insert(name, others)?;
     Ok(())
 }
 

@@ -5,7 +5,8 @@ ghost use Rattle.std.specs.List.{All};
 ghost use Rattle.indexmap.specs.IndexMap.{get};
 ghost use Rattle.f3_scopes.specs.Outlines.{own_view, scope_view};
 ghost use Rattle.f3_access.specs.Access.{IsUnitOrder, ModulesDiffer};
-ghost use Rattle.f3_access.specs.Listing.{numbered, lists_from, module_from, is_unit};
+ghost use Rattle.f3_access.specs.Listing.{numbered, lists_from, is_unit};
+ghost use Rattle.f3_selecting.specs.Sources.{module_from};
 ghost use Rattle.f3_access.specs.Tables.{IsTableOf, IsFilled, UnitsStand, Done, AllStand, HasPlaces, AreTables};
 ghost use Rattle.f3_selecting.specs.Private.{AreAccesses};
 
@@ -13,29 +14,9 @@ use crate::building::table_of;
 use crate::table::{ScopeTable, Tables, Visible};
 use f3_scopes::outline::{Declared, Outline, ScopeKind};
 use f3_selecting::choosing::{Accesses, all_accesses};
+use f3_selecting::modules::modules_by_name;
 use indexmap::{IndexMap, IndexSet};
 use std::alloc::{AllocError, Global};
-
-/// The number of each module, by its name.
-fn modules_by_name(
-    alloc: Global,
-    outlines: &[Outline],
-) -> Result<IndexMap<usize, usize>, AllocError>
-    ensures { IfOk result (λ m. (s : ℕ) → get nat_eq m s ≡ module_from None 0 (map scope_view outlines.now) s) }
-{
-    let mut modules = IndexMap::new(alloc);
-    for (number, outline) in outlines.iter().enumerate() {
-        match outline.kind {
-            ScopeKind::Module => {
-                modules.insert(outline.name.symbol, number)?;
-            }
-            ScopeKind::Program => {}
-            ScopeKind::Subroutine => {}
-            ScopeKind::Function => {}
-        }
-    }
-    Ok(modules)
-}
 
 /// The declarations of a scope, numbered from the number of those before; these are kept by their names.
 pub fn numbered(

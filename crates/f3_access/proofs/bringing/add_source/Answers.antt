@@ -4,7 +4,8 @@ use Rattle.std.specs.List.Sorted.{IsPermutation}
 use Rattle.indexmap.specs.IndexMap.{get}
 use Rattle.f3_access.specs.Calling.{called_by}
 use Rattle.f3_selecting.specs.Selecting.{names_in}
-use Rattle.f3_access.specs.Tables.{places_in, places_from}
+use Rattle.f3_selecting.specs.Places.{places_in}
+use Rattle.f3_access.specs.Tables.{places_from}
 use Rattle.f3_access.proofs.Walks.{walk_silent}
 use Rattle.f3_access.proofs.bringing.add_source.Goals as goal
 

@@ -1,8 +1,8 @@
 use Rattle.std.proofs.Common.{◌≡◌, ◌++◌, drop, nat_eq}
 use Rattle.std.specs.List.{flat_map}
 use Rattle.indexmap.specs.IndexMap.{get}
-use Rattle.f3_access.specs.Tables.{places_in}
-use Rattle.f3_access.proofs.bringing.gathered.Given as goal
+use Rattle.f3_selecting.specs.Places.{places_in}
+use Rattle.f3_selecting.proofs.places.gathered.Given as goal
 
 abbrev pub invariant-loop-name : goal.invariant-loop-name
 invariant-loop-name l =

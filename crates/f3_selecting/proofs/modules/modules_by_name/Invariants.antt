@@ -1,8 +1,8 @@
 use Rattle.std.proofs.Common.{◌≡◌, ℕ, drop, map, nat_eq, None}
 use Rattle.indexmap.specs.IndexMap.{get}
 use Rattle.f3_scopes.specs.Outlines.{scope_view}
-use Rattle.f3_access.specs.Listing.{module_from}
-use Rattle.f3_access.proofs.filling.modules_by_name.Given as goal
+use Rattle.f3_selecting.specs.Sources.{module_from}
+use Rattle.f3_selecting.proofs.modules.modules_by_name.Given as goal
 
 abbrev pub invariant-loop-number : goal.invariant-loop-number
 invariant-loop-number l =
