@@ -12,12 +12,14 @@ use Rattle.f3_access.specs.declared.table.Lookup.{Lookup}
 use Rattle.f3_access.specs.declared.table.Lookup.TheVariants.{One, Nothing, Several}
 use Rattle.f3_access.specs.declared.table.ScopeTable.{ScopeTable}
 use Rattle.f3_access.specs.declared.table.Tables.{Tables}
-use Rattle.f3_access.specs.declared.table.Accesses.{Accesses}
+use Rattle.f3_selecting.specs.declared.choosing.Accesses.{Accesses}
 use Rattle.f3_access.specs.Access.{IsOwn, IsUsed, IsVisible, IsUnitOrder, ModulesDiffer}
 use Rattle.f3_access.specs.Lookups.{ResolvesAs}
-use Rattle.f3_access.specs.Listing.{same_pair, pair, module_named, used_pairs, hides, is_private}
-use Rattle.f3_access.specs.Tables.{meaning, own_in, used_in, lookup_in, host_in, own_at, exports_at, AllStand, own_of, used_of, is_nothing, visible_from, visible_of, from_host, or_host, visible_listed, makes_private, private_in, AreAccesses, AreTables}
-use Rattle.f3_access.proofs.Members.{Has, has_of, contains_of, has_left, has_right, has_parts, has_kept, kept_of, any_of, any_from, put, put_of, has_mapped, mapped_of}
+use Rattle.f3_access.specs.Listing.{same_pair, pair, module_named, used_pairs, hides}
+use Rattle.f3_selecting.specs.Private.{is_private}
+use Rattle.f3_access.specs.Tables.{meaning, own_in, used_in, lookup_in, host_in, own_at, exports_at, AllStand, own_of, used_of, is_nothing, visible_from, visible_of, from_host, or_host, visible_listed, private_in, AreTables}
+use Rattle.f3_selecting.specs.Private.{makes_private, AreAccesses}
+use Rattle.f3_selecting.proofs.Members.{Has, has_of, contains_of, has_left, has_right, has_parts, has_kept, kept_of, any_of, any_from, put, put_of, has_mapped, mapped_of}
 use Rattle.f3_access.proofs.Chosen.{same_filter}
 use Rattle.f3_access.proofs.Meanings.{resolves, same_resolves}
 use Rattle.f3_access.proofs.Modules.{named_of, named_in}

@@ -3,28 +3,17 @@ use Rattle.std.proofs.Common.{◌≡◌, ℕ, List, [], ◌∷◌, ◌++◌, map
 use Rattle.std.specs.List.{flat_map, list_any}
 use Rattle.std.proofs.lemmas.Bool.{and_parts, and_from, not-true, cases_Bool, true≢false, eqb-true, eq-eqb}
 use Rattle.std.proofs.lemmas.Map.Views.{exact_unsigned_eq}
-use Rattle.indexmap.specs.IndexSet.{insert_all}
 use Rattle.indexmap.specs.IndexMap.{get}
 use Rattle.f3_scopes.specs.declared.outline.UseItem.{UseItem}
-use Rattle.f3_scopes.specs.Outlines.{Using, Scope}
-use Rattle.f3_tree.specs.declared.declaration.Accessibility.TheVariants.{Public, Private}
+use Rattle.f3_scopes.specs.Outlines.{Using}
 use Rattle.f3_access.specs.declared.table.Visible.{Visible}
-use Rattle.f3_access.specs.declared.selecting.Selected.{Selected}
-use Rattle.f3_access.specs.declared.selecting.Selections.{Selections}
-use Rattle.f3_access.specs.Listing.{pair, items_of, is_open, names_alone, renames, locals_of, is_kept, called, named, is_private, is_default}
-use Rattle.f3_access.specs.Selecting.{same_selected, selected, open_name, only_name, only_names, local_name, locals_from, locals_by, has_none, kept_by, called_by, originals_from, names_in, OnlyNamed, AreSelections}
-use Rattle.f3_access.proofs.Members.{Has, has_left, has_right, has_parts, any_of, any_from, put, put_of, has_mapped, has_piece, piece_of}
-
-pub same_bool : (a b : Bool) → (a ≡ true → b ≡ true) → (b ≡ true → a ≡ true) → a ≡ b
-same_bool true b f g = sym (f refl)
-same_bool false true f g = g refl
-same_bool false false f g = refl
-
--- what is put into an empty set is in it
-pub any_set : {T : Type 0} (eq : T → T → Bool) → ((a b : T) → eq a b ≡ true → a ≡ b) → (xs : List T) (x : T) → list_any (eq x) (insert_all eq [] xs) ≡ list_any (eq x) xs
-any_set eq same xs x = same_bool (list_any (eq x) (insert_all eq [] xs)) (list_any (eq x) xs)
-    (λ t. let r = any_of (eq x) (insert_all eq [] xs) t in elim (put_of eq same [] xs r.0 r.1) [ inl n ↦ absurd n | inr h ↦ any_from (eq x) xs r.0 h r.2 ])
-    (λ t. let r = any_of (eq x) xs t in any_from (eq x) (insert_all eq [] xs) r.0 (put eq same [] xs r.0 (inr r.1)) r.2)
+use Rattle.f3_selecting.specs.declared.selecting.Selected.{Selected}
+use Rattle.f3_selecting.specs.declared.selecting.Selections.{Selections}
+use Rattle.f3_access.specs.Listing.{pair, items_of, is_open, names_alone, renames, locals_of, is_kept, called}
+use Rattle.f3_selecting.specs.Selecting.{same_selected, selected, open_name, only_name, only_names, local_name, locals_from, locals_by, has_none, kept_by, originals_from, names_in, AreSelections}
+use Rattle.f3_access.specs.Calling.{called_by, OnlyNamed}
+use Rattle.f3_selecting.proofs.Privacy.{any_set, same_bool}
+use Rattle.f3_selecting.proofs.Members.{Has, has_left, has_right, has_parts, any_of, any_from, has_mapped, has_piece, piece_of}
 
 pub same_keys : (a b : Selected) → same_selected a b ≡ true → a ≡ b
 same_keys a b t = let p = and_parts (a.source == b.source) (a.original == b.original) t in
@@ -232,16 +221,6 @@ module _ (us : List Using) (s : Selections) (are : AreSelections us s) where
 pub same_flat : {X A : Type 0} (f g : X → List A) (xs : List X) → ((x : X) → f x ≡ g x) → flat_map f xs ≡ flat_map g xs
 same_flat f g [] h = refl
 same_flat f g (x ∷ xs) h = ap (λ l. l ++ flat_map f xs) (h x) ∙ ap (λ l. g x ++ l) (same_flat f g xs h)
-
--- what is private, by sets of the names that are named
-pub private_by : (scope : Scope) (private_names public_names : List ℕ) (default : Bool) → private_names ≡ insert_all nat_eq [] (named Private scope) → public_names ≡ insert_all nat_eq [] (named Public scope)
-    → default ≡ list_any is_default scope.accesses → (n : ℕ) → (list_any (nat_eq n) private_names || (not (list_any (nat_eq n) public_names) && default)) ≡ is_private scope n
-private_by scope private_names public_names default a b d n =
-    let p : list_any (nat_eq n) private_names ≡ list_any (nat_eq n) (named Private scope) = ap (list_any (nat_eq n)) a ∙ any_set nat_eq exact_unsigned_eq (named Private scope) n in
-    let q : list_any (nat_eq n) public_names ≡ list_any (nat_eq n) (named Public scope) = ap (list_any (nat_eq n)) b ∙ any_set nat_eq exact_unsigned_eq (named Public scope) n in
-    ap (λ t. t || (not (list_any (nat_eq n) public_names) && default)) p
-    ∙ ap (λ t. list_any (nat_eq n) (named Private scope) || (not t && default)) q
-    ∙ ap (λ t. list_any (nat_eq n) (named Private scope) || (not (list_any (nat_eq n) (named Public scope)) && t)) d
 
 pub same_filter : {X : Type 0} (p q : X → Bool) (xs : List X) → ((x : X) → p x ≡ q x) → filter p xs ≡ filter q xs
 same_filter p q xs h = ap (λ f. filter f xs) (λ i x. h x i)

@@ -1,5 +1,3 @@
-pub mod Members
-pub mod Steps
 pub mod Walks
 pub mod Chosen
 pub mod Modules
@@ -8,3 +6,4 @@ pub mod Visibles
 pub mod Meanings
 pub mod Answering
 pub mod Laws
+pub use Rattle.f3_selecting.proofs.Members

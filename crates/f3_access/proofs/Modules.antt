@@ -7,7 +7,8 @@ use Rattle.f3_scopes.specs.declared.outline.ScopeKind.TheVariants.{Module, Progr
 use Rattle.f3_scopes.specs.Outlines.{Scope}
 use Rattle.f3_access.specs.Access.{IsModule, IsUnit, ModulesDiffer}
 use Rattle.f3_scopes.specs.Kinds.{is_module}
-use Rattle.f3_access.specs.Listing.{is_unit, module_from, module_named}
+use Rattle.f3_access.specs.Listing.{is_unit, module_named}
+use Rattle.f3_selecting.specs.Sources.{module_from}
 
 pub is_a_module : (k : ScopeKind) → is_module k ≡ true → k ≡ Module
 is_a_module Module t = refl

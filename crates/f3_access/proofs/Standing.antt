@@ -11,10 +11,14 @@ use Rattle.f3_scopes.specs.declared.outline.Outline.{Outline}
 use Rattle.f3_scopes.specs.Outlines.{Scope, Using, scope_view}
 use Rattle.f3_access.specs.declared.table.Visible.{Visible}
 use Rattle.f3_access.specs.declared.table.ScopeTable.{ScopeTable}
-use Rattle.f3_access.specs.declared.table.Accesses.{Accesses}
+use Rattle.f3_selecting.specs.declared.choosing.Accesses.{Accesses}
 use Rattle.f3_access.specs.Access.{entities_of, first_entity, IsUnitOrder}
-use Rattle.f3_access.specs.Listing.{numbered, lists_from, module_from, module_named, modules_of, called, exports_of, used_pairs, is_private, is_unit}
-use Rattle.f3_access.specs.Tables.{exports_in, exports_at, makes_private, AreAccesses, IsTable, IsTableOf, Stands, UnitsStand, Done, AllStand}
+use Rattle.f3_access.specs.Listing.{numbered, lists_from, module_named, called, exports_of, used_pairs, is_unit}
+use Rattle.f3_selecting.specs.Sources.{module_from}
+use Rattle.f3_selecting.specs.Sources.{modules_of}
+use Rattle.f3_selecting.specs.Private.{is_private}
+use Rattle.f3_access.specs.Tables.{exports_in, exports_at, IsTable, IsTableOf, Stands, UnitsStand, Done, AllStand}
+use Rattle.f3_selecting.specs.Private.{makes_private, AreAccesses}
 use Rattle.f3_access.proofs.Modules.{named_of, module_is_unit, is_a_unit}
 use Rattle.f3_access.proofs.Chosen.{same_flat}
 

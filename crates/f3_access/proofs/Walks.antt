@@ -11,8 +11,8 @@ use Rattle.f3_access.specs.declared.table.Visible.{Visible}
 use Rattle.f3_access.specs.Tables.{places_from}
 use Rattle.f3_access.specs.Listing.{same_pair}
 use Rattle.f3_access.specs.Walk.{unseen, RestIsSilent}
-use Rattle.f3_access.proofs.Steps.{insert_more}
-use Rattle.f3_access.proofs.Members.{Has, has_right, has_piece, any_of, contains_of}
+use Rattle.f3_selecting.proofs.Steps.{insert_more}
+use Rattle.f3_selecting.proofs.Members.{Has, has_right, has_piece, any_of, contains_of}
 
 module _ (f : Visible → List Visible) where
   -- one place that gives nothing

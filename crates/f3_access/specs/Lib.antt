@@ -1,6 +1,6 @@
 pub mod Access
 pub mod Listing
-pub mod Selecting
+pub mod Calling
 pub mod Tables
 pub mod Walk
 pub mod Lookups

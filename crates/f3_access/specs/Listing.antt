@@ -1,17 +1,16 @@
 -- The order of the names that a scope has (own rule).
-use Rattle.std.specs.Prelude.{ℕ, ◌+◌, List, [], ◌∷◌, ◌++◌, Bool, true, false, Option, None, Some, ◌||◌, ◌&&◌, ◌==◌, not, nat_eq, if◌then◌else◌, map, filter, length}
+use Rattle.std.specs.Prelude.{ℕ, ◌+◌, List, [], ◌∷◌, ◌++◌, Bool, true, false, Option, None, Some, ◌||◌, ◌&&◌, ◌==◌, not, if◌then◌else◌, map, filter, length}
 use Rattle.std.specs.List.{flat_map, list_any}
 use Rattle.indexmap.specs.IndexSet.{insert_all}
-use Rattle.f3_tree.specs.declared.declaration.Accessibility.{Accessibility}
-use Rattle.f3_tree.specs.declared.declaration.Accessibility.TheVariants.{Public, Private}
-use Rattle.f3_tree.specs.declared.expression.Name.{Name}
 use Rattle.f3_scopes.specs.declared.outline.ScopeKind.{ScopeKind}
 use Rattle.f3_scopes.specs.declared.outline.ScopeKind.TheVariants.{Module, Program, Subroutine, Function}
 use Rattle.f3_scopes.specs.declared.outline.UseItem.{UseItem}
 use Rattle.f3_scopes.specs.Kinds.{is_module}
-use Rattle.f3_scopes.specs.Outlines.{Scope, Own, Using, Listed}
+use Rattle.f3_scopes.specs.Outlines.{Scope, Own, Using}
 use Rattle.f3_access.specs.declared.table.Visible.{Visible}
 use Rattle.f3_access.specs.Access.{first_entity}
+pub use Rattle.f3_selecting.specs.Sources.{modules_of, module_from}
+pub use Rattle.f3_selecting.specs.Private.{is_private}
 
 abbrev pub same_pair : Visible → Visible → Bool
 same_pair a b = (a.symbol == b.symbol) && (a.entity == b.entity)
@@ -24,17 +23,8 @@ abbrev pub numbered : ℕ → List Own → List Visible
 numbered number [] = []
 numbered number (d ∷ ds) = pair d.name.symbol number ∷ numbered (number + 1) ds
 
--- the number of the module of this name, among the scopes from a number on
-abbrev pub module_from : Option ℕ → ℕ → List Scope → ℕ → Option ℕ
-module_from found number [] symbol = found
-module_from found number (s ∷ ss) symbol = module_from (if is_module s.kind && (s.name.symbol == symbol) then Some number else found) (number + 1) ss symbol
-
 abbrev pub module_named : List Scope → ℕ → Option ℕ
 module_named scopes symbol = module_from None 0 scopes symbol
-
--- the names of modules in the order of their first USE
-abbrev pub modules_of : List Using → List ℕ
-modules_of uses = insert_all nat_eq [] (map (λ u. u.from.symbol) uses)
 
 -- the items of all USE statements of a module, in order
 abbrev pub items_of : List Using → ℕ → List UseItem
@@ -68,6 +58,10 @@ abbrev pub exports_of : (ℕ → List Visible) → Option ℕ → List Visible
 exports_of exports None = []
 exports_of exports (Some source) = exports source
 
+-- what these USE statements bring, where a module of this name has this number and each module exports this
+abbrev pub brought : List Using → (ℕ → List Visible) → (ℕ → Option ℕ) → List Visible
+brought uses exports find = flat_map (λ m. flat_map (called uses m) (exports_of exports (find m))) (modules_of uses)
+
 -- what USE brings into a scope, where each module exports this
 abbrev pub used_pairs : List Scope → (ℕ → List Visible) → Scope → List Visible
 used_pairs scopes exports scope = flat_map (λ m. flat_map (called scope.uses m) (exports_of exports (module_named scopes m))) (modules_of scope.uses)
@@ -75,35 +69,6 @@ used_pairs scopes exports scope = flat_map (λ m. flat_map (called scope.uses m)
 -- What the scope of this number has of its own: what USE brings, then what it declares; each pair once, at its first place.
 abbrev pub own_listed : List Scope → (ℕ → List Visible) → ℕ → Scope → List Visible
 own_listed scopes exports number scope = insert_all same_pair [] (used_pairs scopes exports scope ++ numbered (first_entity scopes number) scope.declared)
-
--- Access -------------------------------------------------------------------------------------
-
-abbrev pub same_access : Accessibility → Accessibility → Bool
-same_access Public Public = true
-same_access Public Private = false
-same_access Private Public = false
-same_access Private Private = true
-
-abbrev pub listed_names : Accessibility → Listed → List ℕ
-listed_names access l = if same_access access l.accessibility then map (λ n. n.symbol) l.names else []
-
-abbrev pub given_name : Accessibility → Own → List ℕ
-given_name access d = if list_any (same_access access) d.accesses then d.name.symbol ∷ [] else []
-
--- the names that a PUBLIC or PRIVATE names, in statements and then as an attribute
-abbrev pub named : Accessibility → Scope → List ℕ
-named access scope = flat_map (listed_names access) scope.accesses ++ flat_map (given_name access) scope.declared
-
-abbrev pub is_nil : List Name → Bool
-is_nil [] = true
-is_nil (n ∷ ns) = false
-
--- a PRIVATE without a list
-abbrev pub is_default : Listed → Bool
-is_default l = same_access Private l.accessibility && is_nil l.names
-
-abbrev pub is_private : Scope → ℕ → Bool
-is_private scope n = list_any (nat_eq n) (named Private scope) || (not (list_any (nat_eq n) (named Public scope)) && list_any is_default scope.accesses)
 
 -- what a scope with these pairs exports
 abbrev pub exported : Scope → List Visible → List Visible

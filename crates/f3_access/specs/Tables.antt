@@ -1,19 +1,19 @@
 -- When tables are those of a program.
-use Rattle.std.specs.Prelude.{◌≡◌, ℕ, ◌<◌, ◌+◌, Vec, List, [], ◌∷◌, ◌++◌, ◌⊎◌, Bool, false, not, ◌||◌, ◌&&◌, filter, Option, None, Some, true, Contains, ◌↔◌, ◌==◌, nat_eq, if◌then◌else◌, length, map, slice_get}
-use Rattle.std.specs.Global.{Global}
-use Rattle.std.specs.List.{list_any}
+use Rattle.std.specs.Prelude.{◌≡◌, ℕ, ◌<◌, ◌+◌, List, [], ◌∷◌, ◌++◌, ◌⊎◌, Bool, false, filter, Option, None, Some, true, Contains, ◌↔◌, ◌==◌, nat_eq, if◌then◌else◌, length, map, slice_get, slice_set}
 use Rattle.indexmap.specs.IndexMap.{get}
 use Rattle.indexmap.specs.IndexSet.{insert_all}
 use Rattle.f3_scopes.specs.Outlines.{Scope}
+use Rattle.f3_selecting.specs.Private.{makes_private}
+use Rattle.f3_selecting.specs.Places.{places_in}
 use Rattle.f3_access.specs.declared.table.Visible.{Visible}
 use Rattle.f3_access.specs.declared.table.Lookup.{Lookup}
 use Rattle.f3_access.specs.declared.table.Lookup.TheVariants.{One, Nothing, Several}
 use Rattle.f3_access.specs.declared.table.ScopeTable.{ScopeTable}
 use Rattle.f3_access.specs.declared.table.Tables.{Tables}
-use Rattle.f3_access.specs.declared.table.Accesses.{Accesses}
+use Rattle.f3_selecting.specs.declared.choosing.Accesses.{Accesses}
 use Rattle.f3_access.specs.Access.{first_entity, IsModule, IsPrivate, IsOwn, IsExported, IsUsed, IsVisible}
 use Rattle.f3_access.specs.Lookups.{Resolves}
-use Rattle.f3_access.specs.Listing.{same_pair, pair, numbered, used_pairs, own_listed, is_private, exported, with_host, is_unit}
+use Rattle.f3_access.specs.Listing.{same_pair, pair, numbered, used_pairs, own_listed, exported, with_host, is_unit}
 
 abbrev pub note : Lookup → ℕ → Lookup
 note Nothing e = One e
@@ -56,10 +56,6 @@ own_at tables number = own_in (slice_get tables number)
 abbrev pub exports_at : List ScopeTable → ℕ → List Visible
 exports_at tables number = exports_in (slice_get tables number)
 
-abbrev pub places_in : Option (Vec ℕ Global) → List ℕ
-places_in None = []
-places_in (Some v) = v.items
-
 -- the places of a name among these pairs, of which the first stands at this place
 abbrev pub places_from : ℕ → List Visible → ℕ → List ℕ
 places_from place [] n = []
@@ -83,6 +79,10 @@ abbrev pub IsTableOf : List Scope → List ScopeTable → ℕ → ScopeTable →
 IsTableOf scopes tables number table =
     (scope : Scope) → slice_get scopes number ≡ Some scope → IsTable (used_pairs scopes (exports_at tables) scope) (numbered (first_entity scopes number) scope.declared) scope table
 
+-- in these tables just that of the scope of this number is written anew, as the modules' exports give it
+abbrev pub IsFilled : List Scope → ℕ → List ScopeTable → List ScopeTable → Type 0
+IsFilled scopes number old new = (table : ScopeTable) × (new ≡ slice_set old number table) × IsTableOf scopes old number table
+
 abbrev pub Stands : List Scope → List ScopeTable → ℕ → Type 0
 Stands scopes tables number = (table : ScopeTable) × (slice_get tables number ≡ Some table) × IsTableOf scopes tables number table
 
@@ -96,14 +96,6 @@ Done scopes tables before = (number : ℕ) (scope : Scope) → slice_get scopes 
 
 abbrev pub AllStand : List Scope → List ScopeTable → Type 0
 AllStand scopes tables = (length tables ≡ length scopes) × ((number : ℕ) → number < length scopes → Stands scopes tables number)
-
--- whether a scope with these accesses makes a name private
-abbrev pub makes_private : Accesses → ℕ → Bool
-makes_private a n = list_any (nat_eq n) a.private_names.keys || (not (list_any (nat_eq n) a.public_names.keys) && a.is_private)
-
--- the accesses of each scope make the names private that the scope makes so
-abbrev pub AreAccesses : List Scope → List Accesses → Type 0
-AreAccesses scopes accesses = map makes_private accesses ≡ map is_private scopes
 
 -- As callers see tables --------------------------------------------------------------------------
 

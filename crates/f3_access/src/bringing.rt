@@ -2,43 +2,22 @@
 
 ghost use Rattle.std.specs.Prelude.{◌≡◌, ℕ, ◌<◌, [], OnOk, IfOk, IfSome, map, length, nat_eq};
 ghost use Rattle.std.specs.List.{All, flat_map};
-ghost use Rattle.std.specs.List.Sorted.{IsNonDecreasing, IsPermutation};
+ghost use Rattle.std.specs.List.Sorted.{IsNonDecreasing};
 ghost use Rattle.indexmap.specs.IndexSet.{insert_all};
 ghost use Rattle.indexmap.specs.IndexMap.{get};
 ghost use Rattle.f3_scopes.specs.Outlines.{using_view};
-ghost use Rattle.f3_access.specs.Listing.{same_pair, pair, exports_of, called, modules_of};
-ghost use Rattle.f3_access.specs.Selecting.{locals_by, kept_by, called_by, names_in, OnlyNamed};
-ghost use Rattle.f3_access.specs.Tables.{exports_at, places_in, HasPlaces};
+ghost use Rattle.f3_access.specs.Listing.{same_pair, pair, exports_of, brought};
+ghost use Rattle.f3_selecting.specs.Selecting.{names_in};
+ghost use Rattle.f3_access.specs.Calling.{called_by, OnlyNamed};
+ghost use Rattle.f3_access.specs.Tables.{exports_at, HasPlaces};
 ghost use Rattle.f3_access.specs.Walk.{unseen, RestIsSilent};
 
-use crate::selecting::{Selected, Selections, selections_of};
 use crate::table::{ScopeTable, Visible};
 use f3_scopes::outline::UseOutline;
+use f3_selecting::places::sorted_places;
+use f3_selecting::selecting::{Selections, kept_by, locals_by, names_of, selections_of};
 use indexmap::{IndexMap, IndexSet};
 use std::alloc::{AllocError, Global};
-
-/// The local names of a name of a module.
-fn locals_by(selections: &Selections, from: usize, original: usize) -> &[usize]
-    ensures { result.now ≡ locals_by selections.now from original }
-{
-    match selections.renamed.get(&Selected {
-        source: from,
-        original,
-    }) {
-        Some(locals) => locals,
-        None => &[],
-    }
-}
-
-/// Whether the scope keeps a name of a module.
-fn kept_by(selections: &Selections, from: usize, original: usize) -> bool
-    ensures { result ≡ kept_by selections.now from original }
-{
-    selections.alone.contains(&Selected {
-        source: from,
-        original,
-    }) || (selections.whole.contains(&from) && locals_by(selections, from, original).is_empty())
-}
 
 /// Adds an entity under these names.
 fn add_locals(
@@ -58,7 +37,7 @@ fn add_locals(
 }
 
 /// Adds the local names of one export.
-#[tactic(auto, using(crate::proofs::Steps::insert_more))]
+#[tactic(auto, using(f3_selecting::proofs::Steps::insert_more))]
 fn add_called(
     table: &mut IndexSet<Visible>,
     selections: &Selections,
@@ -78,7 +57,7 @@ fn add_called(
 }
 
 /// Adds the local names of the exports of one module.
-#[tactic(auto, using(crate::proofs::Steps::insert_more))]
+#[tactic(auto, using(f3_selecting::proofs::Steps::insert_more))]
 fn add_module(
     table: &mut IndexSet<Visible>,
     selections: &Selections,
@@ -105,7 +84,7 @@ fn unseen(exports: &[Visible], place: usize, next: usize) -> Option<Visible>
 }
 
 /// Adds the local names of the exports of one module, of which only those at these places have any.
-#[tactic(auto, using(crate::proofs::Steps::insert_more))]
+#[tactic(auto, using(f3_selecting::proofs::Steps::insert_more))]
 fn add_places(
     table: &mut IndexSet<Visible>,
     selections: &Selections,
@@ -125,55 +104,6 @@ fn add_places(
         }
     }
     Ok(())
-}
-
-/// The names of a module that items name.
-fn names_of(selections: &Selections, from: usize) -> &[usize]
-    ensures { result.now ≡ names_in (get nat_eq selections.now.named from) }
-{
-    match selections.named.get(&from) {
-        Some(names) => names.as_slice(),
-        None => &[],
-    }
-}
-
-/// The places of a name.
-fn places_in(places: &IndexMap<usize, Vec<usize>>, name: usize) -> &[usize]
-    ensures { result.now ≡ places_in (get nat_eq places.now name) }
-{
-    match places.get(&name) {
-        Some(places) => places,
-        None => &[],
-    }
-}
-
-/// The places of these names.
-fn gathered(
-    alloc: Global,
-    places: &IndexMap<usize, Vec<usize>>,
-    names: &[usize],
-) -> Result<Vec<usize>, AllocError>
-    ensures { IfOk result (λ v. v.items ≡ flat_map (λ n. places_in (get nat_eq places.now n)) names.now) }
-{
-    let mut gathered = Vec::new(alloc);
-    for name in names {
-        gathered.extend_from_slice(places_in(places, *name))?;
-    }
-    Ok(gathered)
-}
-
-/// The places of these names, in order.
-fn sorted_places(
-    alloc: Global,
-    places: &IndexMap<usize, Vec<usize>>,
-    names: &[usize],
-) -> Result<Vec<usize>, AllocError>
-    ensures places { IfOk result (λ v. IsPermutation (flat_map (λ n. places_in (get nat_eq places.now n)) names.now) v.items) }
-    ensures order { IfOk result (λ v. IsNonDecreasing v.items) }
-{
-    let mut sorted = gathered(alloc, places, names)?;
-    sorted.sort_unstable();
-    Ok(sorted)
 }
 
 /// Adds the local names of the exports of one module. Where all its USE statements have ONLY, just the names that they
@@ -219,7 +149,7 @@ fn add_used(
 }
 
 /// What these selections bring, from what the modules export.
-#[tactic(auto, using(crate::proofs::Steps::insert_more))]
+#[tactic(auto, using(f3_selecting::proofs::Steps::insert_more))]
 fn selected_by(
     alloc: Global,
     selections: &Selections,
@@ -245,7 +175,7 @@ pub fn used_by(
     tables: &[ScopeTable],
 ) -> Result<IndexSet<Visible>, AllocError>
     requires { All HasPlaces tables.now }
-    ensures { IfOk result (λ t. t.keys ≡ insert_all same_pair [] (flat_map (λ m. flat_map (called (map using_view uses.now) m) (exports_of (exports_at tables.now) (get nat_eq modules.now m))) (modules_of (map using_view uses.now)))) }
+    ensures { IfOk result (λ t. t.keys ≡ insert_all same_pair [] (brought (map using_view uses.now) (exports_at tables.now) (get nat_eq modules.now))) }
 {
     let selections = selections_of(alloc, uses)?;
     selected_by(alloc, &selections, modules, tables)

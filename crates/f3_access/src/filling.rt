@@ -5,36 +5,18 @@ ghost use Rattle.std.specs.List.{All};
 ghost use Rattle.indexmap.specs.IndexMap.{get};
 ghost use Rattle.f3_scopes.specs.Outlines.{own_view, scope_view};
 ghost use Rattle.f3_access.specs.Access.{IsUnitOrder, ModulesDiffer};
-ghost use Rattle.f3_access.specs.Listing.{numbered, lists_from, module_from, is_unit};
-ghost use Rattle.f3_access.specs.Tables.{IsTableOf, UnitsStand, Done, AllStand, AreAccesses, HasPlaces, AreTables};
+ghost use Rattle.f3_access.specs.Listing.{numbered, lists_from, is_unit};
+ghost use Rattle.f3_selecting.specs.Sources.{module_from};
+ghost use Rattle.f3_access.specs.Tables.{IsTableOf, IsFilled, UnitsStand, Done, AllStand, HasPlaces, AreTables};
+ghost use Rattle.f3_selecting.specs.Private.{AreAccesses};
 
 use crate::building::table_of;
-use crate::choosing::all_accesses;
-use crate::table::{Accesses, ScopeTable, Tables, Visible};
+use crate::table::{ScopeTable, Tables, Visible};
 use f3_scopes::outline::{Declared, Outline, ScopeKind};
+use f3_selecting::choosing::{Accesses, all_accesses};
+use f3_selecting::modules::modules_by_name;
 use indexmap::{IndexMap, IndexSet};
 use std::alloc::{AllocError, Global};
-
-/// The number of each module, by its name.
-fn modules_by_name(
-    alloc: Global,
-    outlines: &[Outline],
-) -> Result<IndexMap<usize, usize>, AllocError>
-    ensures { IfOk result (λ m. (s : ℕ) → get nat_eq m s ≡ module_from None 0 (map scope_view outlines.now) s) }
-{
-    let mut modules = IndexMap::new(alloc);
-    for (number, outline) in outlines.iter().enumerate() {
-        match outline.kind {
-            ScopeKind::Module => {
-                modules.insert(outline.name.symbol, number)?;
-            }
-            ScopeKind::Program => {}
-            ScopeKind::Subroutine => {}
-            ScopeKind::Function => {}
-        }
-    }
-    Ok(modules)
-}
 
 /// The declarations of a scope, numbered from the number of those before; these are kept by their names.
 pub fn numbered(
@@ -132,6 +114,30 @@ fn table_at(
     )
 }
 
+/// Writes the table of the scope of this number.
+fn fill(
+    alloc: Global,
+    outlines: &[Outline],
+    number: usize,
+    declared: &[Vec<Visible>],
+    accesses: &[Accesses],
+    modules: &IndexMap<usize, usize>,
+    tables: &mut Vec<ScopeTable>,
+) -> Result<(), AllocError>
+    requires scope { number < length outlines.now }
+    requires long { length tables.old.items ≡ length outlines.now }
+    requires places { All HasPlaces tables.old.items }
+    requires declared { map (λ l. l.items) declared.now ≡ lists_from 0 (map scope_view outlines.now) }
+    requires accesses { AreAccesses (map scope_view outlines.now) accesses.now }
+    requires modules { (s : ℕ) → get nat_eq modules.now s ≡ module_from None 0 (map scope_view outlines.now) s }
+    ensures table { OnOk result (IsFilled (map scope_view outlines.now) number tables.old.items tables.new.items) }
+    ensures places { OnOk result (All HasPlaces tables.new.items) }
+{
+    let table = table_at(alloc, outlines, number, declared, accesses, modules, tables)?;
+    tables[number] = table;
+    Ok(())
+}
+
 fn is_unit(kind: ScopeKind) -> bool
     ensures { result ≡ is_unit kind }
 {
@@ -161,9 +167,14 @@ fn units_filled(
 {
     let mut tables = empty_tables(alloc, outlines.len())?;
     for at in order {
-        let number = *at;
-        tables[number] = table_at(
-            alloc, outlines, number, declared, accesses, modules, &tables,
+        fill(
+            alloc,
+            outlines,
+            *at,
+            declared,
+            accesses,
+            modules,
+            &mut tables,
         )?;
     }
     Ok(tables)
@@ -193,9 +204,7 @@ fn fill_procedure(
     if is_unit(outlines[number].kind) {
         return Ok(());
     }
-    let table = table_at(alloc, outlines, number, declared, accesses, modules, tables)?;
-    tables[number] = table;
-    Ok(())
+    fill(alloc, outlines, number, declared, accesses, modules, tables)
 }
 
 /// The tables of all scopes, where those of the units are there.

@@ -3,11 +3,10 @@
 
 mod bringing;
 mod building;
-mod choosing;
+mod exporting;
 mod filling;
 pub mod pairs;
 mod reading;
-pub mod selecting;
 pub mod table;
 
 pub use filling::tables;

@@ -6,9 +6,9 @@ ghost use Rattle.f3_access.specs.Access.{VisibleIsDeclared};
 ghost use Rattle.f3_access.specs.Pairs.{pairs_left};
 ghost use Rattle.f3_access.specs.Tables.{own_of, exports_of, used_of, visible_of, lookup_of, lookup_in, host_in, is_nothing, private_of, module_of};
 
-use crate::choosing;
 use crate::pairs::VisiblePairs;
 use crate::table::{Lookup, Tables, Visible};
+use f3_selecting::choosing;
 
 /// What a scope has of its own, each entity once under each name: what its USE statements bring, in the order of the
 /// modules' first USE and of what they export, then what it declares (own rule). In a unit that is all that is visible.

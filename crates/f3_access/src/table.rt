@@ -1,5 +1,6 @@
 //! The tables of names.
 
+use f3_selecting::choosing::Accesses;
 use indexmap::{IndexMap, IndexSet};
 
 /// An entity by its number: its place, from 0, among the declarations of all scopes, scope by scope.
@@ -40,17 +41,6 @@ pub struct ScopeTable {
     pub(crate) places: IndexMap<usize, Vec<usize>>,
     /// Of a procedure, the number of its module.
     pub(crate) host: Option<usize>,
-}
-
-/// Which names of a scope are private. Only this crate makes one.
-#[derive(Drop)]
-pub struct Accesses {
-    /// The names that a PRIVATE names.
-    pub(crate) private_names: IndexSet<usize>,
-    /// The names that a PUBLIC names.
-    pub(crate) public_names: IndexSet<usize>,
-    /// Whether there is a PRIVATE without a list.
-    pub(crate) is_private: bool,
 }
 
 /// The tables of a program, in order of its scopes. Only `tables` makes them: they are those of its outlines.

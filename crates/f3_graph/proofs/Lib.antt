@@ -1,8 +1,6 @@
-pub mod Walking
-pub mod Members
 pub mod Passing
-pub mod Searching
 pub mod Naming
 pub mod Cycling
 pub mod Standing
 pub mod Rising
+pub use Rattle.f3_nodes.proofs.Members

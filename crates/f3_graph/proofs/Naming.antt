@@ -5,7 +5,7 @@ use Rattle.std.proofs.lemmas.Bool.{eqb-true, eqb-false, eq-eqb, ne_eqb, cases_eq
 use Rattle.std.proofs.lemmas.List.{at_drop_more, map-set, get_or-map, get_or-set_same, get_or-set_other, length-map, append-nil}
 use Rattle.std.specs.Global.{Vec}
 use Rattle.std.proofs.lemmas.List.Elements.{Contains-get_or}
-use Rattle.f3_graph.specs.Nodes.{Graph, targets_of}
+use Rattle.f3_nodes.specs.Nodes.{Graph, targets_of}
 use Rattle.std.proofs.lemmas.Option.{slice_get_within}
 use Rattle.f3_tree.specs.declared.expression.Name.{Name}
 use Rattle.f3_tree.specs.declared.program.UnitKind.{UnitKind}
@@ -15,7 +15,7 @@ use Rattle.f3_graph.specs.Units.{Node, uses_of}
 use Rattle.f3_graph.specs.declared.unit.UnitUses.{UnitUses}
 use Rattle.f3_graph.specs.Views.{node_view, nodes_view}
 use Rattle.f3_graph.specs.Links.{is_module, last_module, module_of, home, link_of, links_from, links_of, targets, Inside}
-use Rattle.f3_graph.proofs.Members.{Has, has_of, has_parts, has_left, has_right, has_mapped, mapped_of, at_has}
+use Rattle.f3_nodes.proofs.Members.{Has, has_of, has_parts, has_left, has_right, has_mapped, mapped_of, at_has}
 
 -- a module of this name stands at this number
 pub record Stands (units : List Node) (v n : ℕ) : Type 0 where

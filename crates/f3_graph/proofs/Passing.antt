@@ -3,6 +3,7 @@ use Rattle.std.proofs.Common.{◌≡◌, ◌≢◌, ℕ, ◌+◌, ◌<◌, List,
 use Rattle.std.specs.List.{list_any}
 use Rattle.std.proofs.lemmas.Bool.{eqb-true, eq-eqb, true≢false}
 use Rattle.std.proofs.lemmas.List.{at_drop_more}
+use Rattle.indexmap.specs.IndexSet.{insert_key}
 use Rattle.f3_rules.specs.declared.breaks.Break.{Break}
 use Rattle.f3_rules.specs.declared.rule.Rule.TheVariants.{U1, U4}
 use Rattle.f3_rules.specs.Least.{Least, earlier_of, first_of}
@@ -15,7 +16,7 @@ use Rattle.f3_graph.specs.declared.unit.UnitUses.{UnitUses}
 use Rattle.f3_graph.specs.Views.{node_view, nodes_view}
 use Rattle.f3_graph.specs.Breaks.{at, NameTwice, NoMainProgram, MainProgramAgain}
 use Rattle.f3_graph.specs.Passes.{pass, name_row, name_next, is_main, main_row, main_next}
-use Rattle.f3_graph.proofs.Members.{Has, has_of, contains_of, has_parts, has_left, has_right, any_of, any_from, key_put, key_of}
+use Rattle.f3_nodes.proofs.Members.{Has, has_of, contains_of, has_parts, has_left, has_right, any_of, any_from}
 
 -- what units leave
 abbrev pub after : {S : Type 0} → (S → Node → S) → S → List Node → S
@@ -58,6 +59,24 @@ one_of false b c n = absurd n
 
 pub one_in : (t : Bool) (b c : Break) → t ≡ true → b ≡ c → Has (if t then c ∷ [] else []) b
 one_in t b c e same = rw e (inl same)
+
+-- a key that is put in, if it was not there
+module _ {X : Type 0} (eq : X → X → Bool) (same : (a b : X) → eq a b ≡ true → a ≡ b) where
+  key_put : (ks : List X) (k x : X) → Has ks x ⊎ (x ≡ k) → Has (insert_key eq ks k) x
+  key_put ks k x h = by (list_any (eq k) ks) refl h
+    where
+      by : (b : Bool) → list_any (eq k) ks ≡ b → Has ks x ⊎ (x ≡ k) → Has (if b then ks else ks ++ k ∷ []) x
+      by true t (inl a) = a
+      by true t (inr e) = let r = any_of (eq k) ks t in subst (Has ks) (sym (same k r.0 r.2) ∙ sym e) r.1
+      by false t (inl a) = has_left ks (k ∷ []) x a
+      by false t (inr e) = has_right ks (k ∷ []) x (inl e)
+
+  key_of : (ks : List X) (k x : X) → Has (insert_key eq ks k) x → Has ks x ⊎ (x ≡ k)
+  key_of ks k x h = by (list_any (eq k) ks) h
+    where
+      by : (b : Bool) → Has (if b then ks else ks ++ k ∷ []) x → Has ks x ⊎ (x ≡ k)
+      by true h = inl h
+      by false h = elim (has_parts ks (k ∷ []) x h) [ inl a ↦ inl a | inr (inl e) ↦ inr e | inr (inr n) ↦ absurd n ]
 
 -- names of units
 seen_of : (seen : List ℕ) (xs : List Node) (n : ℕ) → Has (after name_next seen xs) n → Has seen n ⊎ ((y : Node) × Has xs y × (y.name.symbol ≡ n))

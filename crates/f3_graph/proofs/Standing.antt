@@ -13,15 +13,15 @@ use Rattle.f3_graph.specs.declared.unit.UnitUses.{UnitUses}
 use Rattle.f3_graph.specs.Views.{node_view, nodes_view}
 use Rattle.f3_graph.specs.Breaks.{at, NameTwice, ReachesItself, UnitBreaks}
 use Rattle.f3_graph.specs.Links.{module_of, home, link_of, links_from, links_of, targets, IsGraph}
-use Rattle.f3_graph.specs.Nodes.{Graph, targets_of, Leads, InRange, IsNodeOrder, Ordered}
+use Rattle.f3_nodes.specs.Nodes.{Graph, targets_of, Leads, InRange, IsNodeOrder, Ordered}
 use Rattle.f3_graph.specs.Order.{IsOrderOf}
 use Rattle.f3_graph.specs.declared.links.Link.{Link}
 use Rattle.f3_tree.specs.declared.program.UnitKind.{UnitKind}
 use Rattle.f3_tree.specs.declared.program.UnitKind.TheVariants.{Program as MainProgram}
-use Rattle.f3_graph.proofs.Members.{Has, has_of, contains_of, has_at, at_has}
+use Rattle.f3_nodes.proofs.Members.{Has, has_of, contains_of, has_at, at_has}
 use Rattle.f3_graph.proofs.Naming.{module_some, module_there, comes_in}
 use Rattle.f3_graph.proofs.Cycling.{leads, goes_round, cycle_is, in_range}
-use Rattle.f3_graph.proofs.Walking.{no_cycle}
+use Rattle.f3_nodes.proofs.Walking.{no_cycle}
 use Rattle.std.specs.Global.{Vec}
 
 -- what stands before a place of a list

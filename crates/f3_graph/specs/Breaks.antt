@@ -1,8 +1,9 @@
 -- The breaks of the rules on program units (phase 2).
-use Rattle.std.specs.Prelude.{◌≡◌, ◌≢◌, List, ◌∷◌, ◌++◌, ◌⊎◌, None, Some, Contains}
+use Rattle.std.specs.Prelude.{◌≡◌, ◌≢◌, List, ◌∷◌, ◌++◌, ◌⊎◌, None, Contains}
 use Rattle.f3_rules.specs.declared.breaks.Break.{Break}
 use Rattle.f3_rules.specs.declared.rule.Rule.{Rule}
 use Rattle.f3_rules.specs.declared.rule.Rule.TheVariants.{U1, U2, U3, U4}
+use Rattle.f3_breaks.specs.At as breaks
 use Rattle.f3_tree.specs.declared.expression.Name.{Name}
 use Rattle.f3_tree.specs.Tree.{Tree}
 use Rattle.f3_tree.specs.declared.program.UnitKind.TheVariants.{Module, Program as MainProgram}
@@ -10,7 +11,7 @@ use Rattle.f3_graph.specs.Units.{Node, nodes_of, uses_of, Reaches}
 
 -- a rule is broken at a name
 abbrev pub at : Rule → Name → Break
-at rule name = record { phase = 2; place = name.place; rule = rule; name = Some name.symbol }
+at rule name = breaks.at 2 rule name
 
 -- U1: a unit has the name of an earlier one; its name (16.1: names of program units are global and distinct)
 abbrev pub NameTwice : List Node → Break → Type 0

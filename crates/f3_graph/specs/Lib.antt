@@ -1,10 +1,7 @@
 pub mod Units
 pub mod Breaks
 pub mod Order
-pub mod Nodes
-pub mod Marks
 pub mod Links
 pub mod Passes
-pub mod Search
-pub mod Levels
 pub mod Views
+pub mod Found

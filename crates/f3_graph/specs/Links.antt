@@ -8,7 +8,8 @@ use Rattle.f3_graph.specs.Units.{Node, uses_of}
 use Rattle.f3_tree.specs.declared.program.UnitKind.{UnitKind}
 use Rattle.f3_tree.specs.declared.program.UnitKind.TheVariants.{Module, Program as MainProgram}
 use Rattle.f3_graph.specs.declared.links.Link.{Link}
-use Rattle.f3_graph.specs.Nodes.{Graph, targets_of, Leads}
+use Rattle.f3_nodes.specs.Nodes.{Graph, targets_of, Leads}
+use Rattle.f3_nodes.specs.Levels.{may_lead}
 use Rattle.f3_graph.specs.Breaks.{at}
 
 abbrev pub is_module : UnitKind → Bool
@@ -71,6 +72,14 @@ Cycles g link b = (t : ℕ) × (link.target ≡ Some t) × ((t ≡ link.home) �
 -- the same at one of these
 abbrev pub CyclesIn : Graph → List Link → Break → Type 0
 CyclesIn g links b = (link : Link) × Contains links link × Cycles g link b
+
+-- the target of a link may lead back to its unit
+abbrev pub returns_to : List ℕ → Option ℕ → ℕ → Bool
+returns_to levels None u = false
+returns_to levels (Some t) u = may_lead levels t u
+
+abbrev pub may_return : List ℕ → Link → Bool
+may_return levels link = returns_to levels link.target link.home
 
 -- a break at this name may come before what was found
 abbrev pub may_be_first : Name → Option Break → Bool

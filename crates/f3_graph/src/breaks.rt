@@ -4,18 +4,17 @@ ghost use Rattle.std.specs.Prelude.{◌≡◌, ◌⊎◌, ◌<◌, ℕ, [], ◌�
 ghost use Rattle.std.specs.List.{flat_map};
 ghost use Rattle.f3_rules.specs.Least.{Least, first_of};
 ghost use Rattle.f3_graph.specs.Breaks.{at, NameTwice, NoMainProgram, MainProgramAgain};
-ghost use Rattle.f3_graph.specs.Links.{missing, Cycles, CyclesIn, Inside, IsGraph, may_be_first};
-ghost use Rattle.f3_graph.specs.Levels.{may_return};
-ghost use Rattle.f3_graph.specs.Nodes.{InRange};
+ghost use Rattle.f3_graph.specs.Links.{missing, Cycles, CyclesIn, Inside, IsGraph, may_return, may_be_first};
+ghost use Rattle.f3_nodes.specs.Nodes.{InRange};
 ghost use Rattle.f3_graph.specs.Passes.{is_main};
 ghost use Rattle.f3_graph.specs.Units.{nodes_of};
 ghost use Rattle.f3_graph.specs.Views.{nodes_view};
 ghost use Rattle.f3_tree.specs.Tree.{view};
 
-use crate::levels::{levels, may_return};
 use crate::links::Link;
-use crate::search::is_reached;
 use crate::unit::UnitUses;
+use f3_nodes::levels::{levels, may_lead};
+use f3_nodes::search::is_reached;
 use f3_rules::breaks::{Break, earlier, is_before};
 use f3_rules::rule::Rule;
 use f3_tree::expression::Name;
@@ -27,12 +26,7 @@ use std::alloc::{AllocError, Global};
 fn at(rule: Rule, name: &Name) -> Break
     ensures { result ≡ at rule name.now }
 {
-    Break {
-        phase: 2,
-        place: name.place,
-        rule,
-        name: Some(name.symbol),
-    }
+    f3_breaks::at(2, rule, *name)
 }
 
 /// The break of a rule at a name, where it is broken.
@@ -123,6 +117,16 @@ fn may_be_first(link: &Link, first: Option<Break>) -> bool
     }
 }
 
+/// Whether the target of a USE may lead back to its unit, by their levels.
+fn may_return(levels: &[usize], link: &Link) -> bool
+    ensures { result ≡ may_return levels.now link.now }
+{
+    match link.target {
+        Some(target) => may_lead(levels, target, link.home),
+        None => false,
+    }
+}
+
 /// Whether a USE is to be searched: its target may lead back, and what was found does not come before it.
 fn is_open(levels: &[usize], link: &Link, first: Option<Break>) -> bool
     ensures { result ≡ (may_return levels.now link.now && may_be_first link.now.name first) }
@@ -156,7 +160,7 @@ pub fn first_cycle(
     requires steps { IsGraph links.now (length graph.now) graph.now }
     ensures { IfOk result (λ first. Least first (CyclesIn graph.now links.now)) }
 {
-    let levels = levels(alloc, graph, links)?;
+    let levels = levels(alloc, graph)?;
     let mut first = None;
     for link in links {
         if is_open(&levels, link, first) {

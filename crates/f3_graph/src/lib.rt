@@ -2,27 +2,25 @@
 #![tactic(auto)]
 
 mod breaks;
-mod levels;
 mod links;
-mod search;
 mod unit;
-mod walk;
 
 ghost use Rattle.std.specs.Prelude.{◌≡◌, ℕ, true, Some, length, map, string_bytes, IfOk};
 ghost use Rattle.f3_rules.specs.Least.{Least};
 ghost use Rattle.f3_tree.specs.Tree.{view};
 ghost use Rattle.f3_graph.specs.declared.CheckFault.TheVariants.{Memory};
 ghost use Rattle.f3_graph.specs.Breaks.{UnitBreaks};
+ghost use Rattle.f3_graph.specs.Found.{Finds};
 ghost use Rattle.f3_graph.specs.Links.{links_of, Inside, IsGraph, CyclesIn};
-ghost use Rattle.f3_graph.specs.Nodes.{Ordered, InRange, Leads};
-ghost use Rattle.f3_graph.specs.Order.{Orders, Examines, IsRefusal, NoOrderNoCycle, numbers_of, text_of};
+ghost use Rattle.f3_nodes.specs.Nodes.{Ordered, InRange, Leads};
+ghost use Rattle.f3_graph.specs.Order.{Orders, IsRefusal, NoOrderNoCycle, numbers_of, text_of};
 ghost use Rattle.f3_graph.specs.Units.{nodes_of};
 ghost use Rattle.f3_graph.specs.Views.{nodes_view};
 
 use crate::breaks::{first_cycle, first_missing, main_programs, name_twice};
-use crate::links::{Link, graph, links, modules};
+use crate::links::{Link, graph, links};
 use crate::unit::{UnitUses, unit_uses};
-use crate::walk::used_first;
+use f3_nodes::walk::used_first;
 use f3_rules::breaks::{Break, earlier};
 use f3_rules::refusal::Refusal;
 use f3_tree::program::Program;
@@ -152,23 +150,22 @@ fn unit_order(alloc: Global, numbers: &[usize]) -> Result<UnitOrder, AllocError>
     Ok(UnitOrder { units })
 }
 
-/// The order of the units, or the refusal of their first break, where these are the units of the program.
+/// The order of the units, or their first break, where these are the units of the program.
 fn examine(
     alloc: Global,
     program: &Program,
     units: &[UnitUses],
-) -> Result<Result<UnitOrder, Refusal>, AllocError>
+) -> Result<Result<Vec<usize>, Break>, AllocError>
     requires { nodes_view units.now ≡ nodes_of (view program.now) }
-    ensures { IfOk result (λ answer. Examines (view program.now) answer) }
+    ensures { IfOk result (λ answer. Finds (view program.now) answer) }
 {
-    let modules = modules(alloc, units)?;
-    let links = links(alloc, units, &modules)?;
+    let links = links(alloc, units)?;
     let graph = graph(alloc, units.len(), &links)?;
     let found = used_first(alloc, &graph)?;
     match first_break(alloc, program, units, &links, &graph, found.is_some())? {
-        Some(first) => Ok(Err(refusal_of(alloc, &program.names, first)?)),
+        Some(first) => Ok(Err(first)),
         None => match found {
-            Some(order) => Ok(Ok(unit_order(alloc, &order)?)),
+            Some(order) => Ok(Ok(order)),
             None => unreachable!(),
         },
     }
@@ -181,8 +178,11 @@ pub fn order(alloc: Global, program: &Program) -> Result<UnitOrder, CheckFault>
 {
     let units = unit_uses(alloc, &program.units)?;
     match examine(alloc, program, &units)? {
-        Ok(order) => Ok(order),
-        Err(refusal) => Err(CheckFault::Refused(refusal)),
+        Ok(numbers) => Ok(unit_order(alloc, &numbers)?),
+        Err(first) => {
+            let refusal = refusal_of(alloc, &program.names, first)?;
+            Err(CheckFault::Refused(refusal))
+        }
     }
 }
 

@@ -2,11 +2,12 @@
 
 ghost use Rattle.std.specs.Prelude.{◌≡◌, ◌<◌, ◌++◌, ℕ, [], map, length, nat_eq, option_to_list, if◌then◌else◌, ◌==◌, IfOk, OnOk};
 ghost use Rattle.indexmap.specs.IndexMap.{get};
-ghost use Rattle.f3_graph.specs.Links.{module_of, links_from, is_module, home, Inside, IsGraph};
-ghost use Rattle.f3_graph.specs.Nodes.{targets_of};
+ghost use Rattle.f3_graph.specs.Links.{module_of, links_from, links_of, is_module, home, Inside, IsGraph};
+ghost use Rattle.f3_nodes.specs.Nodes.{targets_of};
 ghost use Rattle.f3_graph.specs.Views.{nodes_view};
 
 use crate::unit::UnitUses;
+use f3_nodes::graph::empty_graph;
 use f3_tree::expression::Name;
 use f3_tree::program::UnitKind;
 use indexmap::IndexMap;
@@ -33,7 +34,7 @@ fn is_module(kind: UnitKind) -> bool
 }
 
 /// The last module of each name, by its number.
-pub fn modules(alloc: Global, units: &[UnitUses]) -> Result<IndexMap<usize, usize>, AllocError>
+fn modules(alloc: Global, units: &[UnitUses]) -> Result<IndexMap<usize, usize>, AllocError>
     ensures { IfOk result (λ m. (n : ℕ) → get nat_eq m n ≡ module_of (nodes_view units.now) n) }
 {
     let mut modules = IndexMap::new(alloc);
@@ -75,7 +76,7 @@ fn add_links(
 }
 
 /// The USE statements of all units, where the map has the last module of each name.
-pub fn links(
+fn links_by(
     alloc: Global,
     units: &[UnitUses],
     modules: &IndexMap<usize, usize>,
@@ -89,6 +90,14 @@ pub fn links(
     Ok(links)
 }
 
+/// The USE statements of all units.
+pub fn links(alloc: Global, units: &[UnitUses]) -> Result<Vec<Link>, AllocError>
+    ensures { IfOk result (λ v. v.items ≡ links_of (nodes_view units.now)) }
+{
+    let modules = modules(alloc, units)?;
+    links_by(alloc, units, &modules)
+}
+
 /// Adds the step of a USE statement to a graph.
 fn connect(graph: &mut Vec<Vec<usize>>, link: &Link) -> Result<(), AllocError>
     requires { link.now.home < length graph.old.items }
@@ -99,18 +108,6 @@ fn connect(graph: &mut Vec<Vec<usize>>, link: &Link) -> Result<(), AllocError>
         graph[link.home].push(target)?;
     }
     Ok(())
-}
-
-/// A graph of so many nodes and no steps.
-pub fn empty_graph(alloc: Global, count: usize) -> Result<Vec<Vec<usize>>, AllocError>
-    ensures long { IfOk result (λ g. length g.items ≡ count) }
-    ensures steps { IfOk result (λ g. (a : ℕ) → targets_of g.items a ≡ []) }
-{
-    let mut graph = Vec::new(alloc);
-    for _node in 0..count {
-        graph.push(Vec::new(alloc))?;
-    }
-    Ok(graph)
 }
 
 /// For each of so many units those that it uses.

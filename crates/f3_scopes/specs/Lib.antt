@@ -1,4 +1,5 @@
 pub mod Outlines
-pub mod Names
 pub mod Scopes
 pub mod Kinds
+pub use Rattle.f3_part_names.specs.Names
+pub use Rattle.f3_part_names.specs.Given

@@ -2,18 +2,16 @@
 use Rattle.std.specs.Prelude.{ℕ, ◌+◌, Bool, true, false, List, [], ◌∷◌, ◌++◌, map, length, Option, Some, None, if◌then◌else◌}
 use Rattle.std.specs.List.{flat_map, list_any}
 use Rattle.std.specs.Global.{Vec}
-use Rattle.f3_rules.specs.declared.source.Place.{Place}
 use Rattle.f3_tree.specs.declared.expression.Name.{Name}
 use Rattle.f3_tree.specs.declared.declaration.Rename.{Rename}
 use Rattle.f3_tree.specs.declared.declaration.Only.{Only}
 use Rattle.f3_tree.specs.declared.declaration.Only.TheVariants as only_of
-use Rattle.f3_tree.specs.declared.declaration.Accessibility.{Accessibility}
 use Rattle.f3_tree.specs.declared.declaration.Intent.{Intent}
 use Rattle.f3_tree.specs.declared.program.ProcedureKind.{ProcedureKind}
 use Rattle.f3_tree.specs.declared.program.ProcedureKind.TheVariants as procedure
 use Rattle.f3_tree.specs.declared.program.UnitKind.{UnitKind}
 use Rattle.f3_tree.specs.declared.program.UnitKind.TheVariants as unit
-use Rattle.f3_tree.specs.Declarations.{Selects, all, only, UseTree, AttributeTree, access, protected, parameter, intent, Placed, EntityTree, DeclarationTree, TypeTree, SpecificationTree, declares, accesses, protects, defines}
+use Rattle.f3_tree.specs.Declarations.{Selects, all, only, UseTree, AttributeTree, protected, parameter, intent, Placed, EntityTree, DeclarationTree, TypeTree, SpecificationTree, declares, accesses, defines}
 use Rattle.f3_tree.specs.Tree.{ProcedureTree, UnitTree, Tree}
 use Rattle.f3_scopes.specs.declared.outline.ScopeKind.{ScopeKind}
 use Rattle.f3_scopes.specs.declared.outline.ScopeKind.TheVariants as scope
@@ -22,7 +20,8 @@ use Rattle.f3_scopes.specs.declared.outline.EntityKind.TheVariants as entity
 use Rattle.f3_scopes.specs.declared.outline.UseItem.{UseItem}
 use Rattle.f3_scopes.specs.declared.outline.Component.{Component}
 use Rattle.f3_scopes.specs.Outlines.{Using, Own, Listed, Part, Scope, part_view}
-use Rattle.f3_scopes.specs.Names.{named_specifier, named_specification}
+use Rattle.f3_part_names.specs.Names.{named_specifier, named_specification}
+use Rattle.f3_part_names.specs.Given.{accesses_of, access_list, access_places_in, given_in, protects_in}
 
 -- ---- USE (11.2.1)
 
@@ -46,10 +45,6 @@ using u = record { from = u.from; has_only = has_only u.selection; items = items
 
 -- ---- declarations (5.1, 4.5)
 
-abbrev pub access_of : AttributeTree → List Accessibility
-access_of (access a) = a ∷ []
-access_of _ = []
-
 abbrev pub is_protected : AttributeTree → Bool
 is_protected protected = true
 is_protected _ = false
@@ -61,13 +56,6 @@ is_parameter _ = false
 abbrev pub intent_of : AttributeTree → List Intent
 intent_of (intent i) = i ∷ []
 intent_of _ = []
-
--- the place of an access attribute
-abbrev pub access_place : Placed → List Place
-access_place p = map (λ (a : Accessibility). p.place) (access_of p.attribute)
-
-abbrev pub accesses_of : List Placed → List Accessibility
-accesses_of ps = flat_map (λ (p : Placed). access_of p.attribute) ps
 
 abbrev pub intents_of : List Placed → List Intent
 intents_of ps = flat_map (λ (p : Placed). intent_of p.attribute) ps
@@ -86,14 +74,6 @@ own ps e = record {
   intents = intents_of ps;
 }
 
-abbrev pub access_list : Option (Place × Accessibility) → List Accessibility
-access_list None = []
-access_list (Some x) = x.1 ∷ []
-
-abbrev pub access_places : Option (Place × Accessibility) → List Place
-access_places None = []
-access_places (Some x) = x.0 ∷ []
-
 -- a name that is declared without attributes
 abbrev pub plain : EntityKind → Name → Own
 plain kind n = record { name = n; kind = kind; accesses = []; is_protected = false; intents = [] }
@@ -109,30 +89,6 @@ declared_in _ = []
 abbrev pub accesses_in : SpecificationTree → List Listed
 accesses_in (accesses a) = record { place = a.place; accessibility = a.accessibility; names = a.names } ∷ []
 accesses_in _ = []
-
-abbrev pub access_places_in : SpecificationTree → List Place
-access_places_in (declares d) = flat_map access_place d.attributes
-access_places_in (defines t) = access_places t.access
-access_places_in _ = []
-
--- a name, once for each of these accesses
-abbrev pub each_time : Name → List Accessibility → List Name
-each_time n [] = []
-each_time n (a ∷ others) = n ∷ each_time n others
-
-abbrev pub given_to : List Accessibility → EntityTree → List Name
-given_to times e = each_time e.name times
-
--- the names to which an access is given: a declared name by each access attribute, and each name of a list
-abbrev pub given_in : SpecificationTree → List Name
-given_in (declares d) = flat_map (given_to (accesses_of d.attributes)) d.entities
-given_in (accesses a) = a.names
-given_in (defines t) = each_time t.name (access_list t.access)
-given_in _ = []
-
-abbrev pub protects_in : SpecificationTree → List Name
-protects_in (protects p names) = names
-protects_in _ = []
 
 -- the components that a declaration in a type definition declares
 abbrev pub component : List Placed → EntityTree → Part

@@ -2,7 +2,6 @@
 #![tactic(auto)]
 
 pub mod lists;
-pub mod naming;
 pub mod outline;
 pub mod scopes;
 pub mod walk;

@@ -5,13 +5,14 @@ ghost use Rattle.std.specs.List.{flat_map};
 ghost use Rattle.f3_tree.specs.Declarations.{specification_view};
 ghost use Rattle.f3_tree.specs.Tree.{header_view, procedure_view, unit_view, view};
 ghost use Rattle.f3_scopes.specs.Outlines.{own_view, scope_view};
-ghost use Rattle.f3_scopes.specs.Names.{named_specification};
+ghost use Rattle.f3_part_names.specs.Names.{named_specification};
 ghost use Rattle.f3_scopes.specs.Scopes.{declared_in, procedure_kind, entity_kind, name_or, result_of, outcome_of, is_typed, typed_result, prefix_names, scope_of_procedure, procedure_own, unit_kind, scope_of_unit, unit_scopes, scopes_from, scopes_of};
 
-use crate::lists::{access_places, accesses, given, protects, types};
-use crate::naming::{specifications, specifier};
+use crate::lists::{accesses, types};
 use crate::outline::{Declared, EntityKind, Outline, ScopeKind};
 use crate::walk::{declared, plain, usings};
+use f3_part_names::listing::{access_places, given, protects};
+use f3_part_names::naming::{specifications, specifier};
 use f3_tree::declaration::Specification;
 use f3_tree::expression::Name;
 use f3_tree::program::{Procedure, ProcedureKind, Program, Unit, UnitKind};

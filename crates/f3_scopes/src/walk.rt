@@ -1,23 +1,18 @@
-//! The scopes of a program.
+//! The USE statements and the declarations of a specification part.
 
-ghost use Rattle.std.specs.Prelude.{◌≡◌, ◌++◌, ℕ, Option, Some, None, List, [], ◌∷◌, map, OnOk, IfOk};
+ghost use Rattle.std.specs.Prelude.{◌≡◌, ◌++◌, map, OnOk, IfOk};
 ghost use Rattle.std.specs.List.{flat_map, list_any};
-ghost use Rattle.f3_tree.specs.Declarations.{selection_view, use_view, placed_view, entity_view, declaration_view, type_view, specification_view};
-ghost use Rattle.f3_tree.specs.Tree.{procedure_view, unit_view, view};
-ghost use Rattle.f3_scopes.specs.Outlines.{using_view, own_view, listed_view, part_view, scope_view};
-ghost use Rattle.f3_scopes.specs.Scopes.{renamed, only_item, items_of, has_only, using, accesses_of, intents_of, kind_of, access_place, own, access_list, access_places, plain, type_own, declared_in, accesses_in, access_places_in, protects_in, components_of, types_in, is_protected, is_parameter, procedure_kind, entity_kind, name_or, result_of, is_typed, typed_result, prefix_names, scope_of_procedure, procedure_own, unit_kind, scope_of_unit, scopes_from, scopes_of};
+ghost use Rattle.f3_tree.specs.Declarations.{use_view, placed_view, entity_view, type_view, specification_view};
+ghost use Rattle.f3_scopes.specs.Outlines.{using_view, own_view};
+ghost use Rattle.f3_scopes.specs.Scopes.{renamed, only_item, using, intents_of, kind_of, own, plain, type_own, declared_in, is_protected};
 
-use crate::naming::{specifications, specifier};
-use crate::outline::{
-    AccessOutline, Component, Declared, EntityKind, Outline, ScopeKind, UseItem, UseOutline,
-};
-use f3_rules::source::Place;
+use crate::outline::{Declared, EntityKind, UseItem, UseOutline};
+use f3_part_names::listing::accesses_of;
 use f3_tree::declaration::{
-    Accessibility, Attribute, AttributeKind, Declaration, Entity, Intent, Only, Rename, Selection,
-    Specification, TypeDefinition, TypeSpecifier, Use,
+    Attribute, AttributeKind, Declaration, Entity, Intent, Only, Rename, Selection, Specification,
+    TypeDefinition, Use,
 };
 use f3_tree::expression::Name;
-use f3_tree::program::{Procedure, ProcedureKind, Program, Unit, UnitKind};
 use std::alloc::{AllocError, Global};
 
 fn renamed(rename: Rename) -> UseItem
@@ -84,18 +79,6 @@ pub fn usings(alloc: Global, list: &[Use]) -> Result<Vec<UseOutline>, AllocError
     for statement in list {
         let outline = using(alloc, statement)?;
         found.push(outline)?;
-    }
-    Ok(found)
-}
-
-pub fn accesses_of(alloc: Global, list: &[Attribute]) -> Result<Vec<Accessibility>, AllocError>
-    ensures { IfOk result (λ v. v.items ≡ accesses_of (map placed_view list.now)) }
-{
-    let mut found = Vec::new(alloc);
-    for attribute in list {
-        if let AttributeKind::Access(access) = &attribute.kind {
-            found.push(*access)?;
-        }
     }
     Ok(found)
 }

@@ -2,7 +2,7 @@ use Rattle.std.proofs.Common.{◌≡◌, ◌∙◌, ◌+◌, ◌≤◌, ℕ, Lis
 use Rattle.std.specs.List.{flat_map}
 use Rattle.indexmap.specs.IndexSet.{insert_all}
 use Rattle.f3_access.specs.Listing.{same_pair}
-use Rattle.f3_access.specs.Selecting.{called_by}
+use Rattle.f3_access.specs.Calling.{called_by}
 use Rattle.f3_access.specs.declared.table.Visible.{Visible}
 use Rattle.f3_access.specs.Walk.{RestIsSilent}
 use Rattle.f3_access.proofs.Walks.{walk_more, walk_on, walk_ends}

@@ -1,7 +1,6 @@
 use Rattle.std.proofs.Common.{◌+◌, sym, subst, take, get_or, ◌∙◌, ap, ◌&&◌}
 use Rattle.f3_rules.specs.Least.{Least}
-use Rattle.f3_graph.specs.Links.{CyclesIn, may_be_first}
-use Rattle.f3_graph.specs.Levels.{may_return}
+use Rattle.f3_graph.specs.Links.{CyclesIn, may_return, may_be_first}
 use Rattle.std.proofs.Common.{length, Option}
 use Rattle.f3_rules.specs.declared.breaks.Break.{Break}
 use Rattle.f3_graph.proofs.Naming.{inside_at, no_link}
@@ -28,7 +27,7 @@ loop-link-preserved c =
             (cycles_more g links i no_link c.loop-link.first w.in_ok-cycle_at.field-0 c.loop-link-test.true c.loop-link.invariant.0 w.in_ok-cycle_at.ensures)
         | else-is_open w ↦
             subst Says (sym w.first-is)
-            (cycles_skipped g links c.requires.steps.steps c.in_ok-levels.levels.items c.loop-link.invariant.1 i no_link c.loop-link.first c.loop-link-test.true c.loop-link.invariant.0 (ap (λ ls. may_return ls (get_or links i no_link) && may_be_first (get_or links i no_link).name c.loop-link.first) (sym c.deref.ensures.value) ∙ sym c.is_open.ensures ∙ w.if-is_open.false))
+            (cycles_skipped g links c.in_ok-levels.levels.items c.loop-link.invariant.1 i no_link c.loop-link.first c.loop-link-test.true c.loop-link.invariant.0 (ap (λ ls. may_return ls (get_or links i no_link) && may_be_first (get_or links i no_link).name c.loop-link.first) (sym c.deref.ensures.value) ∙ sym c.is_open.ensures ∙ w.if-is_open.false))
       ],
       c.loop-link.invariant.1,
     )

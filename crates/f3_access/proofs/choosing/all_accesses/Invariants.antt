@@ -1,9 +1,0 @@
-use Rattle.std.proofs.Common.{◌≡◌, ◌++◌, drop, map}
-use Rattle.f3_scopes.specs.Outlines.{scope_view}
-use Rattle.f3_access.specs.Listing.{is_private}
-use Rattle.f3_access.specs.Tables.{makes_private}
-use Rattle.f3_access.proofs.choosing.all_accesses.Given as goal
-
-abbrev pub invariant-loop-outline : goal.invariant-loop-outline
-invariant-loop-outline l =
-    map makes_private l.all.items ++ map is_private (map scope_view (drop l.outline-index l.outlines)) ≡ map is_private (map scope_view l.outlines)

@@ -1,0 +1,4 @@
+pub mod Members
+pub mod Walking
+pub mod Searching
+pub mod Rising

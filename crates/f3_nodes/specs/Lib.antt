@@ -1,0 +1,4 @@
+pub mod Nodes
+pub mod Marks
+pub mod Search
+pub mod Levels

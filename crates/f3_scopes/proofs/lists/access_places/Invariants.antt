@@ -1,8 +1,0 @@
-use Rattle.std.proofs.Common.{◌≡◌, ◌++◌, map, drop}
-use Rattle.std.specs.List.{flat_map}
-use Rattle.f3_scopes.specs.Scopes.{access_places_in}
-use Rattle.f3_tree.specs.Declarations.{specification_view}
-use Rattle.f3_scopes.proofs.lists.access_places.Given as goal
-
-abbrev pub invariant-loop-specification : goal.invariant-loop-specification
-invariant-loop-specification l = l.found.items ++ flat_map access_places_in (map specification_view (drop l.specification-index l.list)) ≡ flat_map access_places_in (map specification_view l.list)

@@ -1,8 +1,0 @@
-use Rattle.std.proofs.Common.{◌≡◌, ◌++◌, map, drop}
-use Rattle.std.specs.List.{flat_map}
-use Rattle.f3_scopes.specs.Scopes.{given_to}
-use Rattle.f3_tree.specs.Declarations.{entity_view}
-use Rattle.f3_scopes.proofs.lists.given_entities.Given as goal
-
-abbrev pub invariant-loop-entity : goal.invariant-loop-entity
-invariant-loop-entity l = l.found.items ++ flat_map (given_to l.accesses) (map entity_view (drop l.entity-index l.entities)) ≡ l.fn.found.items ++ flat_map (given_to l.accesses) (map entity_view l.entities)

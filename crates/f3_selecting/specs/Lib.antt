@@ -1,0 +1,4 @@
+pub mod Sources
+pub mod Selecting
+pub mod Private
+pub mod Places
