@@ -15,8 +15,8 @@ use Rattle.f3_words.specs.Reads.{IsRead, Fails, Reads}
 use Rattle.f3_reading.specs.Parts.{EatsWord, Lacks}
 use Rattle.f3_reading.proofs.Words.{same_tail, lacked}
 use Rattle.f3_expressions.specs.Grammar.{EatsExpression}
-use Rattle.f3_forms.specs.Actions.{EatsCase, ends_value}
-use Rattle.f3_forms.specs.Readings.{EatsCaseBehind}
+use Rattle.f3_actions.specs.Actions.{EatsCase, ends_value}
+use Rattle.f3_actions.specs.Readings.{EatsCaseBehind}
 
 -- ---- from a colon on
 

@@ -4,7 +4,7 @@ ghost use Rattle.std.specs.Prelude.{map};
 ghost use Rattle.f3_tree.specs.Expressions.{expression_view, argument_view};
 ghost use Rattle.f3_tree.specs.Statements.{action_view};
 ghost use Rattle.f3_words.specs.Reads.{Reads, Finds};
-ghost use Rattle.f3_forms.specs.Actions.{IsAssignment, IsCallArguments, IsCall, IsAllocate, IsDeallocate, EatsItems, IsPrint, IsStop, IsAlone, IsActionOf, IsHeadedAction, IsAction};
+ghost use Rattle.f3_actions.specs.Actions.{IsAssignment, IsCallArguments, IsCall, IsAllocate, IsDeallocate, EatsItems, IsPrint, IsStop, IsAlone, IsActionOf, IsHeadedAction, IsAction};
 
 use crate::allocations::allocation;
 use f3_expressions::arguments::arguments;

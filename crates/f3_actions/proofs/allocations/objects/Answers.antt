@@ -5,10 +5,10 @@ use Rattle.f3_tree.specs.Expressions.{designator_view}
 use Rattle.f3_words.specs.declared.item.Item.{Item}
 use Rattle.f3_words.specs.Reads.{Fails}
 use Rattle.f3_expressions.specs.Grammar.{EatsDesignator}
-use Rattle.f3_forms.specs.Actions.{EatsStatusHead, EatsObject, AreObjects}
+use Rattle.f3_actions.specs.Actions.{EatsStatusHead, EatsObject, AreObjects}
 use Rattle.f3_expressions.proofs.Runs.{refused}
-use Rattle.f3_forms.proofs.Objects.{one_more, no_object, is_over, is_over_status, status_fails}
-use Rattle.f3_forms.proofs.allocations.objects.Goals as goal
+use Rattle.f3_actions.proofs.Objects.{one_more, no_object, is_over, is_over_status, status_fails}
+use Rattle.f3_actions.proofs.allocations.objects.Goals as goal
 
 pub returns-in_err-element : goal.returns-in_err-element
 returns-in_err-element c =

@@ -1,8 +1,8 @@
 use Rattle.std.proofs.Common.{rules}
 use Rattle.f3_tree.specs.Statements.{case_view}
 use Rattle.f3_reading.proofs.Elements.{list_reads, at_tokens}
-use Rattle.f3_forms.specs.Actions.{EatsCase, AreCases}
-use Rattle.f3_forms.proofs.constructs.case_values.Goals as goal
+use Rattle.f3_actions.specs.Actions.{EatsCase, AreCases}
+use Rattle.f3_actions.proofs.constructs.case_values.Goals as goal
 
 pub returns-clause-read : goal.returns-clause-read
 unfolding AreCases

@@ -3,8 +3,8 @@ use Rattle.f3_tree.specs.Expressions.{expression_view}
 use Rattle.f3_reading.proofs.Elements.{at_tokens}
 use Rattle.f3_reading.proofs.Choices.{perhaps_reads}
 use Rattle.f3_expressions.specs.Grammar.{EatsExpression}
-use Rattle.f3_forms.specs.Actions.{EatsStepPerhaps}
-use Rattle.f3_forms.proofs.constructs.step_perhaps.Goals as goal
+use Rattle.f3_actions.specs.Actions.{EatsStepPerhaps}
+use Rattle.f3_actions.proofs.constructs.step_perhaps.Goals as goal
 
 pub returns : goal.returns
 unfolding EatsStepPerhaps

@@ -7,7 +7,7 @@ use Rattle.f3_words.specs.declared.item.Item.{Item}
 use Rattle.f3_words.specs.Reads.{IsRead, Fails}
 use Rattle.f3_expressions.specs.Grammar.{EatsDesignator}
 use Rattle.f3_reading.specs.Parts.{EatsWord, Lacks}
-use Rattle.f3_forms.specs.Actions.{EatsStatusHead, EatsObject, EatsStatus, EatsObjects, AreObjects}
+use Rattle.f3_actions.specs.Actions.{EatsStatusHead, EatsObject, EatsStatus, EatsObjects, AreObjects}
 use Rattle.f3_reading.proofs.Words.{lacked, same_tail as tail_of}
 
 same_tail : (v w : Word) (ts r s : List Item) → EatsWord v ts r → EatsWord w ts s → r ≡ s

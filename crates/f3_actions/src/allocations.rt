@@ -4,8 +4,8 @@ ghost use Rattle.std.specs.Prelude.{◌<◌, ◌≤◌, length, map, IfOk};
 ghost use Rattle.f3_tree.specs.Expressions.{designator_view};
 ghost use Rattle.f3_words.specs.Reads.{Reads, Finds};
 ghost use Rattle.f3_reading.specs.Parts.{Skips};
-ghost use Rattle.f3_forms.specs.Views.{allocation_view};
-ghost use Rattle.f3_forms.specs.Actions.{EatsStatusHead, EatsObject, AreObjects, IsAllocation};
+ghost use Rattle.f3_actions.specs.Views.{allocation_view};
+ghost use Rattle.f3_actions.specs.Actions.{EatsStatusHead, EatsObject, AreObjects, IsAllocation};
 
 use f3_expressions::designators::designator;
 use f3_reading::signs::{behind, is_over, skip};

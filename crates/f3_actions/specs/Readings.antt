@@ -9,7 +9,7 @@ use Rattle.f3_words.specs.declared.item.Item.{Item}
 use Rattle.f3_words.specs.Lists.{starts}
 use Rattle.f3_reading.specs.Parts.{EatsWord, Lacks}
 use Rattle.f3_expressions.specs.Grammar.{EatsExpression}
-use Rattle.f3_forms.specs.Actions.{ends_value}
+use Rattle.f3_actions.specs.Actions.{ends_value}
 
 -- a colon at the front
 abbrev pub HasColon : Option (Place × Bor (List Item)) → List Item → Type 0

@@ -3,8 +3,8 @@ use Rattle.f3_tree.specs.Expressions.{expression_view}
 use Rattle.f3_reading.proofs.Elements.{at_tokens}
 use Rattle.f3_reading.proofs.Choices.{others_read}
 use Rattle.f3_expressions.specs.Grammar.{EatsExpression}
-use Rattle.f3_forms.specs.Actions.{AreItems, EatsItems}
-use Rattle.f3_forms.proofs.actions.print_items.Goals as goal
+use Rattle.f3_actions.specs.Actions.{AreItems, EatsItems}
+use Rattle.f3_actions.proofs.actions.print_items.Goals as goal
 
 pub returns : goal.returns
 unfolding EatsItems AreItems

@@ -2,8 +2,8 @@ use Rattle.std.proofs.Common.{sym, ◌∙◌}
 use Rattle.std.proofs.lemmas.Result.{err_from_is_err_and}
 use Rattle.f3_tree.specs.Expressions.{expression_view}
 use Rattle.f3_expressions.proofs.Runs.{refused}
-use Rattle.f3_forms.proofs.Cases.{no_upper, upper_behind, upper_fails}
-use Rattle.f3_forms.proofs.constructs.case_behind.Goals as goal
+use Rattle.f3_actions.proofs.Cases.{no_upper, upper_behind, upper_fails}
+use Rattle.f3_actions.proofs.constructs.case_behind.Goals as goal
 
 pub returns-then-ends_value-clause-read : goal.returns-then-ends_value-clause-read
 returns-then-ends_value-clause-read c = no_upper (expression_view c.args.lower) c.args.items.now c.in-Some.tail.now c.in-Some.ensures.0 (sym c.ends_value.ensures ∙ c.if-ends_value.true)

@@ -1,7 +1,7 @@
 use Rattle.std.proofs.Common.{length, map}
 use Rattle.f3_tree.specs.Expressions.{designator_view}
-use Rattle.f3_forms.proofs.Objects.{SoFar}
-use Rattle.f3_forms.proofs.allocations.objects.Given as goal
+use Rattle.f3_actions.proofs.Objects.{SoFar}
+use Rattle.f3_actions.proofs.allocations.objects.Given as goal
 
 abbrev pub invariant-elements : goal.invariant-elements
 invariant-elements l = SoFar l.items (map designator_view l.found.items) l.rest

@@ -1,8 +1,8 @@
 use Rattle.std.proofs.lemmas.Result.{err_from_is_err_and}
 use Rattle.f3_tree.specs.Expressions.{expression_view}
 use Rattle.f3_expressions.proofs.Runs.{refused}
-use Rattle.f3_forms.proofs.Cases.{from_colon, colon_fails, value_fails, value_result}
-use Rattle.f3_forms.proofs.constructs.case_value.Goals as goal
+use Rattle.f3_actions.proofs.Cases.{from_colon, colon_fails, value_fails, value_result}
+use Rattle.f3_actions.proofs.constructs.case_value.Goals as goal
 
 pub returns-in_err-upper-in-Some-clause-read : goal.returns-in_err-upper-in-Some-clause-read
 returns-in_err-upper-in-Some-clause-read c =
