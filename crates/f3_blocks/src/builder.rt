@@ -9,7 +9,7 @@ ghost use Rattle.f3_blocks.specs.Blocks.{may_act};
 ghost use Rattle.f3_blocks.specs.declared.error.StepError.TheVariants.{OutOfPlace};
 ghost use Rattle.f3_blocks.specs.Machine.{Open, start, step, in_loop, may_stand, pushed, opened, turned, close, tested_view, chosen_view, within, behind, open_as, builder_view, Pops, Turns, Moves};
 
-use crate::error::StepError;
+use crate::error::{StepError, out_of_place};
 use f3_forms::form::{Ended, Form};
 use f3_rules::source::Place;
 use f3_tree::expression::{Expression, Name};
@@ -222,7 +222,7 @@ impl BlockBuilder {
             Form::Case(selector) => self.turn(alloc, Edge::Case(place, selector)),
             Form::Do(control) => self.open(alloc, Opening::Do(place, control)),
             Form::End(what, name) => self.end(alloc, what, name),
-            _ => Err(StepError::OutOfPlace),
+            _ => Err(out_of_place(form)),
         }
     }
 
