@@ -95,10 +95,6 @@ module _ {U : Type 0} where
       let from : builder_view now ≡ busy done (begun_view unit) = ap (λ (o : Option OpenUnit). a_state done (option_map begun_view o)) is in
       subst (λ (x : OpenUnit). Steps result (builder_view now) (busy done v) (still done (f x))) same (steps_from result (busy done (begun_view unit)) (builder_view now) (busy done v) (still done (f unit)) (unit_moves done (begun_view unit) v (f unit) result h) from)
 
--- the machine refuses
-pub refuses : {A : Type 0} (U : Type 0) (deep : A → ℕ) (e : StepError) (s t : A) (next : Option A) → e ≡ OutOfPlace → next ≡ None → Becomes {U = U} deep (Err e) s t next
-refuses U deep e s t next is none = subst (λ (x : StepError). Becomes {U = U} deep (Err x) s t next) (sym is) none
-
 -- ---- what the machine does at a role
 
 -- no unit, procedure or END begins in a procedure or among the statements of a unit
