@@ -5,5 +5,6 @@ pub mod access;
 pub mod attributes;
 pub mod declarations;
 pub mod procedures;
-pub mod shapes;
 pub mod uses;
+
+pub use f3_shapes::shapes;

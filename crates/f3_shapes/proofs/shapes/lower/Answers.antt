@@ -1,8 +1,8 @@
 use Rattle.std.proofs.lemmas.Result.{err_from_is_err_and}
 use Rattle.f3_tree.specs.Expressions.{expression_view}
-use Rattle.f3_declarations.proofs.Prefixes.{refused}
-use Rattle.f3_declarations.proofs.Turns.{no_lower, lower_before, lower_fails, no_colon_behind}
-use Rattle.f3_declarations.proofs.shapes.lower.Goals as goal
+use Rattle.f3_expressions.proofs.Runs.{refused}
+use Rattle.f3_shapes.proofs.Turns.{no_lower, lower_before, lower_fails, no_colon_behind}
+use Rattle.f3_shapes.proofs.shapes.lower.Goals as goal
 
 pub returns-in-Some-clause-read : goal.returns-in-Some-clause-read
 returns-in-Some-clause-read c = no_lower c.args.items.now c.in-Some.tail.now c.in-Some.ensures.0

@@ -1,8 +1,8 @@
 use Rattle.std.proofs.Common.{rules}
 use Rattle.f3_tree.specs.Declarations.{bounds_view}
 use Rattle.f3_reading.proofs.Elements.{list_reads, at_tokens}
-use Rattle.f3_declarations.specs.Specifications.{EatsBounds, AreBounds}
-use Rattle.f3_declarations.proofs.shapes.all_bounds.Goals as goal
+use Rattle.f3_shapes.specs.Shapes.{EatsBounds, AreBounds}
+use Rattle.f3_shapes.proofs.shapes.all_bounds.Goals as goal
 
 pub returns-clause-read : goal.returns-clause-read
 unfolding AreBounds

@@ -1,9 +1,7 @@
 use Rattle.std.proofs.Common.{rules}
-use Rattle.f3_declarations.specs.Views.{lower_view}
 use Rattle.f3_reading.proofs.Elements.{list_reads, at_tokens}
-use Rattle.f3_declarations.specs.Specifications.{EatsLower}
-use Rattle.f3_declarations.specs.Specifications.{AreLowers}
-use Rattle.f3_declarations.proofs.shapes.lowers.Goals as goal
+use Rattle.f3_shapes.specs.Shapes.{lower_view, EatsLower, AreLowers}
+use Rattle.f3_shapes.proofs.shapes.lowers.Goals as goal
 
 pub returns-clause-read : goal.returns-clause-read
 unfolding AreLowers

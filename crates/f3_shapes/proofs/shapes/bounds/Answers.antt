@@ -1,8 +1,8 @@
 use Rattle.std.proofs.lemmas.Result.{err_from_is_err_and}
 use Rattle.f3_tree.specs.Expressions.{expression_view}
-use Rattle.f3_declarations.proofs.Prefixes.{refused}
-use Rattle.f3_declarations.proofs.Turns.{upper_alone, both_bounds, bounds_fail}
-use Rattle.f3_declarations.proofs.shapes.bounds.Goals as goal
+use Rattle.f3_expressions.proofs.Runs.{refused}
+use Rattle.f3_shapes.proofs.Turns.{upper_alone, both_bounds, bounds_fail}
+use Rattle.f3_shapes.proofs.shapes.bounds.Goals as goal
 
 pub returns-in_err-upper-in-Some-clause-read : goal.returns-in_err-upper-in-Some-clause-read
 returns-in_err-upper-in-Some-clause-read c =

@@ -5,8 +5,7 @@ ghost use Rattle.std.specs.Option.{option_map};
 ghost use Rattle.f3_tree.specs.Expressions.{expression_view};
 ghost use Rattle.f3_tree.specs.Declarations.{bounds_view, shape_view};
 ghost use Rattle.f3_words.specs.Reads.{Reads};
-ghost use Rattle.f3_declarations.specs.Views.{lower_view};
-ghost use Rattle.f3_declarations.specs.Specifications.{EatsBounds, AreBounds, EatsLower, AreLowers, EatsExplicit, EatsDeferred, EatsShapeBehind, EatsShape, EatsShapePerhaps};
+ghost use Rattle.f3_shapes.specs.Shapes.{lower_view, EatsBounds, AreBounds, EatsLower, AreLowers, EatsExplicit, EatsDeferred, EatsShapeBehind, EatsShape, EatsShapePerhaps};
 
 use f3_expressions::expressions::expression;
 use f3_reading::lists::{list, perhaps};
@@ -18,7 +17,7 @@ use f3_words::item::{Item, Word};
 use std::alloc::Global;
 
 /// The bounds of one dimension at the front.
-#[tactic(auto, unfolding(crate::specs::Specifications::EatsBounds))]
+#[tactic(auto, unfolding(crate::specs::Shapes::EatsBounds))]
 fn bounds(
     alloc: Global,
     items: &[Item],
@@ -48,7 +47,7 @@ fn all_bounds(
 }
 
 /// The `:` at the front, and the lower bound before it.
-#[tactic(auto, unfolding(crate::specs::Specifications::EatsLower))]
+#[tactic(auto, unfolding(crate::specs::Shapes::EatsLower))]
 fn lower(alloc: Global, items: &[Item]) -> Result<(Option<Expression>, &[Item]), ReadError>
     ensures read { Reads EatsLower lower_view result items.now }
     ensures shorter { IfOk result (λ x. length x.1.now < length items.now) }
@@ -70,7 +69,7 @@ fn lowers(alloc: Global, items: &[Item]) -> Result<(Vec<Option<Expression>>, &[I
 }
 
 /// A shape whose upper bounds are all given, behind its open parenthesis.
-#[tactic(auto, unfolding(crate::specs::Specifications::EatsExplicit))]
+#[tactic(auto, unfolding(crate::specs::Shapes::EatsExplicit))]
 fn explicit(
     alloc: Global,
     items: &[Item],
@@ -84,7 +83,7 @@ fn explicit(
 }
 
 /// A shape without upper bounds, behind its open parenthesis.
-#[tactic(auto, unfolding(crate::specs::Specifications::EatsDeferred))]
+#[tactic(auto, unfolding(crate::specs::Shapes::EatsDeferred))]
 fn deferred(alloc: Global, items: &[Item]) -> Result<(Vec<Option<Expression>>, &[Item]), ReadError>
     ensures read { Reads EatsDeferred (λ v. map lower_view v.items) result items.now }
     ensures shorter { IfOk result (λ x. length x.1.now < length items.now) }
@@ -95,7 +94,7 @@ fn deferred(alloc: Global, items: &[Item]) -> Result<(Vec<Option<Expression>>, &
 }
 
 /// The shape behind its open parenthesis.
-#[tactic(auto, unfolding(crate::specs::Specifications::EatsShapeBehind))]
+#[tactic(auto, unfolding(crate::specs::Shapes::EatsShapeBehind))]
 fn shape_behind(alloc: Global, items: &[Item]) -> Result<(Shape, &[Item]), ReadError>
     ensures read { Reads EatsShapeBehind shape_view result items.now }
     ensures shorter { IfOk result (λ x. length x.1.now < length items.now) }
@@ -111,7 +110,7 @@ fn shape_behind(alloc: Global, items: &[Item]) -> Result<(Shape, &[Item]), ReadE
 }
 
 /// The shape at the front, with its parentheses.
-#[tactic(auto, unfolding(crate::specs::Specifications::EatsShape))]
+#[tactic(auto, unfolding(crate::specs::Shapes::EatsShape))]
 pub fn shape(alloc: Global, items: &[Item]) -> Result<(Shape, &[Item]), ReadError>
     ensures read { Reads EatsShape shape_view result items.now }
     ensures shorter { IfOk result (λ x. length x.1.now ≤ length items.now) }

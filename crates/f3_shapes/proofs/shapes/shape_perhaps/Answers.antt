@@ -2,9 +2,8 @@ use Rattle.std.proofs.Common.{rules}
 use Rattle.f3_tree.specs.Declarations.{shape_view}
 use Rattle.f3_reading.proofs.Elements.{at_tokens}
 use Rattle.f3_reading.proofs.Choices.{perhaps_reads}
-use Rattle.f3_declarations.specs.Specifications.{EatsShapeBehind}
-use Rattle.f3_declarations.specs.Specifications.{EatsShapePerhaps}
-use Rattle.f3_declarations.proofs.shapes.shape_perhaps.Goals as goal
+use Rattle.f3_shapes.specs.Shapes.{EatsShapeBehind, EatsShapePerhaps}
+use Rattle.f3_shapes.proofs.shapes.shape_perhaps.Goals as goal
 
 pub returns-clause-read : goal.returns-clause-read
 unfolding EatsShapePerhaps
