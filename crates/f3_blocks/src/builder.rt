@@ -6,9 +6,10 @@ ghost use Rattle.f3_tree.specs.Statements.{StatementTree, acts, acts_if, action_
 ghost use Rattle.f3_forms.specs.Forms.{form_view, ends};
 ghost use Rattle.f3_blocks.specs.Pieces.{piece};
 ghost use Rattle.f3_blocks.specs.Blocks.{may_act};
+ghost use Rattle.f3_blocks.specs.declared.error.StepError.TheVariants.{OutOfPlace};
 ghost use Rattle.f3_blocks.specs.Machine.{Open, start, step, in_loop, may_stand, pushed, opened, turned, close, tested_view, chosen_view, within, behind, open_as, builder_view, Pops, Turns, Moves};
 
-use crate::error::StepError;
+use crate::error::{StepError, out_of_place};
 use f3_forms::form::{Ended, Form};
 use f3_rules::source::Place;
 use f3_tree::expression::{Expression, Name};
@@ -100,6 +101,14 @@ fn with_case(
 }
 
 impl Opening {
+    /// Nothing goes on so behind this construct, which is let go.
+    fn out_of_place(self) -> StepError
+        ensures { result ≡ OutOfPlace }
+    {
+        drop(self);
+        StepError::OutOfPlace
+    }
+
     /// What is open of the construct behind this edge, where this block stands before it. Answers `Memory` where a growth
     /// of the host's memory is refused, and `OutOfPlace` where the construct has no such edge there (8.1).
     fn next(self, alloc: Global, body: Vec<Statement>, edge: Edge) -> Result<Opening, StepError>
@@ -112,13 +121,13 @@ impl Opening {
                     place,
                     condition,
                 )),
-                _ => Err(StepError::OutOfPlace),
+                _ => Err(self.out_of_place()),
             },
             Edge::Else => match self {
                 Opening::If(branches, at, tested) => {
                     Ok(Opening::Else(with_branch(branches, at, tested, body)?))
                 }
-                _ => Err(StepError::OutOfPlace),
+                _ => Err(self.out_of_place()),
             },
             Edge::Case(place, selector) => match self {
                 Opening::Select(at, value) => {
@@ -131,7 +140,7 @@ impl Opening {
                     place,
                     selector,
                 )),
-                _ => Err(StepError::OutOfPlace),
+                _ => Err(self.out_of_place()),
             },
         }
     }
@@ -152,7 +161,7 @@ impl Opening {
                     Ok(Statement::If(with_branch(branches, at, tested, body)?, None))
                 }
                 Opening::Else(branches) => Ok(Statement::If(branches, Some(body))),
-                _ => Err(StepError::OutOfPlace),
+                _ => Err(self.out_of_place()),
             },
             Some(Ended::Select) => match self {
                 Opening::Select(at, value) => Ok(Statement::Select(at, value, Vec::new(alloc))),
@@ -161,13 +170,13 @@ impl Opening {
                     value,
                     with_case(cases, from, chosen, body)?,
                 )),
-                _ => Err(StepError::OutOfPlace),
+                _ => Err(self.out_of_place()),
             },
             Some(Ended::Do) => match self {
                 Opening::Do(at, control) => Ok(Statement::Do(at, control, body)),
-                _ => Err(StepError::OutOfPlace),
+                _ => Err(self.out_of_place()),
             },
-            _ => Err(StepError::OutOfPlace),
+            _ => Err(self.out_of_place()),
         }
     }
 }
@@ -213,7 +222,7 @@ impl BlockBuilder {
             Form::Case(selector) => self.turn(alloc, Edge::Case(place, selector)),
             Form::Do(control) => self.open(alloc, Opening::Do(place, control)),
             Form::End(what, name) => self.end(alloc, what, name),
-            _ => Err(StepError::OutOfPlace),
+            _ => Err(out_of_place(form)),
         }
     }
 
@@ -247,10 +256,8 @@ impl BlockBuilder {
     fn push(&mut self, allowed: bool, statement: Statement) -> Result<(), StepError>
         ensures { Moves result (builder_view self.old) (builder_view self.new) (pushed allowed (statement_view statement) (builder_view self.old)) }
     {
-        if !self.may_stand() {
-            return Err(StepError::OutOfPlace);
-        }
-        if !allowed {
+        if !self.may_stand() || !allowed {
+            drop(statement);
             return Err(StepError::OutOfPlace);
         }
         self.body.push(statement)?;
@@ -283,9 +290,10 @@ impl BlockBuilder {
         ensures { Moves result (builder_view self.old) (builder_view self.new) (opened (open_as opening (builder_view self.old).body) (builder_view self.old)) }
     {
         if !self.may_stand() {
-            return Err(StepError::OutOfPlace);
+            return Err(opening.out_of_place());
         }
         if self.constructs.len() >= BlockBuilder::DEEPEST {
+            drop(opening);
             return Err(StepError::TooDeep);
         }
         let before = mem::replace(&mut self.body, Vec::new(alloc));
@@ -308,7 +316,10 @@ impl BlockBuilder {
         ensures { Moves result (builder_view self.old) (builder_view self.new) (turned edge (builder_view self.old).opens (builder_view self.old).body) }
     {
         match self.pop(alloc) {
-            None => Err(StepError::OutOfPlace),
+            None => {
+                drop(edge);
+                Err(StepError::OutOfPlace)
+            }
             Some((OpenConstruct { opening, before }, body)) => {
                 let opening = opening.next(alloc, body, edge)?;
                 self.constructs.push(OpenConstruct { opening, before })?;

@@ -1,8 +1,9 @@
 //! Why a block, a specification part or units cannot go on.
 
 ghost use Rattle.std.specs.Prelude.{◌≡◌};
-ghost use Rattle.f3_blocks.specs.declared.error.StepError.TheVariants.{Memory};
+ghost use Rattle.f3_blocks.specs.declared.error.StepError.TheVariants.{Memory, OutOfPlace};
 
+use f3_forms::form::Form;
 use std::alloc::{AllocError, AllocFailed};
 
 /// Why a block, a specification part or units cannot go on with a statement.
@@ -30,4 +31,12 @@ impl<T: Drop> From<AllocFailed<T>> for StepError {
     fn from(_error: AllocFailed<T>) -> Self {
         StepError::Memory
     }
+}
+
+/// Nothing goes on with this form, which is let go (2.2, 4.5, 8.1, 11.1).
+pub fn out_of_place(form: Form) -> StepError
+    ensures { result ≡ OutOfPlace }
+{
+    drop(form);
+    StepError::OutOfPlace
 }

@@ -1,16 +1,10 @@
 -- What is seen of the parts of a form.
 use Rattle.std.specs.Prelude.{◌≡◌, Bool, true, false, List, Option, Some, None}
-use Rattle.std.specs.Option.{option_map}
 use Rattle.f3_rules.specs.declared.source.Place.{Place}
 use Rattle.f3_tree.specs.declared.declaration.TypeSpecifier.{TypeSpecifier}
 use Rattle.f3_tree.specs.declared.declaration.Declaration.{Declaration}
-use Rattle.f3_tree.specs.declared.expression.Expression.{Expression}
-use Rattle.f3_tree.specs.Expressions.{Tree, expression_view}
 use Rattle.f3_tree.specs.Declarations.{Placed, EntityTree, declaration_view}
 use Rattle.f3_declarations.specs.Specifications.{needs_colons}
-
-abbrev pub lower_view : Option Expression → Option Tree
-lower_view l = option_map expression_view l
 
 -- the declaration of these, where it has its `::` if it needs one
 abbrev pub AsDeclared : Place → TypeSpecifier → Bool → List Placed → List EntityTree → Option Declaration → Type 0

@@ -6,5 +6,6 @@ pub mod attributes;
 pub mod declarations;
 mod kinds;
 pub mod procedures;
-pub mod shapes;
 pub mod uses;
+
+pub use f3_shapes::shapes;

@@ -23,7 +23,7 @@ use f3_words::reading::front;
 use std::alloc::Global;
 
 /// What may stand before SUBROUTINE or FUNCTION.
-#[derive(Clone, Copy, PartialEq, Eq, Debug)]
+#[derive(Clone, Copy)]
 pub enum Prefix {
     Pure,
     Recursive,
@@ -31,7 +31,7 @@ pub enum Prefix {
 }
 
 /// What stands before SUBROUTINE or FUNCTION.
-#[derive(Clone, Copy, PartialEq, Eq, Debug)]
+#[derive(Clone, Copy)]
 pub struct Prefixes {
     pub pure: bool,
     pub recursive: bool,

@@ -1,3 +1,1 @@
-mod Objects
-pub mod Cases
 pub mod Types

@@ -17,7 +17,7 @@ use Rattle.f3_forms.specs.Forms.{FormTree, unit, contains, ends, procedure, uses
 use Rattle.f3_reading.specs.Parts.{EatsKeyword, First}
 use Rattle.f3_reading.specs.Names.{IsName, IsNameList, IsLabel}
 use Rattle.f3_declarations.specs.Specifications.{IsUse, IsAccess, IsDeclaration, IsHeader, IsTypeBegin}
-use Rattle.f3_forms.specs.Actions.{IsAction, EatsCondition, IsCondition, IsThen, IsCase, IsDo}
+use Rattle.f3_actions.specs.Actions.{IsAction, EatsCondition, IsCondition, IsThen, IsCase, IsDo}
 
 -- the form that is made of what the tokens spell
 abbrev pub Makes : {A : Type 0} → (A → FormTree) → (A → List Item → Type 0) → FormTree → List Item → Type 0

@@ -1,5 +1,3 @@
 pub mod Forms
-pub mod Views
-pub mod Actions
 pub mod Grammar
-pub mod Readings
+pub use Rattle.f3_actions.specs.Actions

@@ -4,17 +4,17 @@ ghost use Rattle.std.specs.Prelude.{◌≡◌, true, false, []};
 ghost use Rattle.f3_tree.specs.Expressions.{expression_view};
 ghost use Rattle.f3_words.specs.declared.item.Keyword.TheVariants.{Then};
 ghost use Rattle.f3_words.specs.Reads.{Finds};
-ghost use Rattle.f3_forms.specs.Forms.{FormTree, unit, uses, accesses, protects, finals, else_if, select_case, case_of, repeats, form_view};
+ghost use Rattle.f3_forms.specs.Forms.{FormTree, unit, contains, uses, accesses, protects, saves, finals, else_if, select_case, case_of, repeats, form_view};
 ghost use Rattle.f3_reading.specs.Parts.{EatsKeyword};
 ghost use Rattle.f3_reading.specs.Names.{IsName, IsNameList};
 ghost use Rattle.f3_declarations.specs.Specifications.{IsAccess, IsUse};
-ghost use Rattle.f3_forms.specs.Actions.{IsThen, IsCondition, IsCase, IsDo};
+ghost use Rattle.f3_actions.specs.Actions.{IsThen, IsCondition, IsCase, IsDo};
 ghost use Rattle.f3_forms.specs.Grammar.{Makes, IsBare, IsType, IsLogicalIf, IsIfBehind, IsIf, IsElse, IsSelect, IsImplicit, IsFormOf, IsHeaded, IsAct, IsProcedure, IsDeclared, IsSpecified, IsPassive, IsForm};
 
-use crate::actions::action;
-use crate::constructs::{condition, control, selector, then, whole_condition};
 use crate::ends::{end, joined_end};
 use crate::form::{Ended, Form};
+use f3_actions::actions::action;
+use f3_actions::constructs::{condition, control, selector, then, whole_condition};
 use f3_declarations::access::{access, type_access};
 use f3_declarations::declarations::declaration;
 use f3_declarations::procedures::header;
@@ -30,12 +30,23 @@ use f3_words::item::{Item, Keyword, Word};
 use f3_words::reading::front;
 use std::alloc::Global;
 
-/// The form whose keyword stands alone.
-fn bare(form: Form, items: &[Item]) -> Result<Form, ReadError>
-    ensures { Finds (IsBare (form_view form)) form_view result items.now }
+/// What stands behind CONTAINS.
+fn contains(items: &[Item]) -> Result<Form, ReadError>
+    ensures { Finds (IsBare contains) form_view result items.now }
 {
     if is_over(items) {
-        Ok(form)
+        Ok(Form::Contains)
+    } else {
+        Err(ReadError::NoForm)
+    }
+}
+
+/// What stands behind SAVE.
+fn save(items: &[Item]) -> Result<Form, ReadError>
+    ensures { Finds (IsBare saves) form_view result items.now }
+{
+    if is_over(items) {
+        Ok(Form::Save)
     } else {
         Err(ReadError::NoForm)
     }
@@ -212,7 +223,7 @@ fn form_of(alloc: Global, keyword: Keyword, place: Place, items: &[Item]) -> Res
     match keyword {
         Keyword::Module => unit(UnitKind::Module, items),
         Keyword::Program => unit(UnitKind::Program, items),
-        Keyword::Contains => bare(Form::Contains, items),
+        Keyword::Contains => contains(items),
         Keyword::End => end(items),
         Keyword::EndModule => joined_end(Ended::Module, items),
         Keyword::EndProgram => joined_end(Ended::Program, items),
@@ -227,7 +238,7 @@ fn form_of(alloc: Global, keyword: Keyword, place: Place, items: &[Item]) -> Res
         Keyword::Public => access_form(alloc, place, Accessibility::Public, items),
         Keyword::Private => access_form(alloc, place, Accessibility::Private, items),
         Keyword::Protected => protected(alloc, items),
-        Keyword::Save => bare(Form::Save, items),
+        Keyword::Save => save(items),
         Keyword::Type => type_form(items),
         Keyword::Final => finals(alloc, items),
         Keyword::If => if_form(alloc, items),

@@ -1,6 +1,8 @@
 //! From sources to the table of their names.
 
-ghost use Rattle.std.specs.Prelude.{◌≡◌};
+ghost use Rattle.std.specs.Prelude.{◌≡◌, List, Ok};
+ghost use Rattle.f3_rules.specs.declared.source.Source.{Source};
+ghost use Rattle.f3_parse.specs.Spells.{Parses};
 ghost use Rattle.f3_name_table.specs.Answers.{Answers, fault_of_text};
 
 use crate::lines::table_text;
@@ -9,6 +11,7 @@ use f3_names::names;
 use f3_parse::parser::parse;
 use f3_rules::source::Source;
 use f3_text::statement::TextFault;
+use f3_tree::program::Program;
 use std::alloc::Global;
 
 /// For each program unit in the order of their places its name, and a line for each name that is visible there: what it
@@ -19,13 +22,19 @@ use std::alloc::Global;
 pub fn name_table(alloc: Global, sources: &[Source]) -> Result<String, CheckFault>
     ensures { Answers result sources.now }
 {
-    let program = match parse(alloc, sources) {
-        Ok(program) => program,
-        Err(fault) => return Err(of_text(fault)),
-    };
-    let order = order(alloc, &program)?;
-    let names = names(alloc, &program, &order)?;
-    match table_text(alloc, &program, &names) {
+    match parse(alloc, sources) {
+        Ok(program) => table_of(alloc, &program),
+        Err(fault) => Err(of_text(fault)),
+    }
+}
+
+/// The table of the names of a program that was parsed.
+fn table_of(alloc: Global, program: &Program) -> Result<String, CheckFault>
+    ensures { (sources : List Source) → Parses (Ok program.now) sources → Answers result sources }
+{
+    let order = order(alloc, program)?;
+    let names = names(alloc, program, &order)?;
+    match table_text(alloc, program, &names) {
         Ok(text) => Ok(text),
         Err(_) => Err(CheckFault::Memory),
     }

@@ -8,7 +8,7 @@ ghost use Rattle.f3_parts.specs.Pieces.{piece};
 ghost use Rattle.f3_parts.specs.Parts.{fits_label};
 ghost use Rattle.f3_parts.specs.Machine.{is_nil, is_none, start, step, step_from, at_uses, with_use, with_implicit, with_specification, begun, is_private, with_private, with_component, with_contains, with_finals, open_in, closed, ended, in_type, outside, builder_view, Becomes};
 
-use f3_blocks::error::StepError;
+use f3_blocks::error::{StepError, out_of_place};
 use f3_forms::form::{Ended, Form};
 use f3_rules::source::Place;
 use f3_tree::declaration::{
@@ -200,7 +200,7 @@ impl PartBuilder {
         match self.open_type {
             None => self.outside(alloc, of_module, place, form),
             Some(_) => match self.open_type.take() {
-                None => Err(StepError::OutOfPlace),
+                None => Err(out_of_place(form)),
                 Some(definition) => self.in_type(definition, place, form),
             },
         }
@@ -238,7 +238,7 @@ impl PartBuilder {
                 Some(Ended::Type) => self.end(label, definition),
                 _ => Err(StepError::OutOfPlace),
             },
-            _ => Err(StepError::OutOfPlace),
+            _ => Err(out_of_place(form)),
         }
     }
 
@@ -302,7 +302,7 @@ impl PartBuilder {
                 }
                 self.open(begun(alloc, place, access, name))
             }
-            _ => Err(StepError::OutOfPlace),
+            _ => Err(out_of_place(form)),
         }
     }
 }

@@ -11,7 +11,7 @@ ghost use Rattle.f3_units.specs.Units.{fits_unit, fits_procedure};
 ghost use Rattle.f3_units.specs.Machine.{State, start, step, begun, between_procedures, in_own, in_unit, in_scope, with_procedure, with_closed, procedure_closed, unit_closed, busy, still, ended, inside, between_units, opened_view, begun_view, builder_view, begun_depth, Becomes, Steps};
 
 use crate::scope::{Role, Scope, role_of};
-use f3_blocks::error::StepError;
+use f3_blocks::error::{StepError, out_of_place};
 use f3_forms::form::{Ended, Form};
 use f3_parts::builder::fits_label;
 use f3_rules::source::Place;
@@ -91,16 +91,14 @@ fn procedure_closed(
 ) -> Option<Procedure>
     ensures { option_map procedure_view result ≡ procedure_closed place what label (opened_view open_procedure) }
 {
+    if !open_procedure.scope.is_over()
+        || !fits_procedure(what, open_procedure.header.kind)
+        || !fits_label(label, open_procedure.header.name)
+    {
+        drop(open_procedure);
+        return None;
+    }
     let OpenProcedure { header, scope } = open_procedure;
-    if !scope.is_over() {
-        return None;
-    }
-    if !fits_procedure(what, header.kind) {
-        return None;
-    }
-    if !fits_label(label, header.name) {
-        return None;
-    }
     let Scope { part, block } = scope;
     Some(Procedure {
         header,
@@ -119,13 +117,8 @@ fn unit_closed(
 ) -> Option<Unit>
     ensures { option_map unit_view result ≡ unit_closed place what label (begun_view unit) }
 {
-    if !unit.scope.is_over() {
-        return None;
-    }
-    if !fits_unit(what, unit.kind) {
-        return None;
-    }
-    if !fits_label(label, unit.name) {
+    if !unit.scope.is_over() || !fits_unit(what, unit.kind) || !fits_label(label, unit.name) {
+        drop(unit);
         return None;
     }
     let Scope { part, block } = unit.scope;
@@ -168,13 +161,14 @@ impl OpenUnit {
             Role::Specifies => self.scope.specify(alloc, true, place, form),
             Role::Contains => {
                 if self.scope.is_over() {
+                    drop(form);
                     self.contains = Some(place);
                     Ok(())
                 } else {
                     self.scope.specify(alloc, true, place, form)
                 }
             }
-            _ => Err(StepError::OutOfPlace),
+            _ => Err(out_of_place(form)),
         }
     }
 
@@ -196,13 +190,15 @@ impl OpenUnit {
     {
         match form {
             Form::Procedure(header) => {
-                self.procedure = Some(OpenProcedure {
-                    header,
-                    scope: Scope::new(alloc),
-                });
+                drop(
+                    self.procedure.replace(OpenProcedure {
+                        header,
+                        scope: Scope::new(alloc),
+                    }),
+                );
                 Ok(())
             }
-            _ => Err(StepError::OutOfPlace),
+            _ => Err(out_of_place(form)),
         }
     }
 
@@ -213,7 +209,7 @@ impl OpenUnit {
     {
         match &mut self.procedure {
             Some(open) => open.scope.step(alloc, true, place, form),
-            None => Err(StepError::OutOfPlace),
+            None => Err(out_of_place(form)),
         }
     }
 
@@ -227,7 +223,7 @@ impl OpenUnit {
                 Some(_) => self.between_procedures(alloc, form),
             },
             Some(_) => match self.contains {
-                None => Err(StepError::OutOfPlace),
+                None => Err(out_of_place(form)),
                 Some(_) => self.in_procedure(alloc, place, form),
             },
         }
@@ -280,7 +276,7 @@ impl Builder {
                 if unit.file == place.file {
                     self.inside(alloc, place, form)
                 } else {
-                    Err(StepError::OutOfPlace)
+                    Err(out_of_place(form))
                 }
             }
         }
@@ -293,10 +289,11 @@ impl Builder {
     {
         match role_of(&form) {
             Role::Begins(kind, name) => {
-                self.unit = Some(OpenUnit::begun(alloc, place, kind, name));
+                drop(form);
+                drop(self.unit.replace(OpenUnit::begun(alloc, place, kind, name)));
                 Ok(())
             }
-            _ => Err(StepError::OutOfPlace),
+            _ => Err(out_of_place(form)),
         }
     }
 
@@ -306,7 +303,10 @@ impl Builder {
             → Steps result (builder_view self.old) (builder_view self.new) (inside (begun_view u).procedure (role (form_view form)) (record { place = place; form = form_view form }) (map unit_view self.old.units.items) (begun_view u)) }
     {
         match role_of(&form) {
-            Role::Ends(what, label) => self.end(place, what, label),
+            Role::Ends(what, label) => {
+                drop(form);
+                self.end(place, what, label)
+            }
             _ => self.go_on(alloc, place, form),
         }
     }
@@ -318,7 +318,7 @@ impl Builder {
     {
         match &mut self.unit {
             Some(unit) => unit.step(alloc, place, form),
-            None => Err(StepError::OutOfPlace),
+            None => Err(out_of_place(form)),
         }
     }
 
@@ -337,7 +337,10 @@ impl Builder {
             Some(unit) => match unit.procedure {
                 None => self.close(unit, place, what, label),
                 Some(_) => match unit.contains {
-                    None => Err(StepError::OutOfPlace),
+                    None => {
+                        drop(unit);
+                        Err(StepError::OutOfPlace)
+                    }
                     Some(_) => self.end_procedure(unit, place, what, label),
                 },
             },
@@ -357,7 +360,7 @@ impl Builder {
     {
         let mut unit = unit;
         let ended = unit.end_procedure(place, what, label);
-        self.unit = Some(unit);
+        drop(self.unit.replace(unit));
         ended
     }
 

@@ -6,7 +6,7 @@ ghost use Rattle.f3_units.specs.Roles.{role, end_role, Tells};
 ghost use Rattle.f3_units.specs.Machine.{fresh, is_untouched, is_over, to_part, to_block, in_scope, scope_view, scope_depth, Becomes};
 
 use f3_blocks::builder::BlockBuilder;
-use f3_blocks::error::StepError;
+use f3_blocks::error::{StepError, out_of_place};
 use f3_forms::form::{Ended, Form};
 use f3_parts::builder::PartBuilder;
 use f3_rules::source::Place;
@@ -114,7 +114,7 @@ impl Scope {
         ensures { Becomes scope_depth result (scope_view self.old) (scope_view self.new) (to_part of_module (record { place = place; form = form_view form }) (scope_view self.old)) }
     {
         if !self.is_untouched() {
-            return Err(StepError::OutOfPlace);
+            return Err(out_of_place(form));
         }
         self.part.step(alloc, of_module, place, form)
     }
@@ -131,7 +131,7 @@ impl Scope {
         ensures { Becomes scope_depth result (scope_view self.old) (scope_view self.new) (to_block procedure (record { place = place; form = form_view form }) (scope_view self.old)) }
     {
         match self.part.open_type {
-            Some(_) => Err(StepError::OutOfPlace),
+            Some(_) => Err(out_of_place(form)),
             None => self.block.step(alloc, procedure, place, form),
         }
     }
@@ -151,7 +151,7 @@ impl Scope {
             Role::Specifies => self.specify(alloc, false, place, form),
             Role::Contains => self.specify(alloc, false, place, form),
             Role::Executes => self.execute(alloc, procedure, place, form),
-            _ => Err(StepError::OutOfPlace),
+            _ => Err(out_of_place(form)),
         }
     }
 }

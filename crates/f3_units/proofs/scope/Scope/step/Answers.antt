@@ -6,4 +6,5 @@ use Rattle.f3_units.proofs.scope.Scope.step.Goals as goal
 
 pub returns-in_default : goal.returns-in_default
 returns-in_default c =
-    in_scope_none c.role_of.result (role (form_view c.args.form)) c.args.procedure (record { place = c.args.place; form = form_view c.args.form }) (scope_view c.args.self.now) c.role_of.ensures c.in_default.not-Specifies c.in_default.not-Contains c.in_default.not-Executes
+    rw c.out_of_place.ensures
+    (in_scope_none c.role_of.result (role (form_view c.args.form)) c.args.procedure (record { place = c.args.place; form = form_view c.args.form }) (scope_view c.args.self.now) c.role_of.ensures c.in_default.not-Specifies c.in_default.not-Contains c.in_default.not-Executes)

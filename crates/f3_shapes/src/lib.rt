@@ -1,0 +1,4 @@
+//! Shapes of arrays.
+#![tactic(auto)]
+
+pub mod shapes;
