@@ -10,8 +10,8 @@ use Rattle.f3_tree.specs.declared.statement.Control.{Control}
 use Rattle.f3_tree.specs.declared.statement.Statement.{Statement, If, Select}
 use Rattle.f3_tree.specs.Expressions.{expression_view}
 use Rattle.f3_tree.specs.Statements.{StatementTree, branches, alternative, no_alternative, selects, selector_view, statement_view, block_view}
-use Rattle.f3_forms.specs.declared.form.Ended.{Ended}
-use Rattle.f3_forms.specs.declared.form.Ended.TheVariants as ended
+use Rattle.f3_form.specs.declared.form.Ended.{Ended}
+use Rattle.f3_form.specs.declared.form.Ended.TheVariants as ended
 use Rattle.f3_blocks.specs.declared.builder.Opening.{Opening}
 use Rattle.f3_blocks.specs.declared.builder.Opening.TheVariants as opening
 use Rattle.f3_blocks.specs.declared.builder.OpenConstruct.{OpenConstruct}

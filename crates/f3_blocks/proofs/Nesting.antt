@@ -5,8 +5,8 @@ use Rattle.std.proofs.lemmas.List.{append-nil}
 use Rattle.f3_rules.specs.declared.source.Place.{Place}
 use Rattle.f3_tree.specs.Expressions.{Tree}
 use Rattle.f3_tree.specs.Statements.{Act, Selects, StatementTree, acts, acts_if, branches, selects, repeats, Block, no_statements, statements, Branches, no_branches, branch, Alternative, no_alternative, alternative, Cases, no_cases, case_block, block_of}
-use Rattle.f3_forms.specs.declared.form.Ended.TheVariants as ended
-use Rattle.f3_forms.specs.Forms as form
+use Rattle.f3_form.specs.declared.form.Ended.TheVariants as ended
+use Rattle.f3_form.specs.Forms as form
 use Rattle.f3_blocks.specs.Pieces.{Placed, Piece, act, act_if, if_begins, else_if_begins, else_begins, if_ends, select_begins, case_begins, select_ends, do_begins, do_ends, no_piece, piece_of}
 use Rattle.f3_blocks.specs.Blocks.{flat, flats, flat_if, flat_else_ifs, flat_else, flat_cases, may_act, IsSome, IsProper, AreProper, AreBranches, IsElse, AreCases, IsBlock}
 use Rattle.f3_blocks.specs.Machine.{Tested, Chosen, branches_from, cases_from, Open, in_if, in_else, in_select, in_case, in_do, State, start, in_loop, may_stand, within, behind, pushed, opened, to_else_if, to_else, close_if, to_case, close_select, close_do, step, run}

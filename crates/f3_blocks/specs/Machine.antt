@@ -15,8 +15,8 @@ use Rattle.f3_blocks.specs.declared.builder.Edge.{Edge}
 use Rattle.f3_blocks.specs.declared.builder.Edge.TheVariants as edge
 use Rattle.f3_blocks.specs.declared.error.StepError.{StepError}
 use Rattle.f3_blocks.specs.declared.error.StepError.TheVariants.{Memory, OutOfPlace, TooDeep}
-use Rattle.f3_forms.specs.declared.form.Ended.{Ended}
-use Rattle.f3_forms.specs.declared.form.Ended.TheVariants as ended
+use Rattle.f3_form.specs.declared.form.Ended.{Ended}
+use Rattle.f3_form.specs.declared.form.Ended.TheVariants as ended
 use Rattle.f3_blocks.specs.Pieces.{Piece, act, act_if, if_begins, else_if_begins, else_begins, if_ends, select_begins, case_begins, select_ends, do_begins, do_ends, no_piece}
 use Rattle.f3_blocks.specs.Blocks.{may_act}
 

@@ -3,14 +3,14 @@
 ghost use Rattle.std.specs.Prelude.{◌≡◌, ◌++◌, Bool, List, [], ◌∷◌, IfOk, map};
 ghost use Rattle.f3_tree.specs.Expressions.{expression_view};
 ghost use Rattle.f3_tree.specs.Statements.{StatementTree, acts, acts_if, action_view, statement_view, selector_view, block_view};
-ghost use Rattle.f3_forms.specs.Forms.{form_view, ends};
+ghost use Rattle.f3_form.specs.Forms.{form_view, ends};
 ghost use Rattle.f3_blocks.specs.Pieces.{piece};
 ghost use Rattle.f3_blocks.specs.Blocks.{may_act};
 ghost use Rattle.f3_blocks.specs.declared.error.StepError.TheVariants.{OutOfPlace};
 ghost use Rattle.f3_blocks.specs.Machine.{Open, start, step, in_loop, may_stand, pushed, opened, turned, close, tested_view, chosen_view, within, behind, open_as, builder_view, Pops, Turns, Moves};
 
 use crate::error::{StepError, out_of_place};
-use f3_forms::form::{Ended, Form};
+use f3_form::form::{Ended, Form};
 use f3_rules::source::Place;
 use f3_tree::expression::{Expression, Name};
 use f3_tree::statement::{Action, Control, Selector, Statement};

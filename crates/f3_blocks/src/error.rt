@@ -3,7 +3,7 @@
 ghost use Rattle.std.specs.Prelude.{◌≡◌};
 ghost use Rattle.f3_blocks.specs.declared.error.StepError.TheVariants.{Memory, OutOfPlace};
 
-use f3_forms::form::Form;
+use f3_form::form::Form;
 use std::alloc::{AllocError, AllocFailed};
 
 /// Why a block, a specification part or units cannot go on with a statement.

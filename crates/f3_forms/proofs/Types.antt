@@ -10,7 +10,7 @@ use Rattle.f3_reading.specs.Parts.{EatsWord}
 use Rattle.f3_reading.specs.Names.{IsName}
 use Rattle.f3_reading.proofs.Words.{lacked}
 use Rattle.f3_declarations.specs.Specifications.{EatsTypeAccess, IsTypeBegin}
-use Rattle.f3_forms.specs.Forms.{FormTree, type_begins}
+use Rattle.f3_form.specs.Forms.{FormTree, type_begins}
 use Rattle.f3_forms.specs.Grammar.{IsType}
 
 abbrev Access : Type 0

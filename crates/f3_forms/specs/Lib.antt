@@ -1,3 +1,2 @@
-pub mod Forms
 pub mod Grammar
 pub use Rattle.f3_actions.specs.Actions

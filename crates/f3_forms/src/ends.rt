@@ -2,10 +2,10 @@
 
 ghost use Rattle.std.specs.Prelude.{◌≡◌};
 ghost use Rattle.f3_words.specs.Reads.{Finds};
-ghost use Rattle.f3_forms.specs.Forms.{form_view};
+ghost use Rattle.f3_form.specs.Forms.{form_view};
 ghost use Rattle.f3_forms.specs.Grammar.{ended_of, has_name, IsJoinedEnd, IsEnd};
 
-use crate::form::{Ended, Form};
+use f3_form::form::{Ended, Form};
 use f3_reading::names::label;
 use f3_words::error::ReadError;
 use f3_words::item::{Item, Keyword, Word};

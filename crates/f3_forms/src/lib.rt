@@ -2,5 +2,4 @@
 #![tactic(auto)]
 
 pub mod ends;
-pub mod form;
 pub mod statements;

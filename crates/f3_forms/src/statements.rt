@@ -4,7 +4,7 @@ ghost use Rattle.std.specs.Prelude.{◌≡◌, true, false, []};
 ghost use Rattle.f3_tree.specs.Expressions.{expression_view};
 ghost use Rattle.f3_words.specs.declared.item.Keyword.TheVariants.{Then};
 ghost use Rattle.f3_words.specs.Reads.{Finds};
-ghost use Rattle.f3_forms.specs.Forms.{FormTree, unit, contains, uses, accesses, protects, saves, finals, else_if, select_case, case_of, repeats, form_view};
+ghost use Rattle.f3_form.specs.Forms.{FormTree, unit, contains, uses, accesses, protects, saves, finals, else_if, select_case, case_of, repeats, form_view};
 ghost use Rattle.f3_reading.specs.Parts.{EatsKeyword};
 ghost use Rattle.f3_reading.specs.Names.{IsName, IsNameList};
 ghost use Rattle.f3_declarations.specs.Specifications.{IsAccess, IsUse};
@@ -12,7 +12,7 @@ ghost use Rattle.f3_actions.specs.Actions.{IsThen, IsCondition, IsCase, IsDo};
 ghost use Rattle.f3_forms.specs.Grammar.{Makes, IsBare, IsType, IsLogicalIf, IsIfBehind, IsIf, IsElse, IsSelect, IsImplicit, IsFormOf, IsHeaded, IsAct, IsProcedure, IsDeclared, IsSpecified, IsPassive, IsForm};
 
 use crate::ends::{end, joined_end};
-use crate::form::{Ended, Form};
+use f3_form::form::{Ended, Form};
 use f3_actions::actions::action;
 use f3_actions::constructs::{condition, control, selector, then, whole_condition};
 use f3_declarations::access::{access, type_access};

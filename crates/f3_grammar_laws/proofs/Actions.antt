@@ -13,7 +13,7 @@ use Rattle.f3_reading.specs.Laws.{IsOne, IsOneWhole}
 use Rattle.f3_reading.proofs.Words.{lacked}
 use Rattle.f3_reading.proofs.Ones.{names, lists, enclosed, behind_comma}
 use Rattle.f3_expressions.specs.Grammar.{EatsExpression, EatsDesignator}
-use Rattle.f3_forms.specs.Actions.{IsAssignment, IsCallArguments, IsCall, EatsStatusHead, EatsObject, EatsStatus, EatsObjects, AreObjects, IsAllocation, IsAllocate, IsDeallocate, AreItems, EatsItems, IsPrint, IsStop, IsActionOf, IsHeadedAction, IsAction}
+use Rattle.f3_actions.specs.Actions.{IsAssignment, IsCallArguments, IsCall, EatsStatusHead, EatsObject, EatsStatus, EatsObjects, AreObjects, IsAllocation, IsAllocate, IsDeallocate, AreItems, EatsItems, IsPrint, IsStop, IsActionOf, IsHeadedAction, IsAction}
 use Rattle.f3_grammar_laws.proofs.Parts.{ap2, along, whole_along, sign, sign_along, front, at_keyword_whole, first_of}
 use Rattle.f3_grammar_laws.proofs.Ones.{expressions, designators, argument_lists}
 

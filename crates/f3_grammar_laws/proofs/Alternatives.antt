@@ -23,9 +23,10 @@ use Rattle.f3_expressions.proofs.Fronts.{name_equals}
 use Rattle.f3_declarations.specs.declared.procedures.Prefix.{Prefix}
 use Rattle.f3_declarations.specs.declared.procedures.Prefix.TheVariants as prefix
 use Rattle.f3_declarations.specs.declared.procedures.Prefixes.{Prefixes}
-use Rattle.f3_declarations.specs.Specifications.{EatsRename, AreRenames, EatsOnlyHead, IsRenameList, EatsDerived, EatsSpecifierOf, EatsSpecifier, EatsBound, EatsBounds, EatsLower, AreBounds, AreLowers, EatsExplicit, EatsDeferred, EatsShapePerhaps, EatsInitialPerhaps, EatsEntity, AreEntities, EatsAttributes, IsDeclarationBehind, IsDeclaration, EatsTyped, EatsPrefixOf, EatsPrefix, ArePrefixes, no_prefix, with_prefixes, EatsPrefixes, IsProcedureOf, IsProcedureBehind, IsHeader}
-use Rattle.f3_forms.specs.Actions.{IsAssignment, EatsStatusHead, IsHeadedAction, IsAction, EatsCondition, IsCondition, IsDefault, AreValues, IsWhile, IsCounted}
-use Rattle.f3_forms.specs.Forms.{FormTree}
+use Rattle.f3_declarations.specs.Specifications.{EatsRename, AreRenames, EatsOnlyHead, IsRenameList, EatsDerived, EatsSpecifierOf, EatsSpecifier, EatsInitialPerhaps, EatsEntity, AreEntities, EatsAttributes, IsDeclarationBehind, IsDeclaration, EatsTyped, EatsPrefixOf, EatsPrefix, ArePrefixes, no_prefix, with_prefixes, EatsPrefixes, IsProcedureOf, IsProcedureBehind, IsHeader}
+use Rattle.f3_shapes.specs.Shapes.{EatsBound, EatsBounds, EatsLower, AreBounds, AreLowers, EatsExplicit, EatsDeferred, EatsShapePerhaps}
+use Rattle.f3_actions.specs.Actions.{IsAssignment, EatsStatusHead, IsHeadedAction, IsAction, EatsCondition, IsCondition, IsDefault, AreValues, IsWhile, IsCounted}
+use Rattle.f3_form.specs.Forms.{FormTree}
 use Rattle.f3_forms.specs.Grammar.{IsType, IsBlockIf, IsLogicalIf, IsFormOf, IsHeaded, IsAct, IsProcedure, IsDeclared, IsSpecified, IsPassive, IsForm}
 use Rattle.f3_grammar_laws.specs.Laws.{Exclude, IsOfAKind, FormsAreOfFourKinds, ShapesExclude, SelectionsExclude, StatusIsNoObject}
 use Rattle.f3_grammar_laws.proofs.Parts.{sign, sign_along, lacked_along, front, one_keyword}

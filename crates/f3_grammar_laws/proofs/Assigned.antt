@@ -15,7 +15,7 @@ use Rattle.f3_words.specs.Lists.{starts}
 use Rattle.f3_reading.specs.Parts.{EatsWord, EatsName}
 use Rattle.f3_reading.specs.Names.{EatsColons, AreNames, IsName, IsLabel, IsNameList}
 use Rattle.f3_expressions.specs.Grammar.{is_open, EatsParts, EatsComponents, EatsBehind, EatsWithin, EatsDesignator}
-use Rattle.f3_forms.specs.Actions.{IsAssignment}
+use Rattle.f3_actions.specs.Actions.{IsAssignment}
 use Rattle.f3_grammar_laws.proofs.Parts.{front, one_keyword}
 use Rattle.f3_grammar_laws.proofs.Enclosures.{Within, within_one}
 

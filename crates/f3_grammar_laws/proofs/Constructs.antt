@@ -14,7 +14,7 @@ use Rattle.f3_reading.specs.Laws.{IsOne, IsOneWhole}
 use Rattle.f3_reading.proofs.Words.{lacked}
 use Rattle.f3_reading.proofs.Ones.{names, lists, enclosed, perhaps}
 use Rattle.f3_expressions.specs.Grammar.{EatsExpression}
-use Rattle.f3_forms.specs.Actions.{EatsCondition, IsCondition, IsThen, ends_value, EatsCase, AreCases, IsCaseList, IsDefault, AreValues, IsCase, EatsStepPerhaps, IsSteps, IsCounted, IsWhile, IsControl, IsDo}
+use Rattle.f3_actions.specs.Actions.{EatsCondition, IsCondition, IsThen, ends_value, EatsCase, AreCases, IsCaseList, IsDefault, AreValues, IsCase, EatsStepPerhaps, IsSteps, IsCounted, IsWhile, IsControl, IsDo}
 use Rattle.f3_grammar_laws.proofs.Parts.{ap2, ap3, along, whole_along, sign, sign_along, lacked_along, front, first_of}
 use Rattle.f3_grammar_laws.proofs.Ones.{expressions}
 

@@ -22,7 +22,8 @@ use Rattle.f3_reading.specs.Laws.{IsOne, IsOneWhole}
 use Rattle.f3_reading.proofs.Words.{lacked}
 use Rattle.f3_reading.proofs.Ones.{names, enclosed_names, colons, whole_lists, lists, enclosed, perhaps, behind_comma}
 use Rattle.f3_expressions.specs.Grammar.{EatsExpression}
-use Rattle.f3_declarations.specs.Specifications.{EatsRename, EatsOnly, AreRenames, AreOnly, EatsOnlyHead, IsOnlyList, IsRenameList, IsSelection, IsUse, IsAccessList, IsAccess, EatsDerived, EatsSpecifierOf, EatsSpecifier, EatsBound, EatsBounds, EatsLower, AreBounds, AreLowers, EatsExplicit, EatsDeferred, EatsShapeBehind, EatsShape, EatsIntent, EatsEnclosedIntent, EatsDimension, EatsIntentOf, EatsAttributeOf, EatsAttribute, AreAttributes, EatsShapePerhaps, EatsInitialPerhaps, EatsEntity, AreEntities, EatsAttributes, IsDeclarationBehind, IsDeclaration}
+use Rattle.f3_declarations.specs.Specifications.{EatsRename, EatsOnly, AreRenames, AreOnly, EatsOnlyHead, IsOnlyList, IsRenameList, IsSelection, IsUse, IsAccessList, IsAccess, EatsDerived, EatsSpecifierOf, EatsSpecifier, EatsIntent, EatsEnclosedIntent, EatsDimension, EatsIntentOf, EatsAttributeOf, EatsAttribute, AreAttributes, EatsInitialPerhaps, EatsEntity, AreEntities, EatsAttributes, IsDeclarationBehind, IsDeclaration}
+use Rattle.f3_shapes.specs.Shapes.{EatsBound, EatsBounds, EatsLower, AreBounds, AreLowers, EatsExplicit, EatsDeferred, EatsShapeBehind, EatsShape, EatsShapePerhaps}
 use Rattle.f3_grammar_laws.proofs.Parts.{ap2, ap3, along, whole_along, sign, sign_along, lacked_along, same_keyword, at_keyword}
 use Rattle.f3_grammar_laws.proofs.Ones.{expressions}
 

@@ -13,7 +13,7 @@ use Rattle.f3_reading.specs.Names.{EatsEnclosedName}
 use Rattle.f3_expressions.specs.Grammar.{Eats, is_open, is_percent, EatsWithin, EatsOthers, EatsArgument, EatsExpression, EatsDesignator}
 use Rattle.f3_expressions.proofs.Fronts.{front}
 use Rattle.f3_expressions.proofs.Operands.{list_of_arguments, arguments_back}
-use Rattle.f3_forms.specs.Actions.{EatsCondition, EatsCase, AreCases, IsCaseList, EatsStatusHead, EatsObject, EatsStatus, EatsObjects, AreObjects, IsAllocation}
+use Rattle.f3_actions.specs.Actions.{EatsCondition, EatsCase, AreCases, IsCaseList, EatsStatusHead, EatsObject, EatsStatus, EatsObjects, AreObjects, IsAllocation}
 use Rattle.f3_grammar_laws.proofs.Trees.{within_reads}
 
 -- what stands behind arguments is one

@@ -15,10 +15,10 @@ use Rattle.f3_reading.specs.Names.{IsName, IsNameList}
 use Rattle.f3_reading.specs.Laws.{IsOneWhole}
 use Rattle.f3_reading.proofs.Ones.{whole_names, labels, whole_lists}
 use Rattle.f3_declarations.specs.Specifications.{IsUse, IsAccess, IsDeclaration, IsHeader}
-use Rattle.f3_forms.specs.declared.form.Ended.{Ended}
-use Rattle.f3_forms.specs.declared.form.Ended.TheVariants as ended
-use Rattle.f3_forms.specs.Actions.{IsAction, IsCondition, IsThen, IsCase, IsDo}
-use Rattle.f3_forms.specs.Forms.{FormTree, unit, ends, procedure, uses, accesses, protects, declares, type_begins, finals, acts, acts_if, else_if, select_case, case_of, repeats}
+use Rattle.f3_form.specs.declared.form.Ended.{Ended}
+use Rattle.f3_form.specs.declared.form.Ended.TheVariants as ended
+use Rattle.f3_actions.specs.Actions.{IsAction, IsCondition, IsThen, IsCase, IsDo}
+use Rattle.f3_form.specs.Forms.{FormTree, unit, ends, procedure, uses, accesses, protects, declares, type_begins, finals, acts, acts_if, else_if, select_case, case_of, repeats}
 use Rattle.f3_forms.specs.Grammar.{Makes, ended_of, IsEndLabel, IsJoinedEnd, IsEnd, IsType, IsBlockIf, IsLogicalIf, IsIfBehind, IsIf, IsElse, IsSelect, IsImplicit, IsFormOf, IsHeaded, AtFirst, IsAct, IsProcedure, IsDeclared, IsSpecified, IsPassive, IsForm}
 use Rattle.f3_grammar_laws.proofs.Parts.{ap2, whole_along, sign, front, one_keyword, first_of}
 use Rattle.f3_grammar_laws.proofs.Declarations as declarations

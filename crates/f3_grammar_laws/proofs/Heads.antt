@@ -20,10 +20,10 @@ use Rattle.f3_expressions.specs.Grammar.{is_open}
 use Rattle.f3_declarations.specs.declared.procedures.Prefix.{Prefix}
 use Rattle.f3_declarations.specs.declared.procedures.Prefixes.{Prefixes}
 use Rattle.f3_declarations.specs.Specifications.{IsUse, IsAccessList, IsAccess, EatsDerived, EatsSpecifierOf, EatsSpecifier, EatsEntity, AreEntities, EatsAttributes, IsDeclarationBehind, IsDeclaration, EatsTyped, EatsPrefixOf, EatsPrefix, ArePrefixes, EatsPrefixes, IsSubroutine, IsFunction, IsProcedureOf, IsProcedureBehind, IsHeader, EatsTypeAccess, IsTypeBegin}
-use Rattle.f3_forms.specs.declared.form.Ended.{Ended}
-use Rattle.f3_forms.specs.declared.form.Ended.TheVariants as ended
-use Rattle.f3_forms.specs.Actions.{IsCall, IsAllocate, IsDeallocate, IsPrint, IsStop, IsActionOf, IsHeadedAction, IsAction, EatsCondition, IsCondition, IsThen, IsDefault, AreValues, IsCase, IsCounted, IsWhile, IsControl, IsDo}
-use Rattle.f3_forms.specs.Forms.{FormTree}
+use Rattle.f3_form.specs.declared.form.Ended.{Ended}
+use Rattle.f3_form.specs.declared.form.Ended.TheVariants as ended
+use Rattle.f3_actions.specs.Actions.{IsCall, IsAllocate, IsDeallocate, IsPrint, IsStop, IsActionOf, IsHeadedAction, IsAction, EatsCondition, IsCondition, IsThen, IsDefault, AreValues, IsCase, IsCounted, IsWhile, IsControl, IsDo}
+use Rattle.f3_form.specs.Forms.{FormTree}
 use Rattle.f3_forms.specs.Grammar.{IsEndLabel, IsJoinedEnd, IsEnd, IsType, IsBlockIf, IsLogicalIf, IsIfBehind, IsIf, IsElse, IsSelect, IsImplicit, IsFormOf, IsHeaded}
 use Rattle.f3_grammar_laws.proofs.Enclosures.{Within, condition_within, name_within, allocation_within, cases_within}
 use Rattle.f3_grammar_laws.proofs.Assigned.{is_target, is_acting, Apart, Opposed, assigned, Headed, named_apart, eats_name, name_there, keyword_there, word_there, nothing_there, same_there, colons_there, whole_name_there, label_there, name_list_there}

@@ -12,9 +12,10 @@ use Rattle.f3_reading.specs.Parts.{EatsWord}
 use Rattle.f3_reading.specs.Laws.{IsOne, IsOneWhole}
 use Rattle.f3_expressions.specs.Levels.{Ends}
 use Rattle.f3_expressions.specs.Grammar.{Eats, EatsExpression, EatsDesignator, EatsArguments}
-use Rattle.f3_declarations.specs.Specifications.{EatsOnlyHead, IsRenameList, IsUse, IsAccess, EatsExplicit, EatsDeferred, IsDeclaration, IsHeader, IsTypeBegin}
-use Rattle.f3_forms.specs.Actions.{IsAssignment, IsHeadedAction, IsAction, EatsStatusHead, IsDefault, AreValues, IsWhile, IsCounted}
-use Rattle.f3_forms.specs.Forms.{FormTree}
+use Rattle.f3_declarations.specs.Specifications.{EatsOnlyHead, IsRenameList, IsUse, IsAccess, IsDeclaration, IsHeader, IsTypeBegin}
+use Rattle.f3_shapes.specs.Shapes.{EatsExplicit, EatsDeferred}
+use Rattle.f3_actions.specs.Actions.{IsAssignment, IsHeadedAction, IsAction, EatsStatusHead, IsDefault, AreValues, IsWhile, IsCounted}
+use Rattle.f3_form.specs.Forms.{FormTree}
 use Rattle.f3_forms.specs.Grammar.{IsBlockIf, IsLogicalIf, IsHeaded, IsAct, IsProcedure, IsDeclared, IsSpecified, IsPassive, IsForm}
 
 -- two expressions of a level, each up to where nothing of that level goes on, are one, and so is what stands behind

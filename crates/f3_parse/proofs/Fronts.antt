@@ -9,7 +9,7 @@ use Rattle.f3_rules.specs.Least.{Least}
 use Rattle.f3_rules.proofs.Firsts.{least_one, least_same}
 use Rattle.f3_tree.specs.Tree.{UnitTree}
 use Rattle.f3_words.specs.Lines.{Line, broken}
-use Rattle.f3_forms.specs.Forms.{FormTree}
+use Rattle.f3_form.specs.Forms.{FormTree}
 use Rattle.f3_blocks.specs.Pieces.{Placed}
 use Rattle.f3_units.specs.Units.{AreUnits, Complete, Viable, GoesOn}
 use Rattle.f3_units.specs.Machine.{Begun, State, start, free, step, run}

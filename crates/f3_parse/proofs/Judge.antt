@@ -5,7 +5,7 @@ use Rattle.f3_rules.specs.declared.rule.Rule.TheVariants.{S5, S6, S8}
 use Rattle.f3_rules.specs.Least.{Least, earlier_of}
 use Rattle.f3_rules.proofs.Firsts.{least_none, least_one, least_same, least_both}
 use Rattle.f3_words.specs.Lines.{Line, broken}
-use Rattle.f3_forms.specs.Forms.{FormTree}
+use Rattle.f3_form.specs.Forms.{FormTree}
 use Rattle.f3_forms.specs.Grammar.{IsForm}
 use Rattle.f3_units.specs.Machine.{State, step, IsDeeper}
 use Rattle.f3_parse.specs.Phase.{place_of, placed_at, EachForm}

@@ -1,6 +1,6 @@
 -- Constructs within constructs (own rule: 64 are open at most).
 use Rattle.std.specs.Prelude.{◌≡◌, ℕ, ◌+◌, ◌-◌, ◌≤◌, Bool, true, List, [], ◌∷◌, ◌++◌}
-use Rattle.f3_forms.specs.Forms.{FormTree}
+use Rattle.f3_form.specs.Forms.{FormTree}
 use Rattle.f3_blocks.specs.Pieces.{Placed}
 use Rattle.f3_units.specs.Depth.{begins_construct, ends_construct, one_if}
 

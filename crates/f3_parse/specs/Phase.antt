@@ -5,7 +5,7 @@ use Rattle.f3_rules.specs.declared.rule.Rule.TheVariants.{S5, S6, S7, S8}
 use Rattle.f3_rules.specs.declared.breaks.Break.{Break}
 use Rattle.f3_words.specs.declared.item.Item.{Item}
 use Rattle.f3_words.specs.Lines.{Line, nowhere, broken}
-use Rattle.f3_forms.specs.Forms.{FormTree}
+use Rattle.f3_form.specs.Forms.{FormTree}
 use Rattle.f3_forms.specs.Grammar.{IsForm}
 use Rattle.f3_blocks.specs.Pieces.{Placed}
 use Rattle.f3_units.specs.Units.{Complete, Viable, GoesOn}

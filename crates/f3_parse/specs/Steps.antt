@@ -11,7 +11,7 @@ use Rattle.f3_text.specs.Reader.{Tells}
 use Rattle.f3_tree.specs.declared.program.Program.{Program}
 use Rattle.f3_tree.specs.Tree.{view}
 use Rattle.f3_words.specs.Lines.{Line, Seen, broken}
-use Rattle.f3_forms.specs.Forms.{FormTree}
+use Rattle.f3_form.specs.Forms.{FormTree}
 use Rattle.f3_forms.specs.Grammar.{IsForm}
 use Rattle.f3_blocks.specs.Pieces.{Placed}
 use Rattle.f3_units.specs.Machine.{Begun, State, step, IsDeeper}

@@ -11,8 +11,8 @@ use Rattle.f3_tree.specs.declared.declaration.Accessibility.TheVariants.{Private
 use Rattle.f3_tree.specs.declared.expression.IntegerKind.TheVariants as kind
 use Rattle.f3_tree.specs.declared.declaration.TypeSpecifier.TheVariants.{Integer}
 use Rattle.f3_tree.specs.Declarations.{UseTree, DeclarationTree, TypeTree, SpecificationTree, declares, accesses, protects, saves, defines, PartTree}
-use Rattle.f3_forms.specs.declared.form.Ended.TheVariants.{«Type»}
-use Rattle.f3_forms.specs.Forms.{ends, declares as declares_form}
+use Rattle.f3_form.specs.declared.form.Ended.TheVariants.{«Type»}
+use Rattle.f3_form.specs.Forms.{ends, declares as declares_form}
 use Rattle.f3_blocks.specs.Pieces.{Placed}
 use Rattle.f3_parts.specs.Pieces.{Piece, use_of, implicit, declare, access, protect, save, type_begins, contains, final, type_ends, no_piece, piece_of}
 use Rattle.f3_parts.specs.Parts.{fits_label, privates, IsContained, IsType, IsSpecification, AreSpecifications, implicits, ArePieces, IsPart}

@@ -4,9 +4,9 @@ use Rattle.f3_rules.specs.declared.source.Place.{Place}
 use Rattle.f3_tree.specs.declared.expression.Name.{Name}
 use Rattle.f3_tree.specs.declared.declaration.Accessibility.{Accessibility}
 use Rattle.f3_tree.specs.Declarations.{UseTree, AccessTree, DeclarationTree}
-use Rattle.f3_forms.specs.declared.form.Ended.TheVariants as ended
-use Rattle.f3_forms.specs.Forms.{FormTree}
-use Rattle.f3_forms.specs.Forms as form
+use Rattle.f3_form.specs.declared.form.Ended.TheVariants as ended
+use Rattle.f3_form.specs.Forms.{FormTree}
+use Rattle.f3_form.specs.Forms as form
 use Rattle.f3_blocks.specs.Pieces.{Placed}
 
 -- A statement at its place. USE, access and declaration statements hold theirs; the END of a type and FINAL have none

@@ -3,13 +3,13 @@
 ghost use Rattle.std.specs.Prelude.{◌≡◌, ◌&&◌, if◌then◌else◌, Some, None, IsSome};
 ghost use Rattle.std.specs.Option.{option_map};
 ghost use Rattle.f3_tree.specs.Declarations.{use_view, access_view, declaration_view, type_view, specification_view, part_tree};
-ghost use Rattle.f3_forms.specs.Forms.{form_view};
+ghost use Rattle.f3_form.specs.Forms.{form_view};
 ghost use Rattle.f3_parts.specs.Pieces.{piece};
 ghost use Rattle.f3_parts.specs.Parts.{fits_label};
 ghost use Rattle.f3_parts.specs.Machine.{is_nil, is_none, start, step, step_from, at_uses, with_use, with_implicit, with_specification, begun, is_private, with_private, with_component, with_contains, with_finals, open_in, closed, ended, in_type, outside, builder_view, Becomes};
 
 use f3_blocks::error::{StepError, out_of_place};
-use f3_forms::form::{Ended, Form};
+use f3_form::form::{Ended, Form};
 use f3_rules::source::Place;
 use f3_tree::declaration::{
     Access, Accessibility, Declaration, Specification, SpecificationPart, TypeDefinition, Use,

@@ -6,7 +6,7 @@ use Rattle.f3_rules.specs.declared.breaks.Break.{Break}
 use Rattle.f3_text.specs.Reader.{bytes_of}
 use Rattle.f3_tree.specs.Statements.{block_of}
 use Rattle.f3_tree.specs.Tree.{UnitTree, Tree}
-use Rattle.f3_forms.specs.Forms.{FormTree}
+use Rattle.f3_form.specs.Forms.{FormTree}
 use Rattle.f3_blocks.specs.Pieces.{Placed}
 use Rattle.f3_blocks.specs.Machine as block_machine
 use Rattle.f3_blocks.proofs.Nesting as block_nesting

@@ -10,10 +10,10 @@ use Rattle.f3_words.specs.declared.item.Keyword.TheVariants as keyword
 use Rattle.f3_words.specs.declared.item.Item.{Item}
 use Rattle.f3_reading.specs.Names.{IsName, IsLabel}
 use Rattle.f3_declarations.specs.Specifications.{IsHeader}
-use Rattle.f3_forms.specs.declared.form.Ended.{Ended}
-use Rattle.f3_forms.specs.declared.form.Ended.TheVariants as ended
-use Rattle.f3_forms.specs.Forms.{FormTree}
-use Rattle.f3_forms.specs.Forms as form
+use Rattle.f3_form.specs.declared.form.Ended.{Ended}
+use Rattle.f3_form.specs.declared.form.Ended.TheVariants as ended
+use Rattle.f3_form.specs.Forms.{FormTree}
+use Rattle.f3_form.specs.Forms as form
 use Rattle.f3_forms.specs.Grammar.{has_name, IsEndLabel, IsJoinedEnd, IsEnd, IsType, IsBlockIf, IsLogicalIf, IsIfBehind, IsIf, IsElse, IsSelect, IsImplicit, IsFormOf, IsHeaded, AtFirst, IsAct, IsProcedure, IsDeclared, IsForm}
 use Rattle.f3_units.specs.Roles.{Role, begins, contains, heads, ends, specifies, executes, role}
 use Rattle.f3_grammar_laws.specs.Laws.{IsOfAKind}

@@ -1,8 +1,8 @@
 -- Which roles statements have among units and procedures.
 use Rattle.std.specs.Prelude.{◌≡◌, List, Some, None}
 use Rattle.f3_words.specs.declared.item.Item.{Item}
-use Rattle.f3_forms.specs.declared.form.Ended.TheVariants as ended
-use Rattle.f3_forms.specs.Forms.{FormTree}
+use Rattle.f3_form.specs.declared.form.Ended.TheVariants as ended
+use Rattle.f3_form.specs.Forms.{FormTree}
 use Rattle.f3_forms.specs.Grammar.{IsForm}
 use Rattle.f3_units.specs.Roles.{Role, ends, role}
 

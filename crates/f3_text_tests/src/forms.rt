@@ -1,6 +1,6 @@
 //! Forms of statements, which are read from their texts.
 
-use f3_forms::form::{Ended, Form};
+use f3_form::form::{Ended, Form};
 use f3_forms::statements::statement;
 use f3_rules::source::Source;
 use f3_text::reader::Statements;

@@ -1,7 +1,7 @@
 //! Units that grow with ample memory.
 
 use f3_blocks::error::StepError;
-use f3_forms::form::{Ended, Form};
+use f3_form::form::{Ended, Form};
 use f3_rules::source::Place;
 use f3_tree::expression::Name;
 use f3_tree::program::{Header, ProcedureKind, UnitKind};

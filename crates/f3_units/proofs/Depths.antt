@@ -9,10 +9,10 @@ use Rattle.f3_tree.specs.declared.program.UnitKind.TheVariants.{Module, Program}
 use Rattle.f3_tree.specs.Expressions.{Tree}
 use Rattle.f3_tree.specs.Statements.{Selects, StatementTree}
 use Rattle.f3_tree.specs.Tree.{UnitTree}
-use Rattle.f3_forms.specs.declared.form.Ended.{Ended}
-use Rattle.f3_forms.specs.declared.form.Ended.TheVariants as ended
-use Rattle.f3_forms.specs.Forms.{FormTree}
-use Rattle.f3_forms.specs.Forms as form
+use Rattle.f3_form.specs.declared.form.Ended.{Ended}
+use Rattle.f3_form.specs.declared.form.Ended.TheVariants as ended
+use Rattle.f3_form.specs.Forms.{FormTree}
+use Rattle.f3_form.specs.Forms as form
 use Rattle.f3_blocks.specs.Pieces.{Placed}
 use Rattle.f3_blocks.specs.Pieces as blocks_pieces
 use Rattle.f3_blocks.specs.Blocks.{may_act}

@@ -5,7 +5,7 @@ use Rattle.std.proofs.lemmas.Bool.{eq-eqb}
 use Rattle.f3_rules.specs.declared.source.Place.{Place}
 use Rattle.f3_tree.specs.declared.expression.Name.{Name}
 use Rattle.f3_tree.specs.Tree.{UnitTree, unit_view}
-use Rattle.f3_forms.specs.declared.form.Ended.{Ended}
+use Rattle.f3_form.specs.declared.form.Ended.{Ended}
 use Rattle.f3_blocks.specs.declared.error.StepError.{StepError}
 use Rattle.f3_blocks.specs.declared.error.StepError.TheVariants.{Memory, OutOfPlace, TooDeep}
 use Rattle.f3_blocks.specs.Pieces.{Placed}

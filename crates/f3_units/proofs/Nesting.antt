@@ -9,7 +9,7 @@ use Rattle.f3_tree.specs.declared.program.UnitKind.{UnitKind}
 use Rattle.f3_tree.specs.declared.program.UnitKind.TheVariants.{Module, Program}
 use Rattle.f3_tree.specs.Statements.{block_of}
 use Rattle.f3_tree.specs.Tree.{ProcedureTree, UnitTree}
-use Rattle.f3_forms.specs.Forms as form
+use Rattle.f3_form.specs.Forms as form
 use Rattle.f3_blocks.specs.Pieces.{Placed}
 use Rattle.f3_blocks.specs.Machine as blocks
 use Rattle.f3_blocks.proofs.Nesting as nesting

@@ -10,7 +10,7 @@ use Rattle.f3_tree.specs.declared.program.UnitKind.{UnitKind}
 use Rattle.f3_tree.specs.declared.program.UnitKind.TheVariants.{Module, Program}
 use Rattle.f3_tree.specs.Statements.{block_of, no_statements}
 use Rattle.f3_tree.specs.Tree.{ProcedureTree, UnitTree}
-use Rattle.f3_forms.specs.declared.form.Ended.{Ended}
+use Rattle.f3_form.specs.declared.form.Ended.{Ended}
 use Rattle.f3_blocks.specs.Pieces.{Placed}
 use Rattle.f3_blocks.specs.Pieces as blocks_pieces
 use Rattle.f3_blocks.specs.Blocks.{IsBlock}

@@ -2,9 +2,9 @@
 use Rattle.std.proofs.Common.{◌≡◌, Bool, false, Option, Some, None, ◌⊎◌, inl, inr, refl}
 use Rattle.f3_rules.specs.declared.source.Place.{Place}
 use Rattle.f3_tree.specs.Declarations.{PartTree, TypeTree}
-use Rattle.f3_forms.specs.declared.form.Ended.TheVariants as ended
-use Rattle.f3_forms.specs.Forms.{FormTree}
-use Rattle.f3_forms.specs.Forms as form
+use Rattle.f3_form.specs.declared.form.Ended.TheVariants as ended
+use Rattle.f3_form.specs.Forms.{FormTree}
+use Rattle.f3_form.specs.Forms as form
 use Rattle.f3_blocks.specs.Pieces.{Placed}
 use Rattle.f3_blocks.specs.Pieces as blocks_pieces
 use Rattle.f3_blocks.specs.Machine as blocks

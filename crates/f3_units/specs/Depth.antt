@@ -1,7 +1,7 @@
 -- The statements that begin and end constructs.
 use Rattle.std.specs.Prelude.{ℕ, Bool, true, false, Some}
-use Rattle.f3_forms.specs.declared.form.Ended.TheVariants as ended
-use Rattle.f3_forms.specs.Forms.{FormTree, if_then, select_case, repeats, ends}
+use Rattle.f3_form.specs.declared.form.Ended.TheVariants as ended
+use Rattle.f3_form.specs.Forms.{FormTree, if_then, select_case, repeats, ends}
 
 abbrev pub begins_construct : FormTree → Bool
 begins_construct (if_then e) = true

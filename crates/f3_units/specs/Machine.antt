@@ -7,7 +7,7 @@ use Rattle.f3_tree.specs.declared.program.UnitKind.{UnitKind}
 use Rattle.f3_tree.specs.declared.program.UnitKind.TheVariants.{Module, Program}
 use Rattle.f3_tree.specs.Statements.{block_of}
 use Rattle.f3_tree.specs.Tree.{HeaderTree, header_view, ProcedureTree, procedure_view, UnitTree, unit_view}
-use Rattle.f3_forms.specs.declared.form.Ended.{Ended}
+use Rattle.f3_form.specs.declared.form.Ended.{Ended}
 use Rattle.f3_blocks.specs.declared.error.StepError.{StepError}
 use Rattle.f3_blocks.specs.Pieces.{Placed}
 use Rattle.f3_blocks.specs.Pieces as blocks_pieces

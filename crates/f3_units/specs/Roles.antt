@@ -3,10 +3,10 @@ use Rattle.std.specs.Prelude.{◌≡◌, Option, Some}
 use Rattle.f3_tree.specs.declared.expression.Name.{Name}
 use Rattle.f3_tree.specs.declared.program.UnitKind.{UnitKind}
 use Rattle.f3_tree.specs.Tree.{HeaderTree}
-use Rattle.f3_forms.specs.declared.form.Ended.{Ended}
-use Rattle.f3_forms.specs.declared.form.Ended.TheVariants as ended
-use Rattle.f3_forms.specs.Forms.{FormTree}
-use Rattle.f3_forms.specs.Forms as form
+use Rattle.f3_form.specs.declared.form.Ended.{Ended}
+use Rattle.f3_form.specs.declared.form.Ended.TheVariants as ended
+use Rattle.f3_form.specs.Forms.{FormTree}
+use Rattle.f3_form.specs.Forms as form
 use Rattle.f3_units.specs.declared.scope.Role.{Role as CodeRole}
 use Rattle.f3_units.specs.declared.scope.Role.TheVariants as code
 

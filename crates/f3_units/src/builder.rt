@@ -4,7 +4,7 @@ ghost use Rattle.std.specs.Prelude.{◌≡◌, true, Some, None, map};
 ghost use Rattle.std.specs.Option.{option_map};
 ghost use Rattle.f3_tree.specs.Tree.{procedure_view, unit_view};
 ghost use Rattle.f3_tree.specs.declared.program.UnitKind.TheVariants.{Module};
-ghost use Rattle.f3_forms.specs.Forms.{form_view};
+ghost use Rattle.f3_form.specs.Forms.{form_view};
 ghost use Rattle.f3_blocks.specs.Pieces.{Placed};
 ghost use Rattle.f3_units.specs.Roles.{role, ends, IsEnd};
 ghost use Rattle.f3_units.specs.Units.{fits_unit, fits_procedure};
@@ -12,7 +12,7 @@ ghost use Rattle.f3_units.specs.Machine.{State, start, step, begun, between_proc
 
 use crate::scope::{Role, Scope, role_of};
 use f3_blocks::error::{StepError, out_of_place};
-use f3_forms::form::{Ended, Form};
+use f3_form::form::{Ended, Form};
 use f3_parts::builder::fits_label;
 use f3_rules::source::Place;
 use f3_tree::expression::Name;

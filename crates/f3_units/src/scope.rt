@@ -1,13 +1,13 @@
 //! A specification part and the executable statements behind it.
 
 ghost use Rattle.std.specs.Prelude.{◌≡◌};
-ghost use Rattle.f3_forms.specs.Forms.{form_view};
+ghost use Rattle.f3_form.specs.Forms.{form_view};
 ghost use Rattle.f3_units.specs.Roles.{role, end_role, Tells};
 ghost use Rattle.f3_units.specs.Machine.{fresh, is_untouched, is_over, to_part, to_block, in_scope, scope_view, scope_depth, Becomes};
 
 use f3_blocks::builder::BlockBuilder;
 use f3_blocks::error::{StepError, out_of_place};
-use f3_forms::form::{Ended, Form};
+use f3_form::form::{Ended, Form};
 use f3_parts::builder::PartBuilder;
 use f3_rules::source::Place;
 use f3_tree::expression::Name;

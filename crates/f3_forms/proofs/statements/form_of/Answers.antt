@@ -1,7 +1,7 @@
 use Rattle.std.proofs.Common.{sym, subst}
 use Rattle.f3_words.specs.declared.item.Keyword.{Keyword}
 use Rattle.f3_words.specs.Reads.{Finds}
-use Rattle.f3_forms.specs.Forms.{form_view}
+use Rattle.f3_form.specs.Forms.{form_view}
 use Rattle.f3_forms.specs.Grammar.{IsFormOf}
 use Rattle.f3_forms.proofs.statements.form_of.Goals as goal
 

@@ -2,7 +2,7 @@ use Rattle.std.proofs.Common.{◌≡◌, Some, ap, ◌∙◌, sym}
 use Rattle.f3_rules.specs.Least.{earlier_of}
 use Rattle.f3_rules.specs.declared.rule.Rule.TheVariants.{S5, S6, S8}
 use Rattle.f3_words.specs.Lines.{line_view, broken}
-use Rattle.f3_forms.specs.Forms.{form_view}
+use Rattle.f3_form.specs.Forms.{form_view}
 use Rattle.f3_units.specs.Machine.{builder_view}
 use Rattle.f3_parse.specs.Phase.{place_of, first_place}
 use Rattle.f3_parse.proofs.Judge.{stops_no_form, stops_out, stops_deep, stops_fault}

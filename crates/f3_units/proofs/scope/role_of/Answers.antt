@@ -1,7 +1,7 @@
 use Rattle.std.proofs.Common.{ap}
 use Rattle.f3_tree.specs.Tree.{header_view}
-use Rattle.f3_forms.specs.declared.form.Form.{Form}
-use Rattle.f3_forms.specs.Forms.{form_view}
+use Rattle.f3_form.specs.declared.form.Form.{Form}
+use Rattle.f3_form.specs.Forms.{form_view}
 use Rattle.f3_units.specs.Roles.{role}
 use Rattle.f3_units.proofs.scope.role_of.Goals as goal
 

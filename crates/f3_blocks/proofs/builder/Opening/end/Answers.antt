@@ -1,5 +1,5 @@
 use Rattle.std.proofs.Common.{◌≡◌, Some, rules}
-use Rattle.f3_forms.specs.declared.form.Ended.TheVariants as ended
+use Rattle.f3_form.specs.declared.form.Ended.TheVariants as ended
 use Rattle.f3_blocks.proofs.Moving.{ends_if, ends_else, ends_case}
 use Rattle.f3_blocks.proofs.builder.Opening.end.Goals as goal
 

@@ -1,5 +1,5 @@
 use Rattle.std.proofs.Common.{Option}
-use Rattle.f3_forms.specs.Forms.{form_view}
+use Rattle.f3_form.specs.Forms.{form_view}
 use Rattle.f3_units.specs.declared.builder.OpenUnit.{OpenUnit}
 use Rattle.f3_units.specs.Roles.{role}
 use Rattle.f3_units.specs.Machine.{Begun, in_unit, begun_view}

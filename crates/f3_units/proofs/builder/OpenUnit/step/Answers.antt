@@ -1,6 +1,6 @@
 use Rattle.std.proofs.Common.{Option, true, ap}
 use Rattle.std.specs.Option.{option_map}
-use Rattle.f3_forms.specs.Forms.{form_view}
+use Rattle.f3_form.specs.Forms.{form_view}
 use Rattle.f3_blocks.specs.Pieces.{Placed}
 use Rattle.f3_units.specs.declared.builder.OpenProcedure.{OpenProcedure}
 use Rattle.f3_units.specs.Roles.{role}

@@ -1,4 +1,4 @@
-use Rattle.f3_forms.specs.Forms.{form_view}
+use Rattle.f3_form.specs.Forms.{form_view}
 use Rattle.f3_units.specs.Roles.{role}
 use Rattle.f3_units.specs.Machine.{scope_view}
 use Rattle.f3_units.proofs.Moving.{in_scope_none}

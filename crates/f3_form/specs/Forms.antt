@@ -8,9 +8,9 @@ use Rattle.f3_tree.specs.Expressions.{Tree, expression_view}
 use Rattle.f3_tree.specs.Declarations.{UseTree, use_view, AccessTree, access_view, DeclarationTree, declaration_view}
 use Rattle.f3_tree.specs.Statements.{Act, action_view, Selects, selector_view, Controls, control_view}
 use Rattle.f3_tree.specs.Tree.{HeaderTree, header_view}
-use Rattle.f3_forms.specs.declared.form.Ended.{Ended}
-use Rattle.f3_forms.specs.declared.form.Form.{Form}
-use Rattle.f3_forms.specs.declared.form.Form.TheVariants as variant
+use Rattle.f3_form.specs.declared.form.Ended.{Ended}
+use Rattle.f3_form.specs.declared.form.Form.{Form}
+use Rattle.f3_form.specs.declared.form.Form.TheVariants as variant
 
 pub data FormTree : Type 0 where
   unit : UnitKind → Name → FormTree
