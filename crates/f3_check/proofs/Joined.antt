@@ -19,6 +19,7 @@ use Rattle.f3_graph.specs.Order.{IsRefusal, Orders}
 use Rattle.f3_names.specs.Answers.{BreaksOfNames, NamesAnswer}
 use Rattle.f3_use_rules.specs.UseBreaks.{UseBreaks}
 use Rattle.f3_check.specs.Accepted.{Breaks, of_units, of_names, of_uses, Accepted}
+use Rattle.f3_check.specs.Phases.{Named, Used}
 use Rattle.f3_check.specs.Refusals.{First, of_text, of_statement, of_program, Checks, not_compiled, fault_of_text}
 use Rattle.f3_check.proofs.Phases.{least_of_units, least_of_names, least_of_uses}
 
@@ -46,33 +47,39 @@ module _ (sources : List Source) (w : whole.Tree) (spelled : Spells w sources) (
     breaks_there : (t : whole.Tree) (q : Tree) → Spells t sources → IsTaken t q → (b : Break) → Breaks w p b → Breaks t q b
     breaks_there t q s h b broken = subst (λ x. Breaks x q b) (sym (only t s)) (subst (λ x. Breaks w x b) (same_taken t q s h) broken)
 
-    program_refused : (f : Break) (r : Refusal) → Least (Some f) (Breaks w p) → IsRefusal w.names f r → First sources r × NoneAccepted
-    program_refused f r l is = (of_program w p f spelled taken l is, λ t q a. a.unbroken f (breaks_there t q a.spelled a.taken f l.as_said.0))
+    pub program_refused : (fault : CheckFault) → Named w p (Err fault) → Checks (Err fault) sources
+    program_refused (Refused r) h = (of_program w p h.0 spelled taken h.1 h.2, λ t q a. a.unbroken h.0 (breaks_there t q a.spelled a.taken h.0 h.1.as_said.0))
+    program_refused Memory h = tt
 
-    pub units_refused : (fault : CheckFault) → Orders w (Err fault) → Checks (Err fault) sources
-    units_refused (Refused r) h = program_refused h.0 r (least_of_units w p h.0 h.1) h.2
-    units_refused Memory h = tt
+    module _ (unbroken : (b : Break) → Breaks w p b → ⊥) where
+      pub accepted : Accepted sources w p
+      accepted = record { spelled = spelled; taken = taken; unbroken = unbroken }
 
-    module _ (units : (b : Break) → UnitBreaks w b → ⊥) where
-      pub names_refused : (fault : CheckFault) → NamesAnswer w (Err fault) → Checks (Err fault) sources
-      names_refused (Refused r) h = program_refused h.0 r (least_of_names w p h.0 units h.1) h.2
-      names_refused Memory h = tt
+      pub not_first : ((b : Break) → PhaseOne sources b → ⊥) → not_taken w ≡ [] → (r : Refusal) → First sources r → ⊥
+      not_first one all r (of_text h) = one h.0 h.1.as_said.0
+      not_first one all r (of_statement t place s first tells) =
+          let bad : place ∷ first.0 ≡ [] = sym first.1 ∙ ap not_taken (only t s) ∙ all in absurd (cc)
+      not_first one all r (of_program t q b s h l is) =
+          unbroken b (breaks_here t q s h b l.as_said.0)
 
-      module _ (names : (b : Break) → BreaksOfNames w b → ⊥) where
-        pub uses_refused : (f : Break) (r : Refusal) → Least (Some f) (UseBreaks w p) → IsRefusal w.names f r → First sources r × NoneAccepted
-        uses_refused f r l is = program_refused f r (least_of_uses w p f units names l) is
+-- ---- phases 2 to 7
 
-        nothing_broken : ((b : Break) → UseBreaks w p b → ⊥) → (b : Break) → Breaks w p b → ⊥
-        nothing_broken uses b (of_units h) = units b h
-        nothing_broken uses b (of_names h) = names b h
-        nothing_broken uses b (of_uses h) = uses b h
+module _ (w : whole.Tree) (p : Tree) where
+  pub units_refused : (fault : CheckFault) → Orders w (Err fault) → Named w p (Err fault)
+  units_refused (Refused r) h = (h.0, least_of_units w p h.0 h.1, h.2)
+  units_refused Memory h = tt
 
-        pub accepted : ((b : Break) → UseBreaks w p b → ⊥) → Accepted sources w p
-        accepted uses = record { spelled = spelled; taken = taken; unbroken = nothing_broken uses }
+  module _ (units : (b : Break) → UnitBreaks w b → ⊥) where
+    pub names_refused : (fault : CheckFault) → NamesAnswer w (Err fault) → Named w p (Err fault)
+    names_refused (Refused r) h = (h.0, least_of_names w p h.0 units h.1, h.2)
+    names_refused Memory h = tt
 
-        pub not_first : ((b : Break) → PhaseOne sources b → ⊥) → not_taken w ≡ [] → ((b : Break) → UseBreaks w p b → ⊥) → (r : Refusal) → First sources r → ⊥
-        not_first one all uses r (of_text h) = one h.0 h.1.as_said.0
-        not_first one all uses r (of_statement t place s first tells) =
-            let bad : place ∷ first.0 ≡ [] = sym first.1 ∙ ap not_taken (only t s) ∙ all in absurd (cc)
-        not_first one all uses r (of_program t q b s h l is) =
-            nothing_broken uses b (breaks_here t q s h b l.as_said.0)
+    module _ (names : (b : Break) → BreaksOfNames w b → ⊥) where
+      pub uses_refused : (fault : CheckFault) → Used w p (Err fault) → Named w p (Err fault)
+      uses_refused (Refused r) h = (h.0, least_of_uses w p h.0 units names h.1, h.2)
+      uses_refused Memory h = tt
+
+      pub nothing_broken : ((b : Break) → UseBreaks w p b → ⊥) → (b : Break) → Breaks w p b → ⊥
+      nothing_broken uses b (of_units h) = units b h
+      nothing_broken uses b (of_names h) = names b h
+      nothing_broken uses b (of_uses h) = uses b h

@@ -1,18 +1,24 @@
 //! The check of sources against all rules.
 
 ghost use Rattle.std.specs.Prelude.{◌≡◌};
+ghost use Rattle.f3_tree.specs.Tree.{view as whole_view};
+ghost use Rattle.f3_taken.specs.Tree.{view};
+ghost use Rattle.f3_names.specs.Tables.{AreNames};
 ghost use Rattle.f3_check.specs.Refusals.{Checks, fault_of_text, not_compiled};
+ghost use Rattle.f3_check.specs.Phases.{Named, Used};
 ghost use Rattle.f3_text.specs.Reader.{Tells};
 
 use crate::checked::Checked;
 use f3_graph::{CheckFault, order, refusal_of};
-use f3_names::names;
+use f3_names::table::Names;
 use f3_parse::parser::parse;
 use f3_rules::refusal::Refusal;
 use f3_rules::rule::Rule;
 use f3_rules::source::{Place, Source};
+use f3_taken::program::Program;
 use f3_taken::take::{TakeFault, taken};
 use f3_text::statement::TextFault;
+use f3_tree::program as whole;
 use f3_use_rules::first_use_break;
 use std::alloc::Global;
 
@@ -28,19 +34,56 @@ pub fn check(alloc: Global, sources: &[Source]) -> Result<Checked, CheckFault>
     };
     let program = match taken(alloc, &whole) {
         Ok(program) => program,
-        Err(TakeFault::Memory) => return Err(CheckFault::Memory),
+        Err(TakeFault::Memory) => {
+            drop(whole);
+            return Err(CheckFault::Memory);
+        }
         Err(TakeFault::NotTaken(place)) => {
+            drop(whole);
             return Err(CheckFault::Refused(not_compiled(alloc, place)));
         }
     };
-    let order = order(alloc, &whole)?;
-    let names = names(alloc, &whole, &order)?;
-    match first_use_break(alloc, &program, &names) {
-        Ok(None) => Ok(Checked {
+    match named(alloc, &whole, &program) {
+        Ok(names) => Ok(Checked {
             whole,
             program,
             names,
         }),
+        Err(fault) => {
+            drop(program);
+            drop(whole);
+            Err(fault)
+        }
+    }
+}
+
+/// What the names of a program mean, where it breaks no rule of phases 2 to 7; else the refusal of the first break.
+fn named(alloc: Global, whole: &whole::Program, program: &Program) -> Result<Names, CheckFault>
+    ensures { Named (whole_view whole.now) (view program.now) result }
+{
+    let order = order(alloc, whole)?;
+    let names = f3_names::names(alloc, whole, &order)?;
+    match used(alloc, whole, program, &names) {
+        Ok(()) => Ok(names),
+        Err(fault) => {
+            drop(names);
+            Err(fault)
+        }
+    }
+}
+
+/// Whether a program breaks no rule on attributes, references and definitions; else the refusal of the first break.
+fn used(
+    alloc: Global,
+    whole: &whole::Program,
+    program: &Program,
+    names: &Names,
+) -> Result<(), CheckFault>
+    requires { AreNames (whole_view whole.now) names.now }
+    ensures { Used (whole_view whole.now) (view program.now) result }
+{
+    match first_use_break(alloc, program, names) {
+        Ok(None) => Ok(()),
         Ok(Some(found)) => match refusal_of(alloc, &whole.names, found) {
             Ok(refusal) => Err(CheckFault::Refused(refusal)),
             Err(_) => Err(CheckFault::Memory),

@@ -12,6 +12,7 @@ use Rattle.f3_words.specs.Reads.{IsRead}
 use Rattle.f3_expressions.specs.Levels.{joins, unsigned, Ends}
 use Rattle.f3_expressions.specs.Grammar.{Eats, EatsRest, EatsFurther, EatsParts, EatsComponents, EatsWithin, EatsOthers, EatsArgument, EatsPerhaps, is_percent, closer_of}
 use Rattle.f3_expressions.specs.Readings.{EatsUpTo, is_operator, is_opener, IsOperand, ends_argument, IsPart, IsBound, IsStride, IsArgument, EatsWhole, EatsList}
+use Rattle.f3_tree.specs.declared.expression.IntegerLiteral.{IntegerLiteral}
 use Rattle.f3_expressions.proofs.Fronts.{ends_lower, ends_there, unsigned_least}
 use Rattle.f3_expressions.proofs.Chains.{rest_ends, rest_run, list_of, list_back, is_of_level, level_reads, operand_reads}
 use Rattle.f3_expressions.proofs.Prefixes.{signed_reads, negation_reads, comparison_reads}
@@ -23,10 +24,10 @@ use Rattle.f3_grammar_laws.proofs.Bounds.{others_begin, present_bound, absent_bo
 
 -- ---- primaries
 
-integer_there : (p : Place) (n : ℤ) (ts r : List Item) → Eats 0 (integer p n) ts r → IsRead (EatsUpTo 0) ts (integer p n) r
+integer_there : (p : Place) (n : IntegerLiteral) (ts r : List Item) → Eats 0 (integer p n) ts r → IsRead (EatsUpTo 0) ts (integer p n) r
 integer_there p n ts r h =
     let here = integer_reads ts h.0 r h.1 h.2 in
-    let same : integer (h.0).place (h.0).value ≡ integer p n = ap (λ (x : Place). integer x (h.0).value) (sym h.3) ∙ ap (λ (x : ℤ). integer p x) (sym h.4) in
+    let same : integer (h.0).place (h.0).value ≡ integer p n = ap (λ (x : Place). integer x (h.0).value) (sym h.3) ∙ ap (λ (x : IntegerLiteral). integer p x) (sym h.4) in
     subst (λ (t : Tree). IsRead (EatsUpTo 0) ts t r) same here
 
 truth_there : (p : Place) (b : Bool) (ts r : List Item) → Eats 0 (truth p b) ts r → IsRead (EatsUpTo 0) ts (truth p b) r

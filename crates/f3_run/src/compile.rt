@@ -20,7 +20,9 @@ pub fn compile(alloc: Global, sources: &[Source]) -> Result<Compiled, CheckFault
     ensures { Compiles sources.now result }
 {
     let checked = check(alloc, sources)?;
-    match elaborate(alloc, &checked) {
+    let compiled = elaborate(alloc, &checked);
+    drop(checked);
+    match compiled {
         Ok(compiled) => Ok(compiled),
         Err(_) => Err(CheckFault::Memory),
     }
