@@ -1,5 +1,5 @@
 -- Actions are spelled in one way.
-use Rattle.std.proofs.Common.{◌≡◌, List, [], ◌∷◌, Option, Some, None, refl, sym, ap, subst, ◌∙◌, inl, inr}
+use Rattle.std.proofs.Common.{◌≡◌, ℤ, List, [], ◌∷◌, Option, Some, None, refl, sym, ap, subst, ◌∙◌, inl, inr}
 use Rattle.f3_tree.specs.declared.expression.Name.{Name as Identifier}
 use Rattle.f3_tree.specs.declared.expression.Operator.TheVariants.{Multiply}
 use Rattle.f3_tree.specs.Expressions.{Tree, Parts, ArgumentTree}
@@ -13,7 +13,7 @@ use Rattle.f3_reading.specs.Laws.{IsOne, IsOneWhole}
 use Rattle.f3_reading.proofs.Words.{lacked}
 use Rattle.f3_reading.proofs.Ones.{names, lists, enclosed, behind_comma}
 use Rattle.f3_expressions.specs.Grammar.{EatsExpression, EatsDesignator}
-use Rattle.f3_actions.specs.Actions.{IsAssignment, IsCallArguments, IsCall, EatsStatusHead, EatsObject, EatsStatus, EatsObjects, AreObjects, IsAllocation, IsAllocate, IsDeallocate, AreItems, EatsItems, IsPrint, IsStop, IsActionOf, IsHeadedAction, IsAction}
+use Rattle.f3_actions.specs.Actions.{IsAssignment, IsCallArguments, IsCall, EatsStatusHead, EatsObject, EatsStatus, EatsObjects, AreObjects, IsAllocation, IsAllocate, IsDeallocate, AreItems, EatsItems, IsPrint, stop_code, IsStop, IsActionOf, IsHeadedAction, IsAction}
 use Rattle.f3_grammar_laws.proofs.Parts.{ap2, along, whole_along, sign, sign_along, front, at_keyword_whole, first_of}
 use Rattle.f3_grammar_laws.proofs.Ones.{expressions, designators, argument_lists}
 
@@ -142,9 +142,12 @@ some_item i ts us p q = cc
 stops : IsOneWhole IsStop
 unfolding IsStop
 stops x y ts (inl a) (inl b) = a.1 ∙ sym b.1
-stops x y ts (inl a) (inr b) = absurd (some_item b.0 [] ts a.0 b.1)
-stops x y ts (inr a) (inl b) = absurd (some_item a.0 [] ts b.0 a.1)
-stops x y ts (inr a) (inr b) = a.3 ∙ ap (λ (i : Item). stop (Some i.value)) (front ts a.0 b.0 [] [] a.1 b.1).0 ∙ sym b.3
+stops x y ts (inl a) (inr b) = absurd (some_item b.0 [] ts a.0 b.2)
+stops x y ts (inr a) (inl b) = absurd (some_item a.0 [] ts b.0 a.2)
+stops x y ts (inr a) (inr b) =
+    let same = (front ts a.0 b.0 [] [] a.2 b.2).0 in
+    let code : Some a.1 ≡ Some b.1 = sym a.3 ∙ ap (λ (i : Item). stop_code i.word i.value) same ∙ b.3 in
+    a.4 ∙ ap (λ (z : Option ℤ). stop z) code ∙ sym b.4
 
 -- ---- all actions
 

@@ -8,6 +8,9 @@ use Rattle.f3_tree.specs.declared.declaration.Only.TheVariants as only_of
 use Rattle.f3_tree.specs.declared.declaration.Accessibility.{Accessibility}
 use Rattle.f3_tree.specs.declared.declaration.Intent.{Intent}
 use Rattle.f3_tree.specs.declared.declaration.Intent.TheVariants as intent_of
+use Rattle.std.specs.Prelude.{unwrap_or}
+use Rattle.f3_tree.specs.declared.expression.IntegerKind.{IntegerKind}
+use Rattle.f3_tree.specs.declared.expression.IntegerKind.TheVariants as kind
 use Rattle.f3_tree.specs.declared.declaration.TypeSpecifier.{TypeSpecifier}
 use Rattle.f3_tree.specs.declared.declaration.TypeSpecifier.TheVariants as specifier
 use Rattle.f3_tree.specs.Expressions.{Tree}
@@ -16,13 +19,14 @@ use Rattle.f3_words.specs.declared.item.Keyword.{Keyword}
 use Rattle.f3_words.specs.declared.item.Keyword.TheVariants as keyword
 use Rattle.f3_words.specs.declared.item.Word.TheVariants as word
 use Rattle.f3_words.specs.declared.item.Item.{Item}
-use Rattle.f3_reading.specs.Parts.{EatsName, EatsKeyword, Lacks}
+use Rattle.f3_reading.specs.Parts.{EatsWord, EatsName, EatsKeyword, Lacks}
 use Rattle.f3_reading.specs.Names.{EatsColons}
 use Rattle.f3_reading.specs.Laws.{IsOne, IsOneWhole}
 use Rattle.f3_reading.proofs.Words.{lacked}
-use Rattle.f3_reading.proofs.Ones.{names, enclosed_names, colons, whole_lists, lists, enclosed, perhaps, behind_comma}
+use Rattle.f3_reading.proofs.Ones.{words, names, enclosed_names, colons, whole_lists, lists, enclosed, perhaps, behind_comma}
 use Rattle.f3_expressions.specs.Grammar.{EatsExpression}
 use Rattle.f3_declarations.specs.Specifications.{EatsRename, EatsOnly, AreRenames, AreOnly, EatsOnlyHead, IsOnlyList, IsRenameList, IsSelection, IsUse, IsAccessList, IsAccess, EatsDerived, EatsSpecifierOf, EatsSpecifier, EatsIntent, EatsEnclosedIntent, EatsDimension, EatsIntentOf, EatsAttributeOf, EatsAttribute, AreAttributes, EatsInitialPerhaps, EatsEntity, AreEntities, EatsAttributes, IsDeclarationBehind, IsDeclaration}
+use Rattle.f3_declarations.specs.Kinds.{EatsKindName, EatsKindDigit, EatsKindBehind, EatsKindPerhaps, EatsInteger}
 use Rattle.f3_shapes.specs.Shapes.{EatsBound, EatsBounds, EatsLower, AreBounds, AreLowers, EatsExplicit, EatsDeferred, EatsShapeBehind, EatsShape, EatsShapePerhaps}
 use Rattle.f3_grammar_laws.proofs.Parts.{ap2, ap3, along, whole_along, sign, sign_along, lacked_along, same_keyword, at_keyword}
 use Rattle.f3_grammar_laws.proofs.Ones.{expressions}
@@ -122,8 +126,32 @@ derived x y ts r s a b =
     let n = enclosed_names a.0 b.0 ts r s a.1 b.1 in
     (a.2 ∙ ap (λ (z : Identifier). specifier.Derived z) n.0 ∙ sym b.2, n.1)
 
+-- the kind of INTEGER
+kind_names : (ts r s : List Item) → EatsKindName ts r → EatsKindName ts s → r ≡ s
+unfolding EatsKindName
+kind_names ts r s (inl a) (inl b) = sign_along word.Equals a.0 b.0 r s (sign (word.Name keyword.Kind) ts a.0 b.0 a.1 b.1) a.2 b.2
+kind_names ts r s (inl a) (inr b) = absurd (lacked (word.Name keyword.Kind) ts a.0 b.1 a.1)
+kind_names ts r s (inr a) (inl b) = absurd (lacked (word.Name keyword.Kind) ts b.0 a.1 b.1)
+kind_names ts r s (inr a) (inr b) = sym a.0 ∙ b.0
+
+same_digit : (x y : IntegerKind) → word.KindDigit x ≡ word.KindDigit y → x ≡ y
+same_digit x y e = cc
+
+kinds : IsOne EatsKindBehind
+unfolding EatsKindBehind EatsKindDigit
+kinds x y ts r s a b =
+    let n = kind_names ts a.0 b.0 a.2 b.2 in
+    let d = words (word.KindDigit x) (word.KindDigit y) b.0 a.1 b.1 (subst (λ (l : List Item). EatsWord (word.KindDigit x) l a.1) n a.3) b.3 in
+    (same_digit x y d.0, sign_along word.Close a.1 b.1 r s d.1 a.4 b.4)
+
+integers : IsOne EatsInteger
+unfolding EatsInteger EatsKindPerhaps
+integers x y ts r s a b =
+    let o = perhaps word.Open EatsKindBehind kinds a.0 b.0 ts r s a.1 b.1 in
+    (a.2 ∙ ap (λ (k : Option IntegerKind). specifier.Integer (unwrap_or k kind.Four)) o.0 ∙ sym b.2, o.1)
+
 pub specifier_of : (k : Keyword) → IsOne (EatsSpecifierOf k)
-specifier_of keyword.Integer x y ts r s a b = (a.1 ∙ sym b.1, sym a.0 ∙ b.0)
+specifier_of keyword.Integer x y ts r s a b = integers x y ts r s a b
 specifier_of keyword.Logical x y ts r s a b = (a.1 ∙ sym b.1, sym a.0 ∙ b.0)
 specifier_of keyword.Type x y ts r s a b = derived x y ts r s a b
 specifier_of k x y ts r s a b = absurd a

@@ -1,7 +1,7 @@
 -- What stands in parentheses in a statement is spelled as arguments are: with one closing parenthesis.
-use Rattle.std.proofs.Common.{◌≡◌, List, [], ◌∷◌, Bool, true, false, Option, Some, None, refl, sym, ap, subst, ◌∙◌}
+use Rattle.std.proofs.Common.{◌≡◌, List, [], ◌∷◌, Bool, true, false, Option, Some, None, refl, sym, ap, subst, ◌∙◌, inl, inr}
 use Rattle.f3_tree.specs.declared.expression.Name.{Name as Identifier}
-use Rattle.f3_tree.specs.Expressions.{Tree, designator, Parts, no_parts, parts, bare, Arguments, no_arguments, arguments, ArgumentTree, value, triplet, absent, present}
+use Rattle.f3_tree.specs.Expressions.{Tree, integer, designator, Parts, no_parts, parts, bare, Arguments, no_arguments, arguments, ArgumentTree, value, triplet, absent, present}
 use Rattle.f3_tree.specs.Statements.{CaseTree, one, from, up_to, range}
 use Rattle.f3_words.specs.declared.item.Word.{Word}
 use Rattle.f3_words.specs.declared.item.Word.TheVariants as word
@@ -10,7 +10,9 @@ use Rattle.f3_words.specs.Words.{is_name, name_of}
 use Rattle.f3_words.specs.Lists.{starts, is_comma, EatsRun, Separated}
 use Rattle.f3_reading.specs.Parts.{EatsWord, EatsName}
 use Rattle.f3_reading.specs.Names.{EatsEnclosedName}
-use Rattle.f3_expressions.specs.Grammar.{Eats, is_open, is_percent, EatsWithin, EatsOthers, EatsArgument, EatsExpression, EatsDesignator}
+use Rattle.f3_tree.specs.declared.expression.IntegerKind.{IntegerKind}
+use Rattle.f3_declarations.specs.Kinds.{EatsKindName, EatsKindDigit, EatsKindBehind}
+use Rattle.f3_expressions.specs.Grammar.{Eats, is_open, is_percent, is_integer, EatsWithin, EatsOthers, EatsArgument, EatsExpression, EatsDesignator}
 use Rattle.f3_expressions.proofs.Fronts.{front}
 use Rattle.f3_expressions.proofs.Operands.{list_of_arguments, arguments_back}
 use Rattle.f3_actions.specs.Actions.{EatsCondition, EatsCase, AreCases, IsCaseList, EatsStatusHead, EatsObject, EatsStatus, EatsObjects, AreObjects, IsAllocation}
@@ -150,3 +152,25 @@ several_cases cs ts r h =
 pub cases_within : (cs : List CaseTree) (ts : List Item) → IsCaseList cs ts → Within ts []
 unfolding IsCaseList
 cases_within cs ts h = enclose ts h.0 h.1 [] h.2 (several_cases cs h.0 h.1 h.3) h.4
+
+-- ---- the kind of INTEGER
+
+kind_argument : (k : IntegerKind) (ts a r : List Item) → EatsKindName ts a → EatsKindDigit k a r → Argued ts r
+unfolding EatsKindName EatsKindDigit EatsWord
+kind_argument k ts a r (inl n) d =
+    let i = n.1 in
+    let equals = n.2 in
+    record {
+      argument = value (Some (name_of i.0)) (integer (d.0).place (d.0).value);
+      eats = (a, (i.0, equals.0, i.1 ∙ ap (λ (l : List Item). i.0 ∷ l) equals.1, ap is_name i.2, refl, equals.2), (d.0, d.1, ap is_integer d.2, refl, refl));
+    }
+kind_argument k ts a r (inr n) d = record {
+  argument = value None (integer (d.0).place (d.0).value);
+  eats = (a, n.0, (d.0, d.1, ap is_integer d.2, refl, refl));
+}
+
+pub kind_within : (k : IntegerKind) (ts a r : List Item) → EatsWord word.Open ts a → EatsKindBehind k a r → Within ts r
+unfolding EatsKindBehind
+kind_within k ts a r opens h =
+    let x = kind_argument k a h.0 h.1 h.2 h.3 in
+    enclose ts a h.1 r opens (record { first = x.argument; others = no_arguments; mid = h.1; eats_first = x.eats; eats_others = refl }) h.4

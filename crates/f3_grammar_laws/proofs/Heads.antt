@@ -1,11 +1,15 @@
 -- How statements that are no assignments begin.
-use Rattle.std.proofs.Common.{◌≡◌, List, [], ◌∷◌, Bool, true, false, Option, Some, None, refl, sym, ap, subst, ◌∙◌, inl, inr}
+use Rattle.std.proofs.Common.{◌≡◌, ℤ, List, [], ◌∷◌, Bool, true, false, Option, Some, None, refl, sym, ap, subst, ◌∙◌, inl, inr}
 use Rattle.f3_rules.specs.declared.source.Place.{Place}
 use Rattle.f3_tree.specs.declared.expression.Name.{Name as Identifier}
 use Rattle.f3_tree.specs.declared.expression.Operator.TheVariants.{Multiply}
 use Rattle.f3_tree.specs.declared.declaration.Accessibility.{Accessibility}
 use Rattle.f3_tree.specs.declared.declaration.Accessibility.TheVariants as accessibility
+use Rattle.f3_tree.specs.declared.expression.IntegerKind.{IntegerKind}
+use Rattle.f3_tree.specs.declared.expression.IntegerLiteral.{IntegerLiteral}
 use Rattle.f3_tree.specs.declared.declaration.TypeSpecifier.{TypeSpecifier}
+use Rattle.f3_words.specs.declared.item.Word.{Word}
+use Rattle.f3_declarations.specs.Kinds.{EatsKindPerhaps, EatsInteger}
 use Rattle.f3_tree.specs.Expressions.{Tree}
 use Rattle.f3_tree.specs.Statements.{Act, Selects, Controls}
 use Rattle.f3_tree.specs.Declarations.{UseTree, AccessTree, DeclarationTree, EntityTree, Placed}
@@ -22,18 +26,26 @@ use Rattle.f3_declarations.specs.declared.procedures.Prefixes.{Prefixes}
 use Rattle.f3_declarations.specs.Specifications.{IsUse, IsAccessList, IsAccess, EatsDerived, EatsSpecifierOf, EatsSpecifier, EatsEntity, AreEntities, EatsAttributes, IsDeclarationBehind, IsDeclaration, EatsTyped, EatsPrefixOf, EatsPrefix, ArePrefixes, EatsPrefixes, IsSubroutine, IsFunction, IsProcedureOf, IsProcedureBehind, IsHeader, EatsTypeAccess, IsTypeBegin}
 use Rattle.f3_form.specs.declared.form.Ended.{Ended}
 use Rattle.f3_form.specs.declared.form.Ended.TheVariants as ended
-use Rattle.f3_actions.specs.Actions.{IsCall, IsAllocate, IsDeallocate, IsPrint, IsStop, IsActionOf, IsHeadedAction, IsAction, EatsCondition, IsCondition, IsThen, IsDefault, AreValues, IsCase, IsCounted, IsWhile, IsControl, IsDo}
+use Rattle.f3_actions.specs.Actions.{IsCall, IsAllocate, IsDeallocate, IsPrint, stop_code, IsStop, IsActionOf, IsHeadedAction, IsAction, EatsCondition, IsCondition, IsThen, IsDefault, AreValues, IsCase, IsCounted, IsWhile, IsControl, IsDo}
 use Rattle.f3_form.specs.Forms.{FormTree}
 use Rattle.f3_forms.specs.Grammar.{IsEndLabel, IsJoinedEnd, IsEnd, IsType, IsBlockIf, IsLogicalIf, IsIfBehind, IsIf, IsElse, IsSelect, IsImplicit, IsFormOf, IsHeaded}
-use Rattle.f3_grammar_laws.proofs.Enclosures.{Within, condition_within, name_within, allocation_within, cases_within}
+use Rattle.f3_grammar_laws.proofs.Enclosures.{Within, condition_within, name_within, kind_within, allocation_within, cases_within}
 use Rattle.f3_grammar_laws.proofs.Assigned.{is_target, is_acting, Apart, Opposed, assigned, Headed, named_apart, eats_name, name_there, keyword_there, word_there, nothing_there, same_there, colons_there, whole_name_there, label_there, name_list_there}
 
 -- ---- actions with a keyword
 
+-- what is a code of STOP begins no assignment
+stop_apart : (w : Word) (v : IntegerLiteral) (z : ℤ) → stop_code w v ≡ Some z → (is_target w ≡ false) × (is_open w ≡ false)
+stop_apart (word.KindDigit k) v z e = (refl, refl)
+stop_apart word.ShortInteger v z e = (refl, refl)
+stop_apart w v z e = absurd (cc)
+
 stop_there : (a : Act) (ts : List Item) → IsStop a ts → Apart ts
 unfolding IsStop
 stop_there a ts (inl h) = nothing_there ts h.0
-stop_there a ts (inr h) = (ap (starts is_target) h.1 ∙ ap is_target h.2, ap (starts is_open) h.1 ∙ ap is_open h.2)
+stop_there a ts (inr h) =
+    let x = stop_apart (h.0).word (h.0).value h.1 h.3 in
+    (ap (starts is_target) h.2 ∙ x.0, ap (starts is_open) h.2 ∙ x.1)
 
 call_there : (a : Act) (ts : List Item) → IsCall a ts → Apart ts
 unfolding IsCall
@@ -91,8 +103,17 @@ derived_there : (s : TypeSpecifier) (ts r : List Item) → EatsDerived s ts r �
 unfolding EatsDerived
 derived_there s ts r h a = inr (r, name_within h.0 ts r h.1, a.0)
 
+kind_there : (k : Option IntegerKind) (ts r : List Item) → EatsKindPerhaps k ts r → Apart r → Opposed ts
+unfolding EatsKindPerhaps
+kind_there None ts r h a = inl (same_there ts r h.0 a)
+kind_there (Some k) ts r h a = inr (r, kind_within k ts h.0 r h.1 h.2, a.0)
+
+integer_there : (s : TypeSpecifier) (ts r : List Item) → EatsInteger s ts r → Apart r → Opposed ts
+unfolding EatsInteger
+integer_there s ts r h a = kind_there h.0 ts r h.1 a
+
 specifier_there : (k : Keyword) (s : TypeSpecifier) (ts r : List Item) → EatsSpecifierOf k s ts r → Apart r → Opposed ts
-specifier_there keyword.Integer s ts r h a = inl (same_there ts r h.0 a)
+specifier_there keyword.Integer s ts r h a = integer_there s ts r h a
 specifier_there keyword.Logical s ts r h a = inl (same_there ts r h.0 a)
 specifier_there keyword.Type s ts r h a = derived_there s ts r h a
 specifier_there k s ts r h a = absurd h
