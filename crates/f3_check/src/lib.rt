@@ -3,5 +3,3 @@
 
 pub mod check;
 pub mod checked;
-
-

@@ -12,13 +12,13 @@ ghost use Rattle.f3_actions.specs.Actions.{IsThen, IsCondition, IsCase, IsDo};
 ghost use Rattle.f3_forms.specs.Grammar.{Makes, IsBare, IsType, IsLogicalIf, IsIfBehind, IsIf, IsElse, IsSelect, IsImplicit, IsFormOf, IsHeaded, IsAct, IsProcedure, IsDeclared, IsSpecified, IsPassive, IsForm};
 
 use crate::ends::{end, joined_end};
-use f3_form::form::{Ended, Form};
 use f3_actions::actions::action;
 use f3_actions::constructs::{condition, control, selector, then, whole_condition};
 use f3_declarations::access::{access, type_access};
 use f3_declarations::declarations::declaration;
 use f3_declarations::procedures::header;
 use f3_declarations::uses::use_statement;
+use f3_form::form::{Ended, Form};
 use f3_reading::names::{name_list, only_name, skip_colons};
 use f3_reading::signs::{behind, is_over, skip};
 use f3_rules::source::Place;

@@ -23,7 +23,13 @@ fn run(alloc: Global, words: &[String], files: &[(&str, &[u8])]) -> Result<Answe
     }
     let mut output = Output::new(Vec::<u8>::new(alloc));
     let mut errors = Output::new(Vec::<u8>::new(alloc));
-    let status = f3(alloc, line.as_slice(), &Folder { files }, &mut output, &mut errors);
+    let status = f3(
+        alloc,
+        line.as_slice(),
+        &Folder { files },
+        &mut output,
+        &mut errors,
+    );
     Ok(Answer {
         output: Vec::from_slice(alloc, output.writer().as_slice())?,
         errors: Vec::from_slice(alloc, errors.writer().as_slice())?,
@@ -67,8 +73,10 @@ pub fn is_as_expected(alloc: Global, case: &Case) -> Result<bool, AllocError> {
         files.push((name.as_str(), bytes.as_slice()))?;
     }
     let answer = run(alloc, case.words.as_slice(), files.as_slice())?;
-    Ok(answer.status == case.status
-        && fits(&case.output, answer.output.as_slice())
-        && fits(&case.errors, answer.errors.as_slice())
-        && are_refused(alloc, case)?)
+    Ok(
+        answer.status == case.status
+            && fits(&case.output, answer.output.as_slice())
+            && fits(&case.errors, answer.errors.as_slice())
+            && are_refused(alloc, case)?,
+    )
 }

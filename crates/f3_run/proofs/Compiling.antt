@@ -31,14 +31,14 @@ module _ (sources : List Source) where
 
   pub checked_means : (checked : Checked) → Checks (Ok checked) sources → (compiled : Compiled) → IsElaborated (texts_of (whole_of checked).texts.items) (taken_of checked) (names_of checked).entities.items (Found (names_of checked)) (program_of compiled) → Compiles sources (Ok compiled)
   checked_means checked h compiled e = (
-      record {
-        tree = whole.view (whole_of checked);
-        program = taken_of checked;
-        accepted = h.0;
-        meaning = elaborated_is_meaning (whole.view (whole_of checked)) (taken_of checked) (λ b u. h.0.unbroken b (of_uses u)) (names_of checked) (program_of compiled) h.1 e;
-      },
-      h.2,
-    )
+    record {
+      tree = whole.view (whole_of checked);
+      program = taken_of checked;
+      accepted = h.0;
+      meaning = elaborated_is_meaning (whole.view (whole_of checked)) (taken_of checked) (λ b u. h.0.unbroken b (of_uses u)) (names_of checked) (program_of compiled) h.1 e;
+    },
+    h.2,
+  )
 
   pub not_run : (steps : ℕ) (a : State) (fault : CheckFault) → Compiles sources (Err fault) → ChecksAndRuns sources steps a a (Err fault)
   not_run steps a (Refused refusal) h = (h, wrote_none)

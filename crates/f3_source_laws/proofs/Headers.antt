@@ -1,6 +1,6 @@
 -- Tokens that spell a given header.
-use Rattle.std.proofs.Common.{◌≡◌, List, [], ◌∷◌, Bool, true, false, Option, Some, None, refl, inl, inr}
-use Rattle.std.specs.Prelude.{pos}
+use Rattle.std.proofs.Common.{◌≡◌, List, [], ◌∷◌, Bool, true, false, Option, Some, None, refl, ap, ◌∙◌, inl, inr}
+use Rattle.f3_words.specs.Lines.{no_value}
 use Rattle.f3_rules.specs.declared.source.Place.{Place}
 use Rattle.f3_tree.specs.declared.expression.Name.{Name}
 use Rattle.f3_tree.specs.declared.declaration.TypeSpecifier.{TypeSpecifier}
@@ -18,19 +18,22 @@ use Rattle.f3_reading.specs.Parts.{EatsWord, EatsName, Lacks}
 use Rattle.f3_reading.specs.Names.{EatsEnclosedName, AreNames, EatsNames}
 use Rattle.f3_declarations.specs.declared.procedures.Prefix.{Prefix}
 use Rattle.f3_declarations.specs.declared.procedures.Prefix.TheVariants as prefix
+use Rattle.f3_tree.specs.declared.expression.IntegerKind.{IntegerKind}
+use Rattle.f3_declarations.specs.Kinds.{EatsKindName, EatsKindDigit, EatsKindBehind, EatsKindPerhaps, EatsInteger}
+use Rattle.f3_grammar_laws.proofs.Parts.{front}
 use Rattle.f3_declarations.specs.declared.procedures.Prefixes.{Prefixes}
 use Rattle.f3_declarations.specs.Specifications.{EatsDerived, EatsTyped, EatsPrefix, ArePrefixes, is_prefix, no_prefix, with_prefixes, EatsPrefixes, EatsDummies, IsDummiesPerhaps, EatsResultPerhaps, IsSubroutine, IsFunction, IsProcedureBehind, IsHeader}
 
 -- a token of this word there
 abbrev pub token : Word → Place → Item
-token w place = record { word = w; symbol = 0; value = pos 0; place = place }
+token w place = record { word = w; symbol = 0; value = no_value; place = place }
 
 abbrev pub key : Keyword → Place → Item
 key k place = token (word.Name k) place
 
 -- the token of a name
 abbrev pub named : Name → Item
-named n = record { word = word.Name keyword.Plain; symbol = n.symbol; value = pos 0; place = n.place }
+named n = record { word = word.Name keyword.Plain; symbol = n.symbol; value = no_value; place = n.place }
 
 word_there : (w : Word) (place : Place) (r : List Item) → EatsWord w (token w place ∷ r) r
 unfolding EatsWord
@@ -45,12 +48,42 @@ unfolding EatsEnclosedName
 enclosed_name n place r =
     (named n ∷ token word.Close place ∷ r, token word.Close place ∷ r, word_there word.Open place (named n ∷ token word.Close place ∷ r), name_there n (token word.Close place ∷ r), word_there word.Close place r)
 
+-- ---- the kind of INTEGER, in parentheses
+
+abbrev integer_kind : Place → IntegerKind → List Item → List Item
+integer_kind place k r = token word.Open place ∷ token (word.KindDigit k) place ∷ token word.Close place ∷ r
+
+no_kind_name : (k : IntegerKind) (place : Place) (r s : List Item) → EatsWord (word.Name keyword.Kind) (token (word.KindDigit k) place ∷ r) s → ⊥
+unfolding EatsWord
+no_kind_name k place r s h =
+    let first = (front (token (word.KindDigit k) place ∷ r) (token (word.KindDigit k) place) h.0 r s refl h.1).0 in
+    let same : word.KindDigit k ≡ word.Name keyword.Kind = ap (λ (i : Item). i.word) first ∙ h.2 in absurd (cc)
+
+integer_there : (k : IntegerKind) (place : Place) (r : List Item) → EatsInteger (specifier.Integer k) (integer_kind place k r) r
+unfolding EatsInteger EatsKindPerhaps EatsKindBehind EatsKindName EatsKindDigit Lacks
+integer_there k place r =
+    let digit = token (word.KindDigit k) place ∷ token word.Close place ∷ r in (
+      Some k,
+      (
+        digit,
+        word_there word.Open place digit,
+        (
+          digit,
+          token word.Close place ∷ r,
+          inr (refl, no_kind_name k place (token word.Close place ∷ r)),
+          word_there (word.KindDigit k) place (token word.Close place ∷ r),
+          word_there word.Close place r,
+        ),
+      ),
+      refl,
+    )
+
 -- ---- prefixes
 
 abbrev of_prefix : Place → Prefix → List Item → List Item
 of_prefix place prefix.Pure r = key keyword.Pure place ∷ r
 of_prefix place prefix.Recursive r = key keyword.Recursive place ∷ r
-of_prefix place (prefix.Typed specifier.Integer) r = key keyword.Integer place ∷ r
+of_prefix place (prefix.Typed (specifier.Integer k)) r = key keyword.Integer place ∷ integer_kind place k r
 of_prefix place (prefix.Typed specifier.Logical) r = key keyword.Logical place ∷ r
 of_prefix place (prefix.Typed (specifier.Derived n)) r = key keyword.Type place ∷ token word.Open place ∷ named n ∷ token word.Close place ∷ r
 
@@ -58,7 +91,8 @@ one_prefix : (place : Place) (x : Prefix) (r : List Item) → EatsPrefix x (of_p
 unfolding EatsPrefix EatsTyped EatsDerived
 one_prefix place prefix.Pure r = (key keyword.Pure place, keyword.Pure, r, refl, refl, (refl, refl))
 one_prefix place prefix.Recursive r = (key keyword.Recursive place, keyword.Recursive, r, refl, refl, (refl, refl))
-one_prefix place (prefix.Typed specifier.Integer) r = (key keyword.Integer place, keyword.Integer, r, refl, refl, (specifier.Integer, (refl, refl), refl))
+one_prefix place (prefix.Typed (specifier.Integer k)) r =
+    (key keyword.Integer place, keyword.Integer, integer_kind place k r, refl, refl, (specifier.Integer k, integer_there k place r, refl))
 one_prefix place (prefix.Typed specifier.Logical) r = (key keyword.Logical place, keyword.Logical, r, refl, refl, (specifier.Logical, (refl, refl), refl))
 one_prefix place (prefix.Typed (specifier.Derived n)) r =
     (key keyword.Type place, keyword.Type, token word.Open place ∷ named n ∷ token word.Close place ∷ r, refl, refl, (specifier.Derived n, (n, enclosed_name n place r, refl), refl))
@@ -66,7 +100,7 @@ one_prefix place (prefix.Typed (specifier.Derived n)) r =
 starts_prefix : (place : Place) (x : Prefix) (r : List Item) → starts is_prefix (of_prefix place x r) ≡ true
 starts_prefix place prefix.Pure r = refl
 starts_prefix place prefix.Recursive r = refl
-starts_prefix place (prefix.Typed specifier.Integer) r = refl
+starts_prefix place (prefix.Typed (specifier.Integer k)) r = refl
 starts_prefix place (prefix.Typed specifier.Logical) r = refl
 starts_prefix place (prefix.Typed (specifier.Derived n)) r = refl
 
@@ -90,7 +124,7 @@ pub record At (place : Place) (ts : List Item) : Type 0 where
 prefix_at : (place : Place) (x : Prefix) (r : List Item) → At place (of_prefix place x r)
 prefix_at place prefix.Pure r = record { first = key keyword.Pure place; tail = r; is = refl; there = refl }
 prefix_at place prefix.Recursive r = record { first = key keyword.Recursive place; tail = r; is = refl; there = refl }
-prefix_at place (prefix.Typed specifier.Integer) r = record { first = key keyword.Integer place; tail = r; is = refl; there = refl }
+prefix_at place (prefix.Typed (specifier.Integer k)) r = record { first = key keyword.Integer place; tail = integer_kind place k r; is = refl; there = refl }
 prefix_at place (prefix.Typed specifier.Logical) r = record { first = key keyword.Logical place; tail = r; is = refl; there = refl }
 prefix_at place (prefix.Typed (specifier.Derived n)) r =
     record { first = key keyword.Type place; tail = token word.Open place ∷ named n ∷ token word.Close place ∷ r; is = refl; there = refl }

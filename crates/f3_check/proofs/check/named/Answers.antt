@@ -16,9 +16,9 @@ returns-in_err-names c =
 
 pub returns-in-Ok : goal.returns-in-Ok
 returns-in-Ok c = (
-    c.in_ok-names.ensures.0,
-    nothing_broken (whole_view c.args.whole.now) (view c.args.program.now) c.in_ok-order.ensures.1 c.in_ok-names.ensures.1 c.in-Ok.ensures,
-  )
+  c.in_ok-names.ensures.0,
+  nothing_broken (whole_view c.args.whole.now) (view c.args.program.now) c.in_ok-order.ensures.1 c.in_ok-names.ensures.1 c.in-Ok.ensures,
+)
 
 pub returns : goal.returns
 returns c =
