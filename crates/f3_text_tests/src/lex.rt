@@ -158,16 +158,27 @@ fn literal_too_large(rt: HostRuntime) -> Result<(), Fail> {
 fn suffixes(rt: HostRuntime) -> Result<(), Fail> {
     let alloc = rt.alloc();
     check(&rt, alloc, b"04_4+1_8.lt.n_8", "04_4 + 1_8 .lt. n_8")?;
-    check(&rt, alloc, b"1_88 1_8x 1_8_ 1_k", "1 _ 88 1 _ 8 x 1 _ 8 _ 1 _ k")?;
+    check(
+        &rt,
+        alloc,
+        b"1_88 1_8x 1_8_ 1_k",
+        "1 _ 88 1 _ 8 x 1 _ 8 _ 1 _ k",
+    )?;
     check(&rt, alloc, b"1_", "1 _")
 }
 
 #[test]
 fn values(rt: HostRuntime) -> Result<(), Fail> {
     assert_eq!(rt; integer(b"007"), Some(IntegerLiteral::Four(7)));
-    assert_eq!(rt; integer(b"2147483647_4"), Some(IntegerLiteral::Four(2147483647)));
+    assert_eq!(rt;
+        integer(b"2147483647_4"),
+        Some(IntegerLiteral::Four(2147483647))
+    );
     assert_eq!(rt; integer(b"7_8"), Some(IntegerLiteral::Eight(7)));
-    assert_eq!(rt; integer(b"9223372036854775807_8"), Some(IntegerLiteral::Eight(9223372036854775807)));
+    assert_eq!(rt;
+        integer(b"9223372036854775807_8"),
+        Some(IntegerLiteral::Eight(9223372036854775807))
+    );
     assert_eq!(rt; integer(b"9223372036854775808_8"), None);
     assert_eq!(rt; integer(b"2147483648"), None);
     assert_eq!(rt; integer(b"99999999999999999999999999"), None);
