@@ -1,13 +1,12 @@
 //! What the USE statements of a scope bring, from what modules export.
 
-ghost use Rattle.std.specs.Prelude.{◌≡◌, ℕ, ◌<◌, [], OnOk, IfOk, IfSome, map, length, nat_eq};
+ghost use Rattle.std.specs.Prelude.{◌≡◌, ◌<◌, [], OnOk, IfOk, IfSome, map, length, nat_eq};
 ghost use Rattle.std.specs.List.{All, flat_map};
 ghost use Rattle.std.specs.List.Sorted.{IsNonDecreasing};
 ghost use Rattle.indexmap.specs.IndexSet.{insert_all};
 ghost use Rattle.indexmap.specs.IndexMap.{get};
 ghost use Rattle.f3_scopes.specs.Outlines.{using_view};
 ghost use Rattle.f3_access.specs.Listing.{same_pair, pair, exports_of, brought};
-ghost use Rattle.f3_selecting.specs.Selecting.{names_in};
 ghost use Rattle.f3_access.specs.Calling.{called_by, OnlyNamed};
 ghost use Rattle.f3_access.specs.Tables.{exports_at, HasPlaces};
 ghost use Rattle.f3_access.specs.Walk.{unseen, RestIsSilent};

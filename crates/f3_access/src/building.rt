@@ -1,6 +1,6 @@
 //! The table of one scope, from what modules export.
 
-ghost use Rattle.std.specs.Prelude.{◌≡◌, ◌++◌, ◌∷◌, [], ◌==◌, OnOk, IfOk, map, filter, not, nat_eq, ℕ, if◌then◌else◌};
+ghost use Rattle.std.specs.Prelude.{◌≡◌, ◌++◌, [], OnOk, IfOk, map, filter, not, nat_eq, ℕ, if◌then◌else◌};
 ghost use Rattle.std.specs.List.{All};
 ghost use Rattle.indexmap.specs.IndexSet.{insert_all};
 ghost use Rattle.indexmap.specs.IndexMap.{get};
