@@ -5,7 +5,7 @@ use Rattle.f3_tree.specs.declared.expression.IntegerLiteral.{IntegerLiteral}
 use Rattle.f3_tree.specs.declared.expression.IntegerLiteral.TheVariants as literal
 use Rattle.f3_tree.specs.declared.expression.Operator.TheVariants.{Multiply}
 use Rattle.f3_tree.specs.Expressions.{Tree, Parts, ArgumentTree}
-use Rattle.f3_tree.specs.Statements.{Act, assign, call, allocate, deallocate, print, stop, return, cycle, exit, continue, CaseTree, one, from, up_to, range, Selects, values, default, Controls, forever, counted, while}
+use Rattle.f3_tree.specs.Statements.{Act, assign, call, allocate, deallocate, print, stop, return, cycle, exit, continue, CaseTree, one, from, up_to, range, Selects, values, default, Controls, forever, counted, while, AssociationTree}
 use Rattle.f3_words.specs.declared.item.Keyword.{Keyword}
 use Rattle.f3_words.specs.declared.item.Keyword.TheVariants as keyword
 use Rattle.f3_words.specs.declared.item.Word.{Word}
@@ -174,3 +174,14 @@ IsControl x ts = First IsWhile IsCounted x ts
 -- behind DO (8.1.6): nothing, or a control
 unfoldable pub IsDo : Controls → List Item → Type 0
 IsDo x ts = ((ts ≡ []) × (x ≡ forever)) ⊎ ((ts ≢ []) × IsControl x ts)
+
+-- `n => e` (8.1.4)
+unfoldable pub EatsAssociation : AssociationTree → List Item → List Item → Type 0
+EatsAssociation x ts r = (n : Identifier) × (e : Tree) × (a : List Item) × (b : List Item) × EatsName n ts a × EatsWord word.Arrow a b × EatsExpression e b r × (x ≡ record { name = n; selector = e })
+
+unfoldable pub AreAssociations : List AssociationTree → List Item → List Item → Type 0
+AreAssociations xs ts r = EatsList EatsAssociation xs ts r
+
+-- behind ASSOCIATE: `(n => e {, n => e})`
+unfoldable pub IsAssociate : List AssociationTree → List Item → Type 0
+IsAssociate xs ts = Enclosed AreAssociations xs ts []

@@ -23,5 +23,8 @@ returns-in-9 c = c.of_nine.ensures ∙ sym (of_length 9 c.args.text.now c.in-9.i
 pub returns-in-10 : goal.returns-in-10
 returns-in-10 c = c.of_ten.ensures ∙ sym (of_length 10 c.args.text.now c.in-10.is)
 
+pub returns-in-12 : goal.returns-in-12
+returns-in-12 c = c.of_twelve.ensures ∙ sym (of_length 12 c.args.text.now c.in-12.is)
+
 pub returns-in-11 : goal.returns-in-11
 returns-in-11 c = c.of_eleven.ensures ∙ sym (of_length 11 c.args.text.now c.in-11.is)
