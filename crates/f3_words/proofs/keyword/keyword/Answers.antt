@@ -2,6 +2,9 @@ use Rattle.std.proofs.Common.{sym, ◌∙◌}
 use Rattle.f3_words.proofs.Lengths.{of_length}
 use Rattle.f3_words.proofs.keyword.keyword.Goals as goal
 
+pub returns-in-3 : goal.returns-in-3
+returns-in-3 c = c.of_three.ensures ∙ sym (of_length 3 c.args.text.now c.in-3.is)
+
 pub returns-in-4 : goal.returns-in-4
 returns-in-4 c = c.of_four.ensures ∙ sym (of_length 4 c.args.text.now c.in-4.is)
 
