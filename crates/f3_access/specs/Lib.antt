@@ -1,7 +1,6 @@
 pub mod Access
 pub mod Listing
-pub mod Calling
 pub mod Tables
-pub mod Walk
 pub mod Lookups
 pub mod Pairs
+pub mod Inner

@@ -7,7 +7,7 @@ ghost use Rattle.f3_tree.specs.Statements.{case_view, selector_view, control_vie
 ghost use Rattle.f3_words.specs.Lists.{starts};
 ghost use Rattle.f3_words.specs.Reads.{Reads, Finds};
 ghost use Rattle.f3_actions.specs.Views.{steps_view};
-ghost use Rattle.f3_actions.specs.Readings.{HasColon, EatsCaseBehind};
+ghost use Rattle.f3_actions.specs.Inner.Readings.{HasColon, EatsCaseBehind};
 ghost use Rattle.f3_actions.specs.Actions.{EatsCondition, IsCondition, IsThen, ends_value, EatsCase, AreCases, IsCaseList, IsDefault, AreValues, IsCase, EatsStepPerhaps, IsSteps, IsCounted, IsWhile, IsControl, IsDo};
 
 use f3_expressions::expressions::expression;

@@ -17,7 +17,7 @@ use Rattle.f3_scopes.specs.Kinds.{is_module}
 use Rattle.f3_access.specs.Tables.{AreTables, lookup_of, private_of, module_of}
 use Rattle.f3_access.proofs.Members.{Has, has_of, contains_of, has_left, has_right, has_parts, has_piece, piece_of, has_mapped, mapped_of}
 use Rattle.f3_name_rules.specs.NameBreaks.{UsesName, GivesAttribute, declared, protects, RefersTo, AccessBreaks, no_such_name, private_there, attribute_on_used, access_to_nothing, not_accessible, of_several}
-use Rattle.f3_name_rules.specs.Rows.{seen_row, item_row, items_row, use_row, attribute_row, declared_row, listed_row, access_row, accesses_row, reference_row, attributes_row, mentions_row, scope_row, scopes_row}
+use Rattle.f3_name_rules.specs.Inner.Rows.{seen_row, item_row, items_row, use_row, attribute_row, declared_row, listed_row, access_row, accesses_row, reference_row, attributes_row, mentions_row, scope_row, scopes_row}
 use Rattle.f3_name_rules.proofs.Places.{at_place, placed, at_view, of_view}
 use Rattle.f3_name_rules.proofs.Said.{seen_said, row_of_missing, row_of_private, attribute_said, row_of_used, missing_said, row_of_nothing, found_said, row_of_unknown, row_of_several}
 

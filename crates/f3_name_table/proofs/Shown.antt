@@ -17,7 +17,7 @@ use Rattle.f3_names.specs.declared.table.Names.{Names}
 use Rattle.f3_names.specs.Entities.{described}
 use Rattle.f3_names.specs.Tables.{AreNames, scope_numbers}
 use Rattle.f3_name_table.specs.NameTable.{unit_word, entity_text, access_in, access_text, line, unit_text, table_text}
-use Rattle.f3_name_table.specs.Lines.{texts_of, access_word, line_by, unit_by, units_by}
+use Rattle.f3_name_table.specs.Inner.Lines.{texts_of, access_word, line_by, unit_by, units_by}
 
 -- two tests that are true together are one
 same_bool : (a b : Bool) → (a ≡ true → b ≡ true) → (b ≡ true → a ≡ true) → a ≡ b

@@ -14,7 +14,7 @@ use Rattle.f3_access.specs.Access.{IsUnitOrder, ModulesDiffer}
 use Rattle.f3_name_rules.specs.NameBreaks.{NameBreaks}
 use Rattle.f3_names.specs.Tables.{scope_numbers}
 use Rattle.f3_names.specs.Answers.{BreaksOfNames}
-use Rattle.f3_names.specs.Making.{unit_numbers, among_scopes}
+use Rattle.f3_names.specs.Inner.Making.{unit_numbers, among_scopes}
 use Rattle.f3_names.proofs.Units.{numbers_same}
 use Rattle.f3_names.proofs.Bridging.{fits, unit_order, modules_differ}
 

@@ -8,7 +8,7 @@ use Rattle.f3_tree.specs.declared.expression.Name.{Name}
 use Rattle.f3_scopes.specs.Outlines.{Own, Scope}
 use Rattle.f3_access.proofs.Members.{Has, any_of, any_from, put, put_of, has_mapped, mapped_of}
 use Rattle.f3_names.specs.Entities.{home_of, entity_of}
-use Rattle.f3_names.specs.Making.{entity_by}
+use Rattle.f3_names.specs.Inner.Making.{entity_by}
 
 symbols : List Name → List ℕ
 symbols names = map (λ (n : Name). n.symbol) names

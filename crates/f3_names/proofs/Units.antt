@@ -10,7 +10,7 @@ use Rattle.f3_scopes.specs.Outlines.{Scope}
 use Rattle.f3_scopes.specs.Scopes.{procedure_kind, scope_of_procedure, scope_of_unit, unit_scopes, scopes_from, scopes_of}
 use Rattle.f3_access.specs.Access.{IsUnit}
 use Rattle.f3_names.specs.Tables.{scope_numbers}
-use Rattle.f3_names.specs.Making.{unit_numbers}
+use Rattle.f3_names.specs.Inner.Making.{unit_numbers}
 
 behind : {X : Type 0} (xs ys : List X) (k : ℕ) (x : X) → slice_get ys k ≡ Some x → slice_get (xs ++ ys) (length xs + k) ≡ Some x
 behind [] ys k x h = subst (λ n. slice_get ys n ≡ Some x) (let e : k ≡ 0 + k = omega arith in e) h

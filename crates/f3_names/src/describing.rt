@@ -3,7 +3,7 @@
 ghost use Rattle.std.specs.Prelude.{◌≡◌, [], ◌++◌, OnOk, IfOk, map, nat_eq};
 ghost use Rattle.indexmap.specs.IndexSet.{insert_all};
 ghost use Rattle.f3_scopes.specs.Outlines.{own_view, scope_view};
-ghost use Rattle.f3_names.specs.Making.{entity_by};
+ghost use Rattle.f3_names.specs.Inner.Making.{entity_by};
 ghost use Rattle.f3_names.specs.Entities.{home_of, entity_of, described};
 
 use crate::entity::Entity;

@@ -6,7 +6,7 @@ ghost use Rattle.f3_text.specs.Reader.{bytes_of, Tells};
 ghost use Rattle.f3_words.specs.Lines.{line_view, seen_of};
 ghost use Rattle.f3_units.specs.Machine.{builder_view};
 ghost use Rattle.f3_parse.specs.Spells.{end_place, ends_of, last_end, Parses};
-ghost use Rattle.f3_parse.specs.Steps.{GoesOnAt, LeavesOpen, Goes, EndsText, Finishes};
+ghost use Rattle.f3_parse.specs.Inner.Steps.{GoesOnAt, LeavesOpen, Goes, EndsText, Finishes};
 
 use crate::advance::{LineFault, advance, first_place};
 use f3_rules::breaks::Break;

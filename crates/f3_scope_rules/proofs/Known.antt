@@ -9,7 +9,7 @@ use Rattle.f3_scopes.specs.declared.outline.ScopeKind.TheVariants.{Module, Progr
 use Rattle.f3_scopes.specs.declared.outline.EntityKind.{EntityKind}
 use Rattle.f3_scopes.specs.declared.outline.EntityKind.TheVariants as entity
 use Rattle.f3_scopes.specs.Kinds.{is_module}
-use Rattle.f3_scope_rules.specs.Rows.{symbols, is_known, is_function, is_variable, is_other, has_other_result}
+use Rattle.f3_scope_rules.specs.Inner.Rows.{symbols, is_known, is_function, is_variable, is_other, has_other_result}
 use Rattle.f3_scope_rules.proofs.Members.{Has, has_of, contains_of, any_of, any_from, put, put_of, has_mapped, mapped_of}
 
 -- ---- sets

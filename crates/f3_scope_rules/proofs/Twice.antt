@@ -13,7 +13,7 @@ use Rattle.f3_scopes.specs.declared.outline.ScopeKind.TheVariants.{Module, Progr
 use Rattle.f3_scopes.specs.Outlines.{Listed}
 use Rattle.f3_scope_rules.specs.ScopeBreaks.{at, at_keyword, DefaultAgain}
 use Rattle.f3_scopes.specs.Kinds.{is_module}
-use Rattle.f3_scope_rules.specs.Rows.{pass, again_row, again_next, AgainIn, is_default, default_row, default_next}
+use Rattle.f3_scope_rules.specs.Inner.Rows.{pass, again_row, again_next, AgainIn, is_default, default_row, default_next}
 use Rattle.f3_scope_rules.proofs.Members.{Has, has_of, contains_of, any_of, any_from, key_put, key_of}
 use Rattle.f3_scope_rules.proofs.Passing.{after, pass_of, has_pass}
 use Rattle.f3_scope_rules.proofs.Known.{one_of, one_in, either_of, either_right, empty_of, empty_in}

@@ -1,2 +1,2 @@
 pub mod ScopeBreaks
-pub mod Rows
+pub mod Inner

@@ -10,11 +10,11 @@ use Rattle.f3_text.specs.declared.letter.Quoting.{Quoting}
 use Rattle.f3_text.specs.declared.letter.Quoting.TheVariants.{Outside, Inside, Closed}
 use Rattle.f3_text.specs.Lines.{line, later_lines, is_blank, is_quote, all_blank, after, after_all, is_open, text, first_ampersand, last_ampersand}
 use Rattle.f3_text.specs.Statements.{Texts, Spelled, Parts, alone, listed, onto, join_blank, unfinished, joined, texts, separates, pieces, all_pieces, broken, is_allowed, opens, closes, depth_after, break_at, unclosed, fault_at, depth_in, fault_in, trimmed, spelled, faulty, with_first, with_statement, unless_fault, parts}
-use Rattle.f3_text.specs.Steps.{ends_text, ampersand_at}
+use Rattle.f3_text.specs.Inner.Steps.{ends_text, ampersand_at}
 use Rattle.f3_text.proofs.AlongLines.{text_more, later_same, below_more, not_feed}
 use Rattle.f3_text.specs.declared.statement.TextFault.{TextFault}
 use Rattle.f3_text.specs.declared.statement.TextFault.TheVariants.{Refused, Memory}
-use Rattle.f3_text.specs.Reading.{added, extended, completed, pieces_of, resumed, going, none, unfinished_place, Paired, Refuses, Fails, Deepens, Reads, IsRead, Shortens, IsSeparated}
+use Rattle.f3_text.specs.Inner.Reading.{added, extended, completed, pieces_of, resumed, going, none, unfinished_place, Paired, Refuses, Fails, Deepens, Reads, IsRead, Shortens, IsSeparated}
 use Rattle.f3_text.specs.declared.statement.RawStatement.{RawStatement}
 use Rattle.f3_text.specs.declared.cursor.Cursor.{Cursor}
 use Rattle.f3_text.specs.Reader.{ahead, spelled_of, parts_ahead}

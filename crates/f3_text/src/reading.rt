@@ -5,9 +5,9 @@ ghost use Rattle.f3_text.specs.declared.letter.Quoting.TheVariants.{Outside};
 ghost use Rattle.f3_rules.specs.declared.rule.Rule.TheVariants.{S2};
 ghost use Rattle.f3_text.specs.Lines.{all_blank, line, text, after};
 ghost use Rattle.f3_text.specs.Statements.{broken, depth_after, break_at, join_blank};
-ghost use Rattle.f3_text.specs.Steps.{ends_text};
+ghost use Rattle.f3_text.specs.Inner.Steps.{ends_text};
 ghost use Rattle.f3_text.specs.Reader.{ahead, spelled_of};
-ghost use Rattle.f3_text.specs.Reading.{added, going, none, unfinished_place, Paired, Refuses, Deepens, Joins, Steps, Reads, Shortens};
+ghost use Rattle.f3_text.specs.Inner.Reading.{added, going, none, unfinished_place, Paired, Refuses, Deepens, Joins, Steps, Reads, Shortens};
 
 use crate::cursor::Cursor;
 use crate::letter::{

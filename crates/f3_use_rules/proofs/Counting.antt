@@ -16,8 +16,8 @@ use Rattle.f3_names.specs.declared.table.Names.{Names}
 use Rattle.f3_use_rules.specs.declared.times.Times.{Times}
 use Rattle.f3_use_rules.specs.declared.times.Times.TheVariants.{Never, Once, Often}
 use Rattle.f3_use_rules.specs.UseBreaks.{is_protected, is_named}
-use Rattle.f3_use_rules.specs.Times.{one_more, counted, is_twice}
-use Rattle.f3_use_rules.specs.Rows.{entity_listed, declaration_listed, entity_again, declaration_row, statement_row, unit_row}
+use Rattle.f3_use_rules.specs.Inner.Times.{one_more, counted, is_twice}
+use Rattle.f3_use_rules.specs.Inner.Rows.{entity_listed, declaration_listed, entity_again, declaration_row, statement_row, unit_row}
 
 pub counted_sum : (times : Times) (a b : ℕ) → counted times (a + b) ≡ counted (counted times a) b
 counted_sum times zero b = let none : zero + b ≡ b = omega arith in ap (counted times) none

@@ -21,7 +21,7 @@ use Rattle.f3_names.specs.Entities.{described}
 use Rattle.f3_use_rules.specs.References.{RefersTo, Defines}
 use Rattle.f3_names.specs.Meant.{IsMeant}
 use Rattle.f3_use_rules.specs.UseBreaks.{protections, UseBreaks, attribute_twice, not_accessible, of_several, no_variable, protected_defined}
-use Rattle.f3_use_rules.specs.Rows.{reference_row, entity_row, definition_row, entity_again, declaration_row}
+use Rattle.f3_use_rules.specs.Inner.Rows.{reference_row, entity_row, definition_row, entity_again, declaration_row}
 
 -- ---- references and definitions of one name
 

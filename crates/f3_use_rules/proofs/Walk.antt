@@ -13,7 +13,7 @@ use Rattle.f3_names.specs.declared.table.Names.{Names}
 use Rattle.f3_names.specs.Tables.{AreNames, lookup_at}
 use Rattle.f3_use_rules.specs.References.{act_names, defined_names, HasStatement, RefersTo, Defines}
 use Rattle.f3_use_rules.specs.UseBreaks.{UseBreaks, attribute_twice, not_accessible, of_several, no_variable, protected_defined}
-use Rattle.f3_use_rules.specs.Rows.{declaration_row, reference_of, definition_of, statement_row, unit_row, units_row, use_row}
+use Rattle.f3_use_rules.specs.Inner.Rows.{declaration_row, reference_of, definition_of, statement_row, unit_row, units_row, use_row}
 use Rattle.f3_use_rules.proofs.Said.{reference_said, definition_said, declaration_said, row_of_nowhere, row_of_intrinsic, row_of_several, row_of_protected, row_of_twice}
 
 at_place : (xs : List UnitTree) (k : ℕ) (x : UnitTree) → slice_get xs k ≡ Some x → Has xs x

@@ -8,8 +8,8 @@ ghost use Rattle.f3_taken.specs.Tree.{view, unit_view, specification_view, decla
 ghost use Rattle.f3_names.specs.Tables.{AreNames};
 ghost use Rattle.f3_use_rules.specs.References.{operand_names, term_names, item_names};
 ghost use Rattle.f3_use_rules.specs.UseBreaks.{UseBreaks};
-ghost use Rattle.f3_use_rules.specs.Times.{listed_in};
-ghost use Rattle.f3_use_rules.specs.Rows.{reference_of, definition_of, entity_row, entity_listed, declaration_listed, statement_row, unit_row};
+ghost use Rattle.f3_use_rules.specs.Inner.Times.{listed_in};
+ghost use Rattle.f3_use_rules.specs.Inner.Rows.{reference_of, definition_of, entity_row, entity_listed, declaration_listed, statement_row, unit_row};
 
 use crate::times::{Times, is_twice, listed_times, listings, protections};
 use f3_access::table::Lookup;

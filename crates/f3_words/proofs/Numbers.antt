@@ -19,7 +19,7 @@ use Rattle.f3_lex.specs.Tokens.{text_of, tokens_of}
 use Rattle.f3_lex.specs.Faults.{place_at, first_broken, fault_of, HasFault}
 use Rattle.f3_words.specs.declared.item.Item.{Item}
 use Rattle.f3_words.specs.Lines.{Line, Seen, broken, number, with_name, item_of, seen_behind, items_of, seen_after, place_in, line_of, seen_over}
-use Rattle.f3_words.specs.Numbered.{NamesAreAscii, AreNumbered}
+use Rattle.f3_words.specs.Inner.Numbered.{NamesAreAscii, AreNumbered}
 
 abbrev pub lined : List Item → Option Break → Line
 lined is fault = record { items = is; fault = fault }

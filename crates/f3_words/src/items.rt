@@ -6,7 +6,7 @@ ghost use Rattle.f3_rules.specs.declared.refusal.Refusal.{Refusal};
 ghost use Rattle.f3_lex.specs.declared.token.TokenKind.TheVariants as kind;
 ghost use Rattle.f3_text.specs.Reader.{spelled_of};
 ghost use Rattle.f3_words.specs.Lines.{line_view, broken, seen_of, nothing_seen, number, with_name, plain_item, item_as, seen_as, line_of, seen_over};
-ghost use Rattle.f3_words.specs.Numbered.{IsNumbered, AreNumbered};
+ghost use Rattle.f3_words.specs.Inner.Numbered.{IsNumbered, AreNumbered};
 
 use crate::constant::{characters, integer_word};
 use crate::item::{Item, Word};

@@ -1,6 +1,6 @@
 use Rattle.std.proofs.Common.{◌≡◌, ◌++◌, map, drop}
 use Rattle.f3_scopes.specs.Outlines.{own_view}
-use Rattle.f3_names.specs.Making.{entity_by}
+use Rattle.f3_names.specs.Inner.Making.{entity_by}
 use Rattle.f3_names.proofs.describing.add_declared.Given as goal
 
 abbrev pub invariant-loop-declaration : goal.invariant-loop-declaration

@@ -1,5 +1,5 @@
 use Rattle.std.proofs.Common.{refl, sym, ◌∙◌, ap, arith}
-use Rattle.f3_text.specs.Reading.{going}
+use Rattle.f3_text.specs.Inner.Reading.{going}
 use Rattle.f3_text.proofs.AlongLines.{text_nothing}
 use Rattle.f3_text.proofs.Going.{same_going, spelled_none, reads_separated}
 use Rattle.f3_text.proofs.reading.statement.Goals as goal

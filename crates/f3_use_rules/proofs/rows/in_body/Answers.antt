@@ -2,7 +2,7 @@ use Rattle.std.proofs.Common.{ap, ◌∙◌}
 use Rattle.f3_rules.specs.Least.{earlier_of}
 use Rattle.f3_rules.proofs.Firsts.{first_step}
 use Rattle.f3_taken.specs.Tree.{statement_view}
-use Rattle.f3_use_rules.specs.Rows.{statement_row}
+use Rattle.f3_use_rules.specs.Inner.Rows.{statement_row}
 use Rattle.f3_use_rules.proofs.Fused.{at_seen_end}
 use Rattle.f3_use_rules.proofs.rows.in_body.Goals as goal
 

@@ -3,7 +3,7 @@ use Rattle.std.specs.List.{flat_map}
 use Rattle.f3_rules.specs.Least.{earlier_of, first_of}
 use Rattle.f3_rules.proofs.Firsts.{first_step}
 use Rattle.f3_use_rules.specs.References.{term_names}
-use Rattle.f3_use_rules.specs.Rows.{reference_of}
+use Rattle.f3_use_rules.specs.Inner.Rows.{reference_of}
 use Rattle.f3_use_rules.proofs.Fused.{fused, at_end}
 use Rattle.f3_use_rules.proofs.rows.in_expression.Goals as goal
 

@@ -4,7 +4,7 @@ use Rattle.f3_rules.specs.Least.{earlier_of}
 use Rattle.f3_rules.proofs.Firsts.{first_step}
 use Rattle.f3_taken.specs.Tree.{item_view}
 use Rattle.f3_use_rules.specs.References.{item_names}
-use Rattle.f3_use_rules.specs.Rows.{reference_of}
+use Rattle.f3_use_rules.specs.Inner.Rows.{reference_of}
 use Rattle.f3_use_rules.proofs.Fused.{at_parts_end}
 use Rattle.f3_use_rules.proofs.rows.in_items.Goals as goal
 

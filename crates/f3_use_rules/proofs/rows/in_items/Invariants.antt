@@ -3,7 +3,7 @@ use Rattle.std.specs.List.{flat_map}
 use Rattle.f3_rules.specs.Least.{earlier_of, first_of}
 use Rattle.f3_taken.specs.Tree.{item_view}
 use Rattle.f3_use_rules.specs.References.{item_names}
-use Rattle.f3_use_rules.specs.Rows.{reference_of}
+use Rattle.f3_use_rules.specs.Inner.Rows.{reference_of}
 use Rattle.f3_use_rules.proofs.rows.in_items.Given as goal
 
 abbrev pub invariant-loop-item : goal.invariant-loop-item

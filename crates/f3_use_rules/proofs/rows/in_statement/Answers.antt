@@ -3,7 +3,7 @@ use Rattle.std.specs.List.{flat_map}
 use Rattle.f3_rules.specs.Least.{earlier_of}
 use Rattle.f3_taken.specs.Tree.{sum_view}
 use Rattle.f3_use_rules.specs.References.{term_names}
-use Rattle.f3_use_rules.specs.Rows.{reference_of, definition_of}
+use Rattle.f3_use_rules.specs.Inner.Rows.{reference_of, definition_of}
 use Rattle.f3_use_rules.proofs.Fused.{assigned}
 use Rattle.f3_use_rules.proofs.rows.in_statement.Goals as goal
 

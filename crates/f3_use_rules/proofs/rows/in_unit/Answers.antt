@@ -1,5 +1,5 @@
 use Rattle.f3_taken.specs.Tree.{unit_view}
-use Rattle.f3_use_rules.specs.Times.{listed_in}
+use Rattle.f3_use_rules.specs.Inner.Times.{listed_in}
 use Rattle.f3_use_rules.proofs.Counting.{unit_joined}
 use Rattle.f3_use_rules.proofs.rows.in_unit.Goals as goal
 

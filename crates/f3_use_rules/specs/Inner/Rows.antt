@@ -18,7 +18,7 @@ use Rattle.f3_use_rules.specs.References.{act_names, defined_names}
 use Rattle.f3_use_rules.specs.UseBreaks.{is_protected, protections}
 use Rattle.f3_use_rules.specs.declared.times.Times.{Times}
 use Rattle.f3_use_rules.specs.declared.times.Times.TheVariants.{Never}
-use Rattle.f3_use_rules.specs.Times.{counted, is_twice}
+use Rattle.f3_use_rules.specs.Inner.Times.{counted, is_twice}
 
 -- a reference, by what is visible under its name
 abbrev pub reference_row : Lookup → List ℕ → Name → List Break

@@ -8,7 +8,7 @@ use Rattle.f3_text.specs.declared.cursor.Cursor.{Cursor}
 use Rattle.f3_text.specs.declared.reader.Statements.{Statements}
 use Rattle.f3_text.specs.Statements.{nothing, with_first, parts_from}
 use Rattle.f3_text.specs.Reader.{spelled_of, ahead, parts_ahead, left, bytes_of, IsStatement}
-use Rattle.f3_text.specs.Reading.{going, none, Fails}
+use Rattle.f3_text.specs.Inner.Reading.{going, none, Fails}
 
 -- where the next statement of a source begins
 pub record Begins (from start : Cursor) : Type 0 where
