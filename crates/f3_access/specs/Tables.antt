@@ -1,5 +1,6 @@
 -- When tables are those of a program.
-use Rattle.std.specs.Prelude.{◌≡◌, ℕ, ◌<◌, ◌+◌, List, [], ◌∷◌, ◌++◌, ◌⊎◌, Bool, false, filter, Option, None, Some, true, Contains, ◌↔◌, ◌==◌, nat_eq, if◌then◌else◌, length, map, slice_get, slice_set}
+use Rattle.std.specs.Prelude.{◌≡◌, ℕ, ◌<◌, ◌+◌, List, [], ◌∷◌, ◌++◌, ◌⊎◌, Bool, false, filter, Option, None, Some, true, Contains, ◌↔◌}
+use Rattle.std.specs.Prelude.{◌==◌, nat_eq, if◌then◌else◌, length, map, slice_get, slice_set}
 use Rattle.indexmap.specs.IndexMap.{get}
 use Rattle.indexmap.specs.IndexSet.{insert_all}
 use Rattle.f3_scopes.specs.Outlines.{Scope}
@@ -92,7 +93,9 @@ UnitsStand scopes tables =
 
 -- the scopes that have their tables: the units, and all before a number
 abbrev pub Done : List Scope → List ScopeTable → ℕ → Type 0
-Done scopes tables before = (number : ℕ) (scope : Scope) → slice_get scopes number ≡ Some scope → (is_unit scope.kind ≡ true) ⊎ (number < before) → Stands scopes tables number
+Done scopes tables before =
+    (number : ℕ) (scope : Scope) → slice_get scopes number ≡ Some scope → (is_unit scope.kind ≡ true)
+    ⊎ (number < before) → Stands scopes tables number
 
 abbrev pub AllStand : List Scope → List ScopeTable → Type 0
 AllStand scopes tables = (length tables ≡ length scopes) × ((number : ℕ) → number < length scopes → Stands scopes tables number)
@@ -158,7 +161,8 @@ module_of tables symbol = get nat_eq tables.modules symbol
 -- none or several are visible. A name is private where the scope makes it so, and the module of a name is found.
 pub record AreTables (scopes : List Scope) (tables : Tables) : Type 0 where
   pub own : (number symbol entity : ℕ) → Contains (own_of tables number) (pair symbol entity) ↔ IsOwn scopes number symbol entity
-  pub own_order : (number : ℕ) (scope : Scope) → slice_get scopes number ≡ Some scope → own_of tables number ≡ own_listed scopes (exports_of tables) number scope
+  pub own_order : (number : ℕ) (scope : Scope) → slice_get scopes number ≡ Some scope
+      → own_of tables number ≡ own_listed scopes (exports_of tables) number scope
   pub exports : (number symbol entity : ℕ) → Contains (exports_of tables number) (pair symbol entity) ↔ IsExported scopes number symbol entity
   pub exports_order : (number : ℕ) (scope : Scope) → slice_get scopes number ≡ Some scope → exports_of tables number ≡ exported scope (own_of tables number)
   pub used : (number symbol : ℕ) → Contains (used_of tables number) symbol ↔ ((entity : ℕ) × IsUsed scopes number symbol entity)

@@ -5,7 +5,8 @@ use Rattle.f3_tree.specs.declared.expression.IntegerLiteral.{IntegerLiteral}
 use Rattle.f3_tree.specs.declared.expression.IntegerLiteral.TheVariants as literal
 use Rattle.f3_tree.specs.declared.expression.Operator.TheVariants.{Multiply}
 use Rattle.f3_tree.specs.Expressions.{Tree, Parts, ArgumentTree}
-use Rattle.f3_tree.specs.Statements.{Act, assign, call, allocate, deallocate, print, stop, return, cycle, exit, continue, CaseTree, one, from, up_to, range, Selects, values, default, Controls, forever, counted, while}
+use Rattle.f3_tree.specs.Statements.{Act, assign, call, allocate, deallocate, print, stop, return, cycle, exit, continue, CaseTree, one}
+use Rattle.f3_tree.specs.Statements.{from, up_to, range, Selects, values, default, Controls, forever, counted, while}
 use Rattle.f3_words.specs.declared.item.Keyword.{Keyword}
 use Rattle.f3_words.specs.declared.item.Keyword.TheVariants as keyword
 use Rattle.f3_words.specs.declared.item.Word.{Word}
@@ -17,7 +18,9 @@ use Rattle.f3_reading.specs.Parts.{EatsWord, EatsName, EatsKeyword, Lacks, Enclo
 
 -- `v = e` (7.4.1)
 unfoldable pub IsAssignment : Act → List Item → Type 0
-IsAssignment a ts = (v : Parts) × (e : Tree) × (b : List Item) × (c : List Item) × EatsDesignator v ts b × EatsWord word.Equals b c × EatsExpression e c [] × (a ≡ assign v e)
+IsAssignment a ts =
+    (v : Parts) × (e : Tree) × (b : List Item) × (c : List Item) × EatsDesignator v ts b × EatsWord word.Equals b c
+    × EatsExpression e c [] × (a ≡ assign v e)
 
 -- the arguments of a CALL; none where there are no parentheses
 unfoldable pub IsCallArguments : List ArgumentTree → List Item → Type 0
@@ -162,7 +165,9 @@ IsSteps x ts =
 
 -- `n = e, e [, e]`
 unfoldable pub IsCounted : Controls → List Item → Type 0
-IsCounted x ts = (n : Identifier) × (s : Tree × Tree × Option Tree) × (a : List Item) × (b : List Item) × EatsName n ts a × EatsWord word.Equals a b × IsSteps s b × (x ≡ counted n s.0 s.1 s.2)
+IsCounted x ts =
+    (n : Identifier) × (s : Tree × Tree × Option Tree) × (a : List Item) × (b : List Item) × EatsName n ts a
+    × EatsWord word.Equals a b × IsSteps s b × (x ≡ counted n s.0 s.1 s.2)
 
 -- `WHILE (e)`
 unfoldable pub IsWhile : Controls → List Item → Type 0

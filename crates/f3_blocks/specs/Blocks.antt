@@ -1,7 +1,10 @@
 -- A block, and the statements that spell it (8.1).
 use Rattle.std.specs.Prelude.{◌≡◌, Bool, true, false, List, [], ◌∷◌, map}
-use Rattle.f3_tree.specs.Statements.{Act, return, cycle, exit, StatementTree, acts, acts_if, branches, selects, repeats, Block, no_statements, statements, Branches, no_branches, branch, Alternative, no_alternative, alternative, Cases, no_cases, case_block}
-use Rattle.f3_blocks.specs.Pieces.{Placed, Piece, act, act_if, if_begins, else_if_begins, else_begins, if_ends, select_begins, case_begins, select_ends, do_begins, do_ends, piece_of}
+use Rattle.f3_tree.specs.Statements.{Act, return, cycle, exit, StatementTree, acts, acts_if, branches, selects, repeats, Block}
+use Rattle.f3_tree.specs.Statements.{no_statements, statements, Branches, no_branches, branch, Alternative, no_alternative, alternative}
+use Rattle.f3_tree.specs.Statements.{Cases, no_cases, case_block}
+use Rattle.f3_blocks.specs.Pieces.{Placed, Piece, act, act_if, if_begins, else_if_begins, else_begins, if_ends, select_begins, case_begins}
+use Rattle.f3_blocks.specs.Pieces.{select_ends, do_begins, do_ends, piece_of}
 
 -- the statements of a tree, and then others
 abbrev mutual

@@ -1,12 +1,15 @@
 -- A block statement by statement.
-use Rattle.std.specs.Prelude.{◌≡◌, ◌<◌, Bool, true, false, ◌&&◌, ◌||◌, if◌then◌else◌, List, [], ◌∷◌, ◌++◌, length, map, reverse, Option, Some, None, Result, Ok, Err, option_and_then}
+use Rattle.std.specs.Prelude.{◌≡◌, ◌<◌, Bool, true, false, ◌&&◌, ◌||◌, if◌then◌else◌, List, [], ◌∷◌, ◌++◌, length, map, reverse, Option}
+use Rattle.std.specs.Prelude.{Some, None, Result, Ok, Err, option_and_then}
 use Rattle.std.specs.Global.{Vec}
 use Rattle.f3_rules.specs.declared.source.Place.{Place}
 use Rattle.f3_tree.specs.Expressions.{Tree, expression_view}
 use Rattle.f3_tree.specs.declared.expression.Expression.{Expression}
 use Rattle.f3_tree.specs.declared.statement.Selector.{Selector}
 use Rattle.f3_tree.specs.declared.statement.Statement.{Statement}
-use Rattle.f3_tree.specs.Statements.{Act, Selects, selector_view, Controls, control_view, StatementTree, acts, acts_if, branches, selects, repeats, Block, Branches, no_branches, branch, no_alternative, alternative, Cases, no_cases, case_block, block_of, statement_view, block_view}
+use Rattle.f3_tree.specs.Statements.{Act, Selects, selector_view, Controls, control_view, StatementTree, acts, acts_if, branches, selects}
+use Rattle.f3_tree.specs.Statements.{repeats, Block, Branches, no_branches, branch, no_alternative, alternative, Cases, no_cases}
+use Rattle.f3_tree.specs.Statements.{case_block, block_of, statement_view, block_view}
 use Rattle.f3_blocks.specs.declared.builder.Opening.{Opening}
 use Rattle.f3_blocks.specs.declared.builder.Opening.TheVariants as opening
 use Rattle.f3_blocks.specs.declared.builder.OpenConstruct.{OpenConstruct}
@@ -17,7 +20,8 @@ use Rattle.f3_blocks.specs.declared.error.StepError.{StepError}
 use Rattle.f3_blocks.specs.declared.error.StepError.TheVariants.{Memory, OutOfPlace, TooDeep}
 use Rattle.f3_form.specs.declared.form.Ended.{Ended}
 use Rattle.f3_form.specs.declared.form.Ended.TheVariants as ended
-use Rattle.f3_blocks.specs.Pieces.{Piece, act, act_if, if_begins, else_if_begins, else_begins, if_ends, select_begins, case_begins, select_ends, do_begins, do_ends, no_piece}
+use Rattle.f3_blocks.specs.Pieces.{Piece, act, act_if, if_begins, else_if_begins, else_begins, if_ends, select_begins, case_begins}
+use Rattle.f3_blocks.specs.Pieces.{select_ends, do_begins, do_ends, no_piece}
 use Rattle.f3_blocks.specs.Blocks.{may_act}
 
 -- IF or ELSE IF, its condition, and its block

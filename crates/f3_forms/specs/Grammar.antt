@@ -13,7 +13,8 @@ use Rattle.f3_words.specs.declared.item.Word.TheVariants as word
 use Rattle.f3_words.specs.declared.item.Item.{Item}
 use Rattle.f3_form.specs.declared.form.Ended.{Ended}
 use Rattle.f3_form.specs.declared.form.Ended.TheVariants as ended
-use Rattle.f3_form.specs.Forms.{FormTree, unit, contains, ends, procedure, uses, implicit_none, accesses, protects, saves, declares, type_begins, finals, acts, acts_if, if_then, else_if, else_alone, select_case, case_of, repeats}
+use Rattle.f3_form.specs.Forms.{FormTree, unit, contains, ends, procedure, uses, implicit_none, accesses, protects, saves, declares}
+use Rattle.f3_form.specs.Forms.{type_begins, finals, acts, acts_if, if_then, else_if, else_alone, select_case, case_of, repeats}
 use Rattle.f3_reading.specs.Parts.{EatsKeyword, First}
 use Rattle.f3_reading.specs.Names.{IsName, IsNameList, IsLabel}
 use Rattle.f3_declarations.specs.Specifications.{IsUse, IsAccess, IsDeclaration, IsHeader, IsTypeBegin}

@@ -35,7 +35,9 @@ IsSpelled depth Other text next = ⊥
 
 -- the first n of these bytes spell a token of the kind, and no more of them spell any
 abbrev pub IsLongest : ℕ → List ℕ → TokenKind → ℕ → Type 0
-IsLongest depth bytes kind n = IsSpelled depth kind (take n bytes) (drop n bytes) × ((other : TokenKind) (m : ℕ) → IsSpelled depth other (take m bytes) (drop m bytes) → length (take m bytes) ≤ n)
+IsLongest depth bytes kind n =
+    IsSpelled depth kind (take n bytes) (drop n bytes)
+    × ((other : TokenKind) (m : ℕ) → IsSpelled depth other (take m bytes) (drop m bytes) → length (take m bytes) ≤ n)
 
 -- no token stands at the front of these bytes
 abbrev pub NoneStands : ℕ → List ℕ → Type 0

@@ -19,7 +19,9 @@ UsesName scopes source name =
 
 -- N1: a use-name that is not visible in the module; the use-name (11.2.1)
 abbrev pub NoSuchName : List Scope → Break → Type 0
-NoSuchName scopes b = (source : ℕ) × (name : Name) × UsesName scopes source name × ((entity : ℕ) → IsVisible scopes source name.symbol entity → ⊥) × (b ≡ at 3 N1 name)
+NoSuchName scopes b =
+    (source : ℕ) × (name : Name) × UsesName scopes source name
+    × ((entity : ℕ) → IsVisible scopes source name.symbol entity → ⊥) × (b ≡ at 3 N1 name)
 
 -- N2: a use-name that is visible in the module but private there; the use-name (11.2.1, 5.2.1)
 abbrev pub PrivateThere : List Scope → Break → Type 0

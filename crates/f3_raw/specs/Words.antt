@@ -1,7 +1,8 @@
 -- The list of words that stands for a region: what writing a run does to it, and when two runs do not meet.
 use Rattle.std.proofs.Math.Nat.{min-eq_left, min-eq_right}
 use Rattle.std.proofs.lemmas.Bool.{cases_lt}
-use Rattle.std.proofs.Common.{◌≡◌, ℕ, ◌+◌, ◌≤◌, ◌⊎◌, ℤ, List, ◌++◌, length, take, drop, length-take, length-take-le, length-drop, length-append, arith, ◌-◌, min, ap, ap₂, sym, subst, ◌∙◌, inl, inr}
+use Rattle.std.proofs.Common.{◌≡◌, ℕ, ◌+◌, ◌≤◌, ◌⊎◌, ℤ, List, ◌++◌, length, take, drop, length-take, length-take-le, length-drop}
+use Rattle.std.proofs.Common.{length-append, arith, ◌-◌, min, ap, ap₂, sym, subst, ◌∙◌, inl, inr}
 
 -- ws with the run written from the place `at` on: it stands there in place of as many words, and where it ends above ws it lengthens it
 abbrev pub written : List ℤ → ℕ → List ℤ → List ℤ

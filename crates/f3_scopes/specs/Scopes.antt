@@ -11,7 +11,8 @@ use Rattle.f3_tree.specs.declared.program.ProcedureKind.{ProcedureKind}
 use Rattle.f3_tree.specs.declared.program.ProcedureKind.TheVariants as procedure
 use Rattle.f3_tree.specs.declared.program.UnitKind.{UnitKind}
 use Rattle.f3_tree.specs.declared.program.UnitKind.TheVariants as unit
-use Rattle.f3_tree.specs.Declarations.{Selects, all, only, UseTree, AttributeTree, protected, parameter, intent, Placed, EntityTree, DeclarationTree, TypeTree, SpecificationTree, declares, accesses, defines}
+use Rattle.f3_tree.specs.Declarations.{Selects, all, only, UseTree, AttributeTree, protected, parameter, intent, Placed, EntityTree}
+use Rattle.f3_tree.specs.Declarations.{DeclarationTree, TypeTree, SpecificationTree, declares, accesses, defines}
 use Rattle.f3_tree.specs.Tree.{ProcedureTree, UnitTree, Tree}
 use Rattle.f3_scopes.specs.declared.outline.ScopeKind.{ScopeKind}
 use Rattle.f3_scopes.specs.declared.outline.ScopeKind.TheVariants as scope

@@ -1,5 +1,6 @@
 -- Program units statement by statement.
-use Rattle.std.specs.Prelude.{◌≡◌, ◌<◌, ℕ, Bool, true, false, ◌&&◌, ◌==◌, if◌then◌else◌, List, [], ◌∷◌, ◌++◌, length, map, Option, Some, None, Result, option_and_then}
+use Rattle.std.specs.Prelude.{◌≡◌, ◌<◌, ℕ, Bool, true, false, ◌&&◌, ◌==◌, if◌then◌else◌, List, [], ◌∷◌, ◌++◌, length, map, Option, Some}
+use Rattle.std.specs.Prelude.{None, Result, option_and_then}
 use Rattle.std.specs.Option.{option_map}
 use Rattle.f3_rules.specs.declared.source.Place.{Place}
 use Rattle.f3_tree.specs.declared.expression.Name.{Name}

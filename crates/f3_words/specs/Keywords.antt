@@ -1,7 +1,13 @@
 -- The keywords (3.3, 2.5.2), by their lengths.
 use Rattle.std.specs.Prelude.{ℕ, List, [], ◌∷◌, ◌++◌, codes}
 use Rattle.f3_words.specs.declared.item.Keyword.{Keyword}
-use Rattle.f3_words.specs.declared.item.Keyword.TheVariants.{Plain, Allocatable, Allocate, Call, Case, Contains, Continue, Cycle, Deallocate, Default, Dimension, Do, Else, ElseIf, End, EndDo, EndFunction, EndIf, EndModule, EndProgram, EndSelect, EndSubroutine, EndType, Exit, Final, Function, If, Implicit, In, InOut, Integer, Intent, Kind, Logical, Module, NoneWord, Only, Out, Parameter, Print, Private, Program, Protected, Public, Pure, Recursive, ResultWord, Return, Save, Select, SelectCase, Stat, Stop, Subroutine, Then, «Type», Use, While}
+use Rattle.f3_words.specs.declared.item.Keyword.TheVariants.{Plain, Allocatable, Allocate, Call, Case, Contains, Continue, Cycle}
+use Rattle.f3_words.specs.declared.item.Keyword.TheVariants.{Deallocate, Default, Dimension, Do, Else, ElseIf, End, EndDo, EndFunction}
+use Rattle.f3_words.specs.declared.item.Keyword.TheVariants.{EndIf, EndModule, EndProgram, EndSelect, EndSubroutine, EndType, Exit, Final}
+use Rattle.f3_words.specs.declared.item.Keyword.TheVariants.{Function, If, Implicit, In, InOut, Integer, Intent, Kind, Logical, Module}
+use Rattle.f3_words.specs.declared.item.Keyword.TheVariants.{NoneWord, Only, Out, Parameter, Print, Private, Program, Protected, Public}
+use Rattle.f3_words.specs.declared.item.Keyword.TheVariants.{Pure, Recursive, ResultWord, Return, Save, Select, SelectCase, Stat, Stop}
+use Rattle.f3_words.specs.declared.item.Keyword.TheVariants.{Subroutine, Then, «Type», Use, While}
 use Rattle.f3_words.specs.Tables.{found}
 
 abbrev pub of_2 : List (List ℕ × Keyword)

@@ -12,4 +12,6 @@ called_by s m e = (if kept_by s m e.symbol then e ∷ [] else []) ++ map (λ n. 
 
 -- Where all USE statements of a module have ONLY, a name of it that no item names is not called anything.
 abbrev pub OnlyNamed : Selections → Type 0
-OnlyNamed s = (m : ℕ) (e : Visible) → list_any (nat_eq m) s.whole.keys ≡ false → list_any (nat_eq e.symbol) (names_in (get nat_eq s.named m)) ≡ false → called_by s m e ≡ []
+OnlyNamed s =
+    (m : ℕ) (e : Visible) → list_any (nat_eq m) s.whole.keys ≡ false
+    → list_any (nat_eq e.symbol) (names_in (get nat_eq s.named m)) ≡ false → called_by s m e ≡ []

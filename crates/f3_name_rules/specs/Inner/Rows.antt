@@ -69,15 +69,21 @@ reference_row tables texts number name = found_row (lookup_of tables number name
 
 -- what is broken where a scope declares names
 abbrev pub attributes_row : Tables → ℕ → Outline → List Break
-attributes_row tables number outline = flat_map (declared_row tables number) outline.declared.items ++ flat_map (attribute_row tables number) outline.protects.items
+attributes_row tables number outline =
+    flat_map (declared_row tables number) outline.declared.items
+    ++ flat_map (attribute_row tables number) outline.protects.items
 
 -- what is broken where a scope refers to names
 abbrev pub mentions_row : Tables → List (List ℕ) → ℕ → Outline → List Break
-mentions_row tables texts number outline = accesses_row tables number (is_module outline.kind) outline.accesses.items ++ flat_map (reference_row tables texts number) outline.references.items
+mentions_row tables texts number outline =
+    accesses_row tables number (is_module outline.kind) outline.accesses.items
+    ++ flat_map (reference_row tables texts number) outline.references.items
 
 -- the scope of this number
 abbrev pub scope_row : Tables → List (List ℕ) → ℕ → Outline → List Break
-scope_row tables texts number outline = flat_map (use_row tables) outline.uses.items ++ (attributes_row tables number outline ++ mentions_row tables texts number outline)
+scope_row tables texts number outline =
+    flat_map (use_row tables) outline.uses.items
+    ++ (attributes_row tables number outline ++ mentions_row tables texts number outline)
 
 -- the scopes from this number on
 abbrev pub scopes_row : Tables → List (List ℕ) → ℕ → List Outline → List Break

@@ -13,7 +13,8 @@ use Rattle.f3_text.specs.declared.mode.Mode.{Mode}
 use Rattle.f3_text.specs.declared.mode.Step.{Step}
 use Rattle.f3_text.specs.declared.mode.Step.TheVariants.{On, Separated, Ended}
 use Rattle.f3_text.specs.Lines.{is_blank, line, later_lines, text}
-use Rattle.f3_text.specs.Statements.{Texts, Spelled, Parts, faulty, with_first, with_statement, unless_fault, listed, joined, pieces, all_pieces, fault_at, fault_in, depth_in, parts}
+use Rattle.f3_text.specs.Statements.{Texts, Spelled, Parts, faulty, with_first, with_statement, unless_fault, listed, joined, pieces}
+use Rattle.f3_text.specs.Statements.{all_pieces, fault_at, fault_in, depth_in, parts}
 use Rattle.f3_text.specs.Reader.{Tells, spelled_of, ahead, parts_ahead}
 
 -- a letter put to the end of a statement: a blank only behind another letter

@@ -1,5 +1,6 @@
 -- The breaks of phases 5 to 7 as lists, made along the program.
-use Rattle.std.specs.Prelude.{ℕ, ◌+◌, ◌==◌, List, [], ◌∷◌, ◌++◌, not, Option, None, Some, ◌&&◌, nat_lt, if◌then◌else◌, map, string_bytes, slice_get, length, filter}
+use Rattle.std.specs.Prelude.{ℕ, ◌+◌, ◌==◌, List, [], ◌∷◌, ◌++◌, not, Option, None, Some, ◌&&◌, nat_lt, if◌then◌else◌, map, string_bytes}
+use Rattle.std.specs.Prelude.{slice_get, length, filter}
 use Rattle.std.specs.List.{flat_map}
 use Rattle.f3_rules.specs.declared.breaks.Break.{Break}
 use Rattle.f3_rules.specs.declared.rule.Rule.TheVariants.{T1, T9, N10, N11, D1}
