@@ -78,7 +78,9 @@ pub record IsTable (pairs declared : List Visible) (scope : Scope) (table : Scop
 -- the table of the scope of this number is what the modules' exports give
 abbrev pub IsTableOf : List Scope → List ScopeTable → ℕ → ScopeTable → Type 0
 IsTableOf scopes tables number table =
-    (scope : Scope) → slice_get scopes number ≡ Some scope → IsTable (used_pairs scopes (exports_at tables) scope) (numbered (first_entity scopes number) scope.declared) scope table
+    (scope : Scope) → slice_get scopes number ≡ Some scope
+    → IsTable (used_pairs scopes (exports_at tables) scope) (numbered (first_entity scopes number) scope.declared)
+    scope table
 
 -- in these tables just that of the scope of this number is written anew, as the modules' exports give it
 abbrev pub IsFilled : List Scope → ℕ → List ScopeTable → List ScopeTable → Type 0
@@ -89,7 +91,9 @@ Stands scopes tables number = (table : ScopeTable) × (slice_get tables number �
 
 abbrev pub UnitsStand : List Scope → List ScopeTable → Type 0
 UnitsStand scopes tables =
-    (length tables ≡ length scopes) × ((number : ℕ) (scope : Scope) → slice_get scopes number ≡ Some scope → is_unit scope.kind ≡ true → Stands scopes tables number)
+    (length tables ≡ length scopes)
+    × ((number : ℕ) (scope : Scope) → slice_get scopes number ≡ Some scope → is_unit scope.kind ≡ true
+    → Stands scopes tables number)
 
 -- the scopes that have their tables: the units, and all before a number
 abbrev pub Done : List Scope → List ScopeTable → ℕ → Type 0

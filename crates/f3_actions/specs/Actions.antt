@@ -132,7 +132,8 @@ unfoldable pub EatsCase : CaseTree → List Item → List Item → Type 0
 EatsCase (one e) ts r = Lacks word.Colon ts × EatsExpression e ts r × Lacks word.Colon r
 EatsCase (from e) ts r = (a : List Item) × Lacks word.Colon ts × EatsExpression e ts a × EatsWord word.Colon a r × (starts ends_value r ≡ true)
 EatsCase (range e f) ts r =
-    (a : List Item) × (b : List Item) × Lacks word.Colon ts × EatsExpression e ts a × EatsWord word.Colon a b × (starts ends_value b ≡ false) × EatsExpression f b r
+    (a : List Item) × (b : List Item) × Lacks word.Colon ts × EatsExpression e ts a × EatsWord word.Colon a b
+    × (starts ends_value b ≡ false) × EatsExpression f b r
 EatsCase (up_to p f) ts r = (i : Item) × (a : List Item) × EatsWord word.Colon ts a × (ts ≡ i ∷ a) × (p ≡ i.place) × EatsExpression f a r
 
 unfoldable pub AreCases : List CaseTree → List Item → List Item → Type 0

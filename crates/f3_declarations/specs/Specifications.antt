@@ -140,7 +140,8 @@ EatsInitialPerhaps e ts r = Perhaps word.Equals EatsExpression e ts r
 
 unfoldable pub EatsEntity : EntityTree → List Item → List Item → Type 0
 EatsEntity e ts r =
-    (n : Identifier) × (s : Option ShapeTree) × (v : Option Tree) × (a : List Item) × (b : List Item) × EatsName n ts a × EatsShapePerhaps s a b × EatsInitialPerhaps v b r
+    (n : Identifier) × (s : Option ShapeTree) × (v : Option Tree) × (a : List Item) × (b : List Item)
+    × EatsName n ts a × EatsShapePerhaps s a b × EatsInitialPerhaps v b r
     × (e ≡ record { name = n; shape = s; initial = v })
 
 unfoldable pub AreEntities : List EntityTree → List Item → List Item → Type 0

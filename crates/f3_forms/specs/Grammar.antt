@@ -58,7 +58,8 @@ IsJoinedEnd what f ts = (n : Option Identifier) × IsEndLabel what n ts × (f �
 unfoldable pub IsEnd : FormTree → List Item → Type 0
 IsEnd f ts =
     ((ts ≡ []) × (f ≡ ends None None))
-    ⊎ ((i : Item) × (k : Keyword) × (what : Ended) × (tail : List Item) × (ts ≡ i ∷ tail) × (i.word ≡ word.Name k) × (ended_of k ≡ Some what) × IsJoinedEnd what f tail)
+    ⊎ ((i : Item) × (k : Keyword) × (what : Ended) × (tail : List Item) × (ts ≡ i ∷ tail) × (i.word ≡ word.Name k)
+    × (ended_of k ≡ Some what) × IsJoinedEnd what f tail)
 
 unfoldable pub IsType : FormTree → List Item → Type 0
 IsType f ts = (a : Option (Place × Accessibility)) × (n : Identifier) × IsTypeBegin a n ts × (f ≡ type_begins a n)

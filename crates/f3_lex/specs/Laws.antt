@@ -26,7 +26,8 @@ IsSuffix text next = (text ≡ []) ⊎ (IsOneOf suffixes text × (is_name_byte (
 abbrev pub IsSpelled : ℕ → TokenKind → List ℕ → List ℕ → Type 0
 IsSpelled depth Name text next = (is_ascii_alphabetic (slice_index text 0) ≡ true) × AllByRecursion (λ b. is_name_byte b ≡ true) text
 IsSpelled depth Integer text next =
-    (digits : List ℕ) × (suffix : List ℕ) × (text ≡ digits ++ suffix) × AllByRecursion (λ b. is_ascii_digit b ≡ true) digits × (0 < length digits) × IsSuffix suffix next
+    (digits : List ℕ) × (suffix : List ℕ) × (text ≡ digits ++ suffix)
+    × AllByRecursion (λ b. is_ascii_digit b ≡ true) digits × (0 < length digits) × IsSuffix suffix next
 IsSpelled depth Truth text next = IsOneOf truths (lower text)
 IsSpelled depth Word text next = IsOneOf dot_words (lower text)
 IsSpelled depth Text text next = (quote : ℕ) × (characters : List ℕ) × (is_quote quote ≡ true) × (text ≡ quote ∷ (doubled quote characters ++ quote ∷ []))

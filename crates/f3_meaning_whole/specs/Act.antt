@@ -159,7 +159,8 @@ static_type (Some y) = y.declared.kind.of
 -- what a name means in a statement of a unit
 abbrev pub named : Setting → Name → Here → Ran Reference
 named g (n.Static i) here = looks
-    (λ store. to_root (Static i) (static_type (slice_get g.program.statics.items i)) (right_to here.unit (slice_get g.program.statics.items i)) here.unit (get store (whole (Static i))))
+    (λ store. to_root (Static i) (static_type (slice_get g.program.statics.items i))
+    (right_to here.unit (slice_get g.program.statics.items i)) here.unit (get store (whole (Static i))))
 named g (n.Local i) here = looks
     (λ store. to_root (Local here.level i) (type_of (slice_get here.variables i)) Define here.unit (get store (whole (Local here.level i))))
 named g (n.Lent i) here = gives (slice_index_or here.names i (to_root (Local 0 0) base.Integer Read 0 Unallocated))
@@ -326,7 +327,9 @@ laid_out (suc rank) ss v = Array ss (joined (spread (count ss) v))
 unfoldable pub fitted : Declared → Value → Here → Ran Value
 fitted d v here =
     if d.kind.is_allocatable then (converted d.kind.of v here.place >>= λ v. gives (Allocated v))
-    else (if conforms (spans_declared d.dimensions.items) v then (converted d.kind.of v here.place >>= λ v. gives (laid_out d.kind.rank (spans_declared d.dimensions.items) v)) else fails ShapesDiffer here.place)
+    else (if conforms (spans_declared d.dimensions.items) v
+    then (converted d.kind.of v here.place >>= λ v. gives (laid_out d.kind.rank (spans_declared d.dimensions.items) v))
+    else fails ShapesDiffer here.place)
 
 -- an unallocated whole allocatable leaves the component unallocated
 abbrev pub fitted_contents : Declared → Value → Here → Ran Value

@@ -34,7 +34,10 @@ kind_word entity.Function = codes "function"
 abbrev pub entity_text : List (List ℕ) → Option Entity → List ℕ
 entity_text texts None = []
 entity_text texts (Some e) =
-    kind_word e.kind ++ (codes " " ++ (text_of texts e.home ++ (codes "." ++ (text_of texts e.original ++ (if e.is_protected then codes " protected" else [])))))
+    kind_word e.kind
+    ++ (codes " "
+    ++ (text_of texts e.home
+    ++ (codes "." ++ (text_of texts e.original ++ (if e.is_protected then codes " protected" else [])))))
 
 -- in a module, whether a name is public or private there
 abbrev pub access_in : ScopeKind → Bool → List ℕ

@@ -16,7 +16,9 @@ pub length-overwritten : (ws : List ℤ) (at : ℕ) (run : List ℤ) → length 
 length-overwritten ws at run =
     let rest = drop (at + length run) ws in
     let long : length (written ws at run) ≡ min at (length ws) + (length run + (length ws - (at + length run))) =
-    length-append (take at ws) (run ++ rest) ∙ ap₂ ◌+◌ (length-take at ws) (length-append run rest ∙ ap (λ k. length run + k) (length-drop (at + length run) ws)) in
+    length-append (take at ws) (run ++ rest)
+    ∙ ap₂ ◌+◌ (length-take at ws)
+    (length-append run rest ∙ ap (λ k. length run + k) (length-drop (at + length run) ws)) in
     let enough : length ws ≤ length (written ws at run) = subst (λ k. length ws ≤ k) (sym long) (elim (cases_lt at (length ws)) [
       | inl lt ↦ omega (arith, min-eq_left {n = at} {m = length ws} (omega arith))
       | inr le ↦ omega (arith, min-eq_right le)

@@ -43,7 +43,8 @@ CutsSeveral = Cuts (codes ";; program p;; end ;" ∷ []) (((1, 1, 4), codes "pro
 -- comments, and comment lines; any byte may stand in them
 abbrev pub CutsComments : Type 0
 CutsComments =
-    Cuts (lined (codes "! any & byte ' #" ∷ codes " program p ! & #" ∷ codes "" ∷ codes "end" ∷ []) ∷ []) (((1, 2, 2), codes "program p ") ∷ ((1, 4, 1), codes "end") ∷ []) None
+    Cuts (lined (codes "! any & byte ' #" ∷ codes " program p ! & #" ∷ codes "" ∷ codes "end" ∷ []) ∷ [])
+    (((1, 2, 2), codes "program p ") ∷ ((1, 4, 1), codes "end") ∷ []) None
 
 -- carriage returns before line feeds, and tabs
 abbrev pub CutsReturns : Type 0
@@ -57,7 +58,8 @@ CutsReturnAlone = Cuts ((codes "program p" ++ (10 ∷ codes "end" ++ (13 ∷ [])
 -- signs of comments, statements and continuation in a character constant, doubled quotes, and a tab
 abbrev pub CutsConstants : Type 0
 CutsConstants =
-    Cuts (codes "p 'it''s', \"say \"\"hi\"\"\", 'a;b!c&d'; end" ∷ []) (((1, 1, 1), codes "p 'it''s', \"say \"\"hi\"\"\", 'a;b!c&d'") ∷ ((1, 1, 37), codes "end") ∷ []) None
+    Cuts (codes "p 'it''s', \"say \"\"hi\"\"\", 'a;b!c&d'; end" ∷ [])
+    (((1, 1, 1), codes "p 'it''s', \"say \"\"hi\"\"\", 'a;b!c&d'") ∷ ((1, 1, 37), codes "end") ∷ []) None
 
 -- continuation in a literal and in a character constant
 abbrev pub CutsContinued : Type 0
@@ -80,7 +82,8 @@ CutsJoinedQuote = Cuts (lined (codes "print *, 'abc'&" ∷ codes "&'def'" ∷ []
 
 abbrev pub CutsJoinedQuoteOpen : Type 0
 CutsJoinedQuoteOpen =
-    Cuts (lined (codes "program p" ∷ codes "print *, 'abc'&" ∷ codes "&'def" ∷ codes "end" ∷ []) ∷ []) (((1, 1, 1), codes "program p") ∷ []) (Some (S2, (1, 2, 10)))
+    Cuts (lined (codes "program p" ∷ codes "print *, 'abc'&" ∷ codes "&'def" ∷ codes "end" ∷ []) ∷ [])
+    (((1, 1, 1), codes "program p") ∷ []) (Some (S2, (1, 2, 10)))
 
 -- constants that are not closed
 abbrev pub CutsOpen : Type 0
@@ -112,7 +115,8 @@ CutsElsewhere = Cuts (codes "a; b & c" ∷ []) (((1, 1, 1), codes "a") ∷ []) (
 
 abbrev pub CutsLast : Type 0
 CutsLast =
-    Cuts (lined (codes "program p" ∷ codes "print *, 1 &" ∷ codes "! end" ∷ []) ∷ codes ", 2" ∷ []) (((1, 1, 1), codes "program p") ∷ []) (Some (S2, (1, 2, 12)))
+    Cuts (lined (codes "program p" ∷ codes "print *, 1 &" ∷ codes "! end" ∷ []) ∷ codes ", 2" ∷ [])
+    (((1, 1, 1), codes "program p") ∷ []) (Some (S2, (1, 2, 12)))
 
 -- an `&` behind a `;`, and one that is first and another that is last on a line
 abbrev pub CutsBehindMark : Type 0
@@ -121,7 +125,9 @@ CutsBehindMark = Cuts (lined (codes "a; &" ∷ codes "b&" ∷ codes "&&" ∷ cod
 -- a byte that is not allowed, in the second of two sources
 abbrev pub CutsNotAllowed : Type 0
 CutsNotAllowed =
-    Cuts (codes "module m; end" ∷ codes "program p; print *, 1 # 2 & 3; end" ∷ []) (((1, 1, 1), codes "module m") ∷ ((1, 1, 11), codes "end") ∷ ((2, 1, 1), codes "program p") ∷ []) (Some (S1, (2, 1, 23)))
+    Cuts (codes "module m; end" ∷ codes "program p; print *, 1 # 2 & 3; end" ∷ [])
+    (((1, 1, 1), codes "module m") ∷ ((1, 1, 11), codes "end") ∷ ((2, 1, 1), codes "program p") ∷ [])
+    (Some (S1, (2, 1, 23)))
 
 -- sixty-four open parentheses and brackets, the rest of a statement, and one more
 abbrev pub CutsDeep : Type 0
