@@ -11,7 +11,7 @@ use Rattle.f3_selecting.specs.declared.selecting.Selected.{Selected}
 use Rattle.f3_selecting.specs.declared.selecting.Selections.{Selections}
 use Rattle.f3_access.specs.Listing.{pair, items_of, is_open, names_alone, renames, locals_of, is_kept, called}
 use Rattle.f3_selecting.specs.Selecting.{same_selected, selected, open_name, only_name, only_names, local_name, locals_from, locals_by, has_none, kept_by, originals_from, names_in, AreSelections}
-use Rattle.f3_access.specs.Calling.{called_by, OnlyNamed}
+use Rattle.f3_access.specs.Inner.Calling.{called_by, OnlyNamed}
 use Rattle.f3_selecting.proofs.Privacy.{any_set, same_bool}
 use Rattle.f3_selecting.proofs.Members.{Has, has_left, has_right, has_parts, any_of, any_from, has_mapped, has_piece, piece_of}
 

@@ -1,5 +1,5 @@
 -- What is visible is declared.
-use Rattle.std.proofs.Common.{◌≡◌, ℕ, zero, suc, ◌+◌, List, [], ◌∷◌, ◌++◌, length, take, Some, slice_get, subst, arith, inl, inr}
+use Rattle.std.proofs.Common.{◌≡◌, ℕ, zero, suc, ◌+◌, List, [], ◌∷◌, ◌++◌, length, take, Some, slice_get, subst, arith}
 use Rattle.std.proofs.lemmas.List.{length-append}
 use Rattle.std.proofs.lemmas.Option.{slice_get_within}
 use Rattle.f3_scopes.specs.Outlines.{Scope, Own}
@@ -31,5 +31,5 @@ own_declared scopes u n e (IsOwn.declared u' n' e' (scope, place, d, at_u, at_d,
 own_declared scopes u n e (IsOwn.used u' n' e' m x brings inner) = own_declared scopes m x e' inner
 
 pub visible_declared : (scopes : List Scope) (u n e : ℕ) → IsVisible scopes u n e → (d : Own) × (slice_get (entities_of scopes) e ≡ Some d)
-visible_declared scopes u n e (inl own) = own_declared scopes u n e own
-visible_declared scopes u n e (inr (scope, host, at_u, same, free, inner)) = own_declared scopes host n e inner
+visible_declared scopes u n e (IsVisible.own u' n' e' own) = own_declared scopes u' n' e' own
+visible_declared scopes u n e (IsVisible.around u' n' e' host same free inner) = visible_declared scopes host n' e' inner

@@ -4,6 +4,7 @@ pub mod Modules
 pub mod Standing
 pub mod Visibles
 pub mod Meanings
+pub mod Outward
 pub mod Answering
 pub mod Laws
 pub use Rattle.f3_selecting.proofs.Members

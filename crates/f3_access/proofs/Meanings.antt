@@ -5,7 +5,7 @@ use Rattle.f3_access.specs.declared.table.Visible.{Visible}
 use Rattle.f3_access.specs.declared.table.Lookup.{Lookup}
 use Rattle.f3_access.specs.declared.table.Lookup.TheVariants.{One, Nothing, Several}
 use Rattle.f3_access.specs.Lookups.{ResolvesAs}
-use Rattle.f3_access.specs.Tables.{note, meaning}
+use Rattle.f3_access.specs.Parts.{note, meaning}
 use Rattle.f3_selecting.proofs.Members.{Has, has_of, contains_of}
 
 note_resolves : (l : Lookup) (Is : ℕ → Type 0) (e : ℕ) → ResolvesAs l Is → ResolvesAs (note l e) (λ x. Is x ⊎ (x ≡ e))

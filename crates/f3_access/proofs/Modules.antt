@@ -3,7 +3,7 @@ use Rattle.std.proofs.Common.{◌≡◌, ℕ, zero, suc, ◌+◌, ◌<◌, List,
 use Rattle.std.proofs.lemmas.Bool.{eqb-true, eq-eqb, and_parts, and_from, true≢false}
 use Rattle.std.proofs.lemmas.Option.{slice_get_within}
 use Rattle.f3_scopes.specs.declared.outline.ScopeKind.{ScopeKind}
-use Rattle.f3_scopes.specs.declared.outline.ScopeKind.TheVariants.{Module, Program, Subroutine, Function}
+use Rattle.f3_scopes.specs.declared.outline.ScopeKind.TheVariants.{Module, Program, Subroutine, Function, Associate}
 use Rattle.f3_scopes.specs.Outlines.{Scope}
 use Rattle.f3_access.specs.Access.{IsModule, IsUnit, ModulesDiffer}
 use Rattle.f3_scopes.specs.Kinds.{is_module}
@@ -15,6 +15,7 @@ is_a_module Module t = refl
 is_a_module Program t = absurd (true≢false (sym t))
 is_a_module Subroutine t = absurd (true≢false (sym t))
 is_a_module Function t = absurd (true≢false (sym t))
+is_a_module Associate t = absurd (true≢false (sym t))
 
 pub module_is_one : (k : ScopeKind) → k ≡ Module → is_module k ≡ true
 module_is_one k e = rw e refl
@@ -30,6 +31,7 @@ is_a_unit s t = by s.kind refl t
     by Program e t = inr e
     by Subroutine e t = absurd (true≢false (sym t))
     by Function e t = absurd (true≢false (sym t))
+    by Associate e t = absurd (true≢false (sym t))
 
 -- what is found was found before, or is a module of the name
 module _ (symbol : ℕ) where

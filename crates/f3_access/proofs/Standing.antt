@@ -17,7 +17,7 @@ use Rattle.f3_access.specs.Listing.{numbered, lists_from, module_named, called, 
 use Rattle.f3_selecting.specs.Sources.{module_from}
 use Rattle.f3_selecting.specs.Sources.{modules_of}
 use Rattle.f3_selecting.specs.Private.{is_private}
-use Rattle.f3_access.specs.Tables.{exports_in, exports_at, IsTable, IsTableOf, Stands, UnitsStand, Done, AllStand}
+use Rattle.f3_access.specs.Parts.{exports_in, exports_at, IsTable, IsTableOf, Stands, UnitsStand, Done, AllStand}
 use Rattle.f3_selecting.specs.Private.{makes_private, AreAccesses}
 use Rattle.f3_access.proofs.Modules.{named_of, module_is_unit, is_a_unit}
 use Rattle.f3_access.proofs.Chosen.{same_flat}

@@ -18,7 +18,7 @@ use Rattle.f3_scopes.specs.Kinds.{is_module}
 use Rattle.f3_access.specs.Listing.{same_pair, pair, numbered, module_named, items_of, is_open, names_alone, renames, locals_of, is_kept, called, exports_of, used_pairs, own_listed, exported}
 use Rattle.f3_selecting.specs.Sources.{modules_of}
 use Rattle.f3_selecting.specs.Private.{same_access, listed_names, given_name, named, is_nil, is_default, is_private}
-use Rattle.f3_access.specs.Tables.{own_in, exports_in, own_at, exports_at, AllStand}
+use Rattle.f3_access.specs.Parts.{own_in, exports_in, own_at, exports_at, AllStand}
 use Rattle.f3_selecting.proofs.Members.{Has, has_of, contains_of, has_left, has_right, has_parts, has_kept, kept_of, any_of, any_from, put, put_of, has_mapped, mapped_of, has_piece, piece_of}
 use Rattle.f3_access.proofs.Chosen.{item_of, item_in}
 use Rattle.f3_access.proofs.Modules.{named_of, named_in, is_a_module, module_is_one}

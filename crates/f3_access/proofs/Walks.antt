@@ -8,9 +8,9 @@ use Rattle.std.proofs.lemmas.List.{get_or_default}
 use Rattle.std.proofs.lemmas.List.Sorted.{Contains-permutation}
 use Rattle.std.proofs.lemmas.Option.{slice_get_within, slice_get_cases}
 use Rattle.f3_access.specs.declared.table.Visible.{Visible}
-use Rattle.f3_access.specs.Tables.{places_from}
+use Rattle.f3_access.specs.Parts.{places_from}
 use Rattle.f3_access.specs.Listing.{same_pair}
-use Rattle.f3_access.specs.Walk.{unseen, RestIsSilent}
+use Rattle.f3_access.specs.Inner.Walk.{unseen, RestIsSilent}
 use Rattle.f3_selecting.proofs.Steps.{insert_more}
 use Rattle.f3_selecting.proofs.Members.{Has, has_right, has_piece, any_of, contains_of}
 

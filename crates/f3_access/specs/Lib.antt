@@ -1,7 +1,8 @@
+pub mod Hosts
 pub mod Access
 pub mod Listing
-pub mod Calling
+pub mod Parts
 pub mod Tables
-pub mod Walk
 pub mod Lookups
 pub mod Pairs
+pub mod Inner

@@ -3,7 +3,7 @@ use Rattle.std.specs.Prelude.{ℕ, ◌+◌, List, [], ◌∷◌, ◌++◌, Bool,
 use Rattle.std.specs.List.{flat_map, list_any}
 use Rattle.indexmap.specs.IndexSet.{insert_all}
 use Rattle.f3_scopes.specs.declared.outline.ScopeKind.{ScopeKind}
-use Rattle.f3_scopes.specs.declared.outline.ScopeKind.TheVariants.{Module, Program, Subroutine, Function}
+use Rattle.f3_scopes.specs.declared.outline.ScopeKind.TheVariants.{Module, Program, Subroutine, Function, Associate}
 use Rattle.f3_scopes.specs.declared.outline.UseItem.{UseItem}
 use Rattle.f3_scopes.specs.Kinds.{is_module}
 use Rattle.f3_scopes.specs.Outlines.{Scope, Own, Using}
@@ -74,10 +74,11 @@ own_listed scopes exports number scope = insert_all same_pair [] (used_pairs sco
 abbrev pub exported : Scope → List Visible → List Visible
 exported scope vs = if is_module scope.kind then filter (λ v. not (is_private scope v.symbol)) vs else []
 
--- What is visible in a procedure: its own, then what its module has under names that none of its own has, in their order.
 abbrev pub hides : List Visible → ℕ → Bool
 hides own n = list_any (λ v. v.symbol == n) own
 
+-- What is visible in a scope with a host: its own, then what is visible in its host under names that none of its own has, in
+-- their order.
 abbrev pub with_host : List Visible → List Visible → List Visible
 with_host own host = own ++ filter (λ v. not (hides own v.symbol)) host
 
@@ -91,3 +92,4 @@ is_unit Module = true
 is_unit Program = true
 is_unit Subroutine = false
 is_unit Function = false
+is_unit Associate = false

@@ -7,9 +7,9 @@ ghost use Rattle.indexmap.specs.IndexSet.{insert_all};
 ghost use Rattle.indexmap.specs.IndexMap.{get};
 ghost use Rattle.f3_scopes.specs.Outlines.{using_view};
 ghost use Rattle.f3_access.specs.Listing.{same_pair, pair, exports_of, brought};
-ghost use Rattle.f3_access.specs.Calling.{called_by, OnlyNamed};
-ghost use Rattle.f3_access.specs.Tables.{exports_at, HasPlaces};
-ghost use Rattle.f3_access.specs.Walk.{unseen, RestIsSilent};
+ghost use Rattle.f3_access.specs.Inner.Calling.{called_by, OnlyNamed};
+ghost use Rattle.f3_access.specs.Parts.{exports_at, HasPlaces};
+ghost use Rattle.f3_access.specs.Inner.Walk.{unseen, RestIsSilent};
 
 use crate::table::{ScopeTable, Visible};
 use f3_scopes::outline::UseOutline;

@@ -10,7 +10,7 @@ ghost use Rattle.f3_access.specs.declared.table.Lookup.TheVariants.{Nothing};
 ghost use Rattle.f3_access.specs.Listing.{same_pair, brought};
 ghost use Rattle.f3_selecting.specs.Private.{is_private, makes_private};
 ghost use Rattle.f3_selecting.specs.Places.{places_in};
-ghost use Rattle.f3_access.specs.Tables.{note, meaning, found, exports_at, places_from, HasPlaces, IsTable};
+ghost use Rattle.f3_access.specs.Parts.{note, meaning, found, exports_at, places_from, HasPlaces, IsTable};
 
 use crate::bringing::used_by;
 use crate::exporting::exported;

@@ -40,5 +40,6 @@ pub fn exported(
         ScopeKind::Program => Ok(Vec::new(alloc)),
         ScopeKind::Subroutine => Ok(Vec::new(alloc)),
         ScopeKind::Function => Ok(Vec::new(alloc)),
+        ScopeKind::Associate => Ok(Vec::new(alloc)),
     }
 }

@@ -7,7 +7,9 @@ ghost use Rattle.f3_scopes.specs.Outlines.{own_view, scope_view};
 ghost use Rattle.f3_access.specs.Access.{IsUnitOrder, ModulesDiffer};
 ghost use Rattle.f3_access.specs.Listing.{numbered, lists_from, is_unit};
 ghost use Rattle.f3_selecting.specs.Sources.{module_from};
-ghost use Rattle.f3_access.specs.Tables.{IsTableOf, IsFilled, UnitsStand, Done, AllStand, HasPlaces, AreTables};
+ghost use Rattle.f3_access.specs.Hosts.{HostsBefore};
+ghost use Rattle.f3_access.specs.Parts.{IsTableOf, IsFilled, UnitsStand, Done, AllStand, HasPlaces};
+ghost use Rattle.f3_access.specs.Tables.{AreTables};
 ghost use Rattle.f3_selecting.specs.Private.{AreAccesses};
 
 use crate::building::table_of;
@@ -146,6 +148,7 @@ fn is_unit(kind: ScopeKind) -> bool
         ScopeKind::Program => true,
         ScopeKind::Subroutine => false,
         ScopeKind::Function => false,
+        ScopeKind::Associate => false,
     }
 }
 
@@ -180,8 +183,8 @@ fn units_filled(
     Ok(tables)
 }
 
-/// Writes the table of the scope of this number if it is a procedure.
-fn fill_procedure(
+/// Writes the table of the scope of this number if it is no unit.
+fn fill_inner(
     alloc: Global,
     outlines: &[Outline],
     number: usize,
@@ -208,7 +211,7 @@ fn fill_procedure(
 }
 
 /// The tables of all scopes, where those of the units are there.
-fn procedures_filled(
+fn inner_filled(
     alloc: Global,
     outlines: &[Outline],
     declared: &[Vec<Visible>],
@@ -225,7 +228,7 @@ fn procedures_filled(
 {
     let mut tables = units;
     for number in 0..outlines.len() {
-        fill_procedure(
+        fill_inner(
             alloc,
             outlines,
             number,
@@ -253,16 +256,18 @@ fn filled(
 {
     let declared = declared_lists(alloc, outlines)?;
     let units = units_filled(alloc, outlines, order, &declared, accesses, modules)?;
-    procedures_filled(alloc, outlines, &declared, accesses, modules, units)
+    inner_filled(alloc, outlines, &declared, accesses, modules, units)
 }
 
 /// What each scope has of its own, what each module exports, and what each name stands for (ISO/IEC 1539-1:2004, 11.2 and
-/// 16.4.1.3), from the outlines of all scopes and an order of the units in which used modules come first.
+/// 16.4.1.3), from the outlines of all scopes, each behind the one around it, and an order of the units in which used modules
+/// come first.
 ///
 /// Memory: a growth of the host's memory was refused.
 pub fn tables(alloc: Global, outlines: &[Outline], order: &[usize]) -> Result<Tables, AllocError>
     requires order { IsUnitOrder (map scope_view outlines.now) order.now }
     requires modules { ModulesDiffer (map scope_view outlines.now) }
+    requires hosts { HostsBefore (map scope_view outlines.now) }
     ensures { IfOk result (AreTables (map scope_view outlines.now)) }
 {
     let accesses = all_accesses(alloc, outlines)?;

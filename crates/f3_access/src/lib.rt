@@ -10,4 +10,6 @@ mod reading;
 pub mod table;
 
 pub use filling::tables;
-pub use reading::{exports, is_private, lookup, module, own, used, visible, visible_is_declared};
+pub use reading::{
+    exports, host, is_private, lookup, module, own, used, visible, visible_is_declared,
+};

@@ -1,10 +1,11 @@
 //! What tables say.
 
-ghost use Rattle.std.specs.Prelude.{◌≡◌, nat_eq, slice_get};
+ghost use Rattle.std.specs.Prelude.{◌≡◌, ◌<◌, nat_eq, slice_get, IfSome};
 ghost use Rattle.std.specs.List.{list_any};
 ghost use Rattle.f3_access.specs.Access.{VisibleIsDeclared};
 ghost use Rattle.f3_access.specs.Pairs.{pairs_left};
-ghost use Rattle.f3_access.specs.Tables.{own_of, exports_of, used_of, visible_of, lookup_of, lookup_in, host_in, is_nothing, private_of, module_of};
+ghost use Rattle.f3_access.specs.Parts.{host_in, lookup_in, is_nothing, holder_at};
+ghost use Rattle.f3_access.specs.Tables.{own_of, exports_of, used_of, visible_of, lookup_of, private_of, module_of, host_of};
 
 use crate::pairs::VisiblePairs;
 use crate::table::{Lookup, Tables, Visible};
@@ -74,7 +75,6 @@ pub fn own_lookup(tables: &Tables, scope: usize, symbol: usize) -> Lookup
     }
 }
 
-/// The number of the module of a procedure.
 fn host_of(tables: &Tables, scope: usize) -> Option<usize>
     ensures { result ≡ host_in (slice_get tables.now.scopes.items scope) }
 {
@@ -84,21 +84,45 @@ fn host_of(tables: &Tables, scope: usize) -> Option<usize>
     }
 }
 
+/// The number of the scope around the one of this number: of a procedure its module, of a construct the unit, procedure or
+/// construct that it stands in. A unit has none.
+pub fn host(tables: &Tables, scope: usize) -> Option<usize>
+    ensures host { result ≡ host_of tables.now scope }
+    ensures before { IfSome result (λ h. h < scope) }
+{
+    host_of(tables, scope)
+}
+
+/// The number of the nearest scope, from this one on outward, that has something of its own under a name.
+pub(crate) fn holder(tables: &Tables, scope: usize, symbol: usize) -> Option<usize>
+    ensures { result ≡ holder_at tables.now.scopes.items scope symbol }
+{
+    let mut around = Some(scope);
+    while let Some(number) = around {
+        if !is_nothing(own_lookup(tables, number, symbol)) {
+            return Some(number);
+        }
+        around = host(tables, number);
+    }
+    None
+}
+
 /// What is visible in a scope under a name, by the number of the name among the program's.
 ///
-/// It takes no memory, and looks the name up in hashed tables: first in that of the scope, then in that of its module.
-/// Where there is no scope of this number nothing is visible.
+/// It takes no memory, and looks the name up in hashed tables: in that of the scope, and then outward in those around it up
+/// to the first that has the name. Where there is no scope of this number nothing is visible.
 pub fn lookup(tables: &Tables, scope: usize, symbol: usize) -> Lookup
     ensures { result ≡ lookup_of tables.now scope symbol }
 {
-    match own_lookup(tables, scope, symbol) {
-        Lookup::One(entity) => Lookup::One(entity),
-        Lookup::Several => Lookup::Several,
-        Lookup::Nothing => match host_of(tables, scope) {
-            Some(host) => own_lookup(tables, host, symbol),
-            None => Lookup::Nothing,
-        },
+    let mut around = Some(scope);
+    while let Some(number) = around {
+        let found = own_lookup(tables, number, symbol);
+        if !is_nothing(found) {
+            return found;
+        }
+        around = host(tables, number);
     }
+    Lookup::Nothing
 }
 
 /// Whether nothing is found.
@@ -112,17 +136,13 @@ pub fn is_nothing(lookup: Lookup) -> bool
     }
 }
 
-/// What is visible in a scope, each entity once under each name: its own, and in a procedure then what its module has
-/// under names that none of its own has, in their order (own rule). It takes no memory. Where there is no scope of this
-/// number nothing is visible.
+/// What is visible in a scope, each entity once under each name: its own, then what is visible around it under names that
+/// none of its own has, in their order (own rule). It takes no memory. Where there is no scope of this number nothing is
+/// visible.
 pub fn visible(tables: &Tables, scope: usize) -> VisiblePairs<'_>
     ensures { pairs_left result ≡ visible_of tables.now scope }
 {
-    let host = match host_of(tables, scope) {
-        Some(host) => own(tables, host),
-        None => &[],
-    };
-    VisiblePairs::new(tables, scope, own(tables, scope), host)
+    VisiblePairs::new(tables, scope)
 }
 
 /// What is visible under a name is a declaration of some scope, by its number among the declarations of all scopes.

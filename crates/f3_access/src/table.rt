@@ -1,5 +1,9 @@
 //! The tables of names.
 
+ghost use Rattle.std.specs.Prelude.{nat_eq};
+ghost use Rattle.indexmap.specs.IndexMap.{get};
+ghost use Rattle.f3_access.specs.Parts.{AreOfScopes};
+
 use f3_selecting::choosing::Accesses;
 use indexmap::{IndexMap, IndexSet};
 
@@ -39,11 +43,11 @@ pub struct ScopeTable {
     pub(crate) exports: Vec<Visible>,
     /// The places in `exports` of each name there, in order.
     pub(crate) places: IndexMap<usize, Vec<usize>>,
-    /// Of a procedure, the number of its module.
+    /// Of a procedure or a construct, the number of the scope around it.
     pub(crate) host: Option<usize>,
 }
 
-/// The tables of a program, in order of its scopes. Only `tables` makes them: they are those of its outlines.
+/// The tables of a program, in order of its scopes. They are those of its outlines: only `tables` makes them.
 #[derive(Drop)]
 pub struct Tables {
     /// The table of each scope.
@@ -52,4 +56,5 @@ pub struct Tables {
     pub(crate) accesses: Vec<Accesses>,
     /// The number of the module of each name among the scopes.
     pub(crate) modules: IndexMap<usize, usize>,
+    pub ghost of_scopes: { ∥ AreOfScopes scopes.items accesses.items (get nat_eq modules) ∥₁ },
 }

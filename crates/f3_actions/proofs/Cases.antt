@@ -16,7 +16,7 @@ use Rattle.f3_reading.specs.Parts.{EatsWord, Lacks}
 use Rattle.f3_reading.proofs.Words.{same_tail, lacked}
 use Rattle.f3_expressions.specs.Grammar.{EatsExpression}
 use Rattle.f3_actions.specs.Actions.{EatsCase, ends_value}
-use Rattle.f3_actions.specs.Readings.{EatsCaseBehind}
+use Rattle.f3_actions.specs.Inner.Readings.{EatsCaseBehind}
 
 -- ---- from a colon on
 

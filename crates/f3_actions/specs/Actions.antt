@@ -5,7 +5,8 @@ use Rattle.f3_tree.specs.declared.expression.IntegerLiteral.{IntegerLiteral}
 use Rattle.f3_tree.specs.declared.expression.IntegerLiteral.TheVariants as literal
 use Rattle.f3_tree.specs.declared.expression.Operator.TheVariants.{Multiply}
 use Rattle.f3_tree.specs.Expressions.{Tree, Parts, ArgumentTree}
-use Rattle.f3_tree.specs.Statements.{Act, assign, call, allocate, deallocate, print, stop, return, cycle, exit, continue, CaseTree, one, from, up_to, range, Selects, values, default, Controls, forever, counted, while}
+use Rattle.f3_tree.specs.Statements.{Act, assign, call, allocate, deallocate, print, stop, return, cycle, exit, continue, CaseTree, one}
+use Rattle.f3_tree.specs.Statements.{from, up_to, range, Selects, values, default, Controls, forever, counted, while, AssociationTree}
 use Rattle.f3_words.specs.declared.item.Keyword.{Keyword}
 use Rattle.f3_words.specs.declared.item.Keyword.TheVariants as keyword
 use Rattle.f3_words.specs.declared.item.Word.{Word}
@@ -17,7 +18,9 @@ use Rattle.f3_reading.specs.Parts.{EatsWord, EatsName, EatsKeyword, Lacks, Enclo
 
 -- `v = e` (7.4.1)
 unfoldable pub IsAssignment : Act → List Item → Type 0
-IsAssignment a ts = (v : Parts) × (e : Tree) × (b : List Item) × (c : List Item) × EatsDesignator v ts b × EatsWord word.Equals b c × EatsExpression e c [] × (a ≡ assign v e)
+IsAssignment a ts =
+    (v : Parts) × (e : Tree) × (b : List Item) × (c : List Item) × EatsDesignator v ts b × EatsWord word.Equals b c
+    × EatsExpression e c [] × (a ≡ assign v e)
 
 -- the arguments of a CALL; none where there are no parentheses
 unfoldable pub IsCallArguments : List ArgumentTree → List Item → Type 0
@@ -129,7 +132,8 @@ unfoldable pub EatsCase : CaseTree → List Item → List Item → Type 0
 EatsCase (one e) ts r = Lacks word.Colon ts × EatsExpression e ts r × Lacks word.Colon r
 EatsCase (from e) ts r = (a : List Item) × Lacks word.Colon ts × EatsExpression e ts a × EatsWord word.Colon a r × (starts ends_value r ≡ true)
 EatsCase (range e f) ts r =
-    (a : List Item) × (b : List Item) × Lacks word.Colon ts × EatsExpression e ts a × EatsWord word.Colon a b × (starts ends_value b ≡ false) × EatsExpression f b r
+    (a : List Item) × (b : List Item) × Lacks word.Colon ts × EatsExpression e ts a × EatsWord word.Colon a b
+    × (starts ends_value b ≡ false) × EatsExpression f b r
 EatsCase (up_to p f) ts r = (i : Item) × (a : List Item) × EatsWord word.Colon ts a × (ts ≡ i ∷ a) × (p ≡ i.place) × EatsExpression f a r
 
 unfoldable pub AreCases : List CaseTree → List Item → List Item → Type 0
@@ -162,7 +166,9 @@ IsSteps x ts =
 
 -- `n = e, e [, e]`
 unfoldable pub IsCounted : Controls → List Item → Type 0
-IsCounted x ts = (n : Identifier) × (s : Tree × Tree × Option Tree) × (a : List Item) × (b : List Item) × EatsName n ts a × EatsWord word.Equals a b × IsSteps s b × (x ≡ counted n s.0 s.1 s.2)
+IsCounted x ts =
+    (n : Identifier) × (s : Tree × Tree × Option Tree) × (a : List Item) × (b : List Item) × EatsName n ts a
+    × EatsWord word.Equals a b × IsSteps s b × (x ≡ counted n s.0 s.1 s.2)
 
 -- `WHILE (e)`
 unfoldable pub IsWhile : Controls → List Item → Type 0
@@ -174,3 +180,14 @@ IsControl x ts = First IsWhile IsCounted x ts
 -- behind DO (8.1.6): nothing, or a control
 unfoldable pub IsDo : Controls → List Item → Type 0
 IsDo x ts = ((ts ≡ []) × (x ≡ forever)) ⊎ ((ts ≢ []) × IsControl x ts)
+
+-- `n => e` (8.1.4)
+unfoldable pub EatsAssociation : AssociationTree → List Item → List Item → Type 0
+EatsAssociation x ts r = (n : Identifier) × (e : Tree) × (a : List Item) × (b : List Item) × EatsName n ts a × EatsWord word.Arrow a b × EatsExpression e b r × (x ≡ record { name = n; selector = e })
+
+unfoldable pub AreAssociations : List AssociationTree → List Item → List Item → Type 0
+AreAssociations xs ts r = EatsList EatsAssociation xs ts r
+
+-- behind ASSOCIATE: `(n => e {, n => e})`
+unfoldable pub IsAssociate : List AssociationTree → List Item → Type 0
+IsAssociate xs ts = Enclosed AreAssociations xs ts []

@@ -1,3 +1,3 @@
 pub mod Views
 pub mod Actions
-pub mod Readings
+pub mod Inner

@@ -1,21 +1,21 @@
-//! The statements of IF, CASE and DO constructs.
+//! The statements of IF, CASE, DO and ASSOCIATE constructs.
 
 ghost use Rattle.std.specs.Prelude.{◌≡◌, ◌<◌, ◌≤◌, length, map, IfOk, Option};
 ghost use Rattle.std.specs.Option.{option_map};
 ghost use Rattle.f3_tree.specs.Expressions.{expression_view};
-ghost use Rattle.f3_tree.specs.Statements.{case_view, selector_view, control_view};
+ghost use Rattle.f3_tree.specs.Statements.{case_view, selector_view, control_view, association_view};
 ghost use Rattle.f3_words.specs.Lists.{starts};
 ghost use Rattle.f3_words.specs.Reads.{Reads, Finds};
 ghost use Rattle.f3_actions.specs.Views.{steps_view};
-ghost use Rattle.f3_actions.specs.Readings.{HasColon, EatsCaseBehind};
-ghost use Rattle.f3_actions.specs.Actions.{EatsCondition, IsCondition, IsThen, ends_value, EatsCase, AreCases, IsCaseList, IsDefault, AreValues, IsCase, EatsStepPerhaps, IsSteps, IsCounted, IsWhile, IsControl, IsDo};
+ghost use Rattle.f3_actions.specs.Inner.Readings.{HasColon, EatsCaseBehind};
+ghost use Rattle.f3_actions.specs.Actions.{EatsCondition, IsCondition, IsThen, ends_value, EatsCase, AreCases, IsCaseList, IsDefault, AreValues, IsCase, EatsStepPerhaps, IsSteps, IsCounted, IsWhile, IsControl, IsDo, EatsAssociation, AreAssociations, IsAssociate};
 
 use f3_expressions::expressions::expression;
 use f3_reading::lists::{list, perhaps};
 use f3_reading::signs::{behind, is_over, name, skip};
 use f3_rules::source::Place;
 use f3_tree::expression::Expression;
-use f3_tree::statement::{CaseValue, Control, Selector};
+use f3_tree::statement::{Association, CaseValue, Control, Selector};
 use f3_words::error::ReadError;
 use f3_words::item::{Item, Keyword, Word};
 use f3_words::reading::front;
@@ -249,4 +249,39 @@ pub fn control(alloc: Global, items: &[Item]) -> Result<Control, ReadError>
         return Ok(Control::Forever);
     }
     Ok(some_control(alloc, items)?)
+}
+
+/// The `n => e` at the front.
+#[tactic(auto, unfolding(crate::specs::Actions::EatsAssociation))]
+fn association(alloc: Global, items: &[Item]) -> Result<(Association, &[Item]), ReadError>
+    ensures read { Reads EatsAssociation association_view result items.now }
+    ensures shorter { IfOk result (λ x. length x.1.now < length items.now) }
+{
+    let (name, rest) = name(items)?;
+    let rest = skip(Word::Arrow, rest)?;
+    let (selector, rest) = expression(alloc, rest)?;
+    Ok((Association { name, selector }, rest))
+}
+
+/// The associations at the front, with commas between them.
+fn all_associations(alloc: Global, items: &[Item]) -> Result<(Vec<Association>, &[Item]), ReadError>
+    ensures read { Reads AreAssociations (λ v. map association_view v.items) result items.now }
+    ensures shorter { IfOk result (λ x. length x.1.now ≤ length items.now) }
+{
+    list(alloc, items, |tokens| association(alloc, tokens))
+}
+
+/// The associations in the parentheses that all of the tokens are.
+#[tactic(auto, unfolding(crate::specs::Actions::IsAssociate))]
+pub fn associations(alloc: Global, items: &[Item]) -> Result<Vec<Association>, ReadError>
+    ensures { Finds IsAssociate (λ v. map association_view v.items) result items.now }
+{
+    let rest = skip(Word::Open, items)?;
+    let (found, rest) = all_associations(alloc, rest)?;
+    let rest = skip(Word::Close, rest)?;
+    if is_over(rest) {
+        Ok(found)
+    } else {
+        Err(ReadError::NoForm)
+    }
 }

@@ -4,12 +4,12 @@ use Rattle.std.specs.Prelude.{option_and_then}
 use Rattle.std.proofs.lemmas.List.{append-nil}
 use Rattle.f3_rules.specs.declared.source.Place.{Place}
 use Rattle.f3_tree.specs.Expressions.{Tree}
-use Rattle.f3_tree.specs.Statements.{Act, Selects, StatementTree, acts, acts_if, branches, selects, repeats, Block, no_statements, statements, Branches, no_branches, branch, Alternative, no_alternative, alternative, Cases, no_cases, case_block, block_of}
+use Rattle.f3_tree.specs.Statements.{Act, Selects, StatementTree, acts, acts_if, branches, selects, repeats, associates, Block, no_statements, statements, Branches, no_branches, branch, Alternative, no_alternative, alternative, Cases, no_cases, case_block, block_of}
 use Rattle.f3_form.specs.declared.form.Ended.TheVariants as ended
 use Rattle.f3_form.specs.Forms as form
-use Rattle.f3_blocks.specs.Pieces.{Placed, Piece, act, act_if, if_begins, else_if_begins, else_begins, if_ends, select_begins, case_begins, select_ends, do_begins, do_ends, no_piece, piece_of}
+use Rattle.f3_blocks.specs.Pieces.{Placed, Piece, act, act_if, if_begins, else_if_begins, else_begins, if_ends, select_begins, case_begins, select_ends, do_begins, do_ends, associate_begins, associate_ends, no_piece, piece_of}
 use Rattle.f3_blocks.specs.Blocks.{flat, flats, flat_if, flat_else_ifs, flat_else, flat_cases, may_act, IsSome, IsProper, AreProper, AreBranches, IsElse, AreCases, IsBlock}
-use Rattle.f3_blocks.specs.Machine.{Tested, Chosen, branches_from, cases_from, Open, in_if, in_else, in_select, in_case, in_do, State, start, in_loop, may_stand, within, behind, pushed, opened, to_else_if, to_else, close_if, to_case, close_select, close_do, step, run}
+use Rattle.f3_blocks.specs.Machine.{Tested, Chosen, branches_from, cases_from, Open, in_if, in_else, in_select, in_case, in_do, in_associate, State, start, in_loop, may_stand, within, behind, pushed, opened, to_else_if, to_else, close_if, to_case, close_select, close_do, close_associate, step, run}
 
 abbrev pub at : List Open → List StatementTree → State
 at os b = record { opens = os; body = b }
@@ -60,6 +60,10 @@ module _ (procedure : Bool) where
         ap (option_and_then (run procedure (flats body (do_ends ∷ r)))) (opens (in_do p c b) os b stands)
         ∙ agains body (do_ends ∷ r) (in_do p c b ∷ os) [] refl h
         ∙ ap (λ (x : Block). run procedure r (at os (b ++ repeats p c x ∷ []))) (block_list body)
+    again (associates p xs body) r os b stands h =
+        ap (option_and_then (run procedure (flats body (associate_ends ∷ r)))) (opens (in_associate p xs b) os b stands)
+        ∙ agains body (associate_ends ∷ r) (in_associate p xs b ∷ os) [] refl h
+        ∙ ap (λ (x : Block). run procedure r (at os (b ++ associates p xs x ∷ []))) (block_list body)
 
     agains : (ss : Block) (r : List Piece) (os : List Open) (b : List StatementTree) → may_stand os ≡ true → AreProper procedure (in_loop os) ss → run procedure (flats ss r) (at os b) ≡ run procedure r (at os (b ++ list_of ss))
     agains no_statements r os b stands h = ap (λ (x : List StatementTree). run procedure r (at os x)) (sym (append-nil b))
@@ -129,6 +133,7 @@ before (in_else done b ∷ os) r = before os (flats (block_of b) (flat_if (branc
 before (in_select p e b ∷ os) r = before os (flats (block_of b) (select_begins p e ∷ r))
 before (in_case p e done q t b ∷ os) r = before os (flats (block_of b) (select_begins p e ∷ flat_cases (cases_from done) (case_begins q t ∷ r)))
 before (in_do p c b ∷ os) r = before os (flats (block_of b) (do_begins p c ∷ r))
+before (in_associate p xs b ∷ os) r = before os (flats (block_of b) (associate_begins p xs ∷ r))
 
 -- the statements read so far, and then others
 abbrev written : State → List Piece → List Piece
@@ -147,6 +152,7 @@ AreGood procedure (in_else done b ∷ os) = AreProper procedure (in_loop os) (bl
 AreGood procedure (in_select p e b ∷ os) = AreProper procedure (in_loop os) (block_of b) × (may_stand os ≡ true) × AreGood procedure os
 AreGood procedure (in_case p e done q t b ∷ os) = AreProper procedure (in_loop os) (block_of b) × (may_stand os ≡ true) × AreGood procedure os × AreCases procedure (in_loop os) (cases_from done)
 AreGood procedure (in_do p c b ∷ os) = AreProper procedure (in_loop os) (block_of b) × (may_stand os ≡ true) × AreGood procedure os
+AreGood procedure (in_associate p xs b ∷ os) = AreProper procedure (in_loop os) (block_of b) × (may_stand os ≡ true) × AreGood procedure os
 
 record IsGood (procedure : Bool) (s : State) : Type 0 where
   opens : AreGood procedure s.opens
@@ -204,6 +210,7 @@ fresh_stands (in_else done c ∷ os) b h = tt
 fresh_stands (in_select p e c ∷ os) b h = absurd (cc)
 fresh_stands (in_case p e done q t c ∷ os) b h = tt
 fresh_stands (in_do p d c ∷ os) b h = tt
+fresh_stands (in_associate p d c ∷ os) b h = tt
 
 module _ (procedure : Bool) where
   reads_at : (p : Piece) (s t u : State) → Reads procedure p s u → got u ≡ got t → Reads procedure p s t
@@ -241,6 +248,7 @@ module _ (procedure : Bool) where
   else_if_reads p e (in_select q f c ∷ os) b t good is = absurd (cc)
   else_if_reads p e (in_case q f done u v c ∷ os) b t good is = absurd (cc)
   else_if_reads p e (in_do q d c ∷ os) b t good is = absurd (cc)
+  else_if_reads p e (in_associate q d c ∷ os) b t good is = absurd (cc)
 
   else_reads : (os : List Open) (b : List StatementTree) (t : State) → IsGood procedure (at os b) → to_else os b ≡ Some t → Reads procedure else_begins (at os b) t
   else_reads [] b t good is = absurd (cc)
@@ -252,6 +260,7 @@ module _ (procedure : Bool) where
   else_reads (in_select q f c ∷ os) b t good is = absurd (cc)
   else_reads (in_case q f done u v c ∷ os) b t good is = absurd (cc)
   else_reads (in_do q d c ∷ os) b t good is = absurd (cc)
+  else_reads (in_associate q d c ∷ os) b t good is = absurd (cc)
 
   end_if_reads : (os : List Open) (b : List StatementTree) (t : State) → IsGood procedure (at os b) → close_if os b ≡ Some t → Reads procedure if_ends (at os b) t
   end_if_reads [] b t good is = absurd (cc)
@@ -264,6 +273,7 @@ module _ (procedure : Bool) where
   end_if_reads (in_select q f c ∷ os) b t good is = absurd (cc)
   end_if_reads (in_case q f done u v c ∷ os) b t good is = absurd (cc)
   end_if_reads (in_do q d c ∷ os) b t good is = absurd (cc)
+  end_if_reads (in_associate q d c ∷ os) b t good is = absurd (cc)
 
   case_reads : (p : Place) (k : Selects) (os : List Open) (b : List StatementTree) (t : State) → IsGood procedure (at os b) → to_case p k os b ≡ Some t → Reads procedure (case_begins p k) (at os b) t
   case_reads p k [] b t good is = absurd (cc)
@@ -278,6 +288,7 @@ module _ (procedure : Bool) where
     good = record { opens = (good.opens.0, good.opens.1, good.opens.2, are_cases-push procedure (in_loop os) done (u, v, block_of b) good.opens.3 good.body); body = tt; fresh = tt };
   }) is
   case_reads p k (in_do q d c ∷ os) b t good is = absurd (cc)
+  case_reads p k (in_associate q d c ∷ os) b t good is = absurd (cc)
 
   end_select_reads : (os : List Open) (b : List StatementTree) (t : State) → IsGood procedure (at os b) → close_select os b ≡ Some t → Reads procedure select_ends (at os b) t
   end_select_reads [] b t good is = absurd (cc)
@@ -291,6 +302,7 @@ module _ (procedure : Bool) where
       (λ r. ap (λ (x : List Piece). before os (flats (block_of c) (select_begins q f ∷ x))) (cases-push done (u, v, block_of b) (select_ends ∷ r)))
       good.opens.0 good.opens.1 good.opens.2) is
   end_select_reads (in_do q d c ∷ os) b t good is = absurd (cc)
+  end_select_reads (in_associate q d c ∷ os) b t good is = absurd (cc)
 
   end_do_reads : (os : List Open) (b : List StatementTree) (t : State) → IsGood procedure (at os b) → close_do os b ≡ Some t → Reads procedure do_ends (at os b) t
   end_do_reads [] b t good is = absurd (cc)
@@ -299,6 +311,16 @@ module _ (procedure : Bool) where
   end_do_reads (in_select q f c ∷ os) b t good is = absurd (cc)
   end_do_reads (in_case q f done u v c ∷ os) b t good is = absurd (cc)
   end_do_reads (in_do q d c ∷ os) b t good is = reads_at _ _ t _ (pushes do_ends os c (repeats q d (block_of b)) _ good.body (λ r. refl) good.opens.0 good.opens.1 good.opens.2) is
+  end_do_reads (in_associate q d c ∷ os) b t good is = absurd (cc)
+
+  end_associate_reads : (os : List Open) (b : List StatementTree) (t : State) → IsGood procedure (at os b) → close_associate os b ≡ Some t → Reads procedure associate_ends (at os b) t
+  end_associate_reads [] b t good is = absurd (cc)
+  end_associate_reads (in_if done q f c ∷ os) b t good is = absurd (cc)
+  end_associate_reads (in_else done c ∷ os) b t good is = absurd (cc)
+  end_associate_reads (in_select q f c ∷ os) b t good is = absurd (cc)
+  end_associate_reads (in_case q f done u v c ∷ os) b t good is = absurd (cc)
+  end_associate_reads (in_do q d c ∷ os) b t good is = absurd (cc)
+  end_associate_reads (in_associate q d c ∷ os) b t good is = reads_at _ _ t _ (pushes associate_ends os c (associates q d (block_of b)) _ good.body (λ r. refl) good.opens.0 good.opens.1 good.opens.2) is
 
   step_reads : (p : Piece) (s t : State) → IsGood procedure s → step procedure p s ≡ Some t → Reads procedure p s t
   step_reads (act p a) s t good is = pushed_reads (may_act procedure (in_loop s.opens) a) (acts p a) (act p a) s t (λ h. h) (λ r. refl) good is
@@ -312,6 +334,8 @@ module _ (procedure : Bool) where
   step_reads select_ends s t good is = end_select_reads s.opens s.body t good is
   step_reads (do_begins p c) s t good is = opened_reads (in_do p c s.body) (do_begins p c) s t (λ stands. record { writes = λ r. refl; good = record { opens = (good.body, stands, good.opens); body = tt; fresh = tt } }) is
   step_reads do_ends s t good is = end_do_reads s.opens s.body t good is
+  step_reads (associate_begins p xs) s t good is = opened_reads (in_associate p xs s.body) (associate_begins p xs) s t (λ stands. record { writes = λ r. refl; good = record { opens = (good.body, stands, good.opens); body = tt; fresh = tt } }) is
+  step_reads associate_ends s t good is = end_associate_reads s.opens s.body t good is
   step_reads no_piece s t good is = absurd (cc)
 
 pub then_some : {A B : Type 0} (f : A → Option B) (o : Option A) (y : B) → option_and_then f o ≡ Some y → (x : A) × (o ≡ Some x) × (f x ≡ Some y)
@@ -350,6 +374,7 @@ closing (in_else done b) = form.ends (Some ended.If) None
 closing (in_select p e b) = form.ends (Some ended.Select) None
 closing (in_case p e done q t b) = form.ends (Some ended.Select) None
 closing (in_do p c b) = form.ends (Some ended.Do) None
+closing (in_associate p xs b) = form.ends (Some ended.Associate) None
 
 -- statements at a place that end the open constructs
 abbrev pub closers : Place → List Open → List Placed
@@ -363,3 +388,4 @@ closes procedure place (in_else done c ∷ os) b = closes procedure place os (c 
 closes procedure place (in_select p e c ∷ os) b = closes procedure place os (c ++ selects p e no_cases ∷ [])
 closes procedure place (in_case p e done q t c ∷ os) b = closes procedure place os (c ++ selects p e (cases_from (done ++ (q, t, block_of b) ∷ [])) ∷ [])
 closes procedure place (in_do p d c ∷ os) b = closes procedure place os (c ++ repeats p d (block_of b) ∷ [])
+closes procedure place (in_associate p xs c ∷ os) b = closes procedure place os (c ++ associates p xs (block_of b) ∷ [])

@@ -1,7 +1,10 @@
 -- A block, and the statements that spell it (8.1).
 use Rattle.std.specs.Prelude.{◌≡◌, Bool, true, false, List, [], ◌∷◌, map}
-use Rattle.f3_tree.specs.Statements.{Act, return, cycle, exit, StatementTree, acts, acts_if, branches, selects, repeats, Block, no_statements, statements, Branches, no_branches, branch, Alternative, no_alternative, alternative, Cases, no_cases, case_block}
-use Rattle.f3_blocks.specs.Pieces.{Placed, Piece, act, act_if, if_begins, else_if_begins, else_begins, if_ends, select_begins, case_begins, select_ends, do_begins, do_ends, piece_of}
+use Rattle.f3_tree.specs.Statements.{Act, return, cycle, exit, StatementTree, acts, acts_if, branches, selects, repeats, associates, Block}
+use Rattle.f3_tree.specs.Statements.{no_statements, statements, Branches, no_branches, branch, Alternative, no_alternative, alternative}
+use Rattle.f3_tree.specs.Statements.{Cases, no_cases, case_block}
+use Rattle.f3_blocks.specs.Pieces.{Placed, Piece, act, act_if, if_begins, else_if_begins, else_begins, if_ends, select_begins, case_begins}
+use Rattle.f3_blocks.specs.Pieces.{select_ends, do_begins, do_ends, associate_begins, associate_ends, piece_of}
 
 -- the statements of a tree, and then others
 abbrev mutual
@@ -11,6 +14,7 @@ abbrev mutual
   flat (branches bs other) r = flat_if bs (flat_else other (if_ends ∷ r))
   flat (selects p e cs) r = select_begins p e ∷ flat_cases cs (select_ends ∷ r)
   flat (repeats p c body) r = do_begins p c ∷ flats body (do_ends ∷ r)
+  flat (associates p xs body) r = associate_begins p xs ∷ flats body (associate_ends ∷ r)
 
   pub flats : Block → List Piece → List Piece
   flats no_statements r = r
@@ -52,6 +56,7 @@ abbrev mutual
   IsProper procedure looped (branches bs other) = IsSome bs × AreBranches procedure looped bs × IsElse procedure looped other
   IsProper procedure looped (selects p e cs) = AreCases procedure looped cs
   IsProper procedure looped (repeats p c body) = AreProper procedure true body
+  IsProper procedure looped (associates p xs body) = AreProper procedure looped body
 
   pub AreProper : Bool → Bool → Block → Type 0
   AreProper procedure looped no_statements = Unit {0}

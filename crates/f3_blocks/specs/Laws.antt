@@ -7,7 +7,9 @@ use Rattle.f3_blocks.specs.Machine.{State, start, run}
 
 -- statements that were read, with no construct open, spell the block that is held
 abbrev pub HoldsWhatIsSpelled : Type 0
-HoldsWhatIsSpelled = (procedure : Bool) (ps : List Placed) (s : State) → run procedure (map piece_of ps) start ≡ Some s → s.opens ≡ [] → IsBlock procedure (block_of s.body) ps
+HoldsWhatIsSpelled =
+    (procedure : Bool) (ps : List Placed) (s : State) → run procedure (map piece_of ps) start ≡ Some s → s.opens ≡ []
+    → IsBlock procedure (block_of s.body) ps
 
 -- statements that spell a block are read as that block
 abbrev pub ReadsWhatIsSpelled : Type 0

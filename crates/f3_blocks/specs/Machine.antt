@@ -1,12 +1,15 @@
 -- A block statement by statement.
-use Rattle.std.specs.Prelude.{◌≡◌, ◌<◌, Bool, true, false, ◌&&◌, ◌||◌, if◌then◌else◌, List, [], ◌∷◌, ◌++◌, length, map, reverse, Option, Some, None, Result, Ok, Err, option_and_then}
+use Rattle.std.specs.Prelude.{◌≡◌, ◌<◌, Bool, true, false, ◌&&◌, ◌||◌, if◌then◌else◌, List, [], ◌∷◌, ◌++◌, length, map, reverse, Option}
+use Rattle.std.specs.Prelude.{Some, None, Result, Ok, Err, option_and_then}
 use Rattle.std.specs.Global.{Vec}
 use Rattle.f3_rules.specs.declared.source.Place.{Place}
 use Rattle.f3_tree.specs.Expressions.{Tree, expression_view}
 use Rattle.f3_tree.specs.declared.expression.Expression.{Expression}
 use Rattle.f3_tree.specs.declared.statement.Selector.{Selector}
 use Rattle.f3_tree.specs.declared.statement.Statement.{Statement}
-use Rattle.f3_tree.specs.Statements.{Act, Selects, selector_view, Controls, control_view, StatementTree, acts, acts_if, branches, selects, repeats, Block, Branches, no_branches, branch, no_alternative, alternative, Cases, no_cases, case_block, block_of, statement_view, block_view}
+use Rattle.f3_tree.specs.Statements.{Act, Selects, selector_view, Controls, control_view, StatementTree, acts, acts_if, branches, selects}
+use Rattle.f3_tree.specs.Statements.{AssociationTree, association_view, repeats, associates, Block, Branches, no_branches, branch, no_alternative, alternative, Cases, no_cases}
+use Rattle.f3_tree.specs.Statements.{case_block, block_of, statement_view, block_view}
 use Rattle.f3_blocks.specs.declared.builder.Opening.{Opening}
 use Rattle.f3_blocks.specs.declared.builder.Opening.TheVariants as opening
 use Rattle.f3_blocks.specs.declared.builder.OpenConstruct.{OpenConstruct}
@@ -17,7 +20,8 @@ use Rattle.f3_blocks.specs.declared.error.StepError.{StepError}
 use Rattle.f3_blocks.specs.declared.error.StepError.TheVariants.{Memory, OutOfPlace, TooDeep}
 use Rattle.f3_form.specs.declared.form.Ended.{Ended}
 use Rattle.f3_form.specs.declared.form.Ended.TheVariants as ended
-use Rattle.f3_blocks.specs.Pieces.{Piece, act, act_if, if_begins, else_if_begins, else_begins, if_ends, select_begins, case_begins, select_ends, do_begins, do_ends, no_piece}
+use Rattle.f3_blocks.specs.Pieces.{Piece, act, act_if, if_begins, else_if_begins, else_begins, if_ends, select_begins, case_begins}
+use Rattle.f3_blocks.specs.Pieces.{select_ends, do_begins, do_ends, associate_begins, associate_ends, no_piece}
 use Rattle.f3_blocks.specs.Blocks.{may_act}
 
 -- IF or ELSE IF, its condition, and its block
@@ -46,6 +50,7 @@ pub data Open : Type 0 where
   -- the cases before, and the CASE that is open
   in_case : Place → Tree → List Chosen → Place → Selects → List StatementTree → Open
   in_do : Place → Controls → List StatementTree → Open
+  in_associate : Place → List AssociationTree → List StatementTree → Open
 
 -- the open constructs from the innermost, and what stands in that
 pub record State : Type 0 where
@@ -109,6 +114,10 @@ abbrev pub close_do : List Open → List StatementTree → Option State
 close_do (in_do p c before ∷ os) body = Some (behind os before (repeats p c (block_of body)))
 close_do _ body = None
 
+abbrev pub close_associate : List Open → List StatementTree → Option State
+close_associate (in_associate p xs before ∷ os) body = Some (behind os before (associates p xs (block_of body)))
+close_associate _ body = None
+
 abbrev pub step : Bool → Piece → State → Option State
 step procedure (act p a) s = pushed (may_act procedure (in_loop s.opens) a) (acts p a) s
 step procedure (act_if p e q a) s = pushed (may_act procedure (in_loop s.opens) a) (acts_if p e q a) s
@@ -121,6 +130,8 @@ step procedure (case_begins p t) s = to_case p t s.opens s.body
 step procedure select_ends s = close_select s.opens s.body
 step procedure (do_begins p c) s = opened (in_do p c s.body) s
 step procedure do_ends s = close_do s.opens s.body
+step procedure (associate_begins p xs) s = opened (in_associate p xs s.body) s
+step procedure associate_ends s = close_associate s.opens s.body
 step procedure no_piece s = None
 
 abbrev pub run : Bool → List Piece → State → Option State
@@ -141,6 +152,7 @@ open_as (opening.Else bs) before = in_else (map tested_view bs.items) before
 open_as (opening.Select p e) before = in_select p (expression_view e) before
 open_as (opening.Case p e cs q s) before = in_case p (expression_view e) (map chosen_view cs.items) q (selector_view s) before
 open_as (opening.Do p c) before = in_do p (control_view c) before
+open_as (opening.Associate p xs) before = in_associate p (map association_view xs.items) before
 
 abbrev pub open_view : OpenConstruct → Open
 open_view c = open_as c.opening (map statement_view c.before.items)
@@ -159,6 +171,7 @@ abbrev pub close : Option Ended → List Open → List StatementTree → Option 
 close (Some ended.If) os body = close_if os body
 close (Some ended.Select) os body = close_select os body
 close (Some ended.Do) os body = close_do os body
+close (Some ended.Associate) os body = close_associate os body
 close _ os body = None
 
 -- the innermost construct is taken out, with its block

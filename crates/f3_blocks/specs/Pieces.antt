@@ -1,8 +1,8 @@
 -- What a statement is in a block: a whole statement, or an edge of a construct (8.1).
-use Rattle.std.specs.Prelude.{Option, Some, None}
+use Rattle.std.specs.Prelude.{List, Option, Some, None}
 use Rattle.f3_rules.specs.declared.source.Place.{Place}
 use Rattle.f3_tree.specs.Expressions.{Tree}
-use Rattle.f3_tree.specs.Statements.{Act, Selects, Controls}
+use Rattle.f3_tree.specs.Statements.{Act, Selects, Controls, AssociationTree}
 use Rattle.f3_form.specs.declared.form.Ended.TheVariants as ended
 use Rattle.f3_form.specs.Forms.{FormTree}
 use Rattle.f3_form.specs.Forms as form
@@ -25,6 +25,8 @@ pub data Piece : Type 0 where
   select_ends : Piece
   do_begins : Place → Controls → Piece
   do_ends : Piece
+  associate_begins : Place → List AssociationTree → Piece
+  associate_ends : Piece
   no_piece : Piece
 
 abbrev pub piece : Place → FormTree → Piece
@@ -36,9 +38,11 @@ piece p form.else_alone = else_begins
 piece p (form.select_case e) = select_begins p e
 piece p (form.case_of s) = case_begins p s
 piece p (form.repeats c) = do_begins p c
+piece p (form.associates xs) = associate_begins p xs
 piece p (form.ends (Some ended.If) None) = if_ends
 piece p (form.ends (Some ended.Select) None) = select_ends
 piece p (form.ends (Some ended.Do) None) = do_ends
+piece p (form.ends (Some ended.Associate) None) = associate_ends
 piece p _ = no_piece
 
 abbrev pub piece_of : Placed → Piece

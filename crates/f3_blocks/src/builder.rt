@@ -13,7 +13,7 @@ use crate::error::{StepError, out_of_place};
 use f3_form::form::{Ended, Form};
 use f3_rules::source::Place;
 use f3_tree::expression::{Expression, Name};
-use f3_tree::statement::{Action, Control, Selector, Statement};
+use f3_tree::statement::{Action, Association, Control, Selector, Statement};
 use std::alloc::Global;
 use std::mem;
 
@@ -29,6 +29,7 @@ pub enum Opening {
     /// SELECT CASE, the cases before, and the CASE that is open.
     Case(Place, Expression, Vec<(Place, Selector, Vec<Statement>)>, Place, Selector),
     Do(Place, Control),
+    Associate(Place, Vec<Association>),
 }
 
 /// An open construct.
@@ -176,6 +177,12 @@ impl Opening {
                 Opening::Do(at, control) => Ok(Statement::Do(at, control, body)),
                 _ => Err(self.out_of_place()),
             },
+            Some(Ended::Associate) => match self {
+                Opening::Associate(at, associations) => {
+                    Ok(Statement::Associate(at, associations, body))
+                }
+                _ => Err(self.out_of_place()),
+            },
             _ => Err(self.out_of_place()),
         }
     }
@@ -221,6 +228,9 @@ impl BlockBuilder {
             Form::Select(value) => self.open(alloc, Opening::Select(place, value)),
             Form::Case(selector) => self.turn(alloc, Edge::Case(place, selector)),
             Form::Do(control) => self.open(alloc, Opening::Do(place, control)),
+            Form::Associate(associations) => {
+                self.open(alloc, Opening::Associate(place, associations))
+            }
             Form::End(what, name) => self.end(alloc, what, name),
             _ => Err(out_of_place(form)),
         }

@@ -19,7 +19,7 @@ use Rattle.f3_graph.specs.Order.{IsRefusal, Orders}
 use Rattle.f3_names.specs.Answers.{BreaksOfNames, NamesAnswer}
 use Rattle.f3_use_rules.specs.UseBreaks.{UseBreaks}
 use Rattle.f3_check.specs.Accepted.{Breaks, of_units, of_names, of_uses, Accepted}
-use Rattle.f3_check.specs.Phases.{Named, Used}
+use Rattle.f3_check.specs.Inner.Phases.{Named, Used}
 use Rattle.f3_check.specs.Refusals.{First, of_text, of_statement, of_program, Checks, not_compiled, fault_of_text}
 use Rattle.f3_check.proofs.Phases.{least_of_units, least_of_names, least_of_uses}
 

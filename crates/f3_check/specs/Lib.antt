@@ -1,4 +1,4 @@
 pub mod Accepted
 pub mod Checked
-pub mod Phases
 pub mod Refusals
+pub mod Inner

@@ -31,7 +31,8 @@ not_compiled place = record { phase = 1; place = place; rule = S5; name = None }
 pub data First (sources : List Source) (refusal : Refusal) : Type 0 where
   of_text : IsFirstFault refusal sources → First sources refusal
   of_statement : (t : whole.Tree) (place : Place) → Spells t sources → IsFirstNotTaken t place → Tells refusal (not_compiled place) → First sources refusal
-  of_program : (t : whole.Tree) (program : Tree) (b : Break) → Spells t sources → IsTaken t program → Least (Some b) (Breaks t program) → IsRefusal t.names b refusal → First sources refusal
+  of_program : (t : whole.Tree) (program : Tree) (b : Break) → Spells t sources → IsTaken t program
+      → Least (Some b) (Breaks t program) → IsRefusal t.names b refusal → First sources refusal
 
 -- what `check` answers
 abbrev pub Checks : Result Checked CheckFault → List Source → Type 0

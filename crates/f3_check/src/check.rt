@@ -5,7 +5,7 @@ ghost use Rattle.f3_tree.specs.Tree.{view as whole_view};
 ghost use Rattle.f3_taken.specs.Tree.{view};
 ghost use Rattle.f3_names.specs.Tables.{AreNames};
 ghost use Rattle.f3_check.specs.Refusals.{Checks, fault_of_text, not_compiled};
-ghost use Rattle.f3_check.specs.Phases.{Named, Used};
+ghost use Rattle.f3_check.specs.Inner.Phases.{Named, Used};
 ghost use Rattle.f3_text.specs.Reader.{Tells};
 
 use crate::checked::Checked;

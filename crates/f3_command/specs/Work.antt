@@ -66,7 +66,8 @@ Does contents names task sources old new (Ended Memory) = Wrote old new []
 Does contents names task sources old new outcome = AreOf contents names sources × Works task sources old new outcome
 
 -- What a call of f3 does: this becomes of its task, and its line is told with its status.
-pub record Performs (contents : List ℕ → Option (List ℕ)) (names : List (List ℕ)) (task : Task) (old new : State) (told telling : State) (status : ℕ) : Type 0 where
+pub record Performs (contents : List ℕ → Option (List ℕ)) (names : List (List ℕ)) (task : Task) (old new : State)
+    (told telling : State) (status : ℕ) : Type 0 where
   pub sources : List Source
   pub outcome : Outcome
   pub done : Does contents names task sources old new outcome

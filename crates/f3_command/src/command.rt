@@ -10,23 +10,45 @@ const HEAP_WORDS: &str = "1048576";
 
 /// The command line of f3: `check FILE...`, `run [--steps N] [--heap WORDS] FILE...` and `names FILE...`.
 pub fn command<'a>(alloc: Global) -> Result<Command<'a>, AllocError> {
-    let check = Command::new(alloc, "check")
+    let f3 = Command::new(alloc, "f3")
+        .about("Checks, compiles and runs libraries of Fortran modules")
+        .subcommand_required(true);
+    let f3 = with_subcommand(f3, check(alloc))?;
+    let f3 = with_subcommand(f3, run(alloc))?;
+    with_subcommand(f3, names(alloc))
+}
+
+fn with_subcommand<'a>(
+    command: Command<'a>,
+    subcommand: Result<Command<'a>, AllocError>,
+) -> Result<Command<'a>, AllocError> {
+    match subcommand {
+        Ok(subcommand) => command.subcommand(subcommand),
+        Err(refused) => {
+            drop(command);
+            Err(refused)
+        }
+    }
+}
+
+fn check<'a>(alloc: Global) -> Result<Command<'a>, AllocError> {
+    Command::new(alloc, "check")
         .about("Checks the sources, and refuses them in one line or accepts them")
-        .arg(files(alloc))?;
-    let run = Command::new(alloc, "run")
+        .arg(files(alloc))
+}
+
+fn run<'a>(alloc: Global) -> Result<Command<'a>, AllocError> {
+    Command::new(alloc, "run")
         .about("Checks the sources and runs their program")
         .arg(steps(alloc))?
         .arg(heap(alloc))?
-        .arg(files(alloc))?;
-    let names = Command::new(alloc, "names")
+        .arg(files(alloc))
+}
+
+fn names<'a>(alloc: Global) -> Result<Command<'a>, AllocError> {
+    Command::new(alloc, "names")
         .about("Checks the names of the sources, and shows what each program unit sees")
-        .arg(files(alloc))?;
-    Command::new(alloc, "f3")
-        .about("Checks, compiles and runs libraries of Fortran modules")
-        .subcommand_required(true)
-        .subcommand(check)?
-        .subcommand(run)?
-        .subcommand(names)
+        .arg(files(alloc))
 }
 
 fn files<'a>(alloc: Global) -> Arg<'a> {

@@ -1,3 +1,3 @@
 pub mod Kinds
 pub mod Specifications
-pub mod Views
+pub mod Inner

@@ -14,7 +14,8 @@ use Rattle.f3_tree.specs.declared.declaration.TypeSpecifier.{TypeSpecifier}
 use Rattle.f3_tree.specs.declared.declaration.TypeSpecifier.TheVariants as specifier
 use Rattle.f3_tree.specs.declared.program.ProcedureKind.TheVariants as procedure_kind
 use Rattle.f3_tree.specs.Expressions.{Tree}
-use Rattle.f3_tree.specs.Declarations.{Selects, all, only, UseTree, Bounds, ShapeTree, explicit, deferred, AttributeTree, access, protected, parameter, save, allocatable, dimension, intent, Placed, EntityTree, DeclarationTree, AccessTree}
+use Rattle.f3_tree.specs.Declarations.{Selects, all, only, UseTree, Bounds, ShapeTree, explicit, deferred, AttributeTree, access, protected}
+use Rattle.f3_tree.specs.Declarations.{parameter, save, allocatable, dimension, intent, Placed, EntityTree, DeclarationTree, AccessTree}
 use Rattle.f3_tree.specs.Tree.{HeaderTree}
 use Rattle.f3_words.specs.declared.item.Keyword.{Keyword}
 use Rattle.f3_words.specs.declared.item.Keyword.TheVariants as keyword
@@ -23,7 +24,8 @@ use Rattle.f3_words.specs.declared.item.Word.TheVariants as word
 use Rattle.f3_words.specs.declared.item.Item.{Item}
 use Rattle.f3_words.specs.Lists.{starts, EatsList}
 use Rattle.f3_expressions.specs.Grammar.{EatsExpression}
-pub use Rattle.f3_shapes.specs.Shapes.{EatsBound, EatsBounds, EatsLower, AreBounds, AreLowers, EatsExplicit, EatsDeferred, EatsShapeBehind, EatsShape, EatsShapePerhaps}
+pub use Rattle.f3_shapes.specs.Shapes.{EatsBound, EatsBounds, EatsLower, AreBounds, AreLowers, EatsExplicit, EatsDeferred, EatsShapeBehind}
+pub use Rattle.f3_shapes.specs.Shapes.{EatsShape, EatsShapePerhaps}
 use Rattle.f3_declarations.specs.declared.procedures.Prefix.{Prefix}
 use Rattle.f3_declarations.specs.declared.procedures.Prefix.TheVariants as prefix
 use Rattle.f3_declarations.specs.declared.procedures.Prefixes.{Prefixes}
@@ -34,7 +36,9 @@ use Rattle.f3_declarations.specs.Kinds.{EatsInteger}
 -- ---- USE (11.2.1): [::] n [, n => n {, n => n}], or [::] n, ONLY: [only {, only}]
 
 unfoldable pub EatsRename : Rename → List Item → List Item → Type 0
-EatsRename x ts r = (l : Identifier) × (o : Identifier) × (a : List Item) × (b : List Item) × EatsName l ts a × EatsWord word.Arrow a b × EatsName o b r × (x ≡ record { local = l; original = o })
+EatsRename x ts r =
+    (l : Identifier) × (o : Identifier) × (a : List Item) × (b : List Item) × EatsName l ts a × EatsWord word.Arrow a b
+    × EatsName o b r × (x ≡ record { local = l; original = o })
 
 -- a name alone is one that no arrow follows
 unfoldable pub EatsOnly : Only → List Item → List Item → Type 0
@@ -123,7 +127,9 @@ EatsAttributeOf _ x ts r = ⊥
 
 -- an attribute at its keyword
 unfoldable pub EatsAttribute : Placed → List Item → List Item → Type 0
-EatsAttribute p ts r = (i : Item) × (k : Keyword) × (tail : List Item) × (kind : AttributeTree) × (ts ≡ i ∷ tail) × (i.word ≡ word.Name k) × EatsAttributeOf k kind tail r × (p ≡ record { place = i.place; attribute = kind })
+EatsAttribute p ts r =
+    (i : Item) × (k : Keyword) × (tail : List Item) × (kind : AttributeTree) × (ts ≡ i ∷ tail) × (i.word ≡ word.Name k)
+    × EatsAttributeOf k kind tail r × (p ≡ record { place = i.place; attribute = kind })
 
 unfoldable pub AreAttributes : List Placed → List Item → List Item → Type 0
 AreAttributes xs ts r = EatsList EatsAttribute xs ts r
@@ -134,7 +140,8 @@ EatsInitialPerhaps e ts r = Perhaps word.Equals EatsExpression e ts r
 
 unfoldable pub EatsEntity : EntityTree → List Item → List Item → Type 0
 EatsEntity e ts r =
-    (n : Identifier) × (s : Option ShapeTree) × (v : Option Tree) × (a : List Item) × (b : List Item) × EatsName n ts a × EatsShapePerhaps s a b × EatsInitialPerhaps v b r
+    (n : Identifier) × (s : Option ShapeTree) × (v : Option Tree) × (a : List Item) × (b : List Item)
+    × EatsName n ts a × EatsShapePerhaps s a b × EatsInitialPerhaps v b r
     × (e ≡ record { name = n; shape = s; initial = v })
 
 unfoldable pub AreEntities : List EntityTree → List Item → List Item → Type 0

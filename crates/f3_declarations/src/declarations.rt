@@ -6,7 +6,7 @@ ghost use Rattle.std.specs.Option.{option_map};
 ghost use Rattle.f3_tree.specs.Expressions.{expression_view};
 ghost use Rattle.f3_tree.specs.Declarations.{placed_view, entity_view, declaration_view};
 ghost use Rattle.f3_words.specs.Reads.{Reads, Finds};
-ghost use Rattle.f3_declarations.specs.Views.{AsDeclared};
+ghost use Rattle.f3_declarations.specs.Inner.Views.{AsDeclared};
 ghost use Rattle.f3_declarations.specs.Specifications.{EatsInitialPerhaps, EatsEntity, AreEntities, needs_colons, IsDeclarationBehind, IsDeclaration};
 
 use crate::attributes::{attributes, specifier};

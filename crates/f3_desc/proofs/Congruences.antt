@@ -4,7 +4,7 @@ use Rattle.std.specs.Prelude.{ℤ, pos, negsuc, neg_ℤ, ◌+ℤ◌, ◌*ℤ◌,
 use Rattle.std.specs.Int.{int_wrap, int_rem_euclid, w64, cast_unsigned}
 use Rattle.std.proofs.lemmas.Int.{ints, of_z-to_z}
 use borrow.Author.Differences.{up, down}
-use Rattle.f3_desc.specs.Congruent.{IsCongruent}
+use Rattle.f3_desc.specs.Inner.Congruent.{IsCongruent}
 
 pub mul-add : (a b c : ℤ) → (a +ℤ b) *ℤ c ≡ (a *ℤ c) +ℤ (b *ℤ c)
 mul-add a b c =

@@ -6,7 +6,7 @@ use Rattle.std.proofs.lemmas.Int.{ints, by_lt_z}
 use Rattle.std.proofs.Math.IntN.{+ℤ_idl}
 use Rattle.std.proofs.lemmas.Nat.{div-add-mod'}
 use Rattle.f3_desc.specs.Section.{at_least_zero, count}
-use Rattle.f3_desc.specs.Cuts.{EndsAt}
+use Rattle.f3_desc.specs.Inner.Cuts.{EndsAt}
 use Rattle.f3_desc.specs.Laws.{CountsSteps}
 
 -- the count by what is between the first number and the second

@@ -8,10 +8,10 @@ use Rattle.f3_desc.specs.declared.descriptor.Descriptor.{Descriptor}
 use Rattle.f3_desc.specs.declared.descriptor.Dim.{Dim}
 use Rattle.f3_desc.specs.declared.descriptor.Triplet.{Triplet}
 use Rattle.f3_desc.specs.declared.descriptor.Triplet.TheVariants.{At, Range}
-use Rattle.f3_desc.specs.Congruent.{IsCongruent}
+use Rattle.f3_desc.specs.Inner.Congruent.{IsCongruent}
 use Rattle.f3_desc.specs.Descriptor.{HasPlaces, IsWithin, distance, place}
 use Rattle.f3_desc.specs.Section.{IsSection, IsStepZero, SelectsWithin, selected}
-use Rattle.f3_desc.specs.Cuts.{cut_of, first_of}
+use Rattle.f3_desc.specs.Inner.Cuts.{cut_of, first_of}
 use Rattle.f3_desc.proofs.Congruences.{congruent-trans, congruent-add}
 use Rattle.f3_desc.proofs.Sections.{cuts_of, Within, section-is}
 

@@ -8,7 +8,7 @@ use Rattle.std.proofs.lemmas.List.Elements.{All-nil, All-cons, All-head, All-tai
 use Rattle.f3_desc.specs.declared.descriptor.Dim.{Dim}
 use Rattle.f3_desc.specs.Descriptor.{IsWithin, progression}
 use Rattle.f3_desc.specs.Section.{count}
-use Rattle.f3_desc.specs.Cuts.{EndsAt}
+use Rattle.f3_desc.specs.Inner.Cuts.{EndsAt}
 
 -- one step, and then m
 pub step-more : (f k : ℤ) (m : ℕ) → (f +ℤ k) +ℤ (pos m *ℤ k) ≡ f +ℤ (pos (suc m) *ℤ k)

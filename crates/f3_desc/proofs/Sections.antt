@@ -11,10 +11,10 @@ use Rattle.f3_desc.specs.declared.descriptor.Descriptor.{Descriptor}
 use Rattle.f3_desc.specs.declared.descriptor.Dim.{Dim}
 use Rattle.f3_desc.specs.declared.descriptor.Triplet.{Triplet}
 use Rattle.f3_desc.specs.declared.descriptor.Triplet.TheVariants.{At, Range}
-use Rattle.f3_desc.specs.Congruent.{IsCongruent}
+use Rattle.f3_desc.specs.Inner.Congruent.{IsCongruent}
 use Rattle.f3_desc.specs.Descriptor.{HasElement, HasPlaces, IsWithin, progression, choices, subscripts, place, places}
 use Rattle.f3_desc.specs.Section.{IsSection, SelectsWithin, count, selected, extents}
-use Rattle.f3_desc.specs.Cuts.{cut_of, first_of}
+use Rattle.f3_desc.specs.Inner.Cuts.{cut_of, first_of}
 use Rattle.f3_desc.proofs.Congruences.{mul-add, congruent-exact}
 use Rattle.f3_desc.proofs.Members.{In, in-All, in-map, from-map, in-choices, from-choices, in-subscripts}
 use Rattle.f3_desc.proofs.Spots.{from, spots, spots-cons, spaced, moved, same-progression}

@@ -5,7 +5,7 @@ use Rattle.std.specs.List.{AllZip}
 use Rattle.std.proofs.lemmas.Int.{ints}
 use Rattle.f3_desc.specs.declared.descriptor.Descriptor.{Descriptor}
 use Rattle.f3_desc.specs.declared.descriptor.Dim.{Dim}
-use Rattle.f3_desc.specs.Congruent.{IsCongruent}
+use Rattle.f3_desc.specs.Inner.Congruent.{IsCongruent}
 use Rattle.f3_desc.specs.Descriptor.{HasElement, HasPlaces, IsWithin, distance, place}
 use Rattle.f3_desc.proofs.Congruences.{congruent-trans, congruent-add, congruent-exact}
 

@@ -1,7 +1,6 @@
-pub mod Congruent
-pub mod Cuts
 pub mod Descriptor
 pub mod Laws
 pub mod Layout
 pub mod Section
 pub mod Shape
+pub mod Inner

@@ -3,9 +3,9 @@
 ghost use Rattle.std.specs.Prelude.{◌≡◌, ◌≢◌, ◌↔◌, pos, ◌+ℤ◌, ◌-ℤ◌, ◌*ℤ◌, length, All, Any, IsTrue, IsOk, IfOk, IfSome, IfNone};
 ghost use Rattle.std.specs.Option.{option_to_list};
 ghost use Rattle.arrayvec.specs.ArrayVec.{array_vec_len};
-ghost use Rattle.f3_desc.specs.Congruent.{IsCongruent};
+ghost use Rattle.f3_desc.specs.Inner.Congruent.{IsCongruent};
 ghost use Rattle.f3_desc.specs.Descriptor.{HasElement, HasPlaces, IsWithin, place};
-ghost use Rattle.f3_desc.specs.Cuts.{EndsAt, cut_of, first_of};
+ghost use Rattle.f3_desc.specs.Inner.Cuts.{EndsAt, cut_of, first_of};
 ghost use Rattle.f3_desc.specs.Section.{IsSection, IsStepZero, SelectsWithin, count, selected};
 
 use arrayvec::ArrayVec;

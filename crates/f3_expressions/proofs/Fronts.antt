@@ -1,5 +1,7 @@
 -- What an expression begins with, and where it ends.
 use Rattle.std.proofs.Common.{◌≡◌, ◌≢◌, ℕ, ◌<◌, ◌≤◌, true, false, List, [], ◌∷◌, Some, None, refl, sym, ap, subst, ◌∙◌, arith, inl, inr}
+use Rattle.std.specs.Prelude.{Option}
+use Rattle.std.specs.Borrow.{Bor}
 use Rattle.std.proofs.lemmas.Bool.{cases_lt, true≢false}
 use Rattle.std.proofs.lemmas.Bool.Decides.{nat_tests}
 use Rattle.f3_tree.specs.declared.expression.Operator.{Operator}
@@ -11,6 +13,8 @@ use Rattle.f3_words.specs.declared.item.Word.{Word}
 use Rattle.f3_words.specs.declared.item.Word.TheVariants as word
 use Rattle.f3_words.specs.declared.item.Item.{Item}
 use Rattle.f3_words.specs.Words.{is_name}
+use Rattle.f3_words.specs.Reads.{IsFront}
+use Rattle.f3_reading.specs.Parts.{EatsWord, Lacks, IsBehind}
 use Rattle.f3_expressions.specs.Levels.{level_of, unsigned, joins, operator_of, Ends}
 use Rattle.f3_expressions.specs.Grammar.{Eats, EatsParts, is_integer, closer_of}
 
@@ -201,3 +205,10 @@ name_equals k (chain e (more o f os)) i equals tail r named w h =
     let here : (h.4).0 ∷ (h.4).1 ≡ equals ∷ tail = sym (h.4).3 ∙ at_equals in
     let same : (h.4).0 ≡ equals = cc in
     let operator : word.Operator o ≡ word.Equals = sym (h.4).4 ∙ ap (λ (x : Item). x.word) same ∙ w in absurd (cc)
+
+-- ---- one word at the front
+
+pub front_of : (w : Word) (r : Option (Bor (List Item))) (ts : List Item) → IsBehind w r ts → IsFront w r ts
+unfolding EatsWord Lacks
+front_of w (Some tail) ts h = h.0
+front_of w None ts h = λ i tail e is. h tail (i, e, is)

@@ -115,7 +115,10 @@ IsTriplet p first (triplet q a b c) ts r = (mid : List Item) × (q ≡ p) × (a 
 abbrev pub IsPositional : ArgumentTree → List Item → List Item → Type 0
 IsPositional (value None e) ts r = EatsWhole e ts r × (starts is_colon r ≡ false)
 IsPositional (value (Some n) e) ts r = ⊥
-IsPositional (triplet p first last stride) ts r = (i : Item) × (others : List Item) × (colon : Item) × (behind : List Item) × (ts ≡ i ∷ others) × EatsPerhaps first ts (colon ∷ behind) × (colon.word ≡ word.Colon) × IsTriplet i.place first (triplet p first last stride) behind r
+IsPositional (triplet p first last stride) ts r =
+    (i : Item) × (others : List Item) × (colon : Item) × (behind : List Item) × (ts ≡ i ∷ others)
+    × EatsPerhaps first ts (colon ∷ behind) × (colon.word ≡ word.Colon)
+    × IsTriplet i.place first (triplet p first last stride) behind r
 
 -- an argument, with its keyword where a name and `=` are the first
 abbrev pub IsArgument : ArgumentTree → List Item → List Item → Type 0

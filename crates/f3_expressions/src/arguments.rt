@@ -10,13 +10,11 @@ ghost use Rattle.f3_expressions.specs.Views.{arguments_view, bound_view};
 
 use crate::expressions::operation;
 use crate::levels::WHOLE;
-use crate::marks::{
-    behind_close, behind_colon, behind_comma, behind_open, bound_ends, keyword_front,
-};
+use crate::marks::{behind, bound_ends, keyword_front};
 use f3_rules::source::Place;
 use f3_tree::expression::{Argument, Expression};
 use f3_words::error::ReadError;
-use f3_words::item::Item;
+use f3_words::item::{Item, Word};
 use f3_words::reading::front;
 use std::alloc::Global;
 
@@ -34,14 +32,14 @@ pub fn within(alloc: Global, items: &[Item]) -> Result<(Vec<Argument>, &[Item]),
     ensures read { Reads EatsList arguments_view result items.now }
     ensures shorter { IfOk result (λ x. length x.1.now < length items.now) }
 {
-    match behind_open(items) {
+    match behind(Word::Open, items) {
         None => Err(ReadError::NoForm),
-        Some(inner) => match behind_close(inner) {
+        Some(inner) => match behind(Word::Close, inner) {
             Some(tail) => Ok((Vec::new(alloc), tail)),
             None => {
                 let (first, rest) = argument(alloc, inner)?;
                 let (found, rest) = further(alloc, first, rest)?;
-                match behind_close(rest) {
+                match behind(Word::Close, rest) {
                     Some(tail) => Ok((found, tail)),
                     None => Err(ReadError::NoForm),
                 }
@@ -63,7 +61,7 @@ fn further(
     let mut found = Vec::with_capacity(alloc, 1)?;
     found.push(first)?;
     let mut rest = items;
-    while let Some(tail) = behind_comma(rest) {
+    while let Some(tail) = behind(Word::Comma, rest) {
         let (argument, after) = argument(alloc, tail)?;
         found.push(argument)?;
         rest = after;
@@ -95,11 +93,11 @@ fn positional(alloc: Global, items: &[Item]) -> Result<(Argument, &[Item]), Read
     match front(items) {
         None => Err(ReadError::NoForm),
         Some((item, _)) => {
-            match behind_colon(items) {
+            match behind(Word::Colon, items) {
                 Some(tail) => triplet(alloc, item.place, None, tail),
                 None => {
                     let (first, rest) = operation(alloc, WHOLE, items)?;
-                    match behind_colon(rest) {
+                    match behind(Word::Colon, rest) {
                         Some(tail) => triplet(alloc, item.place, Some(first), tail),
                         None => Ok((Argument::Value(None, first), rest)),
                     }
@@ -145,7 +143,7 @@ fn stride(alloc: Global, items: &[Item]) -> Result<(Option<Expression>, &[Item])
     ensures read { Reads IsStride bound_view result items.now }
     ensures shorter { IfOk result (λ x. length x.1.now ≤ length items.now) }
 {
-    match behind_colon(items) {
+    match behind(Word::Colon, items) {
         Some(tail) => {
             let (stride, rest) = operation(alloc, WHOLE, tail)?;
             Ok((Some(stride), rest))

@@ -9,10 +9,10 @@ ghost use Rattle.f3_expressions.specs.Readings.{IsPart};
 ghost use Rattle.f3_expressions.specs.Views.{named_view, parts_view};
 
 use crate::arguments::within;
-use crate::marks::{behind_open, behind_percent};
+use crate::marks::behind;
 use f3_tree::expression::{Argument, Name};
 use f3_words::error::ReadError;
-use f3_words::item::Item;
+use f3_words::item::{Item, Word};
 use f3_words::reading::name_front;
 use std::alloc::Global;
 
@@ -51,7 +51,7 @@ fn part(
 {
     match name_front(items) {
         None => Err(ReadError::NoForm),
-        Some((item, tail)) => match behind_open(tail) {
+        Some((item, tail)) => match behind(Word::Open, tail) {
             Some(_) => {
                 let (arguments, rest) = within(alloc, tail)?;
                 Ok(((item.name(), Some(arguments)), rest))
@@ -74,7 +74,7 @@ fn components(
     let mut found = Vec::with_capacity(alloc, 1)?;
     found.push(first)?;
     let mut rest = items;
-    while let Some(tail) = behind_percent(rest) {
+    while let Some(tail) = behind(Word::Percent, rest) {
         let (component, after) = part(alloc, tail)?;
         found.push(component)?;
         rest = after;

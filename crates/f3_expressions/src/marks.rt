@@ -1,105 +1,30 @@
 //! Signs at the front.
 
-ghost use Rattle.f3_words.specs.declared.item.Word.TheVariants.{Close, Colon, Comma, Equals, Open, Percent};
 ghost use Rattle.f3_words.specs.Reads.{IsFront};
 ghost use Rattle.f3_words.specs.Lists.{starts};
 ghost use Rattle.std.specs.Prelude.{◌≡◌};
 ghost use Rattle.f3_expressions.specs.Readings.{HasKeyword, HasNot, HasCloser, ends_bound};
 
-use f3_rules::source::Place;
+use f3_reading::signs;
 use f3_tree::expression::Name;
 use f3_words::item::{Item, Word};
 use f3_words::reading::{front, name_front};
 
-/// What stands behind a `,` at the front.
-pub fn behind_comma(items: &[Item]) -> Option<&[Item]>
-    ensures { IsFront Comma result items.now }
+/// What stands behind this word, where it is the first.
+pub fn behind(word: Word, items: &[Item]) -> Option<&[Item]>
+    ensures { IsFront word result items.now }
 {
-    match front(items) {
-        Some((item, tail)) => match item.word {
-            Word::Comma => Some(tail),
-            _ => None,
-        },
-        None => None,
-    }
-}
-
-/// What stands behind a `(` at the front.
-pub fn behind_open(items: &[Item]) -> Option<&[Item]>
-    ensures { IsFront Open result items.now }
-{
-    match front(items) {
-        Some((item, tail)) => match item.word {
-            Word::Open => Some(tail),
-            _ => None,
-        },
-        None => None,
-    }
-}
-
-/// What stands behind a `)` at the front.
-pub fn behind_close(items: &[Item]) -> Option<&[Item]>
-    ensures { IsFront Close result items.now }
-{
-    match front(items) {
-        Some((item, tail)) => match item.word {
-            Word::Close => Some(tail),
-            _ => None,
-        },
-        None => None,
-    }
-}
-
-/// What stands behind a `:` at the front.
-pub fn behind_colon(items: &[Item]) -> Option<&[Item]>
-    ensures { IsFront Colon result items.now }
-{
-    match front(items) {
-        Some((item, tail)) => match item.word {
-            Word::Colon => Some(tail),
-            _ => None,
-        },
-        None => None,
-    }
-}
-
-/// What stands behind a `%` at the front.
-pub fn behind_percent(items: &[Item]) -> Option<&[Item]>
-    ensures { IsFront Percent result items.now }
-{
-    match front(items) {
-        Some((item, tail)) => match item.word {
-            Word::Percent => Some(tail),
-            _ => None,
-        },
-        None => None,
-    }
-}
-
-/// What stands behind a `=` at the front.
-pub fn behind_equals(items: &[Item]) -> Option<&[Item]>
-    ensures { IsFront Equals result items.now }
-{
-    match front(items) {
-        Some((item, tail)) => match item.word {
-            Word::Equals => Some(tail),
-            _ => None,
-        },
-        None => None,
-    }
+    signs::behind(word, items)
 }
 
 /// What stands behind the sign that closes an array constructor, opened by this one.
 pub fn behind_closer(opener: Word, items: &[Item]) -> Option<&[Item]>
     ensures { HasCloser opener result items.now }
 {
-    match front(items) {
-        Some((item, tail)) => match (opener, item.word) {
-            (Word::OpenBracket, Word::CloseBracket) => Some(tail),
-            (Word::OpenSlash, Word::CloseSlash) => Some(tail),
-            _ => None,
-        },
-        None => None,
+    match opener {
+        Word::OpenBracket => behind(Word::CloseBracket, items),
+        Word::OpenSlash => behind(Word::CloseSlash, items),
+        _ => None,
     }
 }
 
@@ -121,7 +46,7 @@ pub fn keyword_front(items: &[Item]) -> Option<(Name, &[Item])>
     ensures { HasKeyword result items.now }
 {
     match name_front(items) {
-        Some((item, tail)) => match behind_equals(tail) {
+        Some((item, tail)) => match behind(Word::Equals, tail) {
             Some(rest) => Some((item.name(), rest)),
             None => None,
         },

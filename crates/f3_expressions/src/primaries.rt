@@ -11,7 +11,7 @@ ghost use Rattle.f3_expressions.specs.Views.{elements_view};
 use crate::designators::parts;
 use crate::expressions::operation;
 use crate::levels::WHOLE;
-use crate::marks::{behind_close, behind_closer, behind_comma};
+use crate::marks::{behind, behind_closer};
 use f3_tree::expression::Expression;
 use f3_words::error::ReadError;
 use f3_words::item::{Item, Word};
@@ -58,7 +58,7 @@ fn group(alloc: Global, first: Item, items: &[Item]) -> Result<(Expression, &[It
     ensures shorter { IfOk result (λ x. length x.1.now < length items.now) }
 {
     let (inner, rest) = operation(alloc, WHOLE, items)?;
-    match behind_close(rest) {
+    match behind(Word::Close, rest) {
         Some(tail) => Ok((
             Expression::Group(first.place, Box::new(alloc, inner)?),
             tail,
@@ -95,7 +95,7 @@ fn elements(
     let mut found = Vec::new(alloc);
     found.push(first)?;
     let mut rest = items;
-    while let Some(tail) = behind_comma(rest) {
+    while let Some(tail) = behind(Word::Comma, rest) {
         let (element, after) = operation(alloc, WHOLE, tail)?;
         found.push(element)?;
         rest = after;

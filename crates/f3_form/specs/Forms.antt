@@ -1,12 +1,12 @@
 -- The forms of a statement, without where they lie in memory.
-use Rattle.std.specs.Prelude.{List, Option}
+use Rattle.std.specs.Prelude.{List, map, Option}
 use Rattle.f3_rules.specs.declared.source.Place.{Place}
 use Rattle.f3_tree.specs.declared.expression.Name.{Name}
 use Rattle.f3_tree.specs.declared.declaration.Accessibility.{Accessibility}
 use Rattle.f3_tree.specs.declared.program.UnitKind.{UnitKind}
 use Rattle.f3_tree.specs.Expressions.{Tree, expression_view}
 use Rattle.f3_tree.specs.Declarations.{UseTree, use_view, AccessTree, access_view, DeclarationTree, declaration_view}
-use Rattle.f3_tree.specs.Statements.{Act, action_view, Selects, selector_view, Controls, control_view}
+use Rattle.f3_tree.specs.Statements.{Act, action_view, Selects, selector_view, Controls, control_view, AssociationTree, association_view}
 use Rattle.f3_tree.specs.Tree.{HeaderTree, header_view}
 use Rattle.f3_form.specs.declared.form.Ended.{Ended}
 use Rattle.f3_form.specs.declared.form.Form.{Form}
@@ -33,6 +33,7 @@ pub data FormTree : Type 0 where
   select_case : Tree → FormTree
   case_of : Selects → FormTree
   repeats : Controls → FormTree
+  associates : List AssociationTree → FormTree
 
 abbrev pub form_view : Form → FormTree
 form_view (variant.Unit kind n) = unit kind n
@@ -55,3 +56,4 @@ form_view variant.Else = else_alone
 form_view (variant.Select e) = select_case (expression_view e)
 form_view (variant.Case s) = case_of (selector_view s)
 form_view (variant.Do c) = repeats (control_view c)
+form_view (variant.Associate xs) = associates (map association_view xs.items)

@@ -4,7 +4,7 @@ use f3_rules::source::Place;
 use f3_tree::declaration::{Access, Accessibility, Declaration, Use};
 use f3_tree::expression::{Expression, Name};
 use f3_tree::program::{Header, UnitKind};
-use f3_tree::statement::{Action, Control, Selector};
+use f3_tree::statement::{Action, Association, Control, Selector};
 
 /// What an END says that it ends.
 #[derive(Clone, Copy, PartialEq, Eq, Debug)]
@@ -17,6 +17,7 @@ pub enum Ended {
     If,
     Select,
     Do,
+    Associate,
 }
 
 /// What a statement is. Its place, that of its first token, is told apart from it; the parts that have a place of
@@ -53,4 +54,6 @@ pub enum Form {
     Select(Expression),
     Case(Selector),
     Do(Control),
+    /// `ASSOCIATE (n => e {, n => e})`
+    Associate(Vec<Association>),
 }

@@ -13,11 +13,12 @@ use Rattle.f3_words.specs.declared.item.Word.TheVariants as word
 use Rattle.f3_words.specs.declared.item.Item.{Item}
 use Rattle.f3_form.specs.declared.form.Ended.{Ended}
 use Rattle.f3_form.specs.declared.form.Ended.TheVariants as ended
-use Rattle.f3_form.specs.Forms.{FormTree, unit, contains, ends, procedure, uses, implicit_none, accesses, protects, saves, declares, type_begins, finals, acts, acts_if, if_then, else_if, else_alone, select_case, case_of, repeats}
+use Rattle.f3_form.specs.Forms.{FormTree, unit, contains, ends, procedure, uses, implicit_none, accesses, protects, saves, declares}
+use Rattle.f3_form.specs.Forms.{type_begins, finals, acts, acts_if, if_then, else_if, else_alone, select_case, case_of, repeats, associates}
 use Rattle.f3_reading.specs.Parts.{EatsKeyword, First}
 use Rattle.f3_reading.specs.Names.{IsName, IsNameList, IsLabel}
 use Rattle.f3_declarations.specs.Specifications.{IsUse, IsAccess, IsDeclaration, IsHeader, IsTypeBegin}
-use Rattle.f3_actions.specs.Actions.{IsAction, EatsCondition, IsCondition, IsThen, IsCase, IsDo}
+use Rattle.f3_actions.specs.Actions.{IsAction, EatsCondition, IsCondition, IsThen, IsCase, IsDo, IsAssociate}
 
 -- the form that is made of what the tokens spell
 abbrev pub Makes : {A : Type 0} → (A → FormTree) → (A → List Item → Type 0) → FormTree → List Item → Type 0
@@ -33,6 +34,7 @@ ended_of keyword.Type = Some ended.Type
 ended_of keyword.If = Some ended.If
 ended_of keyword.Select = Some ended.Select
 ended_of keyword.Do = Some ended.Do
+ended_of keyword.Associate = Some ended.Associate
 ended_of _ = None
 
 -- a construct has no name
@@ -40,6 +42,7 @@ abbrev pub has_name : Ended → Bool
 has_name ended.If = false
 has_name ended.Select = false
 has_name ended.Do = false
+has_name ended.Associate = false
 has_name _ = true
 
 unfoldable pub IsEndLabel : Ended → Option Identifier → List Item → Type 0
@@ -57,7 +60,8 @@ IsJoinedEnd what f ts = (n : Option Identifier) × IsEndLabel what n ts × (f �
 unfoldable pub IsEnd : FormTree → List Item → Type 0
 IsEnd f ts =
     ((ts ≡ []) × (f ≡ ends None None))
-    ⊎ ((i : Item) × (k : Keyword) × (what : Ended) × (tail : List Item) × (ts ≡ i ∷ tail) × (i.word ≡ word.Name k) × (ended_of k ≡ Some what) × IsJoinedEnd what f tail)
+    ⊎ ((i : Item) × (k : Keyword) × (what : Ended) × (tail : List Item) × (ts ≡ i ∷ tail) × (i.word ≡ word.Name k)
+    × (ended_of k ≡ Some what) × IsJoinedEnd what f tail)
 
 unfoldable pub IsType : FormTree → List Item → Type 0
 IsType f ts = (a : Option (Place × Accessibility)) × (n : Identifier) × IsTypeBegin a n ts × (f ≡ type_begins a n)
@@ -100,6 +104,7 @@ IsFormOf keyword.EndType place f ts = IsJoinedEnd ended.Type f ts
 IsFormOf keyword.EndIf place f ts = IsJoinedEnd ended.If f ts
 IsFormOf keyword.EndSelect place f ts = IsJoinedEnd ended.Select f ts
 IsFormOf keyword.EndDo place f ts = IsJoinedEnd ended.Do f ts
+IsFormOf keyword.EndAssociate place f ts = IsJoinedEnd ended.Associate f ts
 IsFormOf keyword.Use place f ts = Makes uses (IsUse place) f ts
 IsFormOf keyword.Implicit place f ts = IsImplicit f ts
 IsFormOf keyword.Public place f ts = Makes accesses (IsAccess place accessibility.Public) f ts
@@ -115,6 +120,7 @@ IsFormOf keyword.Select place f ts = IsSelect f ts
 IsFormOf keyword.SelectCase place f ts = Makes select_case IsCondition f ts
 IsFormOf keyword.Case place f ts = Makes case_of IsCase f ts
 IsFormOf keyword.Do place f ts = Makes repeats IsDo f ts
+IsFormOf keyword.Associate place f ts = Makes associates IsAssociate f ts
 IsFormOf _ place f ts = ⊥
 
 -- a form that begins with a keyword of its own

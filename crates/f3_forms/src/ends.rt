@@ -24,6 +24,7 @@ fn ended(keyword: Keyword) -> Option<Ended>
         Keyword::If => Some(Ended::If),
         Keyword::Select => Some(Ended::Select),
         Keyword::Do => Some(Ended::Do),
+        Keyword::Associate => Some(Ended::Associate),
         _ => None,
     }
 }
@@ -33,7 +34,7 @@ fn has_name(what: Ended) -> bool
     ensures { result ≡ has_name what }
 {
     match what {
-        Ended::If | Ended::Select | Ended::Do => false,
+        Ended::If | Ended::Select | Ended::Do | Ended::Associate => false,
         _ => true,
     }
 }

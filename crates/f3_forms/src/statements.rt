@@ -4,16 +4,16 @@ ghost use Rattle.std.specs.Prelude.{◌≡◌, true, false, []};
 ghost use Rattle.f3_tree.specs.Expressions.{expression_view};
 ghost use Rattle.f3_words.specs.declared.item.Keyword.TheVariants.{Then};
 ghost use Rattle.f3_words.specs.Reads.{Finds};
-ghost use Rattle.f3_form.specs.Forms.{FormTree, unit, contains, uses, accesses, protects, saves, finals, else_if, select_case, case_of, repeats, form_view};
+ghost use Rattle.f3_form.specs.Forms.{FormTree, unit, contains, uses, accesses, protects, saves, finals, else_if, select_case, case_of, repeats, associates, form_view};
 ghost use Rattle.f3_reading.specs.Parts.{EatsKeyword};
 ghost use Rattle.f3_reading.specs.Names.{IsName, IsNameList};
 ghost use Rattle.f3_declarations.specs.Specifications.{IsAccess, IsUse};
-ghost use Rattle.f3_actions.specs.Actions.{IsThen, IsCondition, IsCase, IsDo};
+ghost use Rattle.f3_actions.specs.Actions.{IsThen, IsCondition, IsCase, IsDo, IsAssociate};
 ghost use Rattle.f3_forms.specs.Grammar.{Makes, IsBare, IsType, IsLogicalIf, IsIfBehind, IsIf, IsElse, IsSelect, IsImplicit, IsFormOf, IsHeaded, IsAct, IsProcedure, IsDeclared, IsSpecified, IsPassive, IsForm};
 
 use crate::ends::{end, joined_end};
 use f3_actions::actions::action;
-use f3_actions::constructs::{condition, control, selector, then, whole_condition};
+use f3_actions::constructs::{associations, condition, control, selector, then, whole_condition};
 use f3_declarations::access::{access, type_access};
 use f3_declarations::declarations::declaration;
 use f3_declarations::procedures::header;
@@ -216,6 +216,13 @@ fn do_form(alloc: Global, items: &[Item]) -> Result<Form, ReadError>
     Ok(Form::Do(control(alloc, items)?))
 }
 
+/// What stands behind ASSOCIATE.
+fn associate(alloc: Global, items: &[Item]) -> Result<Form, ReadError>
+    ensures { Finds (Makes associates IsAssociate) form_view result items.now }
+{
+    Ok(Form::Associate(associations(alloc, items)?))
+}
+
 /// What stands behind the keyword at the place.
 fn form_of(alloc: Global, keyword: Keyword, place: Place, items: &[Item]) -> Result<Form, ReadError>
     ensures { Finds (IsFormOf keyword place) form_view result items.now }
@@ -233,6 +240,7 @@ fn form_of(alloc: Global, keyword: Keyword, place: Place, items: &[Item]) -> Res
         Keyword::EndIf => joined_end(Ended::If, items),
         Keyword::EndSelect => joined_end(Ended::Select, items),
         Keyword::EndDo => joined_end(Ended::Do, items),
+        Keyword::EndAssociate => joined_end(Ended::Associate, items),
         Keyword::Use => use_form(alloc, place, items),
         Keyword::Implicit => implicit(items),
         Keyword::Public => access_form(alloc, place, Accessibility::Public, items),
@@ -248,6 +256,7 @@ fn form_of(alloc: Global, keyword: Keyword, place: Place, items: &[Item]) -> Res
         Keyword::SelectCase => select_case(alloc, items),
         Keyword::Case => case(alloc, items),
         Keyword::Do => do_form(alloc, items),
+        Keyword::Associate => associate(alloc, items),
         _ => Err(ReadError::NoForm),
     }
 }

@@ -33,9 +33,10 @@ Goes ts = (starts is_target ts ≡ true) ⊎ ((list : Arguments) × (mid : List 
 abbrev pub Apart : List Item → Type 0
 Apart ts = (starts is_target ts ≡ false) × (starts is_open ts ≡ false)
 
--- behind the first name of any other statement
+-- behind the first name of any other statement: such a word; or no target, and none behind any arguments
 abbrev pub Opposed : List Item → Type 0
-Opposed ts = Apart ts ⊎ ((mid : List Item) × Within ts mid × (starts is_target mid ≡ false))
+Opposed ts =
+    Apart ts ⊎ ((starts is_target ts ≡ false) × ((list : Arguments) (mid : List Item) → EatsWithin list ts mid → starts is_target mid ≡ false))
 
 pub opens : (l : Arguments) (ts r : List Item) → EatsWithin l ts r → (starts is_open ts ≡ true) × (starts is_target ts ≡ false)
 opens no_arguments ts r h = (ap (starts is_open) h.2 ∙ ap is_open h.3, ap (starts is_target) h.2 ∙ ap is_target h.3)
@@ -44,8 +45,13 @@ opens (arguments a others) ts r h = (ap (starts is_open) h.4 ∙ ap is_open h.5,
 clash : (ts : List Item) → Opposed ts → Goes ts → ⊥
 clash ts (inl a) (inl b) = true≢false (sym b ∙ a.0)
 clash ts (inl a) (inr b) = true≢false (sym (opens b.0 ts b.1 b.2).0 ∙ a.1)
-clash ts (inr a) (inl b) = true≢false (sym b ∙ (opens (a.1).list ts a.0 (a.1).eats).1)
-clash ts (inr a) (inr b) = true≢false (sym b.3 ∙ ap (starts is_target) (within_one b.0 (a.1).list ts b.1 a.0 b.2 (a.1).eats) ∙ a.2)
+clash ts (inr a) (inl b) = true≢false (sym b ∙ a.0)
+clash ts (inr a) (inr b) = true≢false (sym b.3 ∙ a.1 b.0 b.1 b.2)
+
+-- arguments behind which no target stands
+pub enclosed_there : (ts mid : List Item) → Within ts mid → starts is_target mid ≡ false → Opposed ts
+enclosed_there ts mid w none =
+    inr ((opens w.list ts mid w.eats).1, λ l r h. ap (starts is_target) (within_one l w.list ts r mid h w.eats) ∙ none)
 
 -- ---- assignments
 

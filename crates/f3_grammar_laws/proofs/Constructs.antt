@@ -4,7 +4,7 @@ use Rattle.std.proofs.lemmas.Bool.{true≢false}
 use Rattle.f3_rules.specs.declared.source.Place.{Place}
 use Rattle.f3_tree.specs.declared.expression.Name.{Name as Identifier}
 use Rattle.f3_tree.specs.Expressions.{Tree}
-use Rattle.f3_tree.specs.Statements.{CaseTree, one, from, up_to, range, values, counted, while}
+use Rattle.f3_tree.specs.Statements.{CaseTree, one, from, up_to, range, values, counted, while, AssociationTree}
 use Rattle.f3_words.specs.declared.item.Keyword.TheVariants as keyword
 use Rattle.f3_words.specs.declared.item.Word.TheVariants as word
 use Rattle.f3_words.specs.declared.item.Item.{Item}
@@ -14,7 +14,7 @@ use Rattle.f3_reading.specs.Laws.{IsOne, IsOneWhole}
 use Rattle.f3_reading.proofs.Words.{lacked}
 use Rattle.f3_reading.proofs.Ones.{names, lists, enclosed, perhaps}
 use Rattle.f3_expressions.specs.Grammar.{EatsExpression}
-use Rattle.f3_actions.specs.Actions.{EatsCondition, IsCondition, IsThen, ends_value, EatsCase, AreCases, IsCaseList, IsDefault, AreValues, IsCase, EatsStepPerhaps, IsSteps, IsCounted, IsWhile, IsControl, IsDo}
+use Rattle.f3_actions.specs.Actions.{EatsCondition, IsCondition, IsThen, ends_value, EatsCase, AreCases, IsCaseList, IsDefault, AreValues, IsCase, EatsStepPerhaps, IsSteps, IsCounted, IsWhile, IsControl, IsDo, EatsAssociation, AreAssociations, IsAssociate}
 use Rattle.f3_grammar_laws.proofs.Parts.{ap2, ap3, along, whole_along, sign, sign_along, lacked_along, front, first_of}
 use Rattle.f3_grammar_laws.proofs.Ones.{expressions}
 
@@ -134,3 +134,24 @@ does x y ts (inl a) (inl b) = a.1 ∙ sym b.1
 does x y ts (inl a) (inr b) = absurd (b.0 a.0)
 does x y ts (inr a) (inl b) = absurd (a.0 b.0)
 does x y ts (inr a) (inr b) = controls x y ts a.1 b.1
+
+-- ---- ASSOCIATE
+
+abbrev association_of : Identifier → Tree → AssociationTree
+association_of n e = record { name = n; selector = e }
+
+associations : IsOne EatsAssociation
+unfolding EatsAssociation
+associations x y ts r s a b =
+    let n = names a.0 b.0 ts a.2 b.2 a.4 b.4 in
+    let arrow = sign_along word.Arrow a.2 b.2 a.3 b.3 n.1 a.5 b.5 in
+    let e = along EatsExpression expressions a.1 b.1 a.3 b.3 r s arrow a.6 b.6 in
+    (a.7 ∙ ap2 association_of n.0 e.0 ∙ sym b.7, e.1)
+
+association_lists : IsOne AreAssociations
+unfolding AreAssociations
+association_lists xs ys ts r s a b = lists EatsAssociation associations xs ys ts r s a b
+
+pub all_associations : IsOneWhole IsAssociate
+unfolding IsAssociate
+all_associations xs ys ts a b = (enclosed AreAssociations association_lists xs ys ts [] [] a b).0

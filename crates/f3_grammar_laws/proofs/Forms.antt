@@ -17,14 +17,14 @@ use Rattle.f3_reading.proofs.Ones.{whole_names, labels, whole_lists}
 use Rattle.f3_declarations.specs.Specifications.{IsUse, IsAccess, IsDeclaration, IsHeader}
 use Rattle.f3_form.specs.declared.form.Ended.{Ended}
 use Rattle.f3_form.specs.declared.form.Ended.TheVariants as ended
-use Rattle.f3_actions.specs.Actions.{IsAction, IsCondition, IsThen, IsCase, IsDo}
-use Rattle.f3_form.specs.Forms.{FormTree, unit, ends, procedure, uses, accesses, protects, declares, type_begins, finals, acts, acts_if, else_if, select_case, case_of, repeats}
+use Rattle.f3_actions.specs.Actions.{IsAction, IsCondition, IsThen, IsCase, IsDo, IsAssociate}
+use Rattle.f3_form.specs.Forms.{FormTree, unit, ends, procedure, uses, accesses, protects, declares, type_begins, finals, acts, acts_if, else_if, select_case, case_of, repeats, associates}
 use Rattle.f3_forms.specs.Grammar.{Makes, ended_of, IsEndLabel, IsJoinedEnd, IsEnd, IsType, IsBlockIf, IsLogicalIf, IsIfBehind, IsIf, IsElse, IsSelect, IsImplicit, IsFormOf, IsHeaded, AtFirst, IsAct, IsProcedure, IsDeclared, IsSpecified, IsPassive, IsForm}
 use Rattle.f3_grammar_laws.proofs.Parts.{ap2, whole_along, sign, front, one_keyword, first_of}
 use Rattle.f3_grammar_laws.proofs.Declarations as declarations
 use Rattle.f3_grammar_laws.proofs.Headers as headers
 use Rattle.f3_grammar_laws.proofs.Actions.{actions}
-use Rattle.f3_grammar_laws.proofs.Constructs.{conditions, whole_conditions, thens, selectors, does}
+use Rattle.f3_grammar_laws.proofs.Constructs.{conditions, whole_conditions, thens, selectors, does, all_associations}
 
 makes : {A : Type 0} (make : A → FormTree) (Is : A → List Item → Type 0) → IsOneWhole Is → IsOneWhole (Makes make Is)
 makes make Is one f g ts a b = a.1 ∙ ap make (one a.0 b.0 ts a.2 b.2) ∙ sym b.1
@@ -116,6 +116,7 @@ form_of place keyword.EndType x y ts a b = joined_ends ended.Type x y ts a b
 form_of place keyword.EndIf x y ts a b = joined_ends ended.If x y ts a b
 form_of place keyword.EndSelect x y ts a b = joined_ends ended.Select x y ts a b
 form_of place keyword.EndDo x y ts a b = joined_ends ended.Do x y ts a b
+form_of place keyword.EndAssociate x y ts a b = joined_ends ended.Associate x y ts a b
 form_of place keyword.Use x y ts a b = makes uses (IsUse place) (declarations.uses place) x y ts a b
 form_of place keyword.Implicit x y ts a b = implicits x y ts a b
 form_of place keyword.Public x y ts a b = makes accesses (IsAccess place accessibility.Public) (declarations.accesses place accessibility.Public) x y ts a b
@@ -131,6 +132,7 @@ form_of place keyword.Select x y ts a b = selects x y ts a b
 form_of place keyword.SelectCase x y ts a b = makes select_case IsCondition whole_conditions x y ts a b
 form_of place keyword.Case x y ts a b = makes case_of IsCase selectors x y ts a b
 form_of place keyword.Do x y ts a b = makes repeats IsDo does x y ts a b
+form_of place keyword.Associate x y ts a b = makes associates IsAssociate all_associations x y ts a b
 form_of place k x y ts a b = absurd a
 
 headed : IsOneWhole IsHeaded

@@ -30,7 +30,8 @@ use Rattle.f3_actions.specs.Actions.{IsCall, IsAllocate, IsDeallocate, IsPrint, 
 use Rattle.f3_form.specs.Forms.{FormTree}
 use Rattle.f3_forms.specs.Grammar.{IsEndLabel, IsJoinedEnd, IsEnd, IsType, IsBlockIf, IsLogicalIf, IsIfBehind, IsIf, IsElse, IsSelect, IsImplicit, IsFormOf, IsHeaded}
 use Rattle.f3_grammar_laws.proofs.Enclosures.{Within, condition_within, name_within, kind_within, allocation_within, cases_within}
-use Rattle.f3_grammar_laws.proofs.Assigned.{is_target, is_acting, Apart, Opposed, assigned, Headed, named_apart, eats_name, name_there, keyword_there, word_there, nothing_there, same_there, colons_there, whole_name_there, label_there, name_list_there}
+use Rattle.f3_grammar_laws.proofs.Associations.{associations_there}
+use Rattle.f3_grammar_laws.proofs.Assigned.{is_target, is_acting, Apart, Opposed, enclosed_there, assigned, Headed, named_apart, eats_name, name_there, keyword_there, word_there, nothing_there, same_there, colons_there, whole_name_there, label_there, name_list_there}
 
 -- ---- actions with a keyword
 
@@ -57,11 +58,11 @@ print_there a ts h = word_there (word.Operator Multiply) ts h.1 refl refl h.2
 
 allocate_there : (a : Act) (ts : List Item) → IsAllocate a ts → Opposed ts
 unfolding IsAllocate
-allocate_there a ts h = inr ([], allocation_within h.0 ts h.1, refl)
+allocate_there a ts h = enclosed_there ts [] (allocation_within h.0 ts h.1) refl
 
 deallocate_there : (a : Act) (ts : List Item) → IsDeallocate a ts → Opposed ts
 unfolding IsDeallocate
-deallocate_there a ts h = inr ([], allocation_within h.0 ts h.1, refl)
+deallocate_there a ts h = enclosed_there ts [] (allocation_within h.0 ts h.1) refl
 
 action_there : (k : Keyword) (a : Act) (ts : List Item) → IsActionOf k a ts → Opposed ts
 action_there keyword.Call a ts h = inl (call_there a ts h)
@@ -101,12 +102,12 @@ action_named a ts (inr h) = let w = headed_action a ts h.1 in ap (starts is_name
 
 derived_there : (s : TypeSpecifier) (ts r : List Item) → EatsDerived s ts r → Apart r → Opposed ts
 unfolding EatsDerived
-derived_there s ts r h a = inr (r, name_within h.0 ts r h.1, a.0)
+derived_there s ts r h a = enclosed_there ts r (name_within h.0 ts r h.1) a.0
 
 kind_there : (k : Option IntegerKind) (ts r : List Item) → EatsKindPerhaps k ts r → Apart r → Opposed ts
 unfolding EatsKindPerhaps
 kind_there None ts r h a = inl (same_there ts r h.0 a)
-kind_there (Some k) ts r h a = inr (r, kind_within k ts h.0 r h.1 h.2, a.0)
+kind_there (Some k) ts r h a = enclosed_there ts r (kind_within k ts h.0 r h.1 h.2) a.0
 
 integer_there : (s : TypeSpecifier) (ts r : List Item) → EatsInteger s ts r → Apart r → Opposed ts
 unfolding EatsInteger
@@ -224,7 +225,7 @@ header_headed place x ts h = prefixes_headed (h.2).0 ts h.1 (h.2).1 (procedure_h
 -- ---- forms with a keyword of their own
 
 condition_there : (e : Tree) (ts r : List Item) → EatsCondition e ts r → starts is_target r ≡ false → Opposed ts
-condition_there e ts r h none = inr (r, condition_within e ts r h, none)
+condition_there e ts r h none = enclosed_there ts r (condition_within e ts r h) none
 
 whole_condition_there : (e : Tree) (ts : List Item) → IsCondition e ts → Opposed ts
 unfolding IsCondition
@@ -263,7 +264,7 @@ values_there s ts h = cases_within h.0 ts h.1
 case_there : (s : Selects) (ts : List Item) → IsCase s ts → Opposed ts
 unfolding IsCase
 case_there s ts (inl h) = inl (default_there s ts h)
-case_there s ts (inr h) = inr ([], values_there s ts h.1, refl)
+case_there s ts (inr h) = enclosed_there ts [] (values_there s ts h.1) refl
 
 while_there : (c : Controls) (ts : List Item) → IsWhile c ts → Apart ts
 unfolding IsWhile
@@ -335,6 +336,7 @@ form_there keyword.EndType place f ts h = inl (joined_there ended.Type f ts h)
 form_there keyword.EndIf place f ts h = inl (joined_there ended.If f ts h)
 form_there keyword.EndSelect place f ts h = inl (joined_there ended.Select f ts h)
 form_there keyword.EndDo place f ts h = inl (joined_there ended.Do f ts h)
+form_there keyword.EndAssociate place f ts h = inl (joined_there ended.Associate f ts h)
 form_there keyword.Use place f ts h = inl (use_there place h.0 ts h.2)
 form_there keyword.Implicit place f ts h = inl (implicit_there f ts h)
 form_there keyword.Public place f ts h = inl (access_there place accessibility.Public h.0 ts h.2)
@@ -350,6 +352,7 @@ form_there keyword.Select place f ts h = inl (select_there f ts h)
 form_there keyword.SelectCase place f ts h = whole_condition_there h.0 ts h.2
 form_there keyword.Case place f ts h = case_there h.0 ts h.2
 form_there keyword.Do place f ts h = inl (do_there h.0 ts h.2)
+form_there keyword.Associate place f ts h = associations_there h.0 ts h.2
 form_there k place f ts h = absurd h
 
 form_rests : (k : Keyword) (place : Place) (f : FormTree) (ts : List Item) → IsFormOf k place f ts → is_acting k ≡ false

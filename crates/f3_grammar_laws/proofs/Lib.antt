@@ -10,5 +10,6 @@ pub mod Constructs
 pub mod Forms
 pub mod Enclosures
 pub mod Assigned
+pub mod Associations
 pub mod Heads
 pub mod Alternatives

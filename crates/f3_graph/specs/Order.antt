@@ -22,7 +22,8 @@ pub record IsOrderOf (units : List Node) (order : List ℕ) : Type 0 where
   pub within : (k : ℕ) → k < length order → slice_index_or order k 0 < length units
   pub once : (j k : ℕ) → j < k → k < length order → slice_index_or order j 0 ≢ slice_index_or order k 0
   pub all : (u : ℕ) → u < length units → Contains order u
-  pub after : (k : ℕ) (unit : Node) (x : Name) (v : ℕ) (source : Node) → k < length order → slice_get units (slice_index_or order k 0) ≡ Some unit → Contains (uses_of unit) x
+  pub after : (k : ℕ) (unit : Node) (x : Name) (v : ℕ) (source : Node) → k < length order
+      → slice_get units (slice_index_or order k 0) ≡ Some unit → Contains (uses_of unit) x
       → slice_get units v ≡ Some source → source.kind ≡ Module → source.name.symbol ≡ x.symbol → Contains (take k order) v
 
 abbrev pub IsOrder : Tree → UnitOrder → Type 0

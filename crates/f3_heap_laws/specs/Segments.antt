@@ -3,7 +3,8 @@
 -- A free block is its size below zero, the places of the next and the previous free block, words of no meaning, and its size below zero again.
 use Rattle.std.proofs.Common.{zero, suc}
 use Rattle.std.specs.List.{sum_by}
-use Rattle.std.specs.Prelude.{Bool, true, false, cond, nat_eq, set, ℕ, ℤ, pos, negsuc, ◌≡◌, ◌+◌, ◌-◌, ◌%◌, ◌<◌, ◌≤◌, ◌^◌, List, [], ◌∷◌, ◌++◌, ◌⊎◌, length, take, drop, get_or, replicate, Option, None, Some}
+use Rattle.std.specs.Prelude.{Bool, true, false, cond, nat_eq, set, ℕ, ℤ, pos, negsuc, ◌≡◌, ◌+◌, ◌-◌, ◌%◌, ◌<◌, ◌≤◌, ◌^◌, List, [], ◌∷◌}
+use Rattle.std.specs.Prelude.{◌++◌, ◌⊎◌, length, take, drop, get_or, replicate, Option, None, Some}
 use Rattle.std.specs.Int.{cast_signed, cast_unsigned}
 use mir.Syntax.{w64}
 use Rattle.f3_raw.specs.Words.{written}

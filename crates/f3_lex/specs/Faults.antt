@@ -1,5 +1,6 @@
 -- What integers say; names that are too long, and literals that are too large (own rules).
-use Rattle.std.specs.Prelude.{◌≡◌, ℕ, ◌+◌, ◌-◌, ◌*◌, Option, None, Some, List, [], ◌∷◌, length, take, drop, codes, if◌then◌else◌, nat_lt, slice_index_or, fold, pos, string_bytes}
+use Rattle.std.specs.Prelude.{◌≡◌, ℕ, ◌+◌, ◌-◌, ◌*◌, Option, None, Some, List, [], ◌∷◌, length, take, drop, codes, if◌then◌else◌, nat_lt}
+use Rattle.std.specs.Prelude.{slice_index_or, fold, pos, string_bytes}
 use Rattle.std.specs.Option.{option_map}
 use Rattle.std.specs.Str.{bytes_eq}
 use Rattle.f3_rules.specs.declared.source.Place.{Place}

@@ -26,7 +26,8 @@ IsSuffix text next = (text ≡ []) ⊎ (IsOneOf suffixes text × (is_name_byte (
 abbrev pub IsSpelled : ℕ → TokenKind → List ℕ → List ℕ → Type 0
 IsSpelled depth Name text next = (is_ascii_alphabetic (slice_index text 0) ≡ true) × AllByRecursion (λ b. is_name_byte b ≡ true) text
 IsSpelled depth Integer text next =
-    (digits : List ℕ) × (suffix : List ℕ) × (text ≡ digits ++ suffix) × AllByRecursion (λ b. is_ascii_digit b ≡ true) digits × (0 < length digits) × IsSuffix suffix next
+    (digits : List ℕ) × (suffix : List ℕ) × (text ≡ digits ++ suffix)
+    × AllByRecursion (λ b. is_ascii_digit b ≡ true) digits × (0 < length digits) × IsSuffix suffix next
 IsSpelled depth Truth text next = IsOneOf truths (lower text)
 IsSpelled depth Word text next = IsOneOf dot_words (lower text)
 IsSpelled depth Text text next = (quote : ℕ) × (characters : List ℕ) × (is_quote quote ≡ true) × (text ≡ quote ∷ (doubled quote characters ++ quote ∷ []))
@@ -35,7 +36,9 @@ IsSpelled depth Other text next = ⊥
 
 -- the first n of these bytes spell a token of the kind, and no more of them spell any
 abbrev pub IsLongest : ℕ → List ℕ → TokenKind → ℕ → Type 0
-IsLongest depth bytes kind n = IsSpelled depth kind (take n bytes) (drop n bytes) × ((other : TokenKind) (m : ℕ) → IsSpelled depth other (take m bytes) (drop m bytes) → length (take m bytes) ≤ n)
+IsLongest depth bytes kind n =
+    IsSpelled depth kind (take n bytes) (drop n bytes)
+    × ((other : TokenKind) (m : ℕ) → IsSpelled depth other (take m bytes) (drop m bytes) → length (take m bytes) ≤ n)
 
 -- no token stands at the front of these bytes
 abbrev pub NoneStands : ℕ → List ℕ → Type 0

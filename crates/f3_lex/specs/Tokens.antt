@@ -1,5 +1,6 @@
 -- The tokens of a statement (3.2; own rules: the longest token first, and `::` only outside parentheses and brackets).
-use Rattle.std.specs.Prelude.{ℕ, zero, suc, ◌++◌, ◌+◌, ◌-◌, ◌==◌, Bool, true, false, ◌&&◌, ◌||◌, Option, None, Some, List, [], ◌∷◌, length, take, drop, map, codes, if◌then◌else◌, slice_index, slice_range, unwrap_or}
+use Rattle.std.specs.Prelude.{ℕ, zero, suc, ◌++◌, ◌+◌, ◌-◌, ◌==◌, Bool, true, false, ◌&&◌, ◌||◌, Option, None, Some, List, [], ◌∷◌, length}
+use Rattle.std.specs.Prelude.{take, drop, map, codes, if◌then◌else◌, slice_index, slice_range, unwrap_or}
 use Rattle.std.specs.List.{prefix_len}
 use Rattle.std.specs.Char.{to_ascii_lowercase, is_ascii_alphabetic, is_ascii_alphanumeric, is_ascii_digit}
 use Rattle.std.specs.Option.{option_map}

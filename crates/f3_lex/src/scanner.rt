@@ -14,6 +14,9 @@ use f3_rules::source::Place;
 use f3_text::statement::RawStatement;
 use std::alloc::{AllocError, Global};
 
+/// How many bytes of a statement there are to a token, by guess: for so many there is room at first.
+const TOKEN_BYTES: usize = 3;
+
 /// The bytes of a token of a statement; those within the statement, where the token is of another one.
 pub fn text(bytes: &[u8], token: Token) -> &[u8]
     ensures { result.now ≡ text_of token bytes.now }
@@ -105,7 +108,7 @@ fn depth_after(depth: usize, text: &[u8]) -> usize
 fn scan(alloc: Global, bytes: &[u8]) -> Result<Vec<Token>, AllocError>
     ensures { IfOk result (λ tokens. tokens.items ≡ tokens_of bytes.now) }
 {
-    let mut tokens = Vec::new(alloc);
+    let mut tokens = Vec::with_capacity(alloc, bytes.len() / TOKEN_BYTES + 1)?;
     let mut depth = 0usize;
     let mut start = 0usize;
     while start < bytes.len() {

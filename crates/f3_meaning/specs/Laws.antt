@@ -84,4 +84,6 @@ pub record HoldsThroughout (p : Elaborated) (run : Ran Store) (x : ℕ) : Type 0
 -- A protected variable of a unit that executes nothing holds throughout what it holds as the run begins, where no
 -- assignment is to a protected variable of another unit (ISO/IEC 1539-1:2004, 5.1.2.12).
 abbrev pub ProtectedVariablesHold : Type 0
-ProtectedVariablesHold = (p : Elaborated) → MayDefine p → (turns : ℕ) (refused : List ℕ) (home x : ℕ) → IsProtectedOf p home (Variable x) → home ≢ p.main → HoldsThroughout p (prints p turns refused) x
+ProtectedVariablesHold =
+    (p : Elaborated) → MayDefine p → (turns : ℕ) (refused : List ℕ) (home x : ℕ) → IsProtectedOf p home (Variable x)
+    → home ≢ p.main → HoldsThroughout p (prints p turns refused) x

@@ -65,7 +65,7 @@ pub struct Elaborated {
     /// The variables of all program units: an entity's number is its place in this list, which is
     /// in the order in which they are declared in the sources.
     pub variables: Vec<Variable>,
-    /// The number of the main program among the program units.
+    /// The number of the scope of the main program.
     pub main: usize,
     /// The executable statements of the main program.
     pub statements: Vec<Statement>,

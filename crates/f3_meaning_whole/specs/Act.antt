@@ -1,5 +1,7 @@
 -- What statements and expressions do to objects.
-use Rattle.std.specs.Prelude.{⊤, ℕ, zero, suc, ◌+◌, ◌*◌, ℤ, pos, ◌+ℤ◌, ◌-ℤ◌, Bool, true, false, ◌&&◌, nat_eq, int_lt, int_le, nat_abs, if◌then◌else◌, List, [], ◌∷◌, ◌++◌, map, flat_map, length, Option, None, Some, unwrap_or, slice_index_or, slice_get}
+use Rattle.std.specs.Prelude.{⊤, ℕ, zero, suc, ◌+◌, ◌*◌, ℤ, pos, ◌+ℤ◌, ◌-ℤ◌, Bool, true, false, ◌&&◌, nat_eq, int_lt, int_le, nat_abs}
+use Rattle.std.specs.Prelude.{if◌then◌else◌, List, [], ◌∷◌, ◌++◌, map, flat_map, length, Option, None, Some, unwrap_or, slice_index_or}
+use Rattle.std.specs.Prelude.{slice_get}
 use Rattle.f3_rules.specs.declared.source.Place.{Place}
 use Rattle.f3_program.specs.declared.declarations.Base.{Base}
 use Rattle.f3_program.specs.declared.declarations.Base.TheVariants as base
@@ -10,7 +12,8 @@ use Rattle.f3_program.specs.declared.expression.Name.{Name}
 use Rattle.f3_program.specs.declared.expression.Name.TheVariants as n
 use Rattle.f3_program.specs.declared.program.Static as x
 use Rattle.f3_program.specs.declared.program.Program.{Program}
-use Rattle.f3_meaning_whole.specs.Value.{Span, Value, Composite, Array, Unallocated, Allocated, Values, none, more, joined, cleared, count, shown, from_one, conforms, spread}
+use Rattle.f3_meaning_whole.specs.Value.{Span, Value, Composite, Array, Unallocated, Allocated, Values, none, more, joined, cleared, count}
+use Rattle.f3_meaning_whole.specs.Value.{shown, from_one, conforms, spread}
 use Rattle.f3_meaning_whole.specs.Store.{Store, Root, Static, Local, Path, Component, Element, Contents, within, get}
 use Rattle.f3_meaning_whole.specs.Reference.{Right, Define, Read, Maker, Reach, One, Many, Reference, reach_of, paths, held_at}
 use Rattle.f3_meaning_whole.specs.declared.run_error.RunError.TheVariants.{SubscriptOutOfBounds, NotAllocated, HeapHasNoRoom, ShapesDiffer, StepIsZero}
@@ -156,7 +159,8 @@ static_type (Some y) = y.declared.kind.of
 -- what a name means in a statement of a unit
 abbrev pub named : Setting → Name → Here → Ran Reference
 named g (n.Static i) here = looks
-    (λ store. to_root (Static i) (static_type (slice_get g.program.statics.items i)) (right_to here.unit (slice_get g.program.statics.items i)) here.unit (get store (whole (Static i))))
+    (λ store. to_root (Static i) (static_type (slice_get g.program.statics.items i))
+    (right_to here.unit (slice_get g.program.statics.items i)) here.unit (get store (whole (Static i))))
 named g (n.Local i) here = looks
     (λ store. to_root (Local here.level i) (type_of (slice_get here.variables i)) Define here.unit (get store (whole (Local here.level i))))
 named g (n.Lent i) here = gives (slice_index_or here.names i (to_root (Local 0 0) base.Integer Read 0 Unallocated))
@@ -323,7 +327,9 @@ laid_out (suc rank) ss v = Array ss (joined (spread (count ss) v))
 unfoldable pub fitted : Declared → Value → Here → Ran Value
 fitted d v here =
     if d.kind.is_allocatable then (converted d.kind.of v here.place >>= λ v. gives (Allocated v))
-    else (if conforms (spans_declared d.dimensions.items) v then (converted d.kind.of v here.place >>= λ v. gives (laid_out d.kind.rank (spans_declared d.dimensions.items) v)) else fails ShapesDiffer here.place)
+    else (if conforms (spans_declared d.dimensions.items) v
+    then (converted d.kind.of v here.place >>= λ v. gives (laid_out d.kind.rank (spans_declared d.dimensions.items) v))
+    else fails ShapesDiffer here.place)
 
 -- an unallocated whole allocatable leaves the component unallocated
 abbrev pub fitted_contents : Declared → Value → Here → Ran Value

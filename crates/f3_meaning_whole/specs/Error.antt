@@ -1,7 +1,9 @@
 -- The errors of a run: their numbers and words (own table).
 use Rattle.std.specs.Prelude.{ℕ, List, codes}
 use Rattle.f3_meaning_whole.specs.declared.run_error.RunError.{RunError}
-use Rattle.f3_meaning_whole.specs.declared.run_error.RunError.TheVariants.{Overflow, DivisionByZero, SubscriptOutOfBounds, NotAllocated, AlreadyAllocated, HeapHasNoRoom, ShapesDiffer, StepIsZero, InUse, CallsTooDeep, ArrayTooLarge}
+use Rattle.f3_meaning_whole.specs.declared.run_error.RunError.TheVariants.{Overflow, DivisionByZero, SubscriptOutOfBounds, NotAllocated}
+use Rattle.f3_meaning_whole.specs.declared.run_error.RunError.TheVariants.{AlreadyAllocated, HeapHasNoRoom, ShapesDiffer, StepIsZero, InUse}
+use Rattle.f3_meaning_whole.specs.declared.run_error.RunError.TheVariants.{CallsTooDeep, ArrayTooLarge}
 
 abbrev pub error_number : RunError → ℕ
 error_number Overflow = 1

@@ -9,14 +9,16 @@ use Rattle.f3_program.specs.declared.expression.Selection as s
 use Rattle.f3_program.specs.declared.expression.Subscript as u
 use Rattle.f3_program.specs.declared.expression.Query.{Query}
 use Rattle.f3_program.specs.declared.expression.Query.TheVariants as query
-use Rattle.f3_meaning_whole.specs.Value.{Span, Value, Number, Truth, Composite, Array, Unallocated, Allocated, joined, number_of, is_allocated, count, shown, plain, spans_of}
+use Rattle.f3_meaning_whole.specs.Value.{Span, Value, Number, Truth, Composite, Array, Unallocated, Allocated, joined, number_of}
+use Rattle.f3_meaning_whole.specs.Value.{is_allocated, count, shown, plain, spans_of}
 use Rattle.f3_meaning_whole.specs.Store.{get}
 use Rattle.f3_meaning_whole.specs.Reference.{Selected, Reach, One, Many, Reference, spans}
 use Rattle.f3_meaning_whole.specs.declared.run_error.RunError.TheVariants.{SubscriptOutOfBounds, NotAllocated}
 use Rattle.f3_meaning_whole.specs.Ran.{Ran, ◌>>=◌, gives, fails, looks}
 use Rattle.f3_meaning_whole.specs.Arithmetic.{apply, change_of, converted, constant_value}
 use Rattle.f3_meaning_whole.specs.Shape.{Whole, spans_declared}
-use Rattle.f3_meaning_whole.specs.Act.{Setting, Here, Passed, Given, Lent, Calls, claim_for, named, component_of, component, contents, read, Chosen, At, Range, picks, picks_in_each, structure, components_of, given}
+use Rattle.f3_meaning_whole.specs.Act.{Setting, Here, Passed, Given, Lent, Calls, claim_for, named, component_of, component, contents, read}
+use Rattle.f3_meaning_whole.specs.Act.{Chosen, At, Range, picks, picks_in_each, structure, components_of, given}
 
 -- the value of a function's result, which is no variable (own rule: an error where it is unallocated)
 abbrev pub result : Value → Here → Ran Value

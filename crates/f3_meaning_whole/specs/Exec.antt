@@ -1,5 +1,6 @@
 -- What statements mean.
-use Rattle.std.specs.Prelude.{⊤, ℕ, zero, suc, ◌^◌, ℤ, pos, ◌+ℤ◌, Bool, true, false, ◌||◌, nat_eq, nat_lt, if◌then◌else◌, List, [], ◌∷◌, ◌++◌, map, length, replicate, Option, None, Some}
+use Rattle.std.specs.Prelude.{⊤, ℕ, zero, suc, ◌^◌, ℤ, pos, ◌+ℤ◌, Bool, true, false, ◌||◌, nat_eq, nat_lt, if◌then◌else◌, List, [], ◌∷◌}
+use Rattle.std.specs.Prelude.{◌++◌, map, length, replicate, Option, None, Some}
 use Rattle.std.specs.Fmt.{signed_decimal}
 use Rattle.f3_rules.specs.declared.source.Place.{Place}
 use Rattle.f3_program.specs.declared.declarations.Base.{Base}
@@ -18,16 +19,19 @@ use Rattle.f3_program.specs.declared.program.Dummy.{Dummy}
 use Rattle.f3_program.specs.declared.program.Intent.{Intent}
 use Rattle.f3_program.specs.declared.program.Intent.TheVariants as intent
 use Rattle.f3_program.specs.declared.program.Procedure.{Procedure}
-use Rattle.f3_meaning_whole.specs.Value.{Span, Value, Number, Truth, Array, Unallocated, Allocated, joined, listed, number_of, truth_of, is_allocated, count, shown, conforms, spans_of}
+use Rattle.f3_meaning_whole.specs.Value.{Span, Value, Number, Truth, Array, Unallocated, Allocated, joined, listed, number_of, truth_of}
+use Rattle.f3_meaning_whole.specs.Value.{is_allocated, count, shown, conforms, spans_of}
 use Rattle.f3_meaning_whole.specs.Store.{Local, get}
 use Rattle.f3_meaning_whole.specs.Reference.{Right, Define, Read, Reach, One, Many, Reference, spans, is_pinned}
 use Rattle.f3_meaning_whole.specs.declared.run_error.RunError.{RunError}
-use Rattle.f3_meaning_whole.specs.declared.run_error.RunError.TheVariants.{NotAllocated, AlreadyAllocated, HeapHasNoRoom, ShapesDiffer, StepIsZero, InUse, ArrayTooLarge}
+use Rattle.f3_meaning_whole.specs.declared.run_error.RunError.TheVariants.{NotAllocated, AlreadyAllocated, HeapHasNoRoom, ShapesDiffer}
+use Rattle.f3_meaning_whole.specs.declared.run_error.RunError.TheVariants.{StepIsZero, InUse, ArrayTooLarge}
 use Rattle.f3_meaning_whole.specs.Error.{error_number}
 use Rattle.f3_meaning_whole.specs.Ran.{Asked, Ran, ◌>>=◌, gives, fails, stops, beyond, looks, does, asks, prints_bytes, each}
 use Rattle.f3_meaning_whole.specs.Arithmetic.{converted, is_zero, meets, trips}
 use Rattle.f3_meaning_whole.specs.Shape.{initial_of, initial_declared, shape_in}
-use Rattle.f3_meaning_whole.specs.Act.{Setting, Here, Passed, Given, Lent, Calls, set, begins, enter, leave, claim, claim_for, at, lending, selecting, associating, whole, to_root, contents, moved}
+use Rattle.f3_meaning_whole.specs.Act.{Setting, Here, Passed, Given, Lent, Calls, set, begins, enter, leave, claim, claim_for, at, lending}
+use Rattle.f3_meaning_whole.specs.Act.{selecting, associating, whole, to_root, contents, moved}
 use Rattle.f3_meaning_whole.specs.Eval.{value, locate}
 use Rattle.f3_meaning_whole.specs.Destroy.{deallocate_by, destroy, finish}
 

@@ -7,7 +7,8 @@ use Rattle.f3_program.specs.declared.program.Static as x
 use Rattle.f3_program.specs.declared.program.Program.{Program}
 use Rattle.f3_meaning_whole.specs.Store.{Root, Static, Local, Store, Step, Path, within, components, get, goes_through}
 use Rattle.f3_meaning_whole.specs.Reference.{Made, paths}
-use Rattle.f3_meaning_whole.specs.Ran.{Event, Printed, Changed, Began, Entered, Ended, Asked, Change, Stage, effect, World, End, Gives, Fails, Stops, Beyond, Outcome, Ran}
+use Rattle.f3_meaning_whole.specs.Ran.{Event, Printed, Changed, Began, Entered, Ended, Asked, Change, Stage, effect, World, End, Gives}
+use Rattle.f3_meaning_whole.specs.Ran.{Fails, Stops, Beyond, Outcome, Ran}
 use Rattle.f3_meaning_whole.specs.Act.{whole, derived_of, component_type}
 use Rattle.f3_meaning_whole.specs.Run.{setting_of, first_store, run_of, changes}
 use Rattle.f3_meaning_whole.specs.Permitted.{Each, IsMaker, Permitted, IsLawful}

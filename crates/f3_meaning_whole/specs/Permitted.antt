@@ -1,5 +1,6 @@
 -- Which changes are permitted, and which programs make no others.
-use Rattle.std.specs.Prelude.{map, ⊤, ◌≡◌, ℕ, suc, Bool, true, false, not, ◌||◌, if◌then◌else◌, nat_eq, List, [], ◌∷◌, ◌++◌, Option, None, Some, slice_get, slice_index_or}
+use Rattle.std.specs.Prelude.{map, ⊤, ◌≡◌, ℕ, suc, Bool, true, false, not, ◌||◌, if◌then◌else◌, nat_eq, List, [], ◌∷◌, ◌++◌, Option, None}
+use Rattle.std.specs.Prelude.{Some, slice_get, slice_index_or}
 use Rattle.f3_program.specs.declared.declarations.Base.{Base}
 use Rattle.f3_program.specs.declared.declarations.Base.TheVariants as base
 use Rattle.f3_program.specs.declared.declarations.Component.{Component}

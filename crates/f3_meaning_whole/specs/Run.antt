@@ -8,7 +8,8 @@ use Rattle.f3_meaning_whole.specs.Value.{Value, Unallocated}
 use Rattle.f3_meaning_whole.specs.declared.run_error.RunError.{RunError}
 use Rattle.f3_meaning_whole.specs.declared.run_error.RunError.TheVariants.{CallsTooDeep}
 use Rattle.f3_meaning_whole.specs.Store.{Store}
-use Rattle.f3_meaning_whole.specs.Ran.{Event, Printed, Changed, Began, Entered, Ended, Asked, Change, Stage, World, End, Gives, Fails, Stops, Beyond, Outcome, Ran, ◌>>=◌, gives, fails}
+use Rattle.f3_meaning_whole.specs.Ran.{Event, Printed, Changed, Began, Entered, Ended, Asked, Change, Stage, World, End, Gives, Fails}
+use Rattle.f3_meaning_whole.specs.Ran.{Stops, Beyond, Outcome, Ran, ◌>>=◌, gives, fails}
 use Rattle.f3_meaning_whole.specs.Shape.{shapes_of}
 use Rattle.f3_meaning_whole.specs.Act.{Setting, Here, Passed, Calls, begins, enter, claim, at}
 use Rattle.f3_meaning_whole.specs.Exec.{exec, called, initial_value, declared_in, variables}

@@ -16,7 +16,7 @@ use Rattle.f3_access.proofs.Members.{Has, has_of, contains_of, any_of, any_from}
 use Rattle.f3_name_rules.specs.Intrinsics.{is_intrinsic}
 use Rattle.f3_breaks.specs.At.{at}
 use Rattle.f3_name_rules.specs.NameBreaks.{text_of, UsesName, GivesAttribute, RefersTo, AccessBreaks, no_such_name, private_there, attribute_on_used, not_accessible, of_several}
-use Rattle.f3_name_rules.specs.Rows.{seen_row, attribute_row, missing_row, found_row}
+use Rattle.f3_name_rules.specs.Inner.Rows.{seen_row, attribute_row, missing_row, found_row}
 
 -- a break or none
 one_of : (t : Bool) (b c : Break) → Has (if t then c ∷ [] else []) b → (t ≡ true) × (b ≡ c)

@@ -7,7 +7,7 @@ use Rattle.f3_rules.proofs.Firsts.{earlier_assoc, first-append}
 use Rattle.f3_scopes.specs.declared.outline.Outline.{Outline}
 use Rattle.f3_access.specs.declared.table.Tables.{Tables}
 use Rattle.f3_name_rules.specs.Intrinsics.{is_intrinsic}
-use Rattle.f3_name_rules.specs.Rows.{scope_row, scopes_row}
+use Rattle.f3_name_rules.specs.Inner.Rows.{scope_row, scopes_row}
 
 -- the earlier of the firsts of two lists
 pub joined : (xs ys : List Break) (a b r : Option Break) → r ≡ earlier_of a b → a ≡ first_of xs → b ≡ first_of ys → r ≡ first_of (xs ++ ys)

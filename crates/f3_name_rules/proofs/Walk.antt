@@ -7,7 +7,7 @@ use Rattle.f3_rules.specs.Least.{Least, first_of}
 use Rattle.f3_rules.proofs.Firsts.{first_is_least, least_same}
 use Rattle.f3_tree.specs.declared.expression.Name.{Name}
 use Rattle.f3_scopes.specs.declared.outline.ScopeKind.{ScopeKind}
-use Rattle.f3_scopes.specs.declared.outline.ScopeKind.TheVariants.{Module, Program, Subroutine, Function}
+use Rattle.f3_scopes.specs.declared.outline.ScopeKind.TheVariants.{Module, Program, Subroutine, Function, Associate}
 use Rattle.f3_scopes.specs.declared.outline.UseOutline.{UseOutline}
 use Rattle.f3_scopes.specs.declared.outline.Outline.{Outline}
 use Rattle.f3_scopes.specs.Outlines.{Scope, Using, Own, Listed, scope_view, using_view, own_view, listed_view}
@@ -17,7 +17,7 @@ use Rattle.f3_scopes.specs.Kinds.{is_module}
 use Rattle.f3_access.specs.Tables.{AreTables, lookup_of, private_of, module_of}
 use Rattle.f3_access.proofs.Members.{Has, has_of, contains_of, has_left, has_right, has_parts, has_piece, piece_of, has_mapped, mapped_of}
 use Rattle.f3_name_rules.specs.NameBreaks.{UsesName, GivesAttribute, declared, protects, RefersTo, AccessBreaks, no_such_name, private_there, attribute_on_used, access_to_nothing, not_accessible, of_several}
-use Rattle.f3_name_rules.specs.Rows.{seen_row, item_row, items_row, use_row, attribute_row, declared_row, listed_row, access_row, accesses_row, reference_row, attributes_row, mentions_row, scope_row, scopes_row}
+use Rattle.f3_name_rules.specs.Inner.Rows.{seen_row, item_row, items_row, use_row, attribute_row, declared_row, listed_row, access_row, accesses_row, reference_row, attributes_row, mentions_row, scope_row, scopes_row}
 use Rattle.f3_name_rules.proofs.Places.{at_place, placed, at_view, of_view}
 use Rattle.f3_name_rules.proofs.Said.{seen_said, row_of_missing, row_of_private, attribute_said, row_of_used, missing_said, row_of_nothing, found_said, row_of_unknown, row_of_several}
 
@@ -26,6 +26,7 @@ module_kind Module t = refl
 module_kind Program t = absurd (true≢false (sym t))
 module_kind Subroutine t = absurd (true≢false (sym t))
 module_kind Function t = absurd (true≢false (sym t))
+module_kind Associate t = absurd (true≢false (sym t))
 
 module _ (tables : Tables) (texts : List (List ℕ)) where
   -- the rows of scopes that are numbered from n on

@@ -1,4 +1,4 @@
 pub mod Intrinsics
 pub mod References
 pub mod NameBreaks
-pub mod Rows
+pub mod Inner

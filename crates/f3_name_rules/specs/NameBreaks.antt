@@ -15,11 +15,14 @@ pub use Rattle.f3_name_rules.specs.References.{text_of}
 -- A USE of the module of this number, in some scope, has an item with this use-name (11.2.1).
 abbrev pub UsesName : List Scope → ℕ → Name → Type 0
 UsesName scopes source name =
-    (scope : Scope) × Contains scopes scope × (u : Using) × Contains scope.uses u × IsModule scopes source u.from.symbol × (i : UseItem) × Contains u.items i × (i.original ≡ name)
+    (scope : Scope) × Contains scopes scope × (u : Using) × Contains scope.uses u
+    × IsModule scopes source u.from.symbol × (i : UseItem) × Contains u.items i × (i.original ≡ name)
 
 -- N1: a use-name that is not visible in the module; the use-name (11.2.1)
 abbrev pub NoSuchName : List Scope → Break → Type 0
-NoSuchName scopes b = (source : ℕ) × (name : Name) × UsesName scopes source name × ((entity : ℕ) → IsVisible scopes source name.symbol entity → ⊥) × (b ≡ at 3 N1 name)
+NoSuchName scopes b =
+    (source : ℕ) × (name : Name) × UsesName scopes source name
+    × ((entity : ℕ) → IsVisible scopes source name.symbol entity → ⊥) × (b ≡ at 3 N1 name)
 
 -- N2: a use-name that is visible in the module but private there; the use-name (11.2.1, 5.2.1)
 abbrev pub PrivateThere : List Scope → Break → Type 0
@@ -39,7 +42,8 @@ AttributeOnUsed scopes b = (number : ℕ) × (scope : Scope) × (slice_get scope
 -- N7: a name in the list of a PUBLIC or PRIVATE that is not visible in the module; the name (5.2.1)
 abbrev pub AccessToNothing : List Scope → Break → Type 0
 AccessToNothing scopes b = (number : ℕ) × (scope : Scope) × (slice_get scopes number ≡ Some scope) × (scope.kind ≡ Module)
-    × (s : Listed) × Contains scope.accesses s × (name : Name) × Contains s.names name × ((entity : ℕ) → IsVisible scopes number name.symbol entity → ⊥) × (b ≡ at 4 N7 name)
+    × (s : Listed) × Contains scope.accesses s × (name : Name) × Contains s.names name
+    × ((entity : ℕ) → IsVisible scopes number name.symbol entity → ⊥) × (b ≡ at 4 N7 name)
 
 -- the specification part or the header of the scope of this number refers to the name
 abbrev pub RefersTo : List Scope → ℕ → Name → Type 0

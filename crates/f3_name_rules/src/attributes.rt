@@ -3,7 +3,7 @@
 ghost use Rattle.std.specs.Prelude.{◌≡◌};
 ghost use Rattle.std.specs.List.{flat_map};
 ghost use Rattle.f3_rules.specs.Least.{first_of};
-ghost use Rattle.f3_name_rules.specs.Rows.{attribute_row, declared_row, attributes_row};
+ghost use Rattle.f3_name_rules.specs.Inner.Rows.{attribute_row, declared_row, attributes_row};
 
 use f3_access::table::Tables;
 use f3_access::used;

@@ -11,7 +11,7 @@ ghost use Rattle.f3_scopes.specs.Outlines.{scope_view};
 ghost use Rattle.f3_access.specs.Tables.{AreTables};
 ghost use Rattle.f3_name_rules.specs.Intrinsics.{is_intrinsic};
 ghost use Rattle.f3_name_rules.specs.NameBreaks.{NameBreaks};
-ghost use Rattle.f3_name_rules.specs.Rows.{scope_row, scopes_row};
+ghost use Rattle.f3_name_rules.specs.Inner.Rows.{scope_row, scopes_row};
 
 use attributes::first_in_attributes;
 use f3_access::table::Tables;

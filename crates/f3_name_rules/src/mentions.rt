@@ -6,7 +6,7 @@ ghost use Rattle.f3_rules.specs.Least.{first_of};
 ghost use Rattle.f3_scopes.specs.Kinds.{is_module};
 ghost use Rattle.f3_name_rules.specs.Intrinsics.{is_intrinsic};
 ghost use Rattle.f3_name_rules.specs.NameBreaks.{text_of};
-ghost use Rattle.f3_name_rules.specs.Rows.{listed_row, access_row, accesses_row, reference_row, mentions_row};
+ghost use Rattle.f3_name_rules.specs.Inner.Rows.{listed_row, access_row, accesses_row, reference_row, mentions_row};
 
 use crate::is_intrinsic;
 use f3_access::lookup;
@@ -51,7 +51,8 @@ fn first_in_module(tables: &Tables, number: usize, outline: &Outline) -> Option<
 {
     match outline.kind {
         ScopeKind::Module => first_in_accesses(tables, number, &outline.accesses),
-        ScopeKind::Program | ScopeKind::Subroutine | ScopeKind::Function => None,
+        ScopeKind::Program | ScopeKind::Subroutine | ScopeKind::Function | ScopeKind::Associate =>
+            None,
     }
 }
 

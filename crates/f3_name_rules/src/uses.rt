@@ -6,7 +6,7 @@ ghost use Rattle.f3_rules.specs.Least.{first_of};
 ghost use Rattle.f3_rules.specs.declared.rule.Rule.TheVariants.{N2};
 ghost use Rattle.f3_access.specs.Tables.{private_of};
 ghost use Rattle.f3_breaks.specs.At.{at};
-ghost use Rattle.f3_name_rules.specs.Rows.{item_row, use_row};
+ghost use Rattle.f3_name_rules.specs.Inner.Rows.{item_row, use_row};
 
 use f3_access::table::{Lookup, Tables};
 use f3_access::{is_private, lookup, module};

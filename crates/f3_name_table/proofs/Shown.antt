@@ -1,12 +1,12 @@
 -- The lines that the tables give are those of the scopes.
 use Rattle.std.proofs.Common.{◌≡◌, ℕ, ◌+◌, List, [], ◌∷◌, ◌++◌, Bool, true, false, Option, Some, length, map, slice_get, codes, refl, sym, ap, subst, ◌∙◌, arith, append_assoc}
 use Rattle.std.specs.List.{flat_map}
-use Rattle.std.proofs.lemmas.List.{length-append, length-map}
+use Rattle.std.proofs.lemmas.List.{length-append}
 use Rattle.f3_tree.specs.declared.program.UnitKind.{UnitKind}
 use Rattle.f3_tree.specs.declared.program.UnitKind.TheVariants as unit
 use Rattle.f3_tree.specs.Tree.{UnitTree, Tree}
 use Rattle.f3_scopes.specs.Outlines.{Scope}
-use Rattle.f3_scopes.specs.Scopes.{unit_kind, scope_of_unit, scope_of_procedure, unit_scopes, scopes_from, scopes_of}
+use Rattle.f3_scopes.specs.Scopes.{unit_kind, scope_of_unit, unit_scopes, scopes_from, scopes_of}
 use Rattle.f3_access.specs.declared.table.Visible.{Visible}
 use Rattle.f3_access.specs.Listing.{is_private}
 use Rattle.f3_access.specs.Tables.{own_of, private_of}
@@ -17,7 +17,8 @@ use Rattle.f3_names.specs.declared.table.Names.{Names}
 use Rattle.f3_names.specs.Entities.{described}
 use Rattle.f3_names.specs.Tables.{AreNames, scope_numbers}
 use Rattle.f3_name_table.specs.NameTable.{unit_word, entity_text, access_in, access_text, line, unit_text, table_text}
-use Rattle.f3_name_table.specs.Lines.{texts_of, access_word, line_by, unit_by, units_by}
+use Rattle.f3_names.proofs.Inside.{inner}
+use Rattle.f3_name_table.specs.Inner.Lines.{texts_of, access_word, line_by, unit_by, units_by}
 
 -- two tests that are true together are one
 same_bool : (a b : Bool) → (a ≡ true → b ≡ true) → (b ≡ true → a ≡ true) → a ≡ b
@@ -80,15 +81,14 @@ module _ (t : Tree) (names : Names) (are : AreNames t names) where
       → before ++ scope_numbers n us ≡ names.units.items → units_by names k us ≡ flat_map shown (scope_numbers n us)
   units_same [] front before n k f b s m = refl
   units_same (u ∷ us) front before n k f b s m =
-      let size : length (unit_scopes n u) ≡ 1 + length u.procedures = (let l = length-map u.procedures (scope_of_procedure n) in omega (arith, l)) in
-      let rest : List Scope = map (scope_of_procedure n) u.procedures ++ scopes_from (n + length (unit_scopes n u)) us in
-      let next : ℕ = n + (1 + length u.procedures) in
+      let rest : List Scope = inner n u ++ scopes_from (n + length (unit_scopes n u)) us in
+      let next : ℕ = n + length (unit_scopes n u) in
       let numbered : slice_get names.units.items k ≡ Some n = sym (ap (λ (l : List ℕ). slice_get l k) m) ∙ at_place before n (scope_numbers next us) k b in
       let first : slice_get scopes n ≡ Some (scope_of_unit u) = sym (ap (λ (l : List Scope). slice_get l n) s) ∙ at_place front (scope_of_unit u) rest n f in
       let here : unit_by names (slice_get names.units.items k) u ≡ shown n = ap (λ (o : Option ℕ). unit_by names o u) numbered ∙ unit_same n u first in
-      let longer : length (front ++ unit_scopes n u) ≡ next = length-append front (unit_scopes n u) ∙ ap (λ (i : ℕ). i + length (unit_scopes n u)) f ∙ ap (λ (i : ℕ). n + i) size in
+      let longer : length (front ++ unit_scopes n u) ≡ next = length-append front (unit_scopes n u) ∙ ap (λ (i : ℕ). i + length (unit_scopes n u)) f in
       let one_more : length (before ++ n ∷ []) ≡ k + 1 = length-append before (n ∷ []) ∙ ap (λ (i : ℕ). i + 1) b in
-      let scopes_left : (front ++ unit_scopes n u) ++ scopes_from next us ≡ scopes = append_assoc front (unit_scopes n u) (scopes_from next us) ∙ ap (λ (i : ℕ). front ++ (unit_scopes n u ++ scopes_from (n + i) us)) (sym size) ∙ s in
+      let scopes_left : (front ++ unit_scopes n u) ++ scopes_from next us ≡ scopes = append_assoc front (unit_scopes n u) (scopes_from next us) ∙ s in
       let numbers_left : (before ++ n ∷ []) ++ scope_numbers next us ≡ names.units.items = append_assoc before (n ∷ []) (scope_numbers next us) ∙ m in
       ap (λ (l : List ℕ). l ++ units_by names (k + 1) us) here
       ∙ ap (λ (l : List ℕ). shown n ++ l) (units_same us (front ++ unit_scopes n u) (before ++ n ∷ []) next (k + 1) longer one_more scopes_left numbers_left)

@@ -1,3 +1,3 @@
 pub mod NameTable
-pub mod Lines
 pub mod Answers
+pub mod Inner

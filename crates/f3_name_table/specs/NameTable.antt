@@ -22,6 +22,7 @@ unit_word scope.Module = codes "module"
 unit_word scope.Program = codes "program"
 unit_word scope.Subroutine = codes "subroutine"
 unit_word scope.Function = codes "function"
+unit_word scope.Associate = codes "associate"
 
 abbrev pub kind_word : EntityKind → List ℕ
 kind_word entity.Constant = codes "constant"
@@ -34,7 +35,10 @@ kind_word entity.Function = codes "function"
 abbrev pub entity_text : List (List ℕ) → Option Entity → List ℕ
 entity_text texts None = []
 entity_text texts (Some e) =
-    kind_word e.kind ++ (codes " " ++ (text_of texts e.home ++ (codes "." ++ (text_of texts e.original ++ (if e.is_protected then codes " protected" else [])))))
+    kind_word e.kind
+    ++ (codes " "
+    ++ (text_of texts e.home
+    ++ (codes "." ++ (text_of texts e.original ++ (if e.is_protected then codes " protected" else [])))))
 
 -- in a module, whether a name is public or private there
 abbrev pub access_in : ScopeKind → Bool → List ℕ
@@ -47,16 +51,21 @@ access_text s symbol = access_in s.kind (is_private s symbol)
 
 -- the line of a visible name
 abbrev pub line : List (List ℕ) → List Entity → Scope → Visible → List ℕ
-line texts entities s v = codes "  " ++ (text_of texts v.symbol ++ (codes " " ++ (entity_text texts (slice_get entities v.entity) ++ (access_text s v.symbol ++ codes "\n"))))
+line texts entities s v =
+    codes "  "
+    ++ (text_of texts v.symbol ++ (codes " " ++ (entity_text texts (slice_get entities v.entity) ++ (access_text s v.symbol ++ codes "\n"))))
 
 -- a unit, and a line for each name that is visible there, in the order of names
 abbrev pub unit_text : List (List ℕ) → List Entity → List Visible → Option Scope → List ℕ
 unit_text texts entities visible None = []
-unit_text texts entities visible (Some s) = unit_word s.kind ++ (codes " " ++ (text_of texts s.name.symbol ++ (codes "\n" ++ flat_map (line texts entities s) visible)))
+unit_text texts entities visible (Some s) =
+    unit_word s.kind
+    ++ (codes " " ++ (text_of texts s.name.symbol ++ (codes "\n" ++ flat_map (line texts entities s) visible)))
 
 -- the units in order of place, where each scope sees this
 abbrev pub table_text : Tree → (ℕ → List Visible) → List ℕ
-table_text t visible = flat_map (λ number. unit_text t.names (described (scopes_of t)) (visible number) (slice_get (scopes_of t) number)) (scope_numbers 0 t.units)
+table_text t visible =
+    flat_map (λ number. unit_text t.names (described (scopes_of t)) (visible number) (slice_get (scopes_of t) number)) (scope_numbers 0 t.units)
 
 -- The text of a program, of which the tables have exactly what is visible in each unit, in the order of names.
 abbrev pub IsNameTable : Tree → List ℕ → Type 0

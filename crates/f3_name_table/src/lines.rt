@@ -7,7 +7,7 @@ ghost use Rattle.f3_scopes.specs.Scopes.{unit_kind};
 ghost use Rattle.f3_access.specs.Tables.{own_of};
 ghost use Rattle.f3_names.specs.Tables.{AreNames};
 ghost use Rattle.f3_name_table.specs.NameTable.{unit_word, kind_word, entity_text, table_text};
-ghost use Rattle.f3_name_table.specs.Lines.{texts_of, access_word, line_by, head_by, unit_by, units_by};
+ghost use Rattle.f3_name_table.specs.Inner.Lines.{texts_of, access_word, line_by, head_by, unit_by, units_by};
 
 use f3_access::table::Visible;
 use f3_graph::UnitId;

@@ -1,9 +1,10 @@
 -- One module without USE is in order.
-use Rattle.std.proofs.Common.{◌≡◌, ℕ, zero, suc, ◌<◌, List, [], ◌∷◌, map, get_or, Some, slice_get, refl, sym, ap, subst, ◌∙◌, arith, inl, Contains}
+use Rattle.std.proofs.Common.{◌≡◌, ℕ, zero, suc, ◌<◌, List, [], ◌∷◌, map, get_or, None, Some, slice_get, refl, sym, ap, subst, ◌∙◌, arith, inl, Contains}
 use Rattle.std.proofs.lemmas.Option.{slice_get_within}
 use Rattle.f3_scopes.specs.declared.outline.ScopeKind.TheVariants.{Module}
 use Rattle.f3_scopes.specs.declared.outline.Outline.{Outline}
 use Rattle.f3_scopes.specs.Outlines.{Scope, Using, scope_view, using_view}
+use Rattle.f3_access.specs.Hosts.{HostsBefore, host_of}
 use Rattle.f3_access.specs.Access.{IsUnit, IsUnitOrder, ModulesDiffer}
 use Rattle.f3_access.proofs.Members.{has_of}
 
@@ -35,3 +36,11 @@ module _ (o : Outline) (kind : o.kind ≡ Module) (uses : o.uses.items ≡ []) w
 
   pub lone_differs : ModulesDiffer scopes
   lone_differs i j symbol a b = let x = slice_get_within scopes i a.0 a.1 in let y = slice_get_within scopes j b.0 b.1 in omega (arith, x, y)
+
+  -- what has no host stands behind all its hosts
+  lone_host : o.host ≡ None → (number host : ℕ) → host_of scopes number ≡ Some host → host < number
+  lone_host none zero host at = absurd (let h : None ≡ Some host = sym none ∙ at in cc)
+  lone_host none (suc n) host at = absurd cc
+
+  pub lone_hosts : o.host ≡ None → HostsBefore scopes
+  lone_hosts none number host at = lone_host none number host at

@@ -1,6 +1,6 @@
 //! Tables of one module.
 
-ghost use Rattle.std.specs.Prelude.{◌≡◌, [], IfOk};
+ghost use Rattle.std.specs.Prelude.{◌≡◌, [], IfOk, None};
 ghost use Rattle.f3_scopes.specs.declared.outline.ScopeKind.TheVariants.{Module};
 
 use f3_access::table::{Lookup, Visible};
@@ -46,6 +46,7 @@ fn declared_of(
 fn module_of_two(alloc: Global) -> Result<Outline, AllocError>
     ensures kind { IfOk result (λ o. o.kind ≡ Module) }
     ensures uses { IfOk result (λ o. o.uses.items ≡ []) }
+    ensures host { IfOk result (λ o. o.host ≡ None) }
 {
     let mut declared = Vec::new(alloc);
     declared.push(declared_of(alloc, b'n', None)?)?;

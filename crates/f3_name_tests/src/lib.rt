@@ -4,6 +4,8 @@
 #[cfg(test)]
 mod access;
 #[cfg(test)]
+mod constructs;
+#[cfg(test)]
 mod graph;
 #[cfg(test)]
 mod name_rules;

@@ -50,6 +50,7 @@ fn declared(alloc: Global, name: Name) -> Declared {
 fn module_of(alloc: Global, references: &[Name]) -> Result<Outline, AllocError>
     ensures kind { IfOk result (λ o. o.kind ≡ Module) }
     ensures uses { IfOk result (λ o. o.uses.items ≡ []) }
+    ensures host { IfOk result (λ o. o.host ≡ None) }
 {
     let mut own = Vec::new(alloc);
     own.push(declared(alloc, name(1, 20)))?;

@@ -149,11 +149,19 @@ fn pair(symbol: usize, entity: usize) -> Visible {
     Visible { symbol, entity }
 }
 
-fn entity(symbol: usize, column: u32, kind: EntityKind, scope: usize, home: usize) -> Entity {
+fn entity(
+    symbol: usize,
+    column: u32,
+    kind: EntityKind,
+    scope: usize,
+    unit: usize,
+    home: usize,
+) -> Entity {
     Entity {
         place: place(column),
         kind,
         scope,
+        unit,
         home,
         original: symbol,
         is_protected: false,
@@ -169,15 +177,15 @@ fn small(alloc: Global) -> Result<Names, CheckFault> {
 fn entities() -> [Entity; 6] {
     let variable = EntityKind::Variable;
     [
-        entity(1, 10, variable, 0, 0),
-        entity(2, 20, variable, 0, 0),
+        entity(1, 10, variable, 0, 0, 0),
+        entity(2, 20, variable, 0, 0, 0),
         Entity {
             is_protected: true,
-            ..entity(3, 30, variable, 0, 0)
+            ..entity(3, 30, variable, 0, 0, 0)
         },
-        entity(4, 40, EntityKind::Subroutine, 0, 0),
-        entity(5, 50, variable, 1, 0),
-        entity(7, 70, variable, 2, 6),
+        entity(4, 40, EntityKind::Subroutine, 0, 0, 0),
+        entity(5, 50, variable, 1, 0, 0),
+        entity(7, 70, variable, 2, 2, 6),
     ]
 }
 

@@ -14,7 +14,9 @@ use Rattle.f3_access.specs.Access.{IsUnitOrder, ModulesDiffer}
 use Rattle.f3_name_rules.specs.NameBreaks.{NameBreaks}
 use Rattle.f3_names.specs.Tables.{scope_numbers}
 use Rattle.f3_names.specs.Answers.{BreaksOfNames}
-use Rattle.f3_names.specs.Making.{unit_numbers, among_scopes}
+use Rattle.f3_names.specs.Inner.Making.{unit_numbers, among_scopes}
+use Rattle.f3_access.specs.Hosts.{HostsBefore}
+use Rattle.f3_names.proofs.Inside.{hosts_before}
 use Rattle.f3_names.proofs.Units.{numbers_same}
 use Rattle.f3_names.proofs.Bridging.{fits, unit_order, modules_differ}
 
@@ -48,3 +50,6 @@ first_found t scopes found b same is least = subst (λ ss. Least (Some b) (NameB
 pub none_found : (t : Tree) (scopes : List Scope) (found : Option Break) → scopes ≡ scopes_of t → found ≡ None → Least found (NameBreaks scopes t.names) → (b : Break) → BreaksOfNames t b → ⊥
 none_found t scopes found same is least =
     (subst (λ ss. Least None (NameBreaks ss t.names)) same (subst (λ o. Least o (NameBreaks scopes t.names)) is least)).as_said
+
+pub hosts_are_before : (t : Tree) (scopes : List Scope) → scopes ≡ scopes_of t → HostsBefore scopes
+hosts_are_before t scopes same = subst HostsBefore (sym same) (hosts_before t)

@@ -20,7 +20,7 @@ use Rattle.f3_graph.specs.Breaks.{at, UnitBreaks}
 use Rattle.f3_access.specs.Access.{IsUnit, IsModule, IsUnitOrder, ModulesDiffer}
 use Rattle.f3_graph.proofs.Members.{Has, has_of, contains_of, has_left, has_mapped, mapped_of}
 use Rattle.f3_names.specs.Tables.{scope_numbers}
-use Rattle.f3_names.specs.Making.{among_scopes}
+use Rattle.f3_names.specs.Inner.Making.{among_scopes}
 use Rattle.f3_names.proofs.Units.{there, unit_at, unit_of, numbers_long, numbers_differ}
 
 number_at : Tree → ℕ → ℕ

@@ -6,3 +6,5 @@ pub mod Stepping
 pub mod Units
 pub mod Bridging
 pub mod Answering
+pub mod Holding
+pub mod Inside

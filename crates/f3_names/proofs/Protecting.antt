@@ -8,7 +8,8 @@ use Rattle.f3_tree.specs.declared.expression.Name.{Name}
 use Rattle.f3_scopes.specs.Outlines.{Own, Scope}
 use Rattle.f3_access.proofs.Members.{Has, any_of, any_from, put, put_of, has_mapped, mapped_of}
 use Rattle.f3_names.specs.Entities.{home_of, entity_of}
-use Rattle.f3_names.specs.Making.{entity_by}
+use Rattle.f3_names.specs.Holders.{unit_of}
+use Rattle.f3_names.specs.Inner.Making.{entity_by}
 
 symbols : List Name → List ℕ
 symbols names = map (λ (n : Name). n.symbol) names
@@ -43,7 +44,7 @@ protected_same x names =
     (in_set x (symbols names), set_has x (symbols names)) (named x names, names_has x names)
 
 pub entities_by : (scopes : List Scope) (number : ℕ) (scope : Scope) (ds : List Own)
-    → map (entity_by number (home_of scopes scope) (insert_all nat_eq [] (map (λ (n : Name). n.symbol) scope.protects))) ds ≡ map (entity_of scopes number scope) ds
+    → map (entity_by number (unit_of scopes number) (home_of scopes number) (insert_all nat_eq [] (map (λ (n : Name). n.symbol) scope.protects))) ds ≡ map (entity_of scopes number scope) ds
 entities_by scopes number scope [] = refl
 entities_by scopes number scope (d ∷ ds) =
     let first = protected_same d.name.symbol scope.protects in

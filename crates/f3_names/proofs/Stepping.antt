@@ -4,7 +4,7 @@ use Rattle.f3_scopes.specs.declared.outline.Outline.{Outline}
 use Rattle.f3_scopes.specs.Outlines.{Scope, own_view, scope_view}
 use Rattle.f3_names.specs.declared.entity.Entity.{Entity}
 use Rattle.f3_names.specs.Entities.{entity_of, entities_from}
-use Rattle.f3_names.specs.Making.{of_unit, unit_numbers}
+use Rattle.f3_names.specs.Inner.Making.{of_unit, unit_numbers}
 
 cut : {X : Type 0} (xs : List X) (i : ℕ) (x : X) → i < length xs → x ≡ get_or xs i x → drop i xs ≡ x ∷ drop (i + 1) xs
 cut xs i x lt at = rw add-one (drop-cons xs i x lt ∙ ap (λ w. w ∷ drop (suc i) xs) (sym at))

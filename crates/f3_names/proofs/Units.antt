@@ -1,16 +1,13 @@
 -- Units among the scopes.
-use Rattle.std.proofs.Common.{◌≡◌, ◌≢◌, ℕ, zero, suc, ◌+◌, ◌<◌, ◌≤◌, ◌⊎◌, List, [], ◌∷◌, ◌++◌, Some, length, map, get_or, slice_get, refl, ap, subst, ◌∙◌, inl, inr, arith, zero-add}
-use Rattle.std.proofs.lemmas.List.{length-map}
+use Rattle.std.proofs.Common.{◌≡◌, ◌≢◌, ℕ, zero, suc, ◌+◌, ◌<◌, ◌≤◌, ◌⊎◌, List, [], ◌∷◌, ◌++◌, Some, length, get_or, slice_get, refl, ap, subst, ◌∙◌, inl, inr, arith, zero-add}
 use Rattle.std.proofs.lemmas.Option.{slice_get_within, slice_get-get_or}
-use Rattle.f3_tree.specs.declared.program.ProcedureKind.{ProcedureKind}
-use Rattle.f3_tree.specs.declared.program.ProcedureKind.TheVariants as procedure
-use Rattle.f3_tree.specs.Tree.{ProcedureTree, UnitTree, Tree}
-use Rattle.f3_scopes.specs.declared.outline.ScopeKind.TheVariants as scope
+use Rattle.f3_tree.specs.Tree.{UnitTree, Tree}
 use Rattle.f3_scopes.specs.Outlines.{Scope}
-use Rattle.f3_scopes.specs.Scopes.{procedure_kind, scope_of_procedure, scope_of_unit, unit_scopes, scopes_from, scopes_of}
+use Rattle.f3_scopes.specs.Scopes.{scope_of_unit, unit_scopes, scopes_from, scopes_of}
 use Rattle.f3_access.specs.Access.{IsUnit}
 use Rattle.f3_names.specs.Tables.{scope_numbers}
-use Rattle.f3_names.specs.Making.{unit_numbers}
+use Rattle.f3_names.specs.Inner.Making.{of_unit, unit_numbers}
+use Rattle.f3_names.proofs.Inside.{AreInside, inner, inside_at, inner_inside}
 
 behind : {X : Type 0} (xs ys : List X) (k : ℕ) (x : X) → slice_get ys k ≡ Some x → slice_get (xs ++ ys) (length xs + k) ≡ Some x
 behind [] ys k x h = subst (λ n. slice_get ys n ≡ Some x) (let e : k ≡ 0 + k = omega arith in e) h
@@ -26,9 +23,6 @@ there [] k lt = absurd (omega arith)
 there (y ∷ ys) zero lt = (y, refl)
 there (y ∷ ys) (suc k) lt = there ys k (omega arith)
 
-long : (n : ℕ) (u : UnitTree) → length (unit_scopes n u) ≡ 1 + length u.procedures
-long n u = let e = length-map u.procedures (scope_of_procedure n) in omega (arith, e)
-
 -- a unit stands among the scopes at its number
 pub unit_at : (n : ℕ) (us : List UnitTree) (k : ℕ) (u : UnitTree) → slice_get us k ≡ Some u
     → (p : ℕ) × (slice_get (scope_numbers n us) k ≡ Some (n + p)) × (slice_get (scopes_from n us) p ≡ Some (scope_of_unit u))
@@ -38,22 +32,9 @@ unit_at n (v ∷ vs) (suc k) u h =
     let size = length (unit_scopes n v) in
     let (p, number, here) = unit_at (n + size) vs k u h in (
       size + p,
-      subst (λ m. slice_get (scope_numbers m vs) k ≡ Some (n + (size + p))) (ap (λ m. n + m) (long n v)) (number ∙ ap Some (let e : n + size + p ≡ n + (size + p) = omega arith in e)),
+      number ∙ ap Some (let e : n + size + p ≡ n + (size + p) = omega arith in e),
       behind (unit_scopes n v) (scopes_from (n + size) vs) p (scope_of_unit u) here,
     )
-
-no_unit_kind : (kind : ProcedureKind) → (procedure_kind kind ≡ scope.Module) ⊎ (procedure_kind kind ≡ scope.Program) → ⊥
-no_unit_kind procedure.Subroutine (inl e) = cc
-no_unit_kind procedure.Subroutine (inr e) = cc
-no_unit_kind (procedure.Function specifier outcome) (inl e) = cc
-no_unit_kind (procedure.Function specifier outcome) (inr e) = cc
-
-no_procedure : (n : ℕ) (ps : List ProcedureTree) (p : ℕ) (s : Scope) → slice_get (map (scope_of_procedure n) ps) p ≡ Some s → IsUnit s → ⊥
-no_procedure n [] p s at is = absurd (let past = slice_get_within [] p s at in omega arith)
-no_procedure n (x ∷ xs) zero s at is =
-    let same : s ≡ scope_of_procedure n x = cc in
-    no_unit_kind (x.header).kind (subst IsUnit same is)
-no_procedure n (x ∷ xs) (suc p) s at is = no_procedure n xs p s at is
 
 pub Found : ℕ → List UnitTree → ℕ → Scope → Type 0
 Found n us p s = (k : ℕ) × (u : UnitTree) × (slice_get us k ≡ Some u) × (s ≡ scope_of_unit u) × (slice_get (scope_numbers n us) k ≡ Some (n + p))
@@ -61,7 +42,7 @@ Found n us p s = (k : ℕ) × (u : UnitTree) × (slice_get us k ≡ Some u) × (
 first_unit : (n : ℕ) (u : UnitTree) (us : List UnitTree) (p : ℕ) (s : Scope) → slice_get (unit_scopes n u) p ≡ Some s → IsUnit s → Found n (u ∷ us) p s
 unfolding Found
 first_unit n u us zero s at is = (0, u, refl, let same : s ≡ scope_of_unit u = cc in same, ap Some (let e : n ≡ n + 0 = omega arith in e))
-first_unit n u us (suc p) s at is = absurd (no_procedure n u.procedures p s at is)
+first_unit n u us (suc p) s at is = absurd ((inside_at (n + 1) (inner n u) p s (inner_inside n u) at).3 is)
 
 -- each unit among the scopes is one of the program's, at its number
 unit_from : (n : ℕ) (us : List UnitTree) (p : ℕ) (s : Scope) → slice_get (scopes_from n us) p ≡ Some s → IsUnit s → Found n us p s
@@ -77,7 +58,7 @@ unit_from n (u ∷ us) p s at is =
             v,
             at_k,
             same,
-            subst (λ m. slice_get (scope_numbers m us) k ≡ Some (n + p)) (ap (λ m. n + m) (long n u)) (number ∙ ap Some (let sum : n + size + q ≡ n + p = omega (arith, e) in sum)),
+            number ∙ ap Some (let sum : n + size + q ≡ n + p = omega (arith, e) in sum),
           )
     ]
 
@@ -90,21 +71,21 @@ unit_of t number s at is =
 
 pub numbers_long : (n : ℕ) (us : List UnitTree) → length (scope_numbers n us) ≡ length us
 numbers_long n [] = refl
-numbers_long n (u ∷ us) = let rest = numbers_long (n + (1 + length u.procedures)) us in omega (arith, rest)
+numbers_long n (u ∷ us) = let rest = numbers_long (n + length (unit_scopes n u)) us in omega (arith, rest)
 
 numbers_least : (n : ℕ) (us : List UnitTree) (k m : ℕ) → slice_get (scope_numbers n us) k ≡ Some m → n ≤ m
 numbers_least n [] k m h = absurd (let past = slice_get_within [] k m h in omega arith)
 numbers_least n (u ∷ us) zero m h = let same : n ≡ m = cc in omega (arith, same)
-numbers_least n (u ∷ us) (suc k) m h = let rest = numbers_least (n + (1 + length u.procedures)) us k m h in omega (arith, rest)
+numbers_least n (u ∷ us) (suc k) m h = let rest = numbers_least (n + length (unit_scopes n u)) us k m h in omega (arith, rest)
 
 numbers_rise : (n : ℕ) (us : List UnitTree) (j k a b : ℕ) → j < k → slice_get (scope_numbers n us) j ≡ Some a → slice_get (scope_numbers n us) k ≡ Some b → a < b
 numbers_rise n [] j k a b lt at_j at_k = absurd (let past = slice_get_within [] j a at_j in omega arith)
 numbers_rise n (u ∷ us) j zero a b lt at_j at_k = absurd (omega (arith, lt))
 numbers_rise n (u ∷ us) zero (suc k) a b lt at_j at_k =
     let same : n ≡ a = cc in
-    let least = numbers_least (n + (1 + length u.procedures)) us k b at_k in
+    let least = numbers_least (n + length (unit_scopes n u)) us k b at_k in
     omega (arith, same, least)
-numbers_rise n (u ∷ us) (suc j) (suc k) a b lt at_j at_k = numbers_rise (n + (1 + length u.procedures)) us j k a b (omega (arith, lt)) at_j at_k
+numbers_rise n (u ∷ us) (suc j) (suc k) a b lt at_j at_k = numbers_rise (n + length (unit_scopes n u)) us j k a b (omega (arith, lt)) at_j at_k
 
 pub numbers_differ : (us : List UnitTree) (j k : ℕ) → j < length us → k < length us → j < k → get_or (scope_numbers 0 us) j 0 ≢ get_or (scope_numbers 0 us) k 0
 numbers_differ us j k in_j in_k lt same =
@@ -115,14 +96,15 @@ numbers_differ us j k in_j in_k lt same =
     omega (arith, less, same)
 
 -- the scopes without a host are the units
-hosted : (n m : ℕ) (ps : List ProcedureTree) (rest : List Scope) → unit_numbers n (map (scope_of_procedure m) ps ++ rest) ≡ unit_numbers (n + length ps) rest
-hosted n m [] rest = ap (λ k. unit_numbers k rest) (let e : n ≡ n + 0 = omega arith in e)
-hosted n m (p ∷ ps) rest = hosted (n + 1) m ps rest ∙ ap (λ k. unit_numbers k rest) (let e : n + 1 + length ps ≡ n + length (p ∷ ps) = omega arith in e)
+hosted : (n m : ℕ) (xs rest : List Scope) → AreInside m xs → unit_numbers n (xs ++ rest) ≡ unit_numbers (n + length xs) rest
+hosted n m [] rest a = ap (λ k. unit_numbers k rest) (let e : n ≡ n + 0 = omega arith in e)
+hosted n m (x ∷ xs) rest ((host, e, less, outside), a) =
+    ap (λ o. of_unit n o ++ unit_numbers (n + 1) (xs ++ rest)) e
+    ∙ hosted (n + 1) (m + 1) xs rest a ∙ ap (λ k. unit_numbers k rest) (let sum : n + 1 + length xs ≡ n + length (x ∷ xs) = omega arith in sum)
 
 pub numbers_same : (n : ℕ) (us : List UnitTree) → unit_numbers n (scopes_from n us) ≡ scope_numbers n us
 numbers_same n [] = refl
 numbers_same n (u ∷ us) =
     let size = length (unit_scopes n u) in
-    let behind_it = hosted (n + 1) n u.procedures (scopes_from (n + size) us) in
-    let sum : n + 1 + length u.procedures ≡ n + size = (let e = long n u in omega (arith, e)) in
-    ap (λ l. n ∷ l) (behind_it ∙ ap (λ k. unit_numbers k (scopes_from (n + size) us)) sum ∙ numbers_same (n + size) us ∙ ap (λ m. scope_numbers (n + m) us) (long n u))
+    let sum : n + 1 + length (inner n u) ≡ n + size = omega arith in
+    ap (λ l. n ∷ l) (hosted (n + 1) (n + 1) (inner n u) (scopes_from (n + size) us) (inner_inside n u) ∙ ap (λ k. unit_numbers k (scopes_from (n + size) us)) sum ∙ numbers_same (n + size) us)

@@ -6,18 +6,15 @@ use Rattle.f3_tree.specs.declared.expression.Name.{Name}
 use Rattle.f3_scopes.specs.Outlines.{Own, Scope}
 use Rattle.f3_access.specs.Access.{IsVisible}
 use Rattle.f3_names.specs.declared.entity.Entity.{Entity}
+use Rattle.f3_names.specs.Holders.{unit_of}
 
-abbrev pub name_of : Option Scope → ℕ → ℕ
-name_of None own = own
-name_of (Some host) own = host.name.symbol
+abbrev pub name_of : Option Scope → ℕ
+name_of None = 0
+name_of (Some scope) = scope.name.symbol
 
-abbrev pub host_of : List Scope → Option ℕ → Option Scope
-host_of scopes None = None
-host_of scopes (Some number) = slice_get scopes number
-
--- the name of the unit that holds a scope: of a procedure its module's, else its own
-abbrev pub home_of : List Scope → Scope → ℕ
-home_of scopes scope = name_of (host_of scopes scope.host) scope.name.symbol
+-- the name of the unit that holds the scope of this number
+abbrev pub home_of : List Scope → ℕ → ℕ
+home_of scopes number = name_of (slice_get scopes (unit_of scopes number))
 
 -- a declared name is protected by an attribute of its declaration or by a PROTECTED statement (5.1.2.12, 5.2.11)
 abbrev pub is_protected : Scope → Own → Bool
@@ -29,7 +26,8 @@ entity_of scopes number scope d = record {
   place = d.name.place;
   kind = d.kind;
   scope = number;
-  home = home_of scopes scope;
+  unit = unit_of scopes number;
+  home = home_of scopes number;
   original = d.name.symbol;
   is_protected = is_protected scope d;
 }

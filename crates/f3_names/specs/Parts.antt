@@ -1,16 +1,16 @@
 -- When the parts of a table of names are those of a program.
 use Rattle.std.specs.Prelude.{◌≡◌, ℕ, ◌+◌, List, [], ◌∷◌, length}
 use Rattle.f3_tree.specs.Tree.{UnitTree, Tree}
-use Rattle.f3_scopes.specs.Scopes.{scopes_of}
+use Rattle.f3_scopes.specs.Scopes.{unit_scopes, scopes_of}
 use Rattle.f3_access.specs.declared.table.Tables.{Tables}
 use Rattle.f3_access.specs.Tables.{AreTables}
 use Rattle.f3_names.specs.declared.entity.Entity.{Entity}
 use Rattle.f3_names.specs.Entities.{described}
 
--- the numbers of the units among the scopes, where the first unit has this one: a unit's procedures come behind it
+-- the numbers of the units among the scopes, where the first unit has this one: the scopes within a unit come behind it
 abbrev pub scope_numbers : ℕ → List UnitTree → List ℕ
 scope_numbers number [] = []
-scope_numbers number (u ∷ us) = number ∷ scope_numbers (number + (1 + length u.procedures)) us
+scope_numbers number (u ∷ us) = number ∷ scope_numbers (number + length (unit_scopes number u)) us
 
 -- the entities, what each scope sees, the texts of the names and the numbers of the units are the program's
 pub record AreNamesOf (t : Tree) (entities_here : List Entity) (tables_here : Tables) (texts_here : List (List ℕ)) (units_here : List ℕ) : Type 0 where

@@ -5,9 +5,10 @@ use Rattle.f3_scopes.specs.Scopes.{scopes_of}
 use Rattle.f3_access.specs.declared.table.Visible.{Visible}
 use Rattle.f3_access.specs.declared.table.Lookup.{Lookup}
 use Rattle.f3_access.specs.Access.{IsVisible}
-use Rattle.f3_access.specs.Tables.{exports_of, lookup_of}
+use Rattle.f3_access.specs.Tables.{exports_of, lookup_of, host_of}
 use Rattle.f3_names.specs.declared.entity.Entity.{Entity}
 use Rattle.f3_names.specs.declared.table.Names.{Names}
+use Rattle.f3_names.specs.Holders.{outermost}
 pub use Rattle.f3_names.specs.Parts.{scope_numbers}
 use Rattle.f3_names.specs.Parts.{AreNamesOf}
 
@@ -25,6 +26,10 @@ AreNames t names = AreNamesOf t (entities_of names) names.tables (texts_of names
 -- what the tables have for a name of a scope
 abbrev pub lookup_at : Names → ℕ → ℕ → Lookup
 lookup_at names scope symbol = lookup_of names.tables scope symbol
+
+-- the number of the scope of the unit that holds a scope
+abbrev pub unit_at : Names → ℕ → ℕ
+unit_at names scope = outermost (host_of names.tables) scope
 
 -- what a unit exports
 abbrev pub exports_in : Names → Option ℕ → List Visible

@@ -12,7 +12,9 @@ pub struct Entity {
     pub kind: EntityKind,
     /// The number of the scope that declares it.
     pub scope: usize,
-    /// The name of the module or main program that holds it.
+    /// The number of the scope of the module or main program that holds it.
+    pub unit: usize,
+    /// The name of that unit.
     pub home: usize,
     /// Its name in its declaration.
     pub original: usize,

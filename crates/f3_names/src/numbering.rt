@@ -3,7 +3,7 @@
 ghost use Rattle.std.specs.Prelude.{◌≡◌, ◌<◌, ◌++◌, OnOk, IfOk, length, map};
 ghost use Rattle.std.specs.List.{All};
 ghost use Rattle.f3_scopes.specs.Outlines.{scope_view};
-ghost use Rattle.f3_names.specs.Making.{of_unit, unit_numbers, among_scopes};
+ghost use Rattle.f3_names.specs.Inner.Making.{of_unit, unit_numbers, among_scopes};
 
 use f3_graph::UnitId;
 use f3_scopes::outline::Outline;

@@ -6,7 +6,7 @@ ghost use Rattle.f3_access.specs.Pairs.{pairs_left};
 ghost use Rattle.f3_access.specs.Tables.{own_of, visible_of, private_of};
 ghost use Rattle.f3_name_rules.specs.NameBreaks.{text_of};
 ghost use Rattle.f3_names.specs.Entities.{VisibleIsEntity};
-ghost use Rattle.f3_names.specs.Tables.{AreNames, entities_of, texts_of, lookup_at, exports_at, IsVisibleAs};
+ghost use Rattle.f3_names.specs.Tables.{AreNames, entities_of, texts_of, lookup_at, unit_at, exports_at, IsVisibleAs};
 ghost use Rattle.f3_names.specs.Texts.{lowered};
 ghost use Rattle.f3_tree.specs.Tree.{Tree};
 
@@ -66,9 +66,8 @@ impl Names {
         }
     }
 
-    /// What is visible in a scope, each entity once under each name: its own, and in a procedure then what its module has
-    /// under names that none of its own has, in their order (own rule).
-    /// The walk takes no memory, and looks at each pair of the scope and of its module once.
+    /// What is visible in a scope, each entity once under each name: its own, then what is visible around it under names that
+    /// none of its own has, in their order (own rule). The walk takes no memory.
     pub fn visible(&self, scope: ScopeId) -> VisiblePairs<'_>
         ensures { pairs_left result ≡ visible_of self.now.tables scope.number }
     {
@@ -99,6 +98,17 @@ impl Names {
     {
         let number = *self.units.get(unit.number)?;
         Some(ScopeId { number })
+    }
+
+    /// The scope of the unit that holds a scope: of a unit itself, of a procedure or a construct the outermost around it.
+    pub fn unit(&self, scope: ScopeId) -> ScopeId
+        ensures { result.number ≡ unit_at self.now scope.number }
+    {
+        let mut number = scope.number;
+        while let Some(host) = f3_access::host(&self.tables, number) {
+            number = host;
+        }
+        ScopeId { number }
     }
 
     /// Whether a name is private in a scope: a PRIVATE names it, or no access does and there is a PRIVATE without a list

@@ -9,7 +9,7 @@ use crate::texts::longest;
 use f3_access::table::Tables;
 use indexmap::IndexSet;
 
-/// A scope by its number: the units and their procedures are numbered from 0 in the order of their places.
+/// A scope by its number: units, procedures and ASSOCIATE constructs are numbered from 0 in the order of their places.
 #[derive(Clone, Copy, PartialEq, Eq, Debug)]
 pub struct ScopeId {
     pub number: usize,

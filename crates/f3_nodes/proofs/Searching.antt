@@ -6,7 +6,7 @@ use Rattle.std.proofs.lemmas.List.{get_or-set_other, get_or-set_same, length-set
 use Rattle.std.proofs.lemmas.List.Sums.{sum_by-set}
 use Rattle.std.proofs.lemmas.List.Elements.{Contains-push, Contains-push_cases, Contains-append_left}
 use Rattle.f3_nodes.specs.Nodes.{Graph, targets_of, Leads, InRange}
-use Rattle.f3_nodes.specs.Search.{is_seen, see, see_all, Finished, Searches}
+use Rattle.f3_nodes.specs.Inner.Search.{is_seen, see, see_all, Finished, Searches}
 use Rattle.f3_nodes.proofs.Members.{Has, has_of, contains_of}
 use Rattle.f3_nodes.proofs.Walking.{further}
 

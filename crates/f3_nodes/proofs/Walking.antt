@@ -8,7 +8,7 @@ use Rattle.f3_nodes.specs.declared.walk.Mark.{Mark}
 use Rattle.f3_nodes.specs.declared.walk.Mark.TheVariants.{New, Open, Done}
 use Rattle.std.specs.Global.{Vec}
 use Rattle.f3_nodes.specs.Nodes.{Graph, targets_of, Leads, InRange, IsNodeOrder}
-use Rattle.f3_nodes.specs.Marks.{mark, IsSettled, NoneOpen, Apart, On, Under, Good, Walks, cost, fresh, left_of, Visits, HasVisited}
+use Rattle.f3_nodes.specs.Inner.Marks.{mark, IsSettled, NoneOpen, Apart, On, Under, Good, Walks, cost, fresh, left_of, Visits, HasVisited}
 
 mark_here : (ms : List Mark) (u : ℕ) (m : Mark) → u < length ms → mark (set ms u m) u ≡ m
 mark_here ms u m lt = get_or-set_same ms u m New lt

@@ -1,4 +1,3 @@
 pub mod Nodes
-pub mod Marks
-pub mod Search
 pub mod Levels
+pub mod Inner

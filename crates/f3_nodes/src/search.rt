@@ -2,7 +2,7 @@
 
 ghost use Rattle.std.specs.Prelude.{◌≡◌, ◌⊎◌, ◌<◌, ◌↔◌, length, IfOk, OnOk, IsTrue};
 ghost use Rattle.f3_nodes.specs.Nodes.{InRange, Leads, targets_of};
-ghost use Rattle.f3_nodes.specs.Search.{see, see_all};
+ghost use Rattle.f3_nodes.specs.Inner.Search.{see, see_all};
 
 use std::alloc::{AllocError, Global};
 

@@ -3,7 +3,7 @@
 ghost use Rattle.std.specs.Prelude.{◌≡◌, ℕ, ◌+◌, ◌^◌, ◌<◌, ◌≤◌, length, IfSome, IfNone, IfOk};
 ghost use Rattle.std.specs.List.{slice_index_or};
 ghost use Rattle.f3_nodes.specs.Nodes.{InRange, targets_of, Ordered};
-ghost use Rattle.f3_nodes.specs.Marks.{IsSettled, NoneOpen, Visits, IsNew};
+ghost use Rattle.f3_nodes.specs.Inner.Marks.{IsSettled, NoneOpen, Visits, IsNew};
 
 use std::alloc::{AllocError, Global};
 

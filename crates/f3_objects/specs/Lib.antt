@@ -1,5 +1,5 @@
 pub mod Tree
 pub mod Holds
 pub mod Copies
-pub mod OneTake
 pub mod Boxes
+pub mod Inner

@@ -11,7 +11,7 @@ ghost use Rattle.f3_desc.specs.Layout.{pieces_of, shapes, shape_in, piece_count}
 ghost use Rattle.f3_objects.specs.Tree.{Tree, words, footprint};
 ghost use Rattle.f3_objects.specs.Holds.{Holds};
 ghost use Rattle.f3_objects.specs.Copies.{Ready, Copies, Empties, Refuses, faults};
-ghost use Rattle.f3_objects.specs.OneTake.{one_take};
+ghost use Rattle.f3_objects.specs.Inner.OneTake.{one_take};
 
 use crate::free::free_piece;
 use crate::holder::block_at;

@@ -1,5 +1,5 @@
 -- Laws on two objects in one heap.
-use Rattle.std.proofs.Common.{◌≡◌, ◌≢◌, ℕ, ℤ, ◌<◌, ◌≤◌, inl, inr, true, Bool, List, [], length, take, drop, ap, sym, subst, ◌∙◌, arith}
+use Rattle.std.proofs.Common.{◌≡◌, ◌≢◌, ℕ, ℤ, ◌<◌, ◌≤◌, inl, inr, Bool, List, [], length, take, drop, ap, sym, subst, ◌∙◌, arith}
 use Rattle.std.specs.Prelude.{None, Result, Ok, Err, OnOk, OnErr}
 use Rattle.std.specs.FinMap.{get, remove}
 use Rattle.f3_heap_laws.specs.Blocks.{Live, IsLive, words_of, pins_of, with_taken, with_words}

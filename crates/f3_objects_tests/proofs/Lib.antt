@@ -1,3 +1,5 @@
 pub mod Growing
 pub mod Beside
 pub mod Tall
+pub mod Filling
+pub mod TwoLists

@@ -6,6 +6,8 @@ mod copies;
 #[cfg(test)]
 mod descriptors;
 mod dice;
+#[cfg(test)]
+mod elements;
 mod growth;
 mod holders;
 #[cfg(test)]
@@ -16,6 +18,8 @@ mod rounds;
 #[cfg(test)]
 mod tests;
 mod towers;
+#[cfg(test)]
+mod written;
 
 pub use dice::Dice;
 pub use growth::grow;

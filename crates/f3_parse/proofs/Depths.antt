@@ -1,6 +1,6 @@
 -- How many constructs are open, by the machine and by what was begun and ended.
 use Rattle.std.proofs.Common.{◌≡◌, ◌+◌, ◌≤◌, List, [], ◌∷◌, Bool, true, false, Some, refl, sym, ap, arith}
-use Rattle.f3_form.specs.Forms.{FormTree, if_then, select_case, repeats}
+use Rattle.f3_form.specs.Forms.{FormTree, if_then, select_case, repeats, associates}
 use Rattle.f3_blocks.specs.Pieces.{Placed}
 use Rattle.f3_units.specs.Machine.{State, start, step, run, depth, IsDeeper}
 use Rattle.f3_units.specs.Depth.{begins_construct, ends_construct, one_if}
@@ -26,6 +26,7 @@ not_both : (f : FormTree) → begins_construct f ≡ true → ends_construct f �
 not_both (if_then e) h = refl
 not_both (select_case e) h = refl
 not_both (repeats c) h = refl
+not_both (associates xs) h = refl
 not_both _ h = absurd (cc)
 
 abbrev Deeper : Bool → Bool → State → State → Type 0

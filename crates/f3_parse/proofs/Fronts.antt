@@ -16,7 +16,7 @@ use Rattle.f3_units.specs.Machine.{Begun, State, start, free, step, run}
 use Rattle.f3_units.proofs.Nesting.{run-append, spelled, not_viable, goes_on_free, goes_on_inside, goes_on_there, viable, same_source, units_read}
 use Rattle.f3_parse.specs.Nested.{IsTooDeep, IsShallow}
 use Rattle.f3_parse.specs.Phase.{place_of, file_of, placed_at, HaveForms, BreaksIn, EndsInside, BreaksBehind, BreaksOf}
-use Rattle.f3_parse.specs.Steps.{GoesOnAt, Deepens, StopsAt, Has, GoesTo}
+use Rattle.f3_parse.specs.Inner.Steps.{GoesOnAt, Deepens, StopsAt, Has, GoesTo}
 use Rattle.f3_parse.proofs.Depths.{deep_is, is_deep}
 use Rattle.f3_parse.proofs.Cuts.{then_some, Cuts, two_cuts, none_shallow, shallow_more}
 

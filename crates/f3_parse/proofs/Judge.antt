@@ -9,7 +9,7 @@ use Rattle.f3_form.specs.Forms.{FormTree}
 use Rattle.f3_forms.specs.Grammar.{IsForm}
 use Rattle.f3_units.specs.Machine.{State, step, IsDeeper}
 use Rattle.f3_parse.specs.Phase.{place_of, placed_at, EachForm}
-use Rattle.f3_parse.specs.Steps.{StopsAt, Deepens}
+use Rattle.f3_parse.specs.Inner.Steps.{StopsAt, Deepens}
 
 abbrev IsFault : Option Break → Break → Type 0
 IsFault fault b = fault ≡ Some b

@@ -17,7 +17,7 @@ use Rattle.f3_words.specs.Lines.{Line, Seen, nothing_seen, broken, line_of, seen
 use Rattle.f3_units.specs.Machine.{Begun, State, start}
 use Rattle.f3_parse.specs.Phase.{HaveForms, BreaksBehind, BreaksOf}
 use Rattle.f3_parse.specs.Spells.{ends_of, last_end, parts_of_sources, Spells, Parses}
-use Rattle.f3_parse.specs.Steps.{GoesOnAt, GoesTo, LeavesOpen, Stops, Goes, EndsText, Finishes}
+use Rattle.f3_parse.specs.Inner.Steps.{GoesOnAt, GoesTo, LeavesOpen, Stops, Goes, EndsText, Finishes}
 use Rattle.f3_parse.proofs.Fronts.{SoFar, begins, one_more, least_behind, least_statement, least_left, least_left_fault, least_text, least_end, no_break, not_spelled, all_spelled, only_spelled}
 
 -- what was read, and what is left

@@ -1,4 +1,4 @@
 pub mod Nested
 pub mod Phase
 pub mod Spells
-pub mod Steps
+pub mod Inner

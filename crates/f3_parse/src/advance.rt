@@ -5,7 +5,7 @@ ghost use Rattle.f3_rules.specs.Least.{earlier_of};
 ghost use Rattle.f3_words.specs.Lines.{line_view};
 ghost use Rattle.f3_units.specs.Machine.{builder_view};
 ghost use Rattle.f3_parse.specs.Phase.{first_place};
-ghost use Rattle.f3_parse.specs.Steps.{Advances};
+ghost use Rattle.f3_parse.specs.Inner.Steps.{Advances};
 
 use f3_blocks::error::StepError;
 use f3_forms::statements::statement;

@@ -6,7 +6,7 @@ ghost use Rattle.f3_text.specs.Reader.{bytes_of, Tells};
 ghost use Rattle.f3_words.specs.Lines.{line_view, seen_of};
 ghost use Rattle.f3_units.specs.Machine.{builder_view};
 ghost use Rattle.f3_parse.specs.Spells.{end_place, ends_of, last_end, Parses};
-ghost use Rattle.f3_parse.specs.Steps.{GoesOnAt, LeavesOpen, Goes, EndsText, Finishes};
+ghost use Rattle.f3_parse.specs.Inner.Steps.{GoesOnAt, LeavesOpen, Goes, EndsText, Finishes};
 
 use crate::advance::{LineFault, advance, first_place};
 use f3_rules::breaks::Break;
@@ -20,6 +20,7 @@ use f3_tree::program::Program;
 use f3_units::builder::Builder;
 use f3_words::items::line;
 use f3_words::line::{Line, Tables, broken};
+use f3_words::names::Names;
 use std::alloc::Global;
 
 /// The end of a source of these bytes; of one past the size limit, where it begins.
@@ -134,12 +135,16 @@ fn finish(
             let found = broken(Rule::S7, end_of_source(sources, unit.file));
             Err(TextFault::Refused(refusal(alloc, found)))
         }
-        None => Ok(Program {
-            names: tables.names,
-            texts: tables.texts,
-            units,
-            end: last_end(sources),
-        }),
+        None => {
+            let Tables { names, texts, .. } = tables;
+            let Names { set, .. } = names;
+            Ok(Program {
+                names: set,
+                texts,
+                units,
+                end: last_end(sources),
+            })
+        }
     }
 }
 

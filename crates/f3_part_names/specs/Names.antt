@@ -7,8 +7,11 @@ use Rattle.f3_tree.specs.declared.declaration.TypeSpecifier.{TypeSpecifier}
 use Rattle.f3_tree.specs.declared.declaration.TypeSpecifier.TheVariants.{Integer, Logical, Derived}
 use Rattle.f3_tree.specs.declared.expression.Operator.{Operator}
 use Rattle.f3_tree.specs.declared.expression.Expression.{Expression}
-use Rattle.f3_tree.specs.Expressions.{expression_view, Tree, integer, truth, text, designator, group, array, signed, negation, comparison, chain, Rest, no_more, more, Trees, no_trees, trees, Parts, no_parts, parts, Behind, bare, within, Arguments, no_arguments, arguments, ArgumentTree, value, triplet, Perhaps, absent, present}
-use Rattle.f3_tree.specs.Declarations.{Bounds, ShapeTree, explicit, deferred, AttributeTree, dimension, Placed, EntityTree, DeclarationTree, TypeTree, SpecificationTree, declares, defines}
+use Rattle.f3_tree.specs.Expressions.{expression_view, Tree, integer, truth, text, designator, group, array, signed, negation, comparison}
+use Rattle.f3_tree.specs.Expressions.{chain, Rest, no_more, more, Trees, no_trees, trees, Parts, no_parts, parts, Behind, bare, within}
+use Rattle.f3_tree.specs.Expressions.{Arguments, no_arguments, arguments, ArgumentTree, value, triplet, Perhaps, absent, present}
+use Rattle.f3_tree.specs.Declarations.{Bounds, ShapeTree, explicit, deferred, AttributeTree, dimension, Placed, EntityTree, DeclarationTree}
+use Rattle.f3_tree.specs.Declarations.{TypeTree, SpecificationTree, declares, defines}
 
 -- The names to which an expression refers, in the order written: the first name of each designator, and those in
 -- parentheses. The name of a component, or the keyword of an argument, refers to nothing by itself.

@@ -8,7 +8,9 @@ use Rattle.f3_parts.specs.Machine.{State, start, run}
 
 -- statements that were read, with no type definition open, spell the part that is held
 abbrev pub HoldsWhatIsSpelled : Type 0
-HoldsWhatIsSpelled = (of_module : Bool) (ps : List Placed) (s : State) → run of_module (map piece_of ps) start ≡ Some s → s.open_type ≡ None → IsPart of_module s.part ps
+HoldsWhatIsSpelled =
+    (of_module : Bool) (ps : List Placed) (s : State) → run of_module (map piece_of ps) start ≡ Some s
+    → s.open_type ≡ None → IsPart of_module s.part ps
 
 -- statements that spell a part are read as that part
 abbrev pub ReadsWhatIsSpelled : Type 0

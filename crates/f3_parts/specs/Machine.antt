@@ -5,7 +5,8 @@ use Rattle.f3_rules.specs.declared.source.Place.{Place}
 use Rattle.f3_tree.specs.declared.expression.Name.{Name}
 use Rattle.f3_tree.specs.declared.declaration.Accessibility.{Accessibility}
 use Rattle.f3_tree.specs.declared.declaration.Accessibility.TheVariants.{Private, Public}
-use Rattle.f3_tree.specs.Declarations.{UseTree, AccessTree, DeclarationTree, TypeTree, SpecificationTree, declares, accesses, protects, saves, defines, PartTree, part_tree, type_view}
+use Rattle.f3_tree.specs.Declarations.{UseTree, AccessTree, DeclarationTree, TypeTree, SpecificationTree, declares, accesses, protects}
+use Rattle.f3_tree.specs.Declarations.{saves, defines, PartTree, part_tree, type_view}
 use Rattle.f3_blocks.specs.declared.error.StepError.{StepError}
 use Rattle.f3_blocks.specs.declared.error.StepError.TheVariants.{Memory, OutOfPlace, TooDeep}
 use Rattle.f3_parts.specs.declared.builder.PartBuilder.{PartBuilder}

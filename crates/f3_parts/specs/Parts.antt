@@ -43,7 +43,9 @@ IsSpecification of_module (defines t) ps = (of_module ≡ true) × IsType t ps
 
 abbrev pub AreSpecifications : Bool → List SpecificationTree → List Piece → Type 0
 AreSpecifications of_module [] ps = ps ≡ []
-AreSpecifications of_module (s ∷ ss) ps = (front : List Piece) × (rest : List Piece) × (ps ≡ front ++ rest) × IsSpecification of_module s front × AreSpecifications of_module ss rest
+AreSpecifications of_module (s ∷ ss) ps =
+    (front : List Piece) × (rest : List Piece) × (ps ≡ front ++ rest) × IsSpecification of_module s front
+    × AreSpecifications of_module ss rest
 
 -- IMPLICIT NONE, where it is written
 abbrev pub implicits : Option Place → List Piece

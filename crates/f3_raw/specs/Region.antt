@@ -17,7 +17,15 @@ region_size r = r.memory.size
 
 -- r with the run written over its words from the place `at` on
 abbrev pub region_with : Region → ℕ → List ℤ → Region
-region_with r at run = record { memory = memory_with r.memory at run; frontier = r.frontier; size = r.size; lease = r.lease; alloc = r.alloc; ok = (r.ok.0 ∙ sym (length-overwritten r.memory.content at run), r.ok.1); leased = r.leased }
+region_with r at run = record {
+  memory = memory_with r.memory at run;
+  frontier = r.frontier;
+  size = r.size;
+  lease = r.lease;
+  alloc = r.alloc;
+  ok = (r.ok.0 ∙ sym (length-overwritten r.memory.content at run), r.ok.1);
+  leased = r.leased;
+}
 
 -- once the borrow ends, the n words from the place `at` on are those that were left behind it
 abbrev pub lends_run : MutBor Region → ℕ → ℕ → MutBor (List ℤ) → Fml

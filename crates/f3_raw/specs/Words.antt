@@ -1,7 +1,8 @@
 -- The list of words that stands for a region: what writing a run does to it, and when two runs do not meet.
 use Rattle.std.proofs.Math.Nat.{min-eq_left, min-eq_right}
 use Rattle.std.proofs.lemmas.Bool.{cases_lt}
-use Rattle.std.proofs.Common.{◌≡◌, ℕ, ◌+◌, ◌≤◌, ◌⊎◌, ℤ, List, ◌++◌, length, take, drop, length-take, length-take-le, length-drop, length-append, arith, ◌-◌, min, ap, ap₂, sym, subst, ◌∙◌, inl, inr}
+use Rattle.std.proofs.Common.{◌≡◌, ℕ, ◌+◌, ◌≤◌, ◌⊎◌, ℤ, List, ◌++◌, length, take, drop, length-take, length-take-le, length-drop}
+use Rattle.std.proofs.Common.{length-append, arith, ◌-◌, min, ap, ap₂, sym, subst, ◌∙◌, inl, inr}
 
 -- ws with the run written from the place `at` on: it stands there in place of as many words, and where it ends above ws it lengthens it
 abbrev pub written : List ℤ → ℕ → List ℤ → List ℤ
@@ -15,7 +16,9 @@ pub length-overwritten : (ws : List ℤ) (at : ℕ) (run : List ℤ) → length 
 length-overwritten ws at run =
     let rest = drop (at + length run) ws in
     let long : length (written ws at run) ≡ min at (length ws) + (length run + (length ws - (at + length run))) =
-    length-append (take at ws) (run ++ rest) ∙ ap₂ ◌+◌ (length-take at ws) (length-append run rest ∙ ap (λ k. length run + k) (length-drop (at + length run) ws)) in
+    length-append (take at ws) (run ++ rest)
+    ∙ ap₂ ◌+◌ (length-take at ws)
+    (length-append run rest ∙ ap (λ k. length run + k) (length-drop (at + length run) ws)) in
     let enough : length ws ≤ length (written ws at run) = subst (λ k. length ws ≤ k) (sym long) (elim (cases_lt at (length ws)) [
       | inl lt ↦ omega (arith, min-eq_left {n = at} {m = length ws} (omega arith))
       | inr le ↦ omega (arith, min-eq_right le)

@@ -38,7 +38,7 @@ enum Part {
     Errors,
 }
 
-/// The cases of a text, in order. What is of no form is passed over, so that its case is not as expected.
+/// The cases of a text, in order. A line of no form is passed over.
 pub fn read(alloc: Global, bytes: &[u8]) -> Result<Vec<Case>, AllocError> {
     let mut cases: Vec<Case> = Vec::new(alloc);
     let mut part = Part::Nothing;

@@ -1,7 +1,9 @@
 -- The rules, in the order of the table.
 use Rattle.std.specs.Prelude.{ℕ, List, codes}
 use Rattle.f3_rules.specs.declared.rule.Rule.{Rule}
-use Rattle.f3_rules.specs.declared.rule.Rule.TheVariants.{S1, S2, S3, S4, S5, S6, S7, S8, U1, U2, U3, U4, N1, N2, N3, N4, N5, N6, N7, N8, N9, N10, N11, N12, N13, T1, T2, T3, T4, T5, T6, T7, T8, T9, T10, T11, T12, D1, D2, D3, D4, D5, D6}
+use Rattle.f3_rules.specs.declared.rule.Rule.TheVariants.{S1, S2, S3, S4, S5, S6, S7, S8, U1, U2, U3, U4, N1, N2, N3, N4, N5, N6, N7, N8}
+use Rattle.f3_rules.specs.declared.rule.Rule.TheVariants.{N9, N10, N11, N12, N13, T1, T2, T3, T4, T5, T6, T7, T8, T9, T10, T11, T12, D1, D2}
+use Rattle.f3_rules.specs.declared.rule.Rule.TheVariants.{D3, D4, D5, D6}
 
 -- the row of a rule in the table, from 0
 unfoldable pub row_of : Rule → ℕ

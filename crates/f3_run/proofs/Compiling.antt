@@ -1,6 +1,8 @@
 -- What the check of sources gives to compiling them.
-use Rattle.std.proofs.Common.{ℕ, List}
-use Rattle.std.specs.Prelude.{Ok, Err}
+use Rattle.std.proofs.Common.{◌≡◌, ◌<◌, ℕ, List, Some, length, ap, arith}
+use Rattle.std.proofs.lemmas.List.{length-map}
+use Rattle.std.specs.Prelude.{Ok, Err, slice_get}
+use Rattle.std.proofs.lemmas.Option.{slice_get_within}
 use Rattle.f3_rules.specs.declared.source.Source.{Source}
 use Rattle.f3_graph.specs.declared.CheckFault.{CheckFault}
 use Rattle.f3_graph.specs.declared.CheckFault.TheVariants.{Refused, Memory}
@@ -10,7 +12,10 @@ use Rattle.f3_check.specs.Checked.{whole_of, taken_of, names_of}
 use Rattle.f3_check.specs.Refusals.{Checks}
 use Rattle.f3_names.specs.declared.table.Names.{Names}
 use Rattle.f3_taken.specs.declared.program.Program.{Program}
-use Rattle.f3_taken.specs.Tree.{view}
+use Rattle.f3_taken.specs.declared.program.Unit.{Unit as ProgramUnit}
+use Rattle.f3_taken.specs.Tree.{view, unit_view}
+use Rattle.f3_taken.proofs.Keeping.{units_agree}
+use Rattle.f3_names.proofs.Units.{numbers_long}
 use Rattle.f3_run.specs.declared.compiled.Compiled.{Compiled}
 use Rattle.f3_run.specs.Compiled.{program_of}
 use Rattle.f3_run.specs.Compiles.{Compiles, ChecksAndRuns}
@@ -24,12 +29,23 @@ use Rattle.f3_run.proofs.Meant.{has_main, elaborated_is_meaning}
 pub checked_has_main : (t : whole.Tree) (program : Program) (names : Names) → AreAccepted t (view program) names → HasMain program
 checked_has_main t program names a = has_main t program a.1.taken (λ b u. a.1.unbroken b (of_units u))
 
+-- each unit of what was accepted has a scope
+pub has_scope : (t : whole.Tree) (program : Program) (names : Names) (k : ℕ) (source : ProgramUnit) → slice_get program.units.items k ≡ Some source
+    → AreAccepted t (view program) names → k < length names.units.items
+has_scope t program names k source is a =
+    let within = slice_get_within program.units.items k source is in
+    let many = (units_agree t (view program) a.1.taken).as_many in
+    let seen = length-map program.units.items unit_view in
+    let long = numbers_long 0 t.units in
+    let numbers = ap length (a.2).units in
+    omega (arith, within, many, seen, long, numbers)
+
 module _ (sources : List Source) where
   pub not_checked : (fault : CheckFault) → Checks (Err fault) sources → Compiles sources (Err fault)
   not_checked (Refused refusal) h = record { first = h.0; never = h.1 }
   not_checked Memory h = tt
 
-  pub checked_means : (checked : Checked) → Checks (Ok checked) sources → (compiled : Compiled) → IsElaborated (texts_of (whole_of checked).texts.items) (taken_of checked) (names_of checked).entities.items (Found (names_of checked)) (program_of compiled) → Compiles sources (Ok compiled)
+  pub checked_means : (checked : Checked) → Checks (Ok checked) sources → (compiled : Compiled) → IsElaborated (texts_of (whole_of checked).texts.items) (taken_of checked) (names_of checked).units.items (names_of checked).entities.items (Found (names_of checked)) (program_of compiled) → Compiles sources (Ok compiled)
   checked_means checked h compiled e = (
     record {
       tree = whole.view (whole_of checked);

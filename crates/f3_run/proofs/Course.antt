@@ -18,7 +18,7 @@ use Rattle.f3_run.specs.declared.end.RunFault.{RunFault}
 use Rattle.f3_run.specs.declared.end.Stop.{Stop}
 use Rattle.f3_run.specs.declared.end.Stop.TheVariants as stop
 use Rattle.f3_run.specs.declared.end.End.TheVariants as end
-use Rattle.f3_run.specs.Performs.{Performs, store_of, end_of}
+use Rattle.f3_run.specs.Inner.Performs.{Performs, store_of, end_of}
 use Rattle.f3_run.specs.Answers.{Answers, Begins, EndsWithin}
 use Rattle.f3_run.proofs.Outputs.{wrote_behind, behind_performs, performs_stop, from_element, past_element}
 

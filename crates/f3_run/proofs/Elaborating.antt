@@ -1,5 +1,5 @@
 -- Lists that are related element by element.
-use Rattle.std.proofs.Common.{◌≡◌, ℕ, ℤ, zero, suc, ◌+◌, ◌<◌, List, [], ◌∷◌, ◌++◌, ◌≤◌, length, take, drop, get_or, refl, sym, ◌∙◌, ap, None, Some, arith}
+use Rattle.std.proofs.Common.{◌≡◌, ℕ, ℤ, ◌+◌, ◌<◌, List, [], ◌∷◌, ◌++◌, ◌≤◌, length, take, drop, get_or, refl, sym, ◌∙◌, ap, Some, arith}
 use Rattle.f3_names.specs.declared.entity.Entity.{Entity}
 use Rattle.f3_meaning.specs.declared.elaborated.Variable.{Variable}
 use Rattle.std.specs.Prelude.{slice_get}

@@ -1,5 +1,5 @@
 -- As many variables as entities.
-use Rattle.std.proofs.Common.{◌≡◌, ℕ, ℤ, suc, ◌+◌, List, [], ◌∷◌, ◌++◌, length, map, refl, sym, ap, ◌∙◌}
+use Rattle.std.proofs.Common.{◌≡◌, ℕ, ℤ, suc, ◌+◌, List, [], ◌∷◌, length, map, refl, sym, ap, ◌∙◌}
 use Rattle.std.specs.List.{flat_map}
 use Rattle.std.proofs.lemmas.List.{length-append, length-map}
 use Rattle.f3_tree.specs.Tree as whole
@@ -9,7 +9,7 @@ use Rattle.f3_names.specs.declared.entity.Entity.{Entity}
 use Rattle.f3_names.specs.Entities.{entity_of, entities_from, described}
 use Rattle.f3_taken.specs.Tree.{Declares, UnitTree, Tree, declarations_of, entity_names, declared_names}
 use Rattle.f3_taken.specs.Taken.{IsTaken}
-use Rattle.f3_taken.specs.Keeps.{NamesAgree, own_names}
+use Rattle.f3_taken.specs.Keeps.{own_names}
 use Rattle.f3_taken.proofs.Keeping.{names_agree}
 use Rattle.f3_run.specs.Elaboration.{initial_of, initials_in, initials_of_unit, initials_of, variables_of}
 

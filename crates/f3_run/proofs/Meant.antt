@@ -1,5 +1,5 @@
 -- Names that are replaced by what they mean.
-use Rattle.std.proofs.Common.{◌≡◌, ◌≢◌, ℕ, ℤ, zero, suc, ◌+◌, ◌<◌, List, [], ◌∷◌, length, map, Bool, true, false, Option, Some, None, ◌⊎◌, inl, inr, refl, sym, ap, subst, ◌∙◌, arith}
+use Rattle.std.proofs.Common.{◌≡◌, ◌≢◌, ℕ, ℤ, zero, suc, ◌+◌, ◌<◌, List, [], ◌∷◌, length, map, Bool, true, false, Some, None, ◌⊎◌, inl, inr, refl, sym, ap, subst, ◌∙◌, arith}
 use Rattle.std.specs.Prelude.{Contains, slice_get, slice_index_or, option_map}
 use Rattle.std.specs.List.{flat_map}
 use Rattle.std.proofs.lemmas.Bool.Decides.{eqb_tells}
@@ -27,7 +27,7 @@ use Rattle.f3_taken.specs.declared.program.Unit.{Unit as ProgramUnit}
 use Rattle.f3_tree.specs.declared.program.UnitKind.{UnitKind}
 use Rattle.f3_tree.specs.declared.program.UnitKind.TheVariants as kind
 use Rattle.f3_tree.specs.Tree as whole
-use Rattle.f3_scopes.specs.Scopes.{scopes_of}
+use Rattle.f3_scopes.specs.Scopes.{scope_of_unit, scopes_of}
 use Rattle.f3_access.specs.declared.table.Lookup.{Lookup}
 use Rattle.f3_access.specs.declared.table.Lookup.TheVariants.{One, Nothing, Several}
 use Rattle.f3_access.specs.Access.{IsVisible}
@@ -38,7 +38,12 @@ use Rattle.f3_names.specs.declared.entity.Entity.{Entity}
 use Rattle.f3_names.specs.declared.table.Names.{Names}
 use Rattle.f3_names.specs.Entities.{described}
 use Rattle.f3_names.specs.Meant.{IsMeant}
-use Rattle.f3_names.specs.Tables.{lookup_at, AreNames}
+use Rattle.f3_names.specs.Tables.{lookup_at, scope_numbers, AreNames}
+use Rattle.f3_access.specs.Hosts.{host_in, host_of}
+use Rattle.f3_names.specs.Holders.{unit_of}
+use Rattle.f3_names.proofs.Units.{unit_at, numbers_long}
+use Rattle.f3_names.proofs.Inside.{hosts_before}
+use Rattle.f3_names.proofs.Holding.{outermost_last}
 use Rattle.f3_taken.specs.Tree as small
 use Rattle.f3_taken.specs.Tree.{view, unit_view, statement_view, action_view, item_view, sum_view}
 use Rattle.f3_use_rules.specs.References.{operand_names, term_names, item_names, act_names, defined_names, RefersTo, Defines}
@@ -143,33 +148,55 @@ module _ (P Q : ℕ → ℕ → Type 0) (texts : List (List ℕ)) where
 unit_seen : (program : Program) (k : ℕ) (source : ProgramUnit) → slice_get program.units.items k ≡ Some source → slice_get (map unit_view program.units.items) k ≡ Some (unit_view source)
 unit_seen program k source is = slice_get-map unit_view program.units.items k ∙ ap (option_map unit_view) is
 
+pub there_is : {X : Type 0} (xs : List X) (k : ℕ) → k < length xs → (x : X) × (slice_get xs k ≡ Some x)
+there_is [] k lt = absurd (omega arith)
+there_is (x ∷ xs) zero lt = (x, refl)
+there_is (x ∷ xs) (suc k) lt = there_is xs k (omega arith)
+
+some_is : (m n : ℕ) → Some m ≡ Some n → m ≡ n
+some_is m n e = cc
+
+-- the unit that holds the scope of a unit has that number
+scope_of_a_unit : (t : whole.Tree) (k n : ℕ) (u : whole.UnitTree) → slice_get t.units k ≡ Some u → slice_get (scope_numbers 0 t.units) k ≡ Some n → unit_of (scopes_of t) n ≡ n
+scope_of_a_unit t k n u at number =
+    let (p, numbered, scope) = unit_at 0 t.units k u at in
+    let same = some_is (0 + p) n (sym numbered ∙ number) in
+    let here : p ≡ n = omega (arith, same) in
+    let none : host_of (scopes_of t) n ≡ None = ap host_in (subst (λ x. slice_get (scopes_of t) x ≡ Some (scope_of_unit u)) here scope) in
+    outermost_last (host_of (scopes_of t)) (hosts_before t) n none
+
 module _ (t : whole.Tree) (program : Program) (unbroken : (b : Break) → UseBreaks t (view program) b → ⊥) where
   -- the entity that is found for a name that a statement refers to is the one that it means
-  found_is_meant : (names : Names) → AreNames t names → (unit : ℕ) (x : Name) → RefersTo (view program) unit x → (e : ℕ) → Found names unit x.symbol e → IsMeant t unit x.symbol e
-  found_is_meant names are unit x refers e found = by (lookup_at names unit x.symbol) ((are.tables).resolves unit x.symbol).as_said found
+  found_is_meant : (names : Names) → AreNames t names → (scope : ℕ) (x : Name) → RefersTo t (view program) scope x → (e : ℕ) → Found names scope x.symbol e → IsMeant t scope x.symbol e
+  found_is_meant names are scope x refers e found = by (lookup_at names scope x.symbol) ((are.tables).resolves scope x.symbol).as_said found
     where
-      nowhere : ((d : ℕ) → IsVisible (scopes_of t) unit x.symbol d → ⊥) → (b : Bool) → is_intrinsic (text_of t.names x.symbol) ≡ b → ⊥
-      nowhere none true i = unbroken _ (no_variable (unit, x, refers, none, i, refl))
-      nowhere none false i = unbroken _ (not_accessible (unit, x, refers, none, i, refl))
+      nowhere : ((d : ℕ) → IsVisible (scopes_of t) scope x.symbol d → ⊥) → (b : Bool) → is_intrinsic (text_of t.names x.symbol) ≡ b → ⊥
+      nowhere none true i = unbroken _ (no_variable (scope, x, refers, none, i, refl))
+      nowhere none false i = unbroken _ (not_accessible (scope, x, refers, none, i, refl))
 
-      by : (l : Lookup) → ResolvesAs l (IsVisible (scopes_of t) unit x.symbol) → e ≡ entity_found l → IsMeant t unit x.symbol e
+      by : (l : Lookup) → ResolvesAs l (IsVisible (scopes_of t) scope x.symbol) → e ≡ entity_found l → IsMeant t scope x.symbol e
       by (One d) is same = rw same is
       by Nothing none same = absurd (nowhere none (is_intrinsic (text_of t.names x.symbol)) refl)
-      by Several both same = absurd (unbroken _ (of_several (unit, x, refers, both.0, both.1, both.2, both.3, both.4, refl)))
+      by Several both same = absurd (unbroken _ (of_several (scope, x, refers, both.0, both.1, both.2, both.3, both.4, refl)))
 
-  pub elaborated_is_meaning : (names : Names) (p : Elaborated) → AreNames t names → IsElaborated t.texts program names.entities.items (Found names) p → IsMeaning t program p
+  pub elaborated_is_meaning : (names : Names) (p : Elaborated) → AreNames t names → IsElaborated t.texts program names.units.items names.entities.items (Found names) p → IsMeaning t program p
   elaborated_is_meaning names p are e = record {
+    unit = e.unit;
     source = e.source;
     is_unit = e.is_unit;
     is_main = e.is_main;
+    in_scope = in_scope;
     variables = e.variables ∙ ap (λ l. variables_of l (initials_of (view program))) are.entities;
     statements = statements_lead (Found names p.main) (IsMeant t p.main) t.texts e.source.body.items p.statements.items leads e.statements;
     end = e.end;
   }
     where
+      in_scope : slice_get (scope_numbers 0 t.units) e.unit ≡ Some p.main
+      in_scope = ap (λ l. slice_get l e.unit) (sym are.units) ∙ e.in_scope
+
       leads : (x : Name) → Contains (flat_map (λ (s : named_statement.Statement). act_names (action_view s.action)) e.source.body.items) x → (d : ℕ) → Found names p.main x.symbol d → IsMeant t p.main x.symbol d
       leads x c = let s = in_one (λ (s : named_statement.Statement). act_names (action_view s.action)) e.source.body.items x c in
-          found_is_meant names are p.main x (statement_view s.0, (unit_view e.source, unit_seen program p.main e.source e.is_unit, seen_in statement_view e.source.body.items s.0 s.1), s.2)
+          found_is_meant names are p.main x (statement_view s.0, (e.unit, unit_view e.source, in_scope, unit_seen program e.unit e.source e.is_unit, seen_in statement_view e.source.body.items s.0 s.1), s.2)
 
   -- what an entity is as a variable
   entity_at : (es : List Entity) (zs : List ℤ) (x : ℕ) (y : Variable) → slice_get (variables_of es zs) x ≡ Some y → (d : Entity) × (z : ℤ) × (slice_get es x ≡ Some d) × (variable_of d z ≡ y)
@@ -178,14 +205,22 @@ module _ (t : whole.Tree) (program : Program) (unbroken : (b : Break) → UseBre
   entity_at (e ∷ es) (z ∷ zs) zero y got = let same : Some (variable_of e z) ≡ Some y = got in (e, z, refl, cc)
   entity_at (e ∷ es) (z ∷ zs) (suc x) y got = entity_at es zs x y got
 
+  -- the scope of the main program is that of a unit
+  main_is_unit : (p : Elaborated) → IsMeaning t program p → unit_of (scopes_of t) p.main ≡ p.main
+  main_is_unit p m =
+      let within = slice_get_within (scope_numbers 0 t.units) m.unit p.main m.in_scope in
+      let long = numbers_long 0 t.units in
+      let (u, at) = there_is t.units m.unit (omega (arith, within, long)) in
+      scope_of_a_unit t m.unit p.main u at m.in_scope
+
   -- an assignment is to no protected variable of another unit
-  may_act : (p : Elaborated) → IsMeaning t program p → (a : named_action.Action) (b : Action) → ((n : Name) → Contains (defined_names (action_view a)) n → Defines (view program) p.main n) → SameAction (IsMeant t p.main) t.texts a b → MayAct p b
+  may_act : (p : Elaborated) → IsMeaning t program p → (a : named_action.Action) (b : Action) → ((n : Name) → Contains (defined_names (action_view a)) n → Defines t (view program) p.main n) → SameAction (IsMeant t p.main) t.texts a b → MayAct p b
   may_act p m (does.Assign n e) (Assign x f) defines s = λ home is. elim (eqb_tells home p.main) [
     | inl same ↦ same.1
     | inr differ ↦
         let d = entity_at (described (scopes_of t)) (initials_of (view program)) x is.0 (ap (λ l. slice_get l x) (sym m.variables) ∙ is.1) in
         let shielded : d.0.is_protected ≡ true = ap (λ (v : Variable). v.is_protected) d.3 ∙ is.2 in
-        let away : d.0.scope ≢ p.main = λ same. differ.1 (sym (ap (λ (v : Variable). v.home) d.3 ∙ is.3) ∙ same) in
+        let away : d.0.unit ≢ unit_of (scopes_of t) p.main = λ same. differ.1 (sym (ap (λ (v : Variable). v.home) d.3 ∙ is.3) ∙ same ∙ main_is_unit p m) in
         absurd (unbroken _ (protected_defined (p.main, n, defines n (in_front n []), x, s.0, d.0, d.2, shielded, away, refl)))
   ]
   may_act p m (does.Assign n e) (Print fs) defines s = tt
@@ -197,7 +232,7 @@ module _ (t : whole.Tree) (program : Program) (unbroken : (b : Break) → UseBre
     each = λ k d lt.
         let r = related (SameStatement (IsMeant t p.main) t.texts) m.source.body.items p.statements.items m.statements.as_said k d lt in
         may_act p m r.0.action (slice_index_or p.statements.items k d).action
-        (λ n c. (statement_view r.0, (unit_view m.source, unit_seen program p.main m.source m.is_unit, seen_in statement_view m.source.body.items r.0 r.1), c)) r.2.1;
+        (λ n c. (statement_view r.0, (m.unit, unit_view m.source, m.in_scope, unit_seen program m.unit m.source m.is_unit, seen_in statement_view m.source.body.items r.0 r.1), c)) r.2.1;
   }
 
 -- a program that is compiled has a main program: the kinds of its units are those of the whole tree
@@ -224,11 +259,6 @@ module _ (t : whole.Tree) (program : Program) (taken : IsTaken t (view program))
   unit_of_view [] k v got = let bad : None ≡ Some v = got in absurd cc
   unit_of_view (x ∷ xs) zero v got = let same : Some (unit_view x) ≡ Some v = got in (x, refl, cc)
   unit_of_view (x ∷ xs) (suc k) v got = unit_of_view xs k v got
-
-  there_is : {X : Type 0} (xs : List X) (k : ℕ) → k < length xs → (x : X) × (slice_get xs k ≡ Some x)
-  there_is [] k lt = absurd (omega arith)
-  there_is (x ∷ xs) zero lt = (x, refl)
-  there_is (x ∷ xs) (suc k) lt = there_is xs k (omega arith)
 
   pub has_main : ((b : Break) → UnitBreaks t b → ⊥) → HasMain program
   has_main unbroken = elim (some_main t.units) [

@@ -9,7 +9,7 @@ use Rattle.f3_output.specs.Output.{State, Wrote, Faulted}
 use Rattle.f3_output.proofs.Outputs.{wrote_more, faulted_behind, faulted_before}
 use Rattle.f3_run.specs.declared.end.Stop.{Stop}
 use Rattle.f3_run.specs.declared.end.Stop.TheVariants as stop
-use Rattle.f3_run.specs.Performs.{Performs}
+use Rattle.f3_run.specs.Inner.Performs.{Performs}
 
 pub wrote_behind : {a b c : State} (x y : List Event) → Wrote a b (output x) → Wrote b c (output y) → Wrote a c (output (x ++ y))
 wrote_behind x y p q = rw (output-append x y) (wrote_more p q)

@@ -18,7 +18,7 @@ use Rattle.f3_meaning.specs.Meaning.{value, define, sum_item, item, items, act, 
 use Rattle.f3_output.specs.Output.{State, Wrote}
 use Rattle.f3_output.proofs.Outputs.{wrote_none}
 use Rattle.f3_run.specs.declared.end.Stop.{Stop}
-use Rattle.f3_run.specs.Performs.{Performs, store_of}
+use Rattle.f3_run.specs.Inner.Performs.{Performs, store_of}
 use Rattle.f3_run.proofs.Outputs.{wrote_behind, from_element, past_element, behind_performs, performs_then, performs_stop}
 use Rattle.f3_meaning.proofs.Behind.{then_gives}
 

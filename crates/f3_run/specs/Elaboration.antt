@@ -22,7 +22,7 @@ use Rattle.f3_access.specs.declared.table.Lookup.{Lookup}
 use Rattle.f3_access.specs.declared.table.Lookup.TheVariants.{One, Nothing, Several}
 use Rattle.f3_names.specs.declared.entity.Entity.{Entity}
 use Rattle.f3_names.specs.declared.table.Names.{Names}
-use Rattle.f3_names.specs.Tables.{lookup_at}
+use Rattle.f3_names.specs.Tables.{lookup_at, scope_numbers}
 use Rattle.f3_names.specs.Entities.{described}
 use Rattle.f3_names.specs.Meant.{IsMeant}
 use Rattle.f3_meaning.specs.declared.elaborated.Variable.{Variable}
@@ -102,7 +102,7 @@ initials_of program = flat_map initials_of_unit program.units
 
 -- an entity as a variable of the run
 abbrev pub variable_of : Entity → ℤ → Variable
-variable_of e z = record { home = e.scope; is_protected = e.is_protected; initial = z }
+variable_of e z = record { home = e.unit; is_protected = e.is_protected; initial = z }
 
 -- the entities as variables, with the values that they begin with
 abbrev pub variables_of : List Entity → List ℤ → List Variable
@@ -111,11 +111,15 @@ variables_of (e ∷ es) [] = []
 variables_of (e ∷ es) (z ∷ zs) = variable_of e z ∷ variables_of es zs
 
 -- The program without names is that of the main program of a tree: its variables are these entities, in
--- their order, and a name of a unit is replaced by an entity that it means there.
-pub record IsElaborated (texts : List (List ℕ)) (program : Program) (entities : List Entity) (Means : ℕ → ℕ → ℕ → Type 0) (p : Elaborated) : Type 0 where
+-- their order, and a name is replaced by an entity that it means in the scope of the main program, where the scopes of
+-- the units have these numbers.
+pub record IsElaborated (texts : List (List ℕ)) (program : Program) (scopes : List ℕ) (entities : List Entity)
+    (Means : ℕ → ℕ → ℕ → Type 0) (p : Elaborated) : Type 0 where
+  pub unit : ℕ
   pub source : ProgramUnit
-  pub is_unit : slice_get program.units.items p.main ≡ Some source
+  pub is_unit : slice_get program.units.items unit ≡ Some source
   pub is_main : source.kind ≡ kind.Program
+  pub in_scope : slice_get scopes unit ≡ Some p.main
   pub variables : p.variables.items ≡ variables_of entities (initials_of (view program))
   pub statements : Each (SameStatement (Means p.main) texts) source.body.items p.statements.items
   pub end : p.end ≡ source.end
@@ -126,14 +130,14 @@ entity_found (One e) = e
 entity_found Nothing = 0
 entity_found Several = 0
 
--- the entity that the tables have for a name of a unit
+-- the entity that the tables have for a name in a scope
 abbrev pub Found : Names → ℕ → ℕ → ℕ → Type 0
-Found names unit symbol entity = entity ≡ entity_found (lookup_at names unit symbol)
+Found names scope symbol entity = entity ≡ entity_found (lookup_at names scope symbol)
 
 -- The program without names says what the trees say: the whole one, and the one that is compiled. Each declared name is an
--- entity, in their order, and a unit's number is that of its scope.
+-- entity, in their order.
 abbrev pub IsMeaning : whole.Tree → Program → Elaborated → Type 0
-IsMeaning t program p = IsElaborated t.texts program (described (scopes_of t)) (IsMeant t) p
+IsMeaning t program p = IsElaborated t.texts program (scope_numbers 0 t.units) (described (scopes_of t)) (IsMeant t) p
 
 -- the program has a main program
 abbrev pub HasMain : Program → Type 0

@@ -1,7 +1,7 @@
-pub mod Performs
 pub mod Answers
 pub mod Compiled
 pub mod Elaboration
 pub mod Protection
 pub mod Compiles
 pub mod Variables
+pub mod Inner

@@ -1,6 +1,6 @@
 //! From syntax trees to programs without names.
 
-ghost use Rattle.std.specs.Prelude.{◌≡◌, ◌++◌, Some, slice_get, OnOk, IfOk};
+ghost use Rattle.std.specs.Prelude.{◌≡◌, ◌<◌, ◌++◌, Some, length, slice_get, OnOk, IfOk};
 ghost use Rattle.std.specs.List.{flat_map};
 ghost use Rattle.f3_taken.specs.Tree.{view, unit_view, specification_view, declaration_view, declared_by};
 ghost use Rattle.f3_taken.specs.declared.program.Unit.{Unit as ProgramUnit};
@@ -13,6 +13,7 @@ ghost use Rattle.f3_run.specs.Elaboration.{Each, SameOperand, SameExpression, Sa
 use crate::compiled::Compiled;
 use f3_access::table::Lookup;
 use f3_check::checked::Checked;
+use f3_graph::UnitId;
 use f3_meaning::elaborated::{
     Action, Elaborated, Expression, Item, Primary, Statement, Term, Variable,
 };
@@ -27,17 +28,18 @@ use std::alloc::{AllocError, Global};
 
 // Replaces each name of the main program by the entity that the tables have for it.
 pub(crate) fn elaborate(alloc: Global, checked: &Checked) -> Result<Compiled, AllocError>
-    ensures { IfOk result (λ c. IsElaborated (texts_of (whole_of checked.now).texts.items) (taken_of checked.now) (names_of checked.now).entities.items (Found (names_of checked.now)) (program_of c)) }
+    ensures { IfOk result (λ c. IsElaborated (texts_of (whole_of checked.now).texts.items) (taken_of checked.now) (names_of checked.now).units.items (names_of checked.now).entities.items (Found (names_of checked.now)) (program_of c)) }
 {
     let program = checked.program();
     let names = checked.names();
     let main = main_unit(program);
     let unit = &program.units[main];
+    let scope = scope_of(names, main);
     let texts = checked.whole().texts.as_slice();
     Ok(Compiled::new(Elaborated {
         variables: variables_of(alloc, program, names)?,
-        main,
-        statements: statements_of(alloc, texts, names, main, unit.body.as_slice())?,
+        main: scope,
+        statements: statements_of(alloc, texts, names, scope, unit.body.as_slice())?,
         end: unit.end,
     }))
 }
@@ -54,6 +56,17 @@ fn main_unit(program: &Program) -> usize
         }
     }
     unreachable!()
+}
+
+// The number of the scope of a unit.
+fn scope_of(names: &Names, unit: usize) -> usize
+    requires { ∥ unit < length names.now.units.items ∥₁ }
+    ensures { slice_get names.now.units.items unit ≡ Some result }
+{
+    match names.unit_scope(UnitId { number: unit }) {
+        Some(scope) => scope.number,
+        None => unreachable!(),
+    }
 }
 
 // Adds the values with which the names of a declaration begin.
@@ -106,7 +119,7 @@ fn begun(alloc: Global, entities: &[Entity], initials: &[i32]) -> Result<Vec<Var
     for (number, entity) in entities.iter().enumerate() {
         match initials.get(number) {
             Some(initial) => variables.push(Variable {
-                home: entity.scope,
+                home: entity.unit,
                 is_protected: entity.is_protected,
                 initial: *initial,
             })?,
@@ -128,38 +141,38 @@ fn variables_of(
     begun(alloc, names.entities(), &initials)
 }
 
-// The entity that the tables have for a name of a unit.
-fn entity_of(names: &Names, unit: usize, symbol: usize) -> usize
-    ensures { result ≡ entity_found (lookup_at names.now unit symbol) }
+// The entity that the tables have for a name in a scope.
+fn entity_of(names: &Names, scope: usize, symbol: usize) -> usize
+    ensures { result ≡ entity_found (lookup_at names.now scope symbol) }
 {
-    match lookup(names, ScopeId { number: unit }, symbol) {
+    match lookup(names, ScopeId { number: scope }, symbol) {
         Lookup::One(entity) => entity,
         Lookup::Nothing | Lookup::Several => 0,
     }
 }
 
-fn operand_of(names: &Names, unit: usize, primary: named::Primary) -> Primary
-    ensures { SameOperand (Found names.now unit) primary result }
+fn operand_of(names: &Names, scope: usize, primary: named::Primary) -> Primary
+    ensures { SameOperand (Found names.now scope) primary result }
 {
     match primary {
         named::Primary::Literal(number) => Primary::Literal(number),
-        named::Primary::Name(name) => Primary::Variable(entity_of(names, unit, name.symbol)),
+        named::Primary::Name(name) => Primary::Variable(entity_of(names, scope, name.symbol)),
     }
 }
 
 fn expression_of(
     alloc: Global,
     names: &Names,
-    unit: usize,
+    scope: usize,
     expression: &named::Expression,
 ) -> Result<Expression, AllocError>
-    ensures { IfOk result (λ e. SameExpression (Found names.now unit) expression.now e) }
+    ensures { IfOk result (λ e. SameExpression (Found names.now scope) expression.now e) }
 {
     let mut terms = Vec::with_capacity(alloc, expression.terms.len())?;
     for term in &expression.terms {
         terms.push(Term {
             minus: term.minus,
-            primary: operand_of(names, unit, term.primary),
+            primary: operand_of(names, scope, term.primary),
         })?;
     }
     Ok(Expression { terms })
@@ -179,14 +192,14 @@ fn item_of(
     alloc: Global,
     texts: &[Vec<u8>],
     names: &Names,
-    unit: usize,
+    scope: usize,
     item: &source::Item,
 ) -> Result<Item, AllocError>
-    ensures { IfOk result (λ x. SameItem (Found names.now unit) (texts_of texts.now) item.now x) }
+    ensures { IfOk result (λ x. SameItem (Found names.now scope) (texts_of texts.now) item.now x) }
 {
     match item {
         source::Item::Value(expression) => Ok(Item::Value(expression_of(
-            alloc, names, unit, expression,
+            alloc, names, scope, expression,
         )?)),
         source::Item::Text(number) => Ok(Item::Text(text_of(alloc, texts, *number)?)),
     }
@@ -196,14 +209,14 @@ fn items_of(
     alloc: Global,
     texts: &[Vec<u8>],
     names: &Names,
-    unit: usize,
+    scope: usize,
     written: &[source::Item],
 ) -> Result<Vec<Item>, AllocError>
-    ensures { IfOk result (λ v. Each (SameItem (Found names.now unit) (texts_of texts.now)) written.now v.items) }
+    ensures { IfOk result (λ v. Each (SameItem (Found names.now scope) (texts_of texts.now)) written.now v.items) }
 {
     let mut items = Vec::with_capacity(alloc, written.len())?;
     for item in written {
-        items.push(item_of(alloc, texts, names, unit, item)?)?;
+        items.push(item_of(alloc, texts, names, scope, item)?)?;
     }
     Ok(items)
 }
@@ -212,18 +225,18 @@ fn action_of(
     alloc: Global,
     texts: &[Vec<u8>],
     names: &Names,
-    unit: usize,
+    scope: usize,
     action: &source::Action,
 ) -> Result<Action, AllocError>
-    ensures { IfOk result (λ a. SameAction (Found names.now unit) (texts_of texts.now) action.now a) }
+    ensures { IfOk result (λ a. SameAction (Found names.now scope) (texts_of texts.now) action.now a) }
 {
     match action {
         source::Action::Assign(name, expression) => {
-            let value = expression_of(alloc, names, unit, expression)?;
-            Ok(Action::Assign(entity_of(names, unit, name.symbol), value))
+            let value = expression_of(alloc, names, scope, expression)?;
+            Ok(Action::Assign(entity_of(names, scope, name.symbol), value))
         }
         source::Action::Print(written) => {
-            let items = items_of(alloc, texts, names, unit, written.as_slice())?;
+            let items = items_of(alloc, texts, names, scope, written.as_slice())?;
             Ok(Action::Print(items))
         }
     }
@@ -233,16 +246,16 @@ fn statements_of(
     alloc: Global,
     texts: &[Vec<u8>],
     names: &Names,
-    unit: usize,
+    scope: usize,
     body: &[source::Statement],
 ) -> Result<Vec<Statement>, AllocError>
-    ensures { IfOk result (λ v. Each (SameStatement (Found names.now unit) (texts_of texts.now)) body.now v.items) }
+    ensures { IfOk result (λ v. Each (SameStatement (Found names.now scope) (texts_of texts.now)) body.now v.items) }
 {
     let mut statements = Vec::with_capacity(alloc, body.len())?;
     for statement in body {
         statements.push(Statement {
             place: statement.place,
-            action: action_of(alloc, texts, names, unit, &statement.action)?,
+            action: action_of(alloc, texts, names, scope, &statement.action)?,
         })?;
     }
     Ok(statements)

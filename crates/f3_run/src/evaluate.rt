@@ -3,7 +3,7 @@
 ghost use Rattle.std.specs.Prelude.{◌≡◌};
 ghost use Rattle.f3_meaning.specs.Value.{Number};
 ghost use Rattle.f3_meaning.specs.Meaning.{operand, term_onto, value};
-ghost use Rattle.f3_run.specs.Performs.{store_of, valued};
+ghost use Rattle.f3_run.specs.Inner.Performs.{store_of, valued};
 
 use crate::end::RunFault;
 use f3_meaning::elaborated::{Expression, Primary, Term};

@@ -5,7 +5,7 @@ ghost use Rattle.f3_meaning.specs.Meaning.{value, item as item_run, items, sum_i
 ghost use Rattle.f3_meaning.specs.Ran.{prints_bytes};
 ghost use Rattle.f3_meaning.specs.Store.{Store};
 ghost use Rattle.f3_output.specs.Output.{state_of};
-ghost use Rattle.f3_run.specs.Performs.{Performs, ValueAt, store_of};
+ghost use Rattle.f3_run.specs.Inner.Performs.{Performs, ValueAt, store_of};
 
 use crate::end::Stop;
 use crate::evaluate::evaluate;

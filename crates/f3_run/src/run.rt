@@ -5,7 +5,7 @@ ghost use Rattle.f3_meaning.specs.declared.elaborated.Variable.{Variable};
 ghost use Rattle.f3_output.specs.Output.{state_of};
 ghost use Rattle.f3_run.specs.Answers.{Answers};
 ghost use Rattle.f3_run.specs.Compiled.{program_of};
-ghost use Rattle.f3_run.specs.Performs.{end_of};
+ghost use Rattle.f3_run.specs.Inner.Performs.{end_of};
 
 use crate::compiled::Compiled;
 use crate::end::{End, Limits, Stop};

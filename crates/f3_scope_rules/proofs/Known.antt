@@ -5,11 +5,11 @@ use Rattle.f3_tree.specs.declared.expression.Name.{Name}
 use Rattle.f3_tree.specs.declared.declaration.Intent.{Intent}
 use Rattle.f3_tree.specs.declared.declaration.Intent.TheVariants.{In, Out, InOut}
 use Rattle.f3_scopes.specs.declared.outline.ScopeKind.{ScopeKind}
-use Rattle.f3_scopes.specs.declared.outline.ScopeKind.TheVariants.{Module, Program, Subroutine, Function}
+use Rattle.f3_scopes.specs.declared.outline.ScopeKind.TheVariants.{Module, Program, Subroutine, Function, Associate}
 use Rattle.f3_scopes.specs.declared.outline.EntityKind.{EntityKind}
 use Rattle.f3_scopes.specs.declared.outline.EntityKind.TheVariants as entity
 use Rattle.f3_scopes.specs.Kinds.{is_module}
-use Rattle.f3_scope_rules.specs.Rows.{symbols, is_known, is_function, is_variable, is_other, has_other_result}
+use Rattle.f3_scope_rules.specs.Inner.Rows.{symbols, is_known, is_function, is_variable, is_other, has_other_result}
 use Rattle.f3_scope_rules.proofs.Members.{Has, has_of, contains_of, any_of, any_from, put, put_of, has_mapped, mapped_of}
 
 -- ---- sets
@@ -102,12 +102,14 @@ outside_in Module n = absurd (n refl)
 outside_in Program n = refl
 outside_in Subroutine n = refl
 outside_in Function n = refl
+outside_in Associate n = refl
 
 pub function_of : (k : ScopeKind) → is_function k ≡ true → k ≡ Function
 function_of Module t = absurd (true≢false (sym t))
 function_of Program t = absurd (true≢false (sym t))
 function_of Subroutine t = absurd (true≢false (sym t))
 function_of Function t = refl
+function_of Associate t = absurd (true≢false (sym t))
 
 pub variable_of : (k : EntityKind) → is_variable k ≡ true → k ≡ entity.Variable
 variable_of entity.Constant t = absurd (true≢false (sym t))
@@ -130,6 +132,7 @@ result_of Program o t = absurd (true≢false (sym t))
 result_of Subroutine o t = inl refl
 result_of Function None t = absurd (true≢false (sym t))
 result_of Function (Some r) t = inr (refl, r, refl)
+result_of Associate o t = absurd (true≢false (sym t))
 
 pub result_in : (k : ScopeKind) (o : Option Name) → (k ≡ Subroutine) ⊎ ((k ≡ Function) × (r : Name) × (o ≡ Some r)) → has_other_result k o ≡ true
 result_in k o (inl e) = ap (λ (j : ScopeKind). has_other_result j o) e

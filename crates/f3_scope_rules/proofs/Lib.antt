@@ -3,3 +3,4 @@ mod Members
 mod Passing
 mod Rules
 mod Twice
+pub mod Constructs

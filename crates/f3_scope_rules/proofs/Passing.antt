@@ -8,7 +8,7 @@ use Rattle.f3_tree.specs.declared.expression.Name.{Name}
 use Rattle.f3_rules.specs.Least.{Least, earlier_of, first_of}
 use Rattle.f3_rules.proofs.Firsts.{first-append, least_none, least_one, least_same, least_both, earlier_assoc}
 use Rattle.f3_breaks.specs.Among.{Among}
-use Rattle.f3_scope_rules.specs.Rows.{If, pass}
+use Rattle.f3_scope_rules.specs.Inner.Rows.{If, pass}
 use Rattle.f3_scope_rules.proofs.Members.{Has, has_of, contains_of, has_left, has_right, has_parts, has_mapped, mapped_of}
 
 -- a break, where the answer is yes

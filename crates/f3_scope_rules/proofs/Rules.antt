@@ -15,7 +15,7 @@ use Rattle.f3_scopes.specs.Outlines.{Own, Listed, Part, Scope, own_view, listed_
 use Rattle.f3_scope_rules.specs.ScopeBreaks.{at, at_keyword, Again, declared_names, header_names, component_names, DeclaredTwice, AccessOutside, AccessTwice, IsProtecting, ProtectedMisplaced, specified, IsDummy, IntentMisplaced, Declares, Undeclared, BreaksOf, ScopeBreaks}
 use Rattle.f3_scopes.specs.Kinds.{is_module}
 use Rattle.f3_breaks.specs.Among.{Among}
-use Rattle.f3_scope_rules.specs.Rows.{AgainIn, ComponentAgain, OwnName, has_other_result, StatementOutside, AttributeOutside, ComponentsTwice, symbols, is_known, is_variable, variable_name, protected_name, Misprotected, is_other, is_misplaced, is_function, Misintended, Missing}
+use Rattle.f3_scope_rules.specs.Inner.Rows.{AgainIn, ComponentAgain, OwnName, has_other_result, StatementOutside, AttributeOutside, ComponentsTwice, symbols, is_known, is_variable, variable_name, protected_name, Misprotected, is_other, is_misplaced, is_function, Misintended, Missing}
 use Rattle.f3_scope_rules.proofs.Members.{Has, has_of, contains_of, has_left, has_right, has_parts, any_of, any_from, has_mapped, mapped_of, has_piece, piece_of}
 use Rattle.f3_scope_rules.proofs.Passing.{among_views, among_viewed}
 use Rattle.f3_scope_rules.proofs.Twice.{DefaultIn}

@@ -9,11 +9,11 @@ use Rattle.f3_rules.specs.Least.{Least, first_of}
 use Rattle.f3_rules.proofs.Firsts.{first_is_least, least_same, least_none}
 use Rattle.f3_tree.specs.declared.expression.Name.{Name}
 use Rattle.f3_scopes.specs.declared.outline.ScopeKind.{ScopeKind}
-use Rattle.f3_scopes.specs.declared.outline.ScopeKind.TheVariants.{Module, Program, Subroutine, Function}
+use Rattle.f3_scopes.specs.declared.outline.ScopeKind.TheVariants.{Module, Program, Subroutine, Function, Associate}
 use Rattle.f3_scopes.specs.Outlines.{Listed}
 use Rattle.f3_scope_rules.specs.ScopeBreaks.{at, at_keyword, DefaultAgain}
 use Rattle.f3_scopes.specs.Kinds.{is_module}
-use Rattle.f3_scope_rules.specs.Rows.{pass, again_row, again_next, AgainIn, is_default, default_row, default_next}
+use Rattle.f3_scope_rules.specs.Inner.Rows.{pass, again_row, again_next, AgainIn, is_default, default_row, default_next}
 use Rattle.f3_scope_rules.proofs.Members.{Has, has_of, contains_of, any_of, any_from, key_put, key_of}
 use Rattle.f3_scope_rules.proofs.Passing.{after, pass_of, has_pass}
 use Rattle.f3_scope_rules.proofs.Known.{one_of, one_in, either_of, either_right, empty_of, empty_in}
@@ -100,3 +100,4 @@ least_default Module ss = least_module ss
 least_default Program ss = least_none {P = DefaultIn Program ss} (λ b h. absurd (true≢false (sym (ap is_module h.1))))
 least_default Subroutine ss = least_none {P = DefaultIn Subroutine ss} (λ b h. absurd (true≢false (sym (ap is_module h.1))))
 least_default Function ss = least_none {P = DefaultIn Function ss} (λ b h. absurd (true≢false (sym (ap is_module h.1))))
+least_default Associate ss = least_none {P = DefaultIn Associate ss} (λ b h. absurd (true≢false (sym (ap is_module h.1))))

@@ -1,2 +1,3 @@
 pub mod ScopeBreaks
-pub mod Rows
+pub mod Laws
+pub mod Inner

@@ -23,7 +23,9 @@ at_keyword rule place = breaks.at_keyword 4 rule place
 
 -- The name stands in the list behind the same name.
 abbrev pub Again : List Name → Name → Type 0
-Again names later = (front : List Name) × (rest : List Name) × (names ≡ front ++ later ∷ rest) × (earlier : Name) × Contains front earlier × (earlier.symbol ≡ later.symbol)
+Again names later =
+    (front : List Name) × (rest : List Name) × (names ≡ front ++ later ∷ rest) × (earlier : Name)
+    × Contains front earlier × (earlier.symbol ≡ later.symbol)
 
 abbrev pub declared_names : Scope → List Name
 declared_names scope = map (λ (d : Own). d.name) scope.declared
@@ -94,7 +96,8 @@ IsDummy scope symbol = (n : Name) × Contains scope.dummies n × (n.symbol ≡ s
 pub data IntentMisplaced (scope : Scope) (b : Break) : Type 0 where
   missing : (d : Own) → Contains (specified scope) d → IsDummy scope d.name.symbol → d.intents ≡ [] → b ≡ at N9 d.name → IntentMisplaced scope b
   elsewhere : (d : Own) → Contains (specified scope) d → (IsDummy scope d.name.symbol → ⊥) → d.intents ≢ [] → b ≡ at N9 d.name → IntentMisplaced scope b
-  of_function : (d : Own) (i : Intent) → Contains (specified scope) d → IsDummy scope d.name.symbol → scope.kind ≡ Function → Contains d.intents i → i ≢ In → b ≡ at N9 d.name → IntentMisplaced scope b
+  of_function : (d : Own) (i : Intent) → Contains (specified scope) d → IsDummy scope d.name.symbol
+      → scope.kind ≡ Function → Contains d.intents i → i ≢ In → b ≡ at N9 d.name → IntentMisplaced scope b
 
 -- the scope declares the name
 abbrev pub Declares : Scope → ℕ → Type 0

@@ -6,7 +6,7 @@ ghost use Rattle.f3_scopes.specs.Outlines.{listed_view, scope_view};
 ghost use Rattle.f3_scope_rules.specs.ScopeBreaks.{AccessOutside, AccessTwice};
 ghost use Rattle.f3_scopes.specs.Kinds.{is_module};
 ghost use Rattle.f3_breaks.specs.Among.{Among};
-ghost use Rattle.f3_scope_rules.specs.Rows.{pass, StatementOutside, AttributeOutside, ComponentTwice, ComponentsTwice, default_row, default_next};
+ghost use Rattle.f3_scope_rules.specs.Inner.Rows.{pass, StatementOutside, AttributeOutside, ComponentTwice, ComponentsTwice, default_row, default_next};
 
 use crate::again::first_again;
 use crate::at::{break_at, break_at_keyword};
@@ -28,6 +28,7 @@ pub fn is_module(kind: ScopeKind) -> bool
         ScopeKind::Program => false,
         ScopeKind::Subroutine => false,
         ScopeKind::Function => false,
+        ScopeKind::Associate => false,
     }
 }
 

@@ -6,7 +6,7 @@ ghost use Rattle.f3_rules.specs.declared.rule.Rule.TheVariants.{N3};
 ghost use Rattle.f3_scopes.specs.Outlines.{part_view, scope_view};
 ghost use Rattle.f3_scope_rules.specs.ScopeBreaks.{declared_names, component_names, DeclaredTwice};
 ghost use Rattle.f3_breaks.specs.Among.{Among};
-ghost use Rattle.f3_scope_rules.specs.Rows.{AgainIn, ComponentAgain, OwnName, has_other_result};
+ghost use Rattle.f3_scope_rules.specs.Inner.Rows.{AgainIn, ComponentAgain, OwnName, has_other_result};
 
 use crate::at::break_at;
 use crate::names::{component_names, header_names};
@@ -63,6 +63,7 @@ fn has_other_result(kind: ScopeKind, outcome: Option<Name>) -> bool
         ScopeKind::Program => false,
         ScopeKind::Subroutine => true,
         ScopeKind::Function => outcome.is_some(),
+        ScopeKind::Associate => false,
     }
 }
 

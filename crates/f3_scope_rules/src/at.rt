@@ -3,7 +3,7 @@
 ghost use Rattle.std.specs.Prelude.{◌≡◌, [], ◌∷◌, if◌then◌else◌};
 ghost use Rattle.f3_rules.specs.Least.{Least, first_of};
 ghost use Rattle.f3_scope_rules.specs.ScopeBreaks.{at, at_keyword};
-ghost use Rattle.f3_scope_rules.specs.Rows.{If};
+ghost use Rattle.f3_scope_rules.specs.Inner.Rows.{If};
 
 use f3_breaks::{at, at_keyword};
 use f3_rules::breaks::Break;

@@ -6,7 +6,7 @@ ghost use Rattle.f3_rules.specs.Least.{Least};
 ghost use Rattle.f3_scopes.specs.Outlines.{own_view, scope_view};
 ghost use Rattle.f3_scope_rules.specs.ScopeBreaks.{specified, IntentMisplaced};
 ghost use Rattle.f3_breaks.specs.Among.{Among};
-ghost use Rattle.f3_scope_rules.specs.Rows.{Misintended, is_other, is_misplaced, is_function};
+ghost use Rattle.f3_scope_rules.specs.Inner.Rows.{Misintended, is_other, is_misplaced, is_function};
 
 use crate::at::break_at;
 use crate::names::{is_known, symbols};
@@ -26,6 +26,7 @@ fn is_function(kind: ScopeKind) -> bool
         ScopeKind::Program => false,
         ScopeKind::Subroutine => false,
         ScopeKind::Function => true,
+        ScopeKind::Associate => false,
     }
 }
 

@@ -10,6 +10,7 @@ mod access;
 mod again;
 mod at;
 mod intent;
+pub mod laws;
 mod names;
 mod protected;
 mod undeclared;

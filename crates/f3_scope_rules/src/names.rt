@@ -3,7 +3,7 @@
 ghost use Rattle.std.specs.Prelude.{◌≡◌, map, IfOk};
 ghost use Rattle.f3_scopes.specs.Outlines.{own_view, part_view, scope_view};
 ghost use Rattle.f3_scope_rules.specs.ScopeBreaks.{component_names, header_names};
-ghost use Rattle.f3_scope_rules.specs.Rows.{symbols, is_known};
+ghost use Rattle.f3_scope_rules.specs.Inner.Rows.{symbols, is_known};
 
 use f3_scopes::outline::{Component, Declared, Outline};
 use f3_tree::expression::Name;

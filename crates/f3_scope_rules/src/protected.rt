@@ -6,7 +6,7 @@ ghost use Rattle.f3_rules.specs.Least.{Least};
 ghost use Rattle.f3_scopes.specs.Outlines.{own_view, scope_view};
 ghost use Rattle.f3_scope_rules.specs.ScopeBreaks.{ProtectedMisplaced};
 ghost use Rattle.f3_breaks.specs.Among.{Among};
-ghost use Rattle.f3_scope_rules.specs.Rows.{Misprotected, is_variable, variable_name, protected_name};
+ghost use Rattle.f3_scope_rules.specs.Inner.Rows.{Misprotected, is_variable, variable_name, protected_name};
 
 use crate::access::is_module;
 use crate::at::break_at;

@@ -5,7 +5,7 @@ ghost use Rattle.f3_rules.specs.Least.{Least};
 ghost use Rattle.f3_scopes.specs.Outlines.{scope_view};
 ghost use Rattle.f3_scope_rules.specs.ScopeBreaks.{declared_names, Undeclared};
 ghost use Rattle.f3_breaks.specs.Among.{Among};
-ghost use Rattle.f3_scope_rules.specs.Rows.{Missing};
+ghost use Rattle.f3_scope_rules.specs.Inner.Rows.{Missing};
 
 use crate::at::break_at;
 use crate::names::{is_known, symbols};

@@ -1,4 +1,4 @@
--- The scopes of a program (16.2).
+-- The scopes of a program (16.2, 16.3).
 use Rattle.std.specs.Prelude.{ℕ, ◌+◌, Bool, true, false, List, [], ◌∷◌, ◌++◌, map, length, Option, Some, None, if◌then◌else◌}
 use Rattle.std.specs.List.{flat_map, list_any}
 use Rattle.std.specs.Global.{Vec}
@@ -11,7 +11,11 @@ use Rattle.f3_tree.specs.declared.program.ProcedureKind.{ProcedureKind}
 use Rattle.f3_tree.specs.declared.program.ProcedureKind.TheVariants as procedure
 use Rattle.f3_tree.specs.declared.program.UnitKind.{UnitKind}
 use Rattle.f3_tree.specs.declared.program.UnitKind.TheVariants as unit
-use Rattle.f3_tree.specs.Declarations.{Selects, all, only, UseTree, AttributeTree, protected, parameter, intent, Placed, EntityTree, DeclarationTree, TypeTree, SpecificationTree, declares, accesses, defines}
+use Rattle.f3_tree.specs.Declarations.{Selects, all, only, UseTree, AttributeTree, protected, parameter, intent, Placed, EntityTree}
+use Rattle.f3_tree.specs.Declarations.{DeclarationTree, TypeTree, SpecificationTree, declares, accesses, defines}
+use Rattle.f3_tree.specs.Statements.{AssociationTree, StatementTree, acts, acts_if, branches, selects, repeats, associates}
+use Rattle.f3_tree.specs.Statements.{Block, no_statements, statements, Branches, no_branches, branch}
+use Rattle.f3_tree.specs.Statements.{Alternative, no_alternative, alternative, Cases, no_cases, case_block}
 use Rattle.f3_tree.specs.Tree.{ProcedureTree, UnitTree, Tree}
 use Rattle.f3_scopes.specs.declared.outline.ScopeKind.{ScopeKind}
 use Rattle.f3_scopes.specs.declared.outline.ScopeKind.TheVariants as scope
@@ -104,6 +108,72 @@ types_in _ = []
 abbrev pub parts_view : Vec Component → List Part
 parts_view v = map part_view v.items
 
+-- ---- ASSOCIATE constructs (8.1.4, 16.3)
+
+-- what stands for the name of a construct, which has none: its first associate name, or else the name of the scope around
+abbrev pub construct_name : Name → List AssociationTree → Name
+construct_name around [] = around
+construct_name around (x ∷ xs) = x.name
+
+-- an associate name is that of a variable
+abbrev pub association_own : AssociationTree → Own
+association_own x = plain entity.Variable x.name
+
+abbrev pub scope_of_construct : ℕ → Name → List AssociationTree → Scope
+scope_of_construct host around xs = record {
+  kind = scope.Associate;
+  name = construct_name around xs;
+  host = Some host;
+  uses = [];
+  declared = map association_own xs;
+  dummies = [];
+  outcome = None;
+  result = None;
+  is_typed = false;
+  accesses = [];
+  given = [];
+  access_attributes = [];
+  protects = [];
+  types = [];
+  references = [];
+}
+
+-- The constructs that stand in the scope of this number and name, one in another or one behind another, in order of
+-- place: a construct comes before those within it. The first has the second number.
+abbrev mutual
+  pub constructs_in : (host : ℕ) (around : Name) (number : ℕ) → StatementTree → List Scope
+  constructs_in host around number (acts p action) = []
+  constructs_in host around number (acts_if p e q action) = []
+  constructs_in host around number (branches bs other) =
+      constructs_in_branches host around number bs
+      ++ constructs_in_alternative host around (number + length (constructs_in_branches host around number bs)) other
+  constructs_in host around number (selects p e cs) = constructs_in_cases host around number cs
+  constructs_in host around number (repeats p control body) = constructs_in_block host around number body
+  constructs_in host around number (associates p xs body) =
+      scope_of_construct host around xs ∷ constructs_in_block number (construct_name around xs) (number + 1) body
+
+  pub constructs_in_block : (host : ℕ) (around : Name) (number : ℕ) → Block → List Scope
+  constructs_in_block host around number no_statements = []
+  constructs_in_block host around number (statements s others) =
+      constructs_in host around number s
+      ++ constructs_in_block host around (number + length (constructs_in host around number s)) others
+
+  pub constructs_in_branches : (host : ℕ) (around : Name) (number : ℕ) → Branches → List Scope
+  constructs_in_branches host around number no_branches = []
+  constructs_in_branches host around number (branch p e body others) =
+      constructs_in_block host around number body
+      ++ constructs_in_branches host around (number + length (constructs_in_block host around number body)) others
+
+  pub constructs_in_alternative : (host : ℕ) (around : Name) (number : ℕ) → Alternative → List Scope
+  constructs_in_alternative host around number no_alternative = []
+  constructs_in_alternative host around number (alternative body) = constructs_in_block host around number body
+
+  pub constructs_in_cases : (host : ℕ) (around : Name) (number : ℕ) → Cases → List Scope
+  constructs_in_cases host around number no_cases = []
+  constructs_in_cases host around number (case_block p selection body others) =
+      constructs_in_block host around number body
+      ++ constructs_in_cases host around (number + length (constructs_in_block host around number body)) others
+
 -- ---- scopes
 
 abbrev pub procedure_kind : ProcedureKind → ScopeKind
@@ -186,9 +256,23 @@ scope_of_unit u = record {
   references = flat_map named_specification (u.part).specifications;
 }
 
--- a unit of this number, and behind it its procedures
+-- a procedure of this number, and behind it the constructs of its body
+abbrev pub procedure_scopes : (host : ℕ) (number : ℕ) → ProcedureTree → List Scope
+procedure_scopes host number p = scope_of_procedure host p ∷ constructs_in_block number (p.header).name (number + 1) p.body
+
+-- procedures one behind another, where the first has the second number
+abbrev pub procedures_from : (host : ℕ) (number : ℕ) → List ProcedureTree → List Scope
+procedures_from host number [] = []
+procedures_from host number (p ∷ ps) =
+    procedure_scopes host number p ++ procedures_from host (number + length (procedure_scopes host number p)) ps
+
+-- a unit of this number without its procedures, and behind it the constructs of its body
+abbrev pub own_scopes : ℕ → UnitTree → List Scope
+own_scopes number u = scope_of_unit u ∷ constructs_in_block number u.name (number + 1) u.body
+
+-- a unit of this number with its constructs, and behind them its procedures with theirs
 abbrev pub unit_scopes : ℕ → UnitTree → List Scope
-unit_scopes number u = scope_of_unit u ∷ map (scope_of_procedure number) u.procedures
+unit_scopes number u = own_scopes number u ++ procedures_from number (number + length (own_scopes number u)) u.procedures
 
 -- the scopes of the units, where the first has this number
 abbrev pub scopes_from : ℕ → List UnitTree → List Scope

@@ -1,6 +1,7 @@
-//! Scopes: what of program units and procedures the rules on names speak of.
+//! Scopes: what of program units, procedures and constructs the rules on names speak of.
 #![tactic(auto)]
 
+pub mod constructs;
 pub mod lists;
 pub mod outline;
 pub mod scopes;

@@ -4,13 +4,14 @@ use f3_rules::source::Place;
 use f3_tree::declaration::{Accessibility, Intent};
 use f3_tree::expression::Name;
 
-/// What a scope is: a program unit or a procedure (ISO/IEC 1539-1:2004, 16.2).
+/// What a scope is: a program unit, a procedure (ISO/IEC 1539-1:2004, 16.2) or an ASSOCIATE construct (8.1.4, 16.3).
 #[derive(Clone, Copy, PartialEq, Eq, Debug)]
 pub enum ScopeKind {
     Module,
     Program,
     Subroutine,
     Function,
+    Associate,
 }
 
 /// An item of a USE statement. An only-name stands for itself (11.2.1).
@@ -74,13 +75,15 @@ pub struct Component {
 #[derive(Drop)]
 pub struct Outline {
     pub kind: ScopeKind,
+    /// Of a construct, which has no name, its first associate name; where it has none, what stands here of the scope
+    /// around.
     pub name: Name,
-    /// Of a procedure, the number of its module among the scopes.
+    /// Of a procedure the number of its module among the scopes; of a construct that of the scope directly around it.
     pub host: Option<usize>,
     /// The USE statements in the order written.
     pub uses: Vec<UseOutline>,
     /// The names declared here, in order of place: declared names and types; of a module, also its procedures; of a
-    /// function whose prefix has a type, also its result.
+    /// function whose prefix has a type, also its result; of a construct, its associate names.
     pub declared: Vec<Declared>,
     /// Of a procedure, the dummy arguments in its header, in the order written.
     pub dummies: Vec<Name>,

@@ -6,8 +6,9 @@ ghost use Rattle.f3_tree.specs.Declarations.{specification_view};
 ghost use Rattle.f3_tree.specs.Tree.{header_view, procedure_view, unit_view, view};
 ghost use Rattle.f3_scopes.specs.Outlines.{own_view, scope_view};
 ghost use Rattle.f3_part_names.specs.Names.{named_specification};
-ghost use Rattle.f3_scopes.specs.Scopes.{declared_in, procedure_kind, entity_kind, name_or, result_of, outcome_of, is_typed, typed_result, prefix_names, scope_of_procedure, procedure_own, unit_kind, scope_of_unit, unit_scopes, scopes_from, scopes_of};
+ghost use Rattle.f3_scopes.specs.Scopes.{declared_in, procedure_kind, entity_kind, name_or, result_of, outcome_of, is_typed, typed_result, prefix_names, scope_of_procedure, procedure_own, unit_kind, scope_of_unit, procedure_scopes, procedures_from, own_scopes, unit_scopes, scopes_from, scopes_of};
 
+use crate::constructs::add_block;
 use crate::lists::{accesses, types};
 use crate::outline::{Declared, EntityKind, Outline, ScopeKind};
 use crate::walk::{declared, plain, usings};
@@ -188,33 +189,56 @@ fn unit_scope(alloc: Global, unit: &Unit) -> Result<Outline, AllocError>
     })
 }
 
+/// Adds a procedure of the module of this number, and behind it the constructs of its body.
+fn add_procedure(
+    alloc: Global,
+    found: &mut Vec<Outline>,
+    host: usize,
+    procedure: &Procedure,
+) -> Result<(), AllocError>
+    ensures { OnOk result (map scope_view found.new.items ≡ map scope_view found.old.items ++ procedure_scopes host (length found.old.items) (procedure_view procedure.now)) }
+{
+    let number = found.len();
+    let scope = procedure_scope(alloc, host, procedure)?;
+    found.push(scope)?;
+    add_block(alloc, found, number, procedure.header.name, &procedure.body)
+}
+
 fn add_procedures(
     alloc: Global,
     found: &mut Vec<Outline>,
     host: usize,
     list: &[Procedure],
 ) -> Result<(), AllocError>
-    ensures { OnOk result (map scope_view found.new.items ≡ map scope_view found.old.items ++ map (scope_of_procedure host) (map procedure_view list.now)) }
+    ensures { OnOk result (map scope_view found.new.items ≡ map scope_view found.old.items ++ procedures_from host (length found.old.items) (map procedure_view list.now)) }
 {
     for procedure in list {
-        let scope = procedure_scope(alloc, host, procedure)?;
-        found.push(scope)?;
+        add_procedure(alloc, found, host, procedure)?;
     }
     Ok(())
 }
 
-/// Adds a unit, and behind it its procedures.
-fn add_unit(alloc: Global, found: &mut Vec<Outline>, unit: &Unit) -> Result<(), AllocError>
-    ensures scopes { OnOk result (map scope_view found.new.items ≡ map scope_view found.old.items ++ unit_scopes (length found.old.items) (unit_view unit.now)) }
-    ensures count { OnOk result (length found.new.items ≡ length found.old.items + length (unit_scopes (length found.old.items) (unit_view unit.now))) }
+/// Adds a unit without its procedures, and behind it the constructs of its body.
+fn add_own_scopes(alloc: Global, found: &mut Vec<Outline>, unit: &Unit) -> Result<(), AllocError>
+    ensures { OnOk result (map scope_view found.new.items ≡ map scope_view found.old.items ++ own_scopes (length found.old.items) (unit_view unit.now)) }
 {
     let number = found.len();
     let scope = unit_scope(alloc, unit)?;
     found.push(scope)?;
+    add_block(alloc, found, number, unit.name, &unit.body)
+}
+
+/// Adds a unit with its constructs, and behind them its procedures with theirs.
+fn add_unit(alloc: Global, found: &mut Vec<Outline>, unit: &Unit) -> Result<(), AllocError>
+    ensures { OnOk result (map scope_view found.new.items ≡ map scope_view found.old.items ++ unit_scopes (length found.old.items) (unit_view unit.now)) }
+{
+    let number = found.len();
+    add_own_scopes(alloc, found, unit)?;
     add_procedures(alloc, found, number, &unit.procedures)
 }
 
-/// The outlines of the scopes of a program: each unit, and behind it its procedures (16.2).
+/// The outlines of the scopes of a program in order of place: each unit, behind it its procedures (16.2), and behind each
+/// of these the constructs of its body (16.3).
 pub fn outlines(alloc: Global, program: &Program) -> Result<Vec<Outline>, AllocError>
     ensures { IfOk result (λ v. map scope_view v.items ≡ scopes_of (view program.now)) }
 {

@@ -25,6 +25,7 @@ pub fn modules_by_name(
             ScopeKind::Program => {}
             ScopeKind::Subroutine => {}
             ScopeKind::Function => {}
+            ScopeKind::Associate => {}
         }
     }
     Ok(modules)

@@ -78,6 +78,7 @@ spelled (ends (Some ended.Type) n) h = absurd h
 spelled (ends (Some ended.If) n) h = absurd h
 spelled (ends (Some ended.Select) n) h = absurd h
 spelled (ends (Some ended.Do) n) h = absurd h
+spelled (ends (Some ended.Associate) n) h = absurd h
 spelled specifies h = keyed keyword.Save form.saves [] (refl, refl)
 spelled executes h = keyed keyword.Else form.else_alone [] else_alone
 
@@ -95,6 +96,7 @@ joined_role ended.Type n = tt
 joined_role ended.If n = tt
 joined_role ended.Select n = tt
 joined_role ended.Do n = tt
+joined_role ended.Associate n = tt
 
 joined_ends : (what : Ended) (f : FormTree) (ts : List Item) → IsJoinedEnd what f ts → IsRole (role f)
 unfolding IsJoinedEnd
@@ -140,6 +142,7 @@ form_of keyword.EndType place f ts h = joined_ends ended.Type f ts h
 form_of keyword.EndIf place f ts h = joined_ends ended.If f ts h
 form_of keyword.EndSelect place f ts h = joined_ends ended.Select f ts h
 form_of keyword.EndDo place f ts h = joined_ends ended.Do f ts h
+form_of keyword.EndAssociate place f ts h = joined_ends ended.Associate f ts h
 form_of keyword.Use place f ts h = made f (form.uses h.0) h.1 tt
 form_of keyword.Implicit place f ts h = implicits f ts h
 form_of keyword.Public place f ts h = made f (form.accesses h.0) h.1 tt
@@ -155,6 +158,7 @@ form_of keyword.Select place f ts h = selects f ts h
 form_of keyword.SelectCase place f ts h = made f (form.select_case h.0) h.1 tt
 form_of keyword.Case place f ts h = made f (form.case_of h.0) h.1 tt
 form_of keyword.Do place f ts h = made f (form.repeats h.0) h.1 tt
+form_of keyword.Associate place f ts h = made f (form.associates h.0) h.1 tt
 form_of k place f ts h = absurd h
 
 kind_role : (f : FormTree) (ts : List Item) → IsOfAKind f ts → IsRole (role f)

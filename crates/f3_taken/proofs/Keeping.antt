@@ -10,9 +10,10 @@ use Rattle.f3_tree.specs.declared.declaration.TypeSpecifier.{TypeSpecifier}
 use Rattle.f3_tree.specs.declared.expression.IntegerKind.TheVariants as kind
 use Rattle.f3_tree.specs.declared.declaration.TypeSpecifier.TheVariants.{Integer, Logical, Derived}
 use Rattle.f3_tree.specs.Declarations as d
+use Rattle.f3_tree.specs.Statements.{StatementTree, acts, acts_if, branches, selects, repeats, associates, Block, no_statements, statements}
 use Rattle.f3_tree.specs.Tree as whole
 use Rattle.f3_scopes.specs.Outlines.{Own, Scope}
-use Rattle.f3_scopes.specs.Scopes.{own, declared_in, procedure_own, scope_of_unit, scope_of_procedure, scopes_from}
+use Rattle.f3_scopes.specs.Scopes.{own, declared_in, procedure_own, constructs_in, constructs_in_block, scope_of_unit, unit_scopes, scopes_from}
 use Rattle.f3_taken.specs.declared.statement.Attribute.{Attribute}
 use Rattle.f3_taken.specs.declared.statement.Entity.{Entity}
 use Rattle.f3_taken.specs.Tree.{Declares, Specifies, declaring, accessing, protecting, Acts, UnitTree, Tree, declared_by, entity_names, declared_names}
@@ -162,12 +163,40 @@ scope_names u v e =
     = ap (λ ps. flat_map declared_in u.part.specifications ++ map procedure_own ps) (parts_of_unit u v e).0 ∙ append-nil (flat_map declared_in u.part.specifications) in
     ap own_names none ∙ unit_names u v e
 
+-- a statement that is taken is no construct
+none_in : (host : ℕ) (around : Name) (number : ℕ) (x : StatementTree) (y : Acts) → statement_of x ≡ Some y → constructs_in host around number x ≡ []
+none_in host around number (acts p a) y e = refl
+none_in host around number (acts_if p c q a) y e = refl
+none_in host around number (branches bs other) y e = absurd (cc)
+none_in host around number (selects p c cs) y e = absurd (cc)
+none_in host around number (repeats p c body) y e = absurd (cc)
+none_in host around number (associates p xs body) y e = absurd (cc)
+
+no_constructs : (host : ℕ) (around : Name) (number : ℕ) (b : Block) (ys : List Acts) → Each statement_of (listed b) ys → constructs_in_block host around number b ≡ []
+no_constructs host around number no_statements ys h = refl
+no_constructs host around number (statements x b) [] h = absurd h
+no_constructs host around number (statements x b) (y ∷ ys) h = rw (none_in host around number x y h.0) (no_constructs host around (number + 0) b ys h.1)
+
+body_with : (u : whole.UnitTree) (ss : Option (List Specifies)) (bs : Option (List Acts)) (c : Option Place) (ps : List whole.ProcedureTree) (v : UnitTree)
+    → unit_with u ss bs c ps ≡ Some v → bs ≡ Some v.body
+body_with u None bs c ps v e = absurd (cc)
+body_with u (Some ss) None c ps v e = absurd (cc)
+body_with u (Some ss) (Some bs) (Some p) ps v e = absurd (cc)
+body_with u (Some ss) (Some bs) None (p ∷ ps) v e = absurd (cc)
+body_with u (Some ss) (Some bs) None [] v e =
+    let same : record { kind = u.kind; name = u.name; specifications = ss; body = bs; end = u.end } ≡ v = cc in
+    ap (λ (w : UnitTree). Some w.body) same
+
+alone : (number : ℕ) (u : whole.UnitTree) (v : UnitTree) → unit_of u ≡ Some v → unit_scopes number u ≡ scope_of_unit u ∷ []
+alone number u v e =
+    let body = body_with u (each_of specification_of u.part.specifications) (each_of statement_of (listed u.body)) u.contains u.procedures v e in
+    rw (no_constructs number u.name (number + 1) u.body v.body (each_are statement_of (listed u.body) v.body body), (parts_of_unit u v e).0) refl
+
 scopes_are : (number : ℕ) (us : List whole.UnitTree) (vs : List UnitTree) → Each unit_of us vs → scopes_from number us ≡ map scope_of_unit us
 scopes_are number [] vs h = refl
 scopes_are number (u ∷ us) [] h = absurd h
 scopes_are number (u ∷ us) (v ∷ vs) h =
-    ap (λ (ps : List whole.ProcedureTree). scope_of_unit u ∷ (map (scope_of_procedure number) ps ++ scopes_from (number + length (scope_of_unit u ∷ map (scope_of_procedure number) ps)) us))
-    (parts_of_unit u v h.0).0
+    ap (λ (ss : List Scope). ss ++ scopes_from (number + length ss) us) (alone number u v h.0)
     ∙ ap (λ (ss : List Scope). scope_of_unit u ∷ ss) (scopes_are (number + length (scope_of_unit u ∷ [])) us vs h.1)
 
 all_names : (us : List whole.UnitTree) (vs : List UnitTree) → Each unit_of us vs

@@ -180,6 +180,7 @@ statement_place (s.branches (s.branch p x b bs) o) = p
 statement_place (s.branches s.no_branches o) = nowhere
 statement_place (s.selects p x cs) = p
 statement_place (s.repeats p c b) = p
+statement_place (s.associates p xs b) = p
 
 -- the place of what is nothing that is taken
 abbrev pub place_of_none : {Y : Type 0} → Option Y → Place → List Place

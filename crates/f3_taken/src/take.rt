@@ -200,6 +200,7 @@ fn statement_place(statement: &stated::Statement) -> Place
         },
         stated::Statement::Select(place, _, _) => *place,
         stated::Statement::Do(place, _, _) => *place,
+        stated::Statement::Associate(place, _, _) => *place,
     }
 }
 

@@ -8,7 +8,7 @@ use Rattle.f3_text.specs.declared.cursor.Cursor.{Cursor}
 use Rattle.f3_text.specs.Lines.{letters, is_line_feed, ends_line, line, lines_below, lines_of, later_lines, is_blank, all_blank, is_comment, after, is_open, text, first_ampersand, last_ampersand}
 use Rattle.f3_text.specs.Statements.{alone, listed, joined, texts, pieces, all_pieces, with_statement, unless_fault, parts, fault_in, unclosed}
 use Rattle.f3_text.specs.Reader.{ahead, parts_ahead}
-use Rattle.f3_text.specs.Steps.{IsTaken, ampersand_at, ends_text}
+use Rattle.f3_text.specs.Inner.Steps.{IsTaken, ampersand_at, ends_text}
 
 -- a cursor that moved one byte on
 pub taken_feed : (c d : Cursor) (y : ℕ) (ys : List ℕ) → c.rest.now ≡ y ∷ ys → d.rest.now ≡ ys → y ≡ 10 → d.file ≡ c.file → d.line ≡ c.line + 1 → d.column ≡ 1

@@ -14,11 +14,11 @@ use Rattle.f3_text.specs.declared.statement.TextFault.TheVariants.{Refused, Memo
 use Rattle.f3_text.specs.declared.cursor.Cursor.{Cursor}
 use Rattle.f3_text.specs.Lines.{line, lines_of, later_lines, all_blank, is_open, text, first_ampersand}
 use Rattle.f3_text.specs.Statements.{Texts, Spelled, Parts, alone, listed, onto, begun, joined, texts, separates, pieces, all_pieces, broken, break_at, fault_at, fault_in, nothing, faulty, with_first, with_statement, unless_fault, parts, then_parts, parts_of, parts_from}
-use Rattle.f3_text.specs.Steps.{ampersand_at, IsTextLine}
+use Rattle.f3_text.specs.Inner.Steps.{ampersand_at, IsTextLine}
 use Rattle.f3_text.specs.declared.reader.Statements.{Statements}
 use Rattle.f3_text.specs.Reader.{ahead, parts_ahead, left, bytes_of, Nexts}
-use Rattle.f3_text.specs.Reading.{going, none, Fails, IsRead, completed, extended}
-use Rattle.f3_text.specs.Sources.{Begins, IsNext}
+use Rattle.f3_text.specs.Inner.Reading.{going, none, Fails, IsRead, completed, extended}
+use Rattle.f3_text.specs.Inner.Sources.{Begins, IsNext}
 use Rattle.f3_text.proofs.AlongLines.{parts_at_line, parts_at_end, lines_nothing}
 use Rattle.f3_text.proofs.Going.{going_start, parts_within, mark_at}
 

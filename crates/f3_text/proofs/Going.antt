@@ -1,5 +1,6 @@
 -- One letter more of a statement.
-use Rattle.std.proofs.Common.{◌≡◌, ℕ, ◌-◌, ◌≤◌, length, List, [], ◌∷◌, ◌++◌, Bool, true, false, Option, None, Some, ◌==◌, ◌&&◌, not, refl, sym, ap, ◌∙◌, arith, if◌then◌else◌, append_assoc, length-append, inl, inr, Err, Ok, Result, ◌<◌}
+use Rattle.std.proofs.Common.{◌≡◌, ℕ, zero, suc, ◌+◌, take, drop, append-nil, ◌-◌, ◌≤◌, length, List, [], ◌∷◌, ◌++◌, Bool, true, false, Option, None, Some, ◌==◌, ◌&&◌, not, refl, sym, ap, ◌∙◌, arith, if◌then◌else◌, append_assoc, length-append, inl, inr, Err, Ok, Result, ◌<◌}
+use Rattle.std.proofs.lemmas.List.{length-take, length-drop}
 use Rattle.std.proofs.lemmas.Bool.{eq-eqb, ne_eqb, eqb-true, eqb-false, or_cases, and_parts, and_right, true≢false}
 use Rattle.f3_rules.specs.declared.source.Place.{Place}
 use Rattle.f3_rules.specs.declared.rule.Rule.{Rule}
@@ -8,13 +9,13 @@ use Rattle.f3_rules.specs.declared.breaks.Break.{Break}
 use Rattle.f3_text.specs.declared.letter.Letter.{Letter}
 use Rattle.f3_text.specs.declared.letter.Quoting.{Quoting}
 use Rattle.f3_text.specs.declared.letter.Quoting.TheVariants.{Outside, Inside, Closed}
-use Rattle.f3_text.specs.Lines.{line, later_lines, is_blank, is_quote, all_blank, after, after_all, is_open, text, first_ampersand, last_ampersand}
+use Rattle.f3_text.specs.Lines.{letters, line, later_lines, ends_line, is_blank, is_quote, all_blank, after, after_all, is_open, text, first_ampersand, last_ampersand}
 use Rattle.f3_text.specs.Statements.{Texts, Spelled, Parts, alone, listed, onto, join_blank, unfinished, joined, texts, separates, pieces, all_pieces, broken, is_allowed, opens, closes, depth_after, break_at, unclosed, fault_at, depth_in, fault_in, trimmed, spelled, faulty, with_first, with_statement, unless_fault, parts}
-use Rattle.f3_text.specs.Steps.{ends_text, ampersand_at}
+use Rattle.f3_text.specs.Inner.Steps.{ends_text, ampersand_at}
 use Rattle.f3_text.proofs.AlongLines.{text_more, later_same, below_more, not_feed}
 use Rattle.f3_text.specs.declared.statement.TextFault.{TextFault}
 use Rattle.f3_text.specs.declared.statement.TextFault.TheVariants.{Refused, Memory}
-use Rattle.f3_text.specs.Reading.{added, extended, completed, pieces_of, resumed, going, none, unfinished_place, Paired, Refuses, Fails, Deepens, Reads, IsRead, Shortens, IsSeparated}
+use Rattle.f3_text.specs.Inner.Reading.{added, extended, completed, pieces_of, resumed, going, none, unfinished_place, Paired, IsPlain, ArePlain, places_from, Refuses, Fails, Deepens, Reads, IsRead, Shortens, IsSeparated}
 use Rattle.f3_text.specs.declared.statement.RawStatement.{RawStatement}
 use Rattle.f3_text.specs.declared.cursor.Cursor.{Cursor}
 use Rattle.f3_text.specs.Reader.{ahead, spelled_of, parts_ahead}
@@ -166,6 +167,44 @@ going_more s w d x xs e a h f p =
     going_text s w d x xs e
     ∙ ap (resumed s w d) (joined_more w x t (later_lines xs) (last_more x t h))
     ∙ resumed_more s w d x (joined (after w x) t (later_lines xs)) a f p
+
+-- a plain letter
+not_allowed : (k b : ℕ) → is_allowed k ≡ false → is_allowed b ≡ true → (b == k) ≡ false
+not_allowed k b e h = ne_eqb b k (λ same. true≢false (sym h ∙ ap is_allowed same ∙ e))
+
+feeds_are_not : (is_allowed 10 ≡ false) × (is_allowed 13 ≡ false)
+unfolding is_allowed
+feeds_are_not = (refl, refl)
+
+plain_on : (x : Letter) (xs : List Letter) → IsPlain x.byte → ends_text Outside x xs ≡ false
+unfolding ends_text ends_line is_open
+plain_on x xs h = rw (not_allowed 10 x.byte feeds_are_not.0 h.allowed, not_allowed 13 x.byte feeds_are_not.1 h.allowed, h.no_comment) refl
+
+plain_no_end : (x : Letter) → IsPlain x.byte → separates Outside x ≡ false
+unfolding separates is_open
+plain_no_end x h = h.no_end
+
+plain_no_join : (x : Letter) (b : Bool) → IsPlain x.byte → ((x.byte == 38) && b) ≡ false
+plain_no_join x b h = rw h.no_join refl
+
+plain_no_fault : (d : ℕ) (x : Letter) → IsPlain x.byte → fault_at Outside d x ≡ None
+unfolding fault_at broken is_open
+plain_no_fault d x h = rw (h.no_join, h.allowed, h.no_opening) refl
+
+plain_after : (x : Letter) → IsPlain x.byte → after Outside x ≡ Outside
+unfolding after
+plain_after x h = rw h.no_quote refl
+
+plain_depth : (d : ℕ) (x : Letter) → IsPlain x.byte → depth_in Outside d x ≡ d
+unfolding depth_in depth_after is_open
+plain_depth d x h = rw (h.no_opening, h.no_closing) refl
+
+pub going_plain : (s t : Spelled) (w : Quoting) (d : ℕ) (x : Letter) (xs : List Letter) → w ≡ Outside → IsPlain x.byte → Paired s → t ≡ added s x → going s w d (x ∷ xs) ≡ going t w d xs
+going_plain s t w d x xs o h p e =
+    ap (λ (v : Quoting). going s v d (x ∷ xs)) o
+    ∙ going_more s Outside d x xs (plain_on x xs h) (plain_no_end x h) (plain_no_join x _ h) (plain_no_fault d x h) p
+    ∙ rw (plain_after x h, plain_depth d x h) (ap (λ (u : Spelled). going u Outside d xs) (sym e))
+    ∙ ap (λ (v : Quoting). going t v d xs) (sym o)
 
 pub going_fault : (s : Spelled) (w : Quoting) (d : ℕ) (x : Letter) (xs : List Letter) (b : Break) → ends_text w x xs ≡ false → separates w x ≡ false
     → ((x.byte == 38) && all_blank (text (after w x) (line xs))) ≡ false → fault_at w d x ≡ Some b
@@ -388,3 +427,75 @@ reads_separated before s new x from behind h b p k f = record {
   paired = paired_kept _ _ h.kept p;
   file = f;
 }
+
+-- plain letters
+pub places_more : (n : ℕ) (p : Place) → 0 < n → places_from n p ≡ p ∷ places_from (n - 1) (record { file = p.file; line = p.line; column = p.column + 1 })
+places_more zero p h = absurd (omega arith)
+places_more (suc n) p h = ap (λ m. p ∷ places_from m (record { file = p.file; line = p.line; column = p.column + 1 })) (omega arith)
+
+letters_on : (f l c b : ℕ) (bytes : List ℕ) → IsPlain b → letters f l c (b ∷ bytes) ≡ record { byte = b; place = record { file = f; line = l; column = c } } ∷ letters f l (c + 1) bytes
+unfolding letters
+letters_on f l c b bytes h = rw (not_allowed 10 b feeds_are_not.0 h.allowed) refl
+
+added_some : (s : Spelled) (x : Letter) → 0 < length s.bytes → record { bytes = s.bytes ++ x.byte ∷ []; places = s.places ++ x.place ∷ [] } ≡ added s x
+unfolding added
+added_some s x some =
+    let full : (length s.bytes == 0) ≡ false = ne_eqb (length s.bytes) 0 (λ h. omega (arith, h, some)) in
+    rw (full, and_right (is_blank x.byte) false refl) refl
+
+pub going_run : (s : Spelled) (d f l c n : ℕ) (bytes : List ℕ) → n ≤ length bytes → ArePlain n bytes → 0 < length s.bytes → Paired s
+    → going s Outside d (letters f l c bytes)
+    ≡ going (record { bytes = s.bytes ++ take n bytes; places = s.places ++ places_from n (record { file = f; line = l; column = c }) }) Outside d (letters f l (c + n) (drop n bytes))
+going_run s d f l c zero bytes le plain some paired =
+    let e : c ≡ c + 0 = omega arith in
+    rw (append-nil s.bytes, append-nil s.places) (ap (λ k. going s Outside d (letters f l k bytes)) e)
+going_run s d f l c (suc n) [] le plain some paired = absurd (omega (arith, le))
+going_run s d f l c (suc n) (b ∷ bytes) le plain some paired =
+    let p : Place = record { file = f; line = l; column = c } in
+    let x : Letter = record { byte = b; place = p } in
+    let t : Spelled = record { bytes = s.bytes ++ b ∷ []; places = s.places ++ p ∷ [] } in
+    let is = added_some s x some in
+    let long : length t.bytes ≡ length s.bytes + 1 = length-append s.bytes (b ∷ []) in
+    let e : c + 1 + n ≡ c + suc n = omega arith in
+    ap (going s Outside d) (letters_on f l c b bytes (plain 0 (omega arith)))
+    ∙ going_plain s t Outside d x (letters f l (c + 1) bytes) refl (plain 0 (omega arith)) paired is
+    ∙ going_run t d f l (c + 1) n bytes (omega (arith, le)) (λ k lt. plain (suc k) (omega (arith, lt))) (omega (arith, long)) (paired_same s t x is paired)
+    ∙ rw (append_assoc s.bytes (b ∷ []) (take n bytes), append_assoc s.places (p ∷ []) (places_from n (record { file = f; line = l; column = c + 1 })), e) refl
+
+long_letters : (f l c : ℕ) (bytes : List ℕ) → length (letters f l c bytes) ≡ length bytes
+unfolding letters
+long_letters f l c [] = refl
+long_letters f l c (b ∷ bytes) = by (b == 10) refl (long_letters f (l + 1) 1 bytes) (long_letters f l (c + 1) bytes)
+  where
+    by : (t : Bool) → (b == 10) ≡ t → length (letters f (l + 1) 1 bytes) ≡ length bytes → length (letters f l (c + 1) bytes) ≡ length bytes → length (letters f l c (b ∷ bytes)) ≡ length (b ∷ bytes)
+    by true e below on = rw e (ap suc below)
+    by false e below on = rw e (ap suc on)
+
+long_places : (n : ℕ) (p : Place) → length (places_from n p) ≡ n
+long_places zero p = refl
+long_places (suc n) p = ap suc (long_places n (record { file = p.file; line = p.line; column = p.column + 1 }))
+
+-- a cursor that moved along plain bytes
+pub going_run_on : (s : Spelled) (tb : List ℕ) (tp : List Place) (w : Quoting) (d n : ℕ) (from to : Cursor) → w ≡ Outside → n ≤ length from.rest.now → ArePlain n from.rest.now → 0 < length s.bytes → Paired s
+    → tb ≡ s.bytes ++ take n from.rest.now → tp ≡ s.places ++ places_from n (record { file = from.file; line = from.line; column = from.column })
+    → to.file ≡ from.file → to.line ≡ from.line → to.column ≡ from.column + n → to.rest.now ≡ drop n from.rest.now
+    → going s w d (ahead from) ≡ going (record { bytes = tb; places = tp }) w d (ahead to)
+unfolding ahead
+going_run_on s tb tp w d n from to o le plain some paired eb ep f l c r =
+    rw (o, eb, ep, f, l, c, r) (going_run s d from.file from.line from.column n from.rest.now le plain some paired)
+
+pub paired_run : (s : Spelled) (tb : List ℕ) (tp : List Place) (n : ℕ) (bytes : List ℕ) (p : Place) → n ≤ length bytes → Paired s → tb ≡ s.bytes ++ take n bytes → tp ≡ s.places ++ places_from n p → length tb ≡ length tp
+paired_run s tb tp n bytes p le paired eb ep =
+    let a = length-append s.bytes (take n bytes) in
+    let b = length-append s.places (places_from n p) in
+    let k = length-take n bytes in
+    let m = long_places n p in
+    rw (eb, ep) (omega (arith, a, b, k, m, paired, le))
+
+pub run_within : (n : ℕ) (from to : Cursor) → to.rest.now ≡ drop n from.rest.now → length (ahead to) ≤ length (ahead from)
+unfolding ahead
+run_within n from to r =
+    let a = long_letters from.file from.line from.column from.rest.now in
+    let b = long_letters to.file to.line to.column to.rest.now in
+    let k = ap length r ∙ length-drop n from.rest.now in
+    omega (arith, a, b, k)

@@ -42,11 +42,14 @@ CutsSeveral = Cuts (codes ";; program p;; end ;" ∷ []) (((1, 1, 4), codes "pro
 
 -- comments, and comment lines; any byte may stand in them
 abbrev pub CutsComments : Type 0
-CutsComments = Cuts (lined (codes "! any & byte ' #" ∷ codes " program p ! & #" ∷ codes "" ∷ codes "end" ∷ []) ∷ []) (((1, 2, 2), codes "program p ") ∷ ((1, 4, 1), codes "end") ∷ []) None
+CutsComments =
+    Cuts (lined (codes "! any & byte ' #" ∷ codes " program p ! & #" ∷ codes "" ∷ codes "end" ∷ []) ∷ [])
+    (((1, 2, 2), codes "program p ") ∷ ((1, 4, 1), codes "end") ∷ []) None
 
 -- carriage returns before line feeds, and tabs
 abbrev pub CutsReturns : Type 0
-CutsReturns = Cuts (((codes "a ! b" ++ (13 ∷ 10 ∷ 13 ∷ 10 ∷ 9 ∷ [])) ++ (codes "b" ++ (13 ∷ 10 ∷ []))) ∷ []) (((1, 1, 1), codes "a ") ∷ ((1, 3, 2), codes "b") ∷ []) None
+CutsReturns =
+    Cuts (((codes "a ! b" ++ (13 ∷ 10 ∷ 13 ∷ 10 ∷ 9 ∷ [])) ++ (codes "b" ++ (13 ∷ 10 ∷ []))) ∷ []) (((1, 1, 1), codes "a ") ∷ ((1, 3, 2), codes "b") ∷ []) None
 
 -- a carriage return that no line feed follows
 abbrev pub CutsReturnAlone : Type 0
@@ -54,15 +57,21 @@ CutsReturnAlone = Cuts ((codes "program p" ++ (10 ∷ codes "end" ++ (13 ∷ [])
 
 -- signs of comments, statements and continuation in a character constant, doubled quotes, and a tab
 abbrev pub CutsConstants : Type 0
-CutsConstants = Cuts (codes "p 'it''s', \"say \"\"hi\"\"\", 'a;b!c&d'; end" ∷ []) (((1, 1, 1), codes "p 'it''s', \"say \"\"hi\"\"\", 'a;b!c&d'") ∷ ((1, 1, 37), codes "end") ∷ []) None
+CutsConstants =
+    Cuts (codes "p 'it''s', \"say \"\"hi\"\"\", 'a;b!c&d'; end" ∷ [])
+    (((1, 1, 1), codes "p 'it''s', \"say \"\"hi\"\"\", 'a;b!c&d'") ∷ ((1, 1, 37), codes "end") ∷ []) None
 
 -- continuation in a literal and in a character constant
 abbrev pub CutsContinued : Type 0
-CutsContinued = Cuts (lined (codes "print *, 12&" ∷ codes "&34, 'a&" ∷ codes "! between" ∷ codes "   & b'" ∷ []) ∷ []) (((1, 1, 1), codes "print *, 1234, 'a b'") ∷ []) None
+CutsContinued =
+    Cuts (lined (codes "print *, 12&" ∷ codes "&34, 'a&" ∷ codes "! between" ∷ codes "   & b'" ∷ []) ∷ []) (((1, 1, 1), codes "print *, 1234, 'a b'") ∷ []) None
 
 -- a continuation without a second `&` is a blank, at the place of the `&`
 abbrev pub CutsBlankJoin : Type 0
-CutsBlankJoin = (map (λ s. s.bytes) (cut_of sources).statements ≡ codes "a b " ∷ []) × (map (λ s. map at s.places) (cut_of sources).statements ≡ ((1, 1, 1) ∷ (1, 1, 2) ∷ (1, 4, 1) ∷ (1, 4, 2) ∷ []) ∷ []) × (told (cut_of sources).fault ≡ None)
+CutsBlankJoin =
+    (map (λ s. s.bytes) (cut_of sources).statements ≡ codes "a b " ∷ [])
+    × (map (λ s. map at s.places) (cut_of sources).statements ≡ ((1, 1, 1) ∷ (1, 1, 2) ∷ (1, 4, 1) ∷ (1, 4, 2) ∷ []) ∷ [])
+    × (told (cut_of sources).fault ≡ None)
   where
     sources : List (List ℕ)
     sources = lined (codes "a& ! goes on" ∷ codes "" ∷ codes "  ! between" ∷ codes "b " ∷ []) ∷ []
@@ -72,7 +81,9 @@ abbrev pub CutsJoinedQuote : Type 0
 CutsJoinedQuote = Cuts (lined (codes "print *, 'abc'&" ∷ codes "&'def'" ∷ []) ∷ []) (((1, 1, 1), codes "print *, 'abc''def'") ∷ []) None
 
 abbrev pub CutsJoinedQuoteOpen : Type 0
-CutsJoinedQuoteOpen = Cuts (lined (codes "program p" ∷ codes "print *, 'abc'&" ∷ codes "&'def" ∷ codes "end" ∷ []) ∷ []) (((1, 1, 1), codes "program p") ∷ []) (Some (S2, (1, 2, 10)))
+CutsJoinedQuoteOpen =
+    Cuts (lined (codes "program p" ∷ codes "print *, 'abc'&" ∷ codes "&'def" ∷ codes "end" ∷ []) ∷ [])
+    (((1, 1, 1), codes "program p") ∷ []) (Some (S2, (1, 2, 10)))
 
 -- constants that are not closed
 abbrev pub CutsOpen : Type 0
@@ -82,7 +93,8 @@ abbrev pub CutsOpenAtEnd : Type 0
 CutsOpenAtEnd = Cuts (lined (codes "program p" ∷ codes "print *, 'a&" ∷ []) ∷ []) (((1, 1, 1), codes "program p") ∷ []) (Some (S2, (1, 2, 10)))
 
 abbrev pub CutsOpenAtLone : Type 0
-CutsOpenAtLone = Cuts (lined (codes "program p" ∷ codes "print *, 'a&" ∷ codes "&" ∷ codes "&b'" ∷ []) ∷ []) (((1, 1, 1), codes "program p") ∷ []) (Some (S2, (1, 2, 10)))
+CutsOpenAtLone =
+    Cuts (lined (codes "program p" ∷ codes "print *, 'a&" ∷ codes "&" ∷ codes "&b'" ∷ []) ∷ []) (((1, 1, 1), codes "program p") ∷ []) (Some (S2, (1, 2, 10)))
 
 abbrev pub CutsOpenAtPlain : Type 0
 CutsOpenAtPlain = Cuts (lined (codes "print *, 'a&" ∷ codes "b'" ∷ []) ∷ []) [] (Some (S2, (1, 1, 10)))
@@ -102,7 +114,9 @@ abbrev pub CutsElsewhere : Type 0
 CutsElsewhere = Cuts (codes "a; b & c" ∷ []) (((1, 1, 1), codes "a") ∷ []) (Some (S2, (1, 1, 6)))
 
 abbrev pub CutsLast : Type 0
-CutsLast = Cuts (lined (codes "program p" ∷ codes "print *, 1 &" ∷ codes "! end" ∷ []) ∷ codes ", 2" ∷ []) (((1, 1, 1), codes "program p") ∷ []) (Some (S2, (1, 2, 12)))
+CutsLast =
+    Cuts (lined (codes "program p" ∷ codes "print *, 1 &" ∷ codes "! end" ∷ []) ∷ codes ", 2" ∷ [])
+    (((1, 1, 1), codes "program p") ∷ []) (Some (S2, (1, 2, 12)))
 
 -- an `&` behind a `;`, and one that is first and another that is last on a line
 abbrev pub CutsBehindMark : Type 0
@@ -110,7 +124,10 @@ CutsBehindMark = Cuts (lined (codes "a; &" ∷ codes "b&" ∷ codes "&&" ∷ cod
 
 -- a byte that is not allowed, in the second of two sources
 abbrev pub CutsNotAllowed : Type 0
-CutsNotAllowed = Cuts (codes "module m; end" ∷ codes "program p; print *, 1 # 2 & 3; end" ∷ []) (((1, 1, 1), codes "module m") ∷ ((1, 1, 11), codes "end") ∷ ((2, 1, 1), codes "program p") ∷ []) (Some (S1, (2, 1, 23)))
+CutsNotAllowed =
+    Cuts (codes "module m; end" ∷ codes "program p; print *, 1 # 2 & 3; end" ∷ [])
+    (((1, 1, 1), codes "module m") ∷ ((1, 1, 11), codes "end") ∷ ((2, 1, 1), codes "program p") ∷ [])
+    (Some (S1, (2, 1, 23)))
 
 -- sixty-four open parentheses and brackets, the rest of a statement, and one more
 abbrev pub CutsDeep : Type 0
@@ -121,4 +138,7 @@ CutsTooDeep = Cuts ((codes "program p; print *, )" ++ times 40 65) ∷ []) (((1,
 
 -- all of them
 abbrev pub CutsSo : Type 0
-CutsSo = CutsSeveral × CutsComments × CutsReturns × CutsReturnAlone × CutsConstants × CutsContinued × CutsBlankJoin × CutsJoinedQuote × CutsJoinedQuoteOpen × CutsOpen × CutsOpenAtEnd × CutsOpenAtLone × CutsOpenAtPlain × CutsLone × CutsLoneBehind × CutsFirst × CutsElsewhere × CutsLast × CutsBehindMark × CutsNotAllowed × CutsDeep × CutsTooDeep
+CutsSo =
+    CutsSeveral × CutsComments × CutsReturns × CutsReturnAlone × CutsConstants × CutsContinued × CutsBlankJoin
+    × CutsJoinedQuote × CutsJoinedQuoteOpen × CutsOpen × CutsOpenAtEnd × CutsOpenAtLone × CutsOpenAtPlain × CutsLone
+    × CutsLoneBehind × CutsFirst × CutsElsewhere × CutsLast × CutsBehindMark × CutsNotAllowed × CutsDeep × CutsTooDeep

@@ -2,9 +2,7 @@ pub mod Lines
 pub mod Statements
 pub mod Examples
 pub mod Reader
-pub mod Steps
-pub mod Reading
-pub mod Sources
 pub mod Ends
 pub mod Cutting
 pub mod Laws
+pub mod Inner

@@ -10,7 +10,8 @@ use Rattle.f3_text.specs.declared.letter.Quoting.TheVariants.{Outside, Inside, C
 -- the bytes of a source from a place on, each with its place: lines count line feeds, columns the bytes behind the last one
 unfoldable pub letters : (file line column : ℕ) → List ℕ → List Letter
 letters f l c [] = []
-letters f l c (b ∷ bs) = record { byte = b; place = record { file = f; line = l; column = c } } ∷ (if b == 10 then letters f (l + 1) 1 bs else letters f l (c + 1) bs)
+letters f l c (b ∷ bs) =
+    record { byte = b; place = record { file = f; line = l; column = c } } ∷ (if b == 10 then letters f (l + 1) 1 bs else letters f l (c + 1) bs)
 
 -- the line that a text begins with: it ends with LF, with CR LF, or with the text (own rule; 3.3.1 leaves lines to the processor)
 unfoldable pub is_line_feed : List Letter → Bool

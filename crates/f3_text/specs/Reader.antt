@@ -33,7 +33,8 @@ ahead c = letters c.file c.line c.column c.rest.now
 
 -- what is left of the source of a cursor between two statements: in column 1 a line begins
 unfoldable pub parts_ahead : Cursor → Parts
-parts_ahead c = parts (all_pieces (if c.column == 1 then texts (lines_of (ahead c)) else listed (joined Outside (text Outside (line (ahead c))) (later_lines (ahead c)))))
+parts_ahead c =
+    parts (all_pieces (if c.column == 1 then texts (lines_of (ahead c)) else listed (joined Outside (text Outside (line (ahead c))) (later_lines (ahead c)))))
 
 -- what is left before a reader
 unfoldable pub left : Statements → Parts

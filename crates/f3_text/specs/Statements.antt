@@ -1,5 +1,6 @@
 -- The statements of source texts, and the first fault of their text (3.3.1).
-use Rattle.std.specs.Prelude.{ℕ, ◌+◌, ◌-◌, List, [], ◌∷◌, ◌++◌, map, length, Bool, true, false, Option, None, Some, ◌||◌, ◌&&◌, ◌==◌, not, nat_lt, if◌then◌else◌, option_map}
+use Rattle.std.specs.Prelude.{ℕ, ◌+◌, ◌-◌, List, [], ◌∷◌, ◌++◌, map, length, Bool, true, false, Option, None, Some, ◌||◌, ◌&&◌, ◌==◌, not}
+use Rattle.std.specs.Prelude.{nat_lt, if◌then◌else◌, option_map}
 use Rattle.std.specs.Char.{is_ascii_alphanumeric}
 use Rattle.std.specs.List.{list_any}
 use Rattle.f3_rules.specs.declared.source.Place.{Place}
@@ -84,7 +85,9 @@ all_pieces (t ∷ ts) = listed (pieces Outside t) ++ all_pieces ts
 
 -- the bytes that may stand outside comments and character constants (3.1)
 unfoldable pub is_allowed : ℕ → Bool
-is_allowed b = is_ascii_alphanumeric b || list_any (λ c. c == b) (9 ∷ 32 ∷ 95 ∷ 61 ∷ 43 ∷ 45 ∷ 42 ∷ 47 ∷ 40 ∷ 41 ∷ 44 ∷ 46 ∷ 58 ∷ 59 ∷ 33 ∷ 37 ∷ 38 ∷ 60 ∷ 62 ∷ 91 ∷ 93 ∷ 39 ∷ 34 ∷ [])
+is_allowed b =
+    is_ascii_alphanumeric b
+    || list_any (λ c. c == b) (9 ∷ 32 ∷ 95 ∷ 61 ∷ 43 ∷ 45 ∷ 42 ∷ 47 ∷ 40 ∷ 41 ∷ 44 ∷ 46 ∷ 58 ∷ 59 ∷ 33 ∷ 37 ∷ 38 ∷ 60 ∷ 62 ∷ 91 ∷ 93 ∷ 39 ∷ 34 ∷ [])
 
 -- `(` and `[` open, `)` and `]` close the last that is open
 unfoldable pub opens : ℕ → Bool

@@ -34,7 +34,7 @@ pub(crate) fn is_blank(byte: u8) -> bool
 
 /// Whether a byte is a quote.
 #[tactic(auto, unfolding(crate::specs::Lines::is_quote))]
-fn is_quote(byte: u8) -> bool
+pub(crate) fn is_quote(byte: u8) -> bool
     ensures { result ≡ is_quote byte }
 {
     byte == b'"' || byte == b'\''

@@ -4,7 +4,7 @@ ghost use Rattle.std.specs.Prelude.{◌≡◌, ◌≢◌, ◌<◌, ◌≤◌, []
 ghost use Rattle.f3_text.specs.Lines.{is_line_feed, ends_line, line, lines_of, later_lines, all_blank, text};
 ghost use Rattle.f3_text.specs.Statements.{texts, all_pieces, parts};
 ghost use Rattle.f3_text.specs.Reader.{ahead, parts_ahead};
-ghost use Rattle.f3_text.specs.Steps.{ends_text, Takes, FindsFirst, FindsLine};
+ghost use Rattle.f3_text.specs.Inner.Steps.{ends_text, Takes, FindsFirst, FindsLine};
 
 use crate::cursor::Cursor;
 use crate::letter::{Letter, Quoting, after, is_blank, is_open};
@@ -75,7 +75,7 @@ fn ends_line(letter: Letter, behind: Cursor) -> bool
 }
 
 /// Whether a letter, with these behind it, ends the text of its line: the line ends there, or a comment begins.
-#[tactic(auto, unfolding(crate::specs::Steps::ends_text))]
+#[tactic(auto, unfolding(crate::specs::Inner::Steps::ends_text))]
 pub(crate) fn ends_text(quoting: Quoting, letter: Letter, behind: Cursor) -> bool
     ensures { result ≡ ends_text quoting letter (ahead behind.entry) }
 {

@@ -1,17 +1,17 @@
 //! Statements read from the bytes of a source.
 
-ghost use Rattle.std.specs.Prelude.{◌≡◌, ◌≤◌, ◌==◌, ◌&&◌, [], true, false, OnOk};
+ghost use Rattle.std.specs.Prelude.{◌≡◌, ◌≤◌, ◌==◌, ◌&&◌, ◌+◌, ◌<◌, ◌^◌, ◌++◌, [], ◌∷◌, length, true, false, IfOk, OnOk};
 ghost use Rattle.f3_text.specs.declared.letter.Quoting.TheVariants.{Outside};
 ghost use Rattle.f3_rules.specs.declared.rule.Rule.TheVariants.{S2};
 ghost use Rattle.f3_text.specs.Lines.{all_blank, line, text, after};
 ghost use Rattle.f3_text.specs.Statements.{broken, depth_after, break_at, join_blank};
-ghost use Rattle.f3_text.specs.Steps.{ends_text};
+ghost use Rattle.f3_text.specs.Inner.Steps.{ends_text};
 ghost use Rattle.f3_text.specs.Reader.{ahead, spelled_of};
-ghost use Rattle.f3_text.specs.Reading.{added, going, none, unfinished_place, Paired, Refuses, Deepens, Joins, Steps, Reads, Shortens};
+ghost use Rattle.f3_text.specs.Inner.Reading.{added, going, none, unfinished_place, Paired, Refuses, Deepens, IsPlain, ArePlain, places_from, GoesOn, Joins, Steps, Reads, Shortens};
 
 use crate::cursor::Cursor;
 use crate::letter::{
-    Letter, Quoting, after, closes, is_allowed, is_blank, is_open, opens, separates,
+    Letter, Quoting, after, closes, is_allowed, is_blank, is_open, is_quote, opens, separates,
 };
 use crate::lines::{below, ends_text, only_blanks, take, text_line};
 use crate::mode::{Mode, Step};
@@ -23,6 +23,9 @@ use std::alloc::{AllocError, Global};
 
 /// How deep parentheses and brackets may nest.
 const DEEPEST: u32 = 64;
+
+/// For how many bytes of a statement there is room at first.
+const ROOM: usize = 64;
 
 /// How the first letter of a statement stands.
 fn outside() -> Mode
@@ -101,7 +104,7 @@ fn deepen(alloc: Global, mode: Mode, letter: Letter) -> Result<u32, TextFault>
 }
 
 /// Puts a letter to the end of a statement, a blank only behind another letter.
-#[tactic(auto, unfolding(crate::specs::Reading::added))]
+#[tactic(auto, unfolding(crate::specs::Inner::Reading::added))]
 fn add(statement: &mut RawStatement, letter: Letter) -> Result<(), AllocError>
     ensures { OnOk result (spelled_of statement.new ≡ added (spelled_of statement.old) letter) }
 {
@@ -170,7 +173,106 @@ fn join<'a>(
     ))
 }
 
-/// Reads a letter of a statement.
+/// Whether a byte outside character constants is one of the statement whatever stands behind it, and neither opens nor
+/// closes anything.
+fn is_plain(byte: u8) -> bool
+    ensures { result ≡ true → IsPlain byte }
+{
+    if byte == b'!' {
+        return false;
+    }
+    if byte == b';' {
+        return false;
+    }
+    if byte == b'&' {
+        return false;
+    }
+    if is_quote(byte) {
+        return false;
+    }
+    if opens(byte) {
+        return false;
+    }
+    if closes(byte) {
+        return false;
+    }
+    is_allowed(byte)
+}
+
+/// Whether a byte stands outside character constants and is plain there.
+fn is_plain_at(quoting: Quoting, byte: u8) -> bool
+    ensures { result ≡ true → (quoting ≡ Outside) × IsPlain byte }
+{
+    match quoting {
+        Quoting::Outside => is_plain(byte),
+        _ => false,
+    }
+}
+
+/// How many plain bytes stand at the front.
+fn plain_length(bytes: &[u8]) -> usize
+    ensures within { result ≤ length bytes.now }
+    ensures plain { ArePlain result bytes.now }
+{
+    let mut count = 0;
+    while count < bytes.len() && is_plain(bytes[count]) {
+        count += 1;
+    }
+    count
+}
+
+/// Adds so many places, side by side from the first on.
+fn add_places(places: &mut Vec<Place>, first: Place, count: usize) -> Result<(), AllocError>
+    requires { first.column + count < 2 ^ 32 }
+    ensures { OnOk result (places.new.items ≡ places.old.items ++ places_from count first) }
+{
+    let mut place = first;
+    let mut left = count;
+    while left > 0 {
+        places.push(place)?;
+        place = Place {
+            file: place.file,
+            line: place.line,
+            column: place.column + 1,
+        };
+        left -= 1;
+    }
+    Ok(())
+}
+
+/// Reads a plain letter of a statement, and those behind it.
+fn run<'a>(
+    statement: &mut RawStatement,
+    mode: Mode,
+    letter: Letter,
+    behind: Cursor<'a>,
+) -> Result<Cursor<'a>, AllocError>
+    requires outside { mode.quoting ≡ Outside }
+    requires plain { IsPlain letter.byte }
+    requires paired { Paired (spelled_of statement.old) }
+    ensures { IfOk result (λ to. GoesOn (going (spelled_of statement.old) mode.quoting mode.depth (letter ∷ ahead behind.entry)) (spelled_of statement.old) behind.entry mode to (spelled_of statement.new)) }
+{
+    add(statement, letter)?;
+    if statement.bytes.is_empty() {
+        return Ok(behind);
+    }
+    let count = plain_length(behind.rest);
+    let place = Place {
+        file: behind.file,
+        line: behind.line,
+        column: behind.column,
+    };
+    statement.bytes.extend_from_slice(&behind.rest[..count])?;
+    add_places(&mut statement.places, place, count)?;
+    Ok(Cursor {
+        file: behind.file,
+        line: behind.line,
+        column: behind.column + count as u32,
+        rest: &behind.rest[count..],
+    })
+}
+
+/// Reads a letter of a statement, and the plain ones behind it where it is plain.
 fn step<'a>(
     alloc: Global,
     statement: &mut RawStatement,
@@ -181,6 +283,12 @@ fn step<'a>(
     requires { Paired (spelled_of statement.old) }
     ensures { Steps result (spelled_of statement.old) mode letter behind.entry (spelled_of statement.new) }
 {
+    if is_plain_at(mode.quoting, letter.byte) {
+        let Ok(to) = run(statement, mode, letter, behind) else {
+            return Err(TextFault::Memory);
+        };
+        return Ok(Step::On(mode, to));
+    }
     if ends_text(mode.quoting, letter, behind) {
         return Ok(Step::Ended);
     }
@@ -222,6 +330,15 @@ fn finish<'a>(
     Ok((statement, below(at)))
 }
 
+/// A statement before its first byte, with room for those of a short line.
+fn no_bytes(alloc: Global) -> Result<RawStatement, AllocError>
+    ensures { IfOk result (λ s. spelled_of s ≡ none) }
+{
+    let bytes = Vec::with_capacity(alloc, ROOM)?;
+    let places = Vec::with_capacity(alloc, ROOM)?;
+    Ok(RawStatement { bytes, places })
+}
+
 /// Reads a statement to its end, and past what ends it: the `;`, or its line. The statement may be empty.
 pub(crate) fn statement<'a>(
     alloc: Global,
@@ -230,9 +347,8 @@ pub(crate) fn statement<'a>(
     ensures read { Reads result (going none Outside 0 (ahead cursor.entry)) cursor.entry }
     ensures shorter { Shortens result cursor.entry }
 {
-    let mut statement = RawStatement {
-        bytes: Vec::new(alloc),
-        places: Vec::new(alloc),
+    let Ok(mut statement) = no_bytes(alloc) else {
+        return Err(TextFault::Memory);
     };
     let mut mode = outside();
     let mut at = cursor;

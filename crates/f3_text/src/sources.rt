@@ -4,7 +4,7 @@ ghost use Rattle.std.specs.Prelude.{◌≡◌, ◌+◌, ◌<◌, ◌≤◌, ◌^
 ghost use Rattle.f3_text.specs.declared.letter.Quoting.TheVariants.{Outside};
 ghost use Rattle.f3_text.specs.Lines.{all_blank, line, text};
 ghost use Rattle.f3_text.specs.Reader.{ahead};
-ghost use Rattle.f3_text.specs.Sources.{FindsStart, FindsNext, Enters};
+ghost use Rattle.f3_text.specs.Inner.Sources.{FindsStart, FindsNext, Enters};
 
 use crate::cursor::Cursor;
 use crate::letter::Quoting;

@@ -59,6 +59,7 @@ fn kind(form: &Form) -> &'static str {
         Form::Do(Control::Forever) => "do",
         Form::Do(Control::Counted(_, _, _, _)) => "do counted",
         Form::Do(Control::While(_)) => "do while",
+        Form::Associate(_) => "associate",
     }
 }
 
@@ -221,6 +222,23 @@ fn actions(rt: HostRuntime) -> Result<(), Fail> {
         ("STOP 123456", "none"),
         ("RETURN 1", "none"),
         ("CONTINUE", "continue"),
+    ];
+    assert_eq!(rt; first_wrong(rt.alloc(), &cases)?, None);
+    Ok(())
+}
+
+#[test]
+fn associates(rt: HostRuntime) -> Result<(), Fail> {
+    let cases = [
+        ("ASSOCIATE ( z => n )", "associate"),
+        ("associate (z => v, y => v(2) + 1)", "associate"),
+        ("ASSOCIATE ( )", "none"),
+        ("ASSOCIATE ( z = n )", "none"),
+        ("ASSOCIATE ( z => n", "none"),
+        ("ASSOCIATE ( z ) = 1", "assign"),
+        ("END ASSOCIATE", "end what"),
+        ("endassociate", "end what"),
+        ("END ASSOCIATE z", "none"),
     ];
     assert_eq!(rt; first_wrong(rt.alloc(), &cases)?, None);
     Ok(())

@@ -269,6 +269,19 @@ fn out_of_place(rt: HostRuntime) -> Result<(), Fail> {
     let alloc = rt.alloc();
     check(&rt, alloc, "program p; end program q", Rule::S6, 12)?;
     check(&rt, alloc, "program p; end if; end", Rule::S6, 12)?;
+    check(&rt, alloc, "program p; end associate; end", Rule::S6, 12)?;
+    check(
+        &rt,
+        alloc,
+        "program p; associate (a => n); end do; end",
+        Rule::S6,
+        32,
+    )?;
+    accept(
+        &rt,
+        alloc,
+        "program p; do; associate (z => n, y => 2); exit; endassociate; end do; end",
+    )?;
     check(&rt, alloc, "program p; if (.true.) exit; end", Rule::S6, 12)?;
     check(
         &rt,
@@ -322,6 +335,11 @@ fn deep(rt: HostRuntime) -> Result<(), Fail> {
         Some((Rule::S7, at(66, 1)))
     );
     let text = repeated(alloc, "program p\n", "do\n", 65, "")?;
+    assert_eq!(rt;
+        refused(alloc, text.as_slice())?,
+        Some((Rule::S8, at(66, 1)))
+    );
+    let text = repeated(alloc, "program p\n", "associate (a => n)\n", 65, "")?;
     assert_eq!(rt;
         refused(alloc, text.as_slice())?,
         Some((Rule::S8, at(66, 1)))

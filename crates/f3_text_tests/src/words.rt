@@ -75,7 +75,7 @@ fn print_of_everything(rt: HostRuntime) -> Result<(), Fail> {
     ];
     assert!(rt; found.as_slice() == wanted.as_slice());
     assert!(rt; fault.is_none());
-    assert_eq!(rt; tables.names.len(), 2);
+    assert_eq!(rt; tables.names.set.len(), 2);
     assert_eq!(rt; tables.texts.len(), 1);
     let mut symbols = 0usize;
     for item in &items {

@@ -98,7 +98,8 @@ pub record DeclarationTree : Type 0 where
   pub entities : List EntityTree
 
 abbrev pub declaration_view : Declaration → DeclarationTree
-declaration_view d = record { place = d.place; specifier = d.specifier; attributes = map placed_view d.attributes.items; entities = map entity_view d.entities.items }
+declaration_view d =
+    record { place = d.place; specifier = d.specifier; attributes = map placed_view d.attributes.items; entities = map entity_view d.entities.items }
 
 pub record AccessTree : Type 0 where
   pub place : Place

@@ -13,6 +13,7 @@ use Rattle.f3_tree.specs.declared.statement.Selector.{Selector}
 use Rattle.f3_tree.specs.declared.statement.Selector.TheVariants as selector
 use Rattle.f3_tree.specs.declared.statement.Control.{Control}
 use Rattle.f3_tree.specs.declared.statement.Control.TheVariants as control
+use Rattle.f3_tree.specs.declared.statement.Association.{Association}
 use Rattle.f3_tree.specs.declared.statement.Statement.{Statement, fold-Statement}
 use Rattle.f3_tree.specs.declared.statement.Statement.TheOpen.{Statement-F}
 use Rattle.f3_tree.specs.Expressions.{Tree, Parts, ArgumentTree, expression_view, argument_view, designator_view}
@@ -71,6 +72,13 @@ control_view control.Forever = forever
 control_view (control.Counted n first last step) = counted n (expression_view first) (expression_view last) (option_map expression_view step)
 control_view (control.While e) = while (expression_view e)
 
+pub record AssociationTree : Type 0 where
+  pub name : Name
+  pub selector : Tree
+
+abbrev pub association_view : Association → AssociationTree
+association_view a = record { name = a.name; selector = expression_view a.selector }
+
 mutual
   pub data StatementTree : Type 0 where
     acts : Place → Act → StatementTree
@@ -78,6 +86,7 @@ mutual
     branches : Branches → Alternative → StatementTree
     selects : Place → Tree → Cases → StatementTree
     repeats : Place → Controls → Block → StatementTree
+    associates : Place → List AssociationTree → Block → StatementTree
 
   pub data Block : Type 0 where
     no_statements : Block
@@ -120,6 +129,7 @@ statement_step (Statement-F.LogicalIf p e q a) = acts_if p (expression_view e) q
 statement_step (Statement-F.If bs other) = branches (branches_of bs.items) (alternative_of other)
 statement_step (Statement-F.Select p e cs) = selects p (expression_view e) (cases_of cs.items)
 statement_step (Statement-F.Do p c body) = repeats p (control_view c) (block_of body.items)
+statement_step (Statement-F.Associate p xs body) = associates p (map association_view xs.items) (block_of body.items)
 
 abbrev pub statement_view : Statement → StatementTree
 statement_view = fold-Statement StatementTree statement_step

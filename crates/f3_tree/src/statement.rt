@@ -55,6 +55,13 @@ pub enum Control {
     While(Expression),
 }
 
+/// An association (8.1.4): a name, and the expression that stands for it.
+#[derive(Drop)]
+pub struct Association {
+    pub name: Name,
+    pub selector: Expression,
+}
+
 /// An executable statement or construct. Each place is that of the first token of a statement.
 #[derive(Drop)]
 pub enum Statement {
@@ -68,4 +75,6 @@ pub enum Statement {
     Select(Place, Expression, Vec<(Place, Selector, Vec<Statement>)>),
     /// A DO construct (8.1.6).
     Do(Place, Control, Vec<Statement>),
+    /// An ASSOCIATE construct (8.1.4): its associations in the order written, at least one.
+    Associate(Place, Vec<Association>, Vec<Statement>),
 }

@@ -17,7 +17,7 @@ use Rattle.f3_blocks.specs.Pieces.{Placed}
 use Rattle.f3_blocks.specs.Pieces as blocks_pieces
 use Rattle.f3_blocks.specs.Blocks.{may_act}
 use Rattle.f3_blocks.specs.Machine as blocks
-use Rattle.f3_blocks.specs.Machine.{Open, in_if, in_else, in_select, in_case, in_do, may_stand, in_loop}
+use Rattle.f3_blocks.specs.Machine.{Open, in_if, in_else, in_select, in_case, in_do, in_associate, may_stand, in_loop}
 use Rattle.f3_parts.specs.Parts.{fits_label}
 use Rattle.f3_parts.specs.Machine.{is_none, is_nil}
 use Rattle.f3_units.specs.Roles.{Role, begins, contains, heads, ends, specifies, executes, role}
@@ -50,6 +50,7 @@ else_if_size p e (in_else done c ∷ os) b t h = absurd (cc)
 else_if_size p e (in_select q f c ∷ os) b t h = absurd (cc)
 else_if_size p e (in_case q f done u v c ∷ os) b t h = absurd (cc)
 else_if_size p e (in_do q d c ∷ os) b t h = absurd (cc)
+else_if_size p e (in_associate q d c ∷ os) b t h = absurd (cc)
 
 else_size : (os : List Open) (b : List StatementTree) (t : blocks.State) → blocks.to_else os b ≡ Some t → length os ≡ size t
 else_size [] b t h = absurd (cc)
@@ -58,6 +59,7 @@ else_size (in_else done c ∷ os) b t h = absurd (cc)
 else_size (in_select q f c ∷ os) b t h = absurd (cc)
 else_size (in_case q f done u v c ∷ os) b t h = absurd (cc)
 else_size (in_do q d c ∷ os) b t h = absurd (cc)
+else_size (in_associate q d c ∷ os) b t h = absurd (cc)
 
 case_size : (p : Place) (k : Selects) (os : List Open) (b : List StatementTree) (t : blocks.State) → blocks.to_case p k os b ≡ Some t → length os ≡ size t
 case_size p k [] b t h = absurd (cc)
@@ -66,6 +68,7 @@ case_size p k (in_else done c ∷ os) b t h = absurd (cc)
 case_size p k (in_select q f c ∷ os) b t h = same_size _ t h
 case_size p k (in_case q f done u v c ∷ os) b t h = same_size _ t h
 case_size p k (in_do q d c ∷ os) b t h = absurd (cc)
+case_size p k (in_associate q d c ∷ os) b t h = absurd (cc)
 
 one_less : (o : Open) (os : List Open) (s t : blocks.State) → got s ≡ got t → s.opens ≡ os → size t + 1 ≡ length (o ∷ os)
 one_less o os s t h is = omega (arith, same_size s t h, ap length is)
@@ -77,6 +80,7 @@ close_if_size (in_else done c ∷ os) b t h = one_less (in_else done c) os _ t h
 close_if_size (in_select q f c ∷ os) b t h = absurd (cc)
 close_if_size (in_case q f done u v c ∷ os) b t h = absurd (cc)
 close_if_size (in_do q d c ∷ os) b t h = absurd (cc)
+close_if_size (in_associate q d c ∷ os) b t h = absurd (cc)
 
 close_select_size : (os : List Open) (b : List StatementTree) (t : blocks.State) → blocks.close_select os b ≡ Some t → size t + 1 ≡ length os
 close_select_size [] b t h = absurd (cc)
@@ -85,6 +89,7 @@ close_select_size (in_else done c ∷ os) b t h = absurd (cc)
 close_select_size (in_select q f c ∷ os) b t h = one_less (in_select q f c) os _ t h refl
 close_select_size (in_case q f done u v c ∷ os) b t h = one_less (in_case q f done u v c) os _ t h refl
 close_select_size (in_do q d c ∷ os) b t h = absurd (cc)
+close_select_size (in_associate q d c ∷ os) b t h = absurd (cc)
 
 close_do_size : (os : List Open) (b : List StatementTree) (t : blocks.State) → blocks.close_do os b ≡ Some t → size t + 1 ≡ length os
 close_do_size [] b t h = absurd (cc)
@@ -93,6 +98,16 @@ close_do_size (in_else done c ∷ os) b t h = absurd (cc)
 close_do_size (in_select q f c ∷ os) b t h = absurd (cc)
 close_do_size (in_case q f done u v c ∷ os) b t h = absurd (cc)
 close_do_size (in_do q d c ∷ os) b t h = one_less (in_do q d c) os _ t h refl
+close_do_size (in_associate q d c ∷ os) b t h = absurd (cc)
+
+close_associate_size : (os : List Open) (b : List StatementTree) (t : blocks.State) → blocks.close_associate os b ≡ Some t → size t + 1 ≡ length os
+close_associate_size [] b t h = absurd (cc)
+close_associate_size (in_if done q f c ∷ os) b t h = absurd (cc)
+close_associate_size (in_else done c ∷ os) b t h = absurd (cc)
+close_associate_size (in_select q f c ∷ os) b t h = absurd (cc)
+close_associate_size (in_case q f done u v c ∷ os) b t h = absurd (cc)
+close_associate_size (in_do q d c ∷ os) b t h = absurd (cc)
+close_associate_size (in_associate q d c ∷ os) b t h = one_less (in_associate q d c) os _ t h refl
 
 -- what a statement opens and ends, and the numbers of open constructs before and behind it
 abbrev Counts : FormTree → ℕ → ℕ → Type 0
@@ -107,12 +122,15 @@ block_depth procedure p form.else_alone s t h = omega (arith, else_size s.opens 
 block_depth procedure p (form.select_case e) s t h = omega (arith, opened_size _ s t h)
 block_depth procedure p (form.case_of k) s t h = omega (arith, case_size p k s.opens s.body t h)
 block_depth procedure p (form.repeats c) s t h = omega (arith, opened_size _ s t h)
+block_depth procedure p (form.associates xs) s t h = omega (arith, opened_size _ s t h)
 block_depth procedure p (form.ends (Some ended.If) None) s t h = omega (arith, close_if_size s.opens s.body t h)
 block_depth procedure p (form.ends (Some ended.Select) None) s t h = omega (arith, close_select_size s.opens s.body t h)
 block_depth procedure p (form.ends (Some ended.Do) None) s t h = omega (arith, close_do_size s.opens s.body t h)
+block_depth procedure p (form.ends (Some ended.Associate) None) s t h = omega (arith, close_associate_size s.opens s.body t h)
 block_depth procedure p (form.ends (Some ended.If) (Some n)) s t h = absurd (cc)
 block_depth procedure p (form.ends (Some ended.Select) (Some n)) s t h = absurd (cc)
 block_depth procedure p (form.ends (Some ended.Do) (Some n)) s t h = absurd (cc)
+block_depth procedure p (form.ends (Some ended.Associate) (Some n)) s t h = absurd (cc)
 block_depth procedure p (form.ends (Some ended.Type) n) s t h = absurd (cc)
 block_depth procedure p (form.ends (Some ended.Module) n) s t h = absurd (cc)
 block_depth procedure p (form.ends (Some ended.Program) n) s t h = absurd (cc)
@@ -143,9 +161,11 @@ plain form.else_alone = inl refl
 plain (form.select_case e) = inl refl
 plain (form.case_of k) = inl refl
 plain (form.repeats c) = inl refl
+plain (form.associates xs) = inl refl
 plain (form.ends (Some ended.If) n) = inl refl
 plain (form.ends (Some ended.Select) n) = inl refl
 plain (form.ends (Some ended.Do) n) = inl refl
+plain (form.ends (Some ended.Associate) n) = inl refl
 plain (form.ends (Some ended.Type) n) = inr (λ n. refl)
 plain (form.ends (Some ended.Module) n) = inr (λ n. refl)
 plain (form.ends (Some ended.Program) n) = inr (λ n. refl)

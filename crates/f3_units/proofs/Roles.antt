@@ -29,6 +29,7 @@ part_role p (form.ends (Some ended.Type) n) = inl refl
 part_role p (form.ends (Some ended.If) n) = inr (inr refl)
 part_role p (form.ends (Some ended.Select) n) = inr (inr refl)
 part_role p (form.ends (Some ended.Do) n) = inr (inr refl)
+part_role p (form.ends (Some ended.Associate) n) = inr (inr refl)
 part_role p (form.procedure h) = inr (inr refl)
 part_role p (form.uses u) = inl refl
 part_role p form.implicit_none = inl refl
@@ -46,6 +47,7 @@ part_role p form.else_alone = inr (inr refl)
 part_role p (form.select_case e) = inr (inr refl)
 part_role p (form.case_of s) = inr (inr refl)
 part_role p (form.repeats c) = inr (inr refl)
+part_role p (form.associates xs) = inr (inr refl)
 
 abbrev BlockRole : Place → FormTree → Type 0
 BlockRole p f = (role f ≡ executes) ⊎ (blocks_pieces.piece p f ≡ blocks_pieces.no_piece)
@@ -62,6 +64,7 @@ block_role p (form.ends (Some ended.Type) n) = inr refl
 block_role p (form.ends (Some ended.If) n) = inl refl
 block_role p (form.ends (Some ended.Select) n) = inl refl
 block_role p (form.ends (Some ended.Do) n) = inl refl
+block_role p (form.ends (Some ended.Associate) n) = inl refl
 block_role p (form.procedure h) = inr refl
 block_role p (form.uses u) = inr refl
 block_role p form.implicit_none = inr refl
@@ -79,6 +82,7 @@ block_role p form.else_alone = inl refl
 block_role p (form.select_case e) = inl refl
 block_role p (form.case_of s) = inl refl
 block_role p (form.repeats c) = inl refl
+block_role p (form.associates xs) = inl refl
 
 -- CONTAINS goes on with a part in an open type definition alone, and no other statement than those of a part does
 abbrev pub IsOfPart : Placed → parts.State → Type 0

@@ -1,5 +1,6 @@
 -- Program units statement by statement.
-use Rattle.std.specs.Prelude.{◌≡◌, ◌<◌, ℕ, Bool, true, false, ◌&&◌, ◌==◌, if◌then◌else◌, List, [], ◌∷◌, ◌++◌, length, map, Option, Some, None, Result, option_and_then}
+use Rattle.std.specs.Prelude.{◌≡◌, ◌<◌, ℕ, Bool, true, false, ◌&&◌, ◌==◌, if◌then◌else◌, List, [], ◌∷◌, ◌++◌, length, map, Option, Some}
+use Rattle.std.specs.Prelude.{None, Result, option_and_then}
 use Rattle.std.specs.Option.{option_map}
 use Rattle.f3_rules.specs.declared.source.Place.{Place}
 use Rattle.f3_tree.specs.declared.expression.Name.{Name}
@@ -138,7 +139,17 @@ in_unit (Some place) (Some o) r p u = in_procedure r p u o
 abbrev pub unit_closed : Place → Option Ended → Option Name → Begun → Option UnitTree
 unit_closed place what label u =
     if is_over u.scope && (fits_unit what u.kind && fits_label label u.name)
-    then Some (record { place = u.place; kind = u.kind; name = u.name; part = u.scope.part.part; body = block_of u.scope.block.body; contains = u.contains; procedures = u.procedures; end = place })
+    then Some
+    (record {
+      place = u.place;
+      kind = u.kind;
+      name = u.name;
+      part = u.scope.part.part;
+      body = block_of u.scope.block.body;
+      contains = u.contains;
+      procedures = u.procedures;
+      end = place;
+    })
     else None
 
 abbrev pub still : List UnitTree → Option Begun → Option State

@@ -28,6 +28,7 @@ end_role (Some ended.Type) n = specifies
 end_role (Some ended.If) n = executes
 end_role (Some ended.Select) n = executes
 end_role (Some ended.Do) n = executes
+end_role (Some ended.Associate) n = executes
 end_role what n = ends what n
 
 abbrev pub role : FormTree → Role
@@ -51,6 +52,7 @@ role form.else_alone = executes
 role (form.select_case e) = executes
 role (form.case_of s) = executes
 role (form.repeats c) = executes
+role (form.associates xs) = executes
 
 -- ---- what the code says of it
 

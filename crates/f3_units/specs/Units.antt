@@ -61,7 +61,9 @@ AreProcedures (q ∷ qs) ps = (front : List Placed) × (rest : List Placed) × (
 -- CONTAINS and the procedures behind it, where it is written
 abbrev pub IsContained : Option Place → List ProcedureTree → List Placed → Type 0
 IsContained None qs ps = (qs ≡ []) × (ps ≡ [])
-IsContained (Some place) qs ps = (first : Placed) × (rest : List Placed) × (ps ≡ first ∷ rest) × (role_of first ≡ contains) × (first.place ≡ place) × AreProcedures qs rest
+IsContained (Some place) qs ps =
+    (first : Placed) × (rest : List Placed) × (ps ≡ first ∷ rest) × (role_of first ≡ contains) × (first.place ≡ place)
+    × AreProcedures qs rest
 
 -- what stands behind the specification part of a unit: procedures in a module, executable statements in a program
 abbrev pub IsBehind : UnitKind → Block → Option Place → List ProcedureTree → List Placed → Type 0

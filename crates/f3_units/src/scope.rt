@@ -46,6 +46,7 @@ fn end_role(what: Option<Ended>, name: Option<Name>) -> Role
         Some(Ended::If) => Role::Executes,
         Some(Ended::Select) => Role::Executes,
         Some(Ended::Do) => Role::Executes,
+        Some(Ended::Associate) => Role::Executes,
         _ => Role::Ends(what, name),
     }
 }

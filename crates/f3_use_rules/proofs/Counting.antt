@@ -1,5 +1,5 @@
 -- How often a name is given PROTECTED.
-use Rattle.std.proofs.Common.{◌≡◌, ℕ, zero, suc, ◌+◌, ◌<◌, ◌≤◌, nat_lt, map, Option, List, [], ◌∷◌, ◌++◌, length, filter, drop, get_or, refl, sym, ap, ◌∙◌, Bool, true, false, arith, if◌then◌else◌}
+use Rattle.std.proofs.Common.{slice_get, ◌≡◌, ℕ, zero, suc, ◌+◌, ◌<◌, ◌≤◌, nat_lt, map, Option, List, [], ◌∷◌, ◌++◌, length, filter, drop, get_or, refl, sym, ap, ◌∙◌, Bool, true, false, arith, if◌then◌else◌}
 use Rattle.std.specs.List.{flat_map}
 use Rattle.std.proofs.lemmas.Bool.{lt-ltb}
 use Rattle.std.proofs.lemmas.List.{length-append, at_drop_more, drop_all}
@@ -16,8 +16,8 @@ use Rattle.f3_names.specs.declared.table.Names.{Names}
 use Rattle.f3_use_rules.specs.declared.times.Times.{Times}
 use Rattle.f3_use_rules.specs.declared.times.Times.TheVariants.{Never, Once, Often}
 use Rattle.f3_use_rules.specs.UseBreaks.{is_protected, is_named}
-use Rattle.f3_use_rules.specs.Times.{one_more, counted, is_twice}
-use Rattle.f3_use_rules.specs.Rows.{entity_listed, declaration_listed, entity_again, declaration_row, statement_row, unit_row}
+use Rattle.f3_use_rules.specs.Inner.Times.{one_more, counted, is_twice}
+use Rattle.f3_use_rules.specs.Inner.Rows.{entity_listed, declaration_listed, entity_again, declaration_row, body_row, unit_row}
 
 pub counted_sum : (times : Times) (a b : ℕ) → counted times (a + b) ≡ counted (counted times a) b
 counted_sum times zero b = let none : zero + b ≡ b = omega arith in ap (counted times) none
@@ -91,10 +91,10 @@ piece_end test parts seen xs i times le h =
 
 -- the breaks of a unit, where its declarations were looked at with the table
 pub unit_joined : (names : Names) (number : ℕ) (unit : UnitTree) (listings : ℕ → Times) (are : (symbol : ℕ) → listings symbol ≡ counted Never (length (filter (is_named symbol) (protected_names unit))))
-    (declared acted whole : Option Break) → declared ≡ first_of (flat_map (declaration_listed listings) (declarations_of unit)) → acted ≡ first_of (flat_map (statement_row names number) unit.body)
+    (declared acted whole : Option Break) → declared ≡ first_of (flat_map (declaration_listed listings) (declarations_of unit)) → acted ≡ first_of (body_row names (slice_get names.units.items number) unit.body)
     → whole ≡ earlier_of declared acted → whole ≡ first_of (unit_row names number unit)
 unit_joined names number unit listings are declared acted whole d a w =
     w
     ∙ ap (λ x. earlier_of x acted) (d ∙ ap first_of (same_declarations listings unit are (declarations_of unit)))
     ∙ ap (earlier_of (first_of (flat_map (declaration_row unit) (declarations_of unit)))) a
-    ∙ sym (first-append (flat_map (declaration_row unit) (declarations_of unit)) (flat_map (statement_row names number) unit.body))
+    ∙ sym (first-append (flat_map (declaration_row unit) (declarations_of unit)) (body_row names (slice_get names.units.items number) unit.body))

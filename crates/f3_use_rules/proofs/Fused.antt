@@ -10,7 +10,7 @@ use Rattle.f3_rules.proofs.Firsts.{earlier_assoc, earlier_none, first-append}
 use Rattle.f3_taken.specs.declared.program.Unit.{Unit as ProgramUnit}
 use Rattle.f3_taken.specs.Tree.{unit_view}
 use Rattle.f3_names.specs.declared.table.Names.{Names}
-use Rattle.f3_use_rules.specs.Rows.{unit_row, units_row}
+use Rattle.f3_use_rules.specs.Inner.Rows.{unit_row, units_row}
 
 pub fused : {X Y Z : Type 0} (f : Y → List Z) (g : X → List Y) (xs : List X) → flat_map (λ x. flat_map f (g x)) xs ≡ flat_map f (flat_map g xs)
 fused f g [] = refl

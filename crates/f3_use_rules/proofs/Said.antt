@@ -19,21 +19,22 @@ use Rattle.f3_name_rules.specs.References.{text_of, IsNowhere}
 use Rattle.f3_names.specs.declared.entity.Entity.{Entity}
 use Rattle.f3_names.specs.Entities.{described}
 use Rattle.f3_use_rules.specs.References.{RefersTo, Defines}
+use Rattle.f3_names.specs.Holders.{unit_of}
 use Rattle.f3_names.specs.Meant.{IsMeant}
 use Rattle.f3_use_rules.specs.UseBreaks.{protections, UseBreaks, attribute_twice, not_accessible, of_several, no_variable, protected_defined}
-use Rattle.f3_use_rules.specs.Rows.{reference_row, entity_row, definition_row, entity_again, declaration_row}
+use Rattle.f3_use_rules.specs.Inner.Rows.{reference_row, entity_row, definition_row, entity_again, declaration_row}
 
 -- ---- references and definitions of one name
 
 module _ (t : whole.Tree) (program : Tree) (unit : ℕ) (x : Name) (b : Break) where
   module _ (texts : List ℕ) (are : texts ≡ text_of t.names x.symbol) where
-    nothing_said : (f : Bool) → is_intrinsic texts ≡ f → RefersTo program unit x → IsNowhere (scopes_of t) unit x → Has ((if f then at 6 T9 x else at 6 N10 x) ∷ []) b → UseBreaks t program b
+    nothing_said : (f : Bool) → is_intrinsic texts ≡ f → RefersTo t program unit x → IsNowhere (scopes_of t) unit x → Has ((if f then at 6 T9 x else at 6 N10 x) ∷ []) b → UseBreaks t program b
     nothing_said true e refers none (inl i) = no_variable (unit, x, refers, none, ap is_intrinsic (sym are) ∙ e, i)
     nothing_said true e refers none (inr n) = absurd n
     nothing_said false e refers none (inl i) = not_accessible (unit, x, refers, none, ap is_intrinsic (sym are) ∙ e, i)
     nothing_said false e refers none (inr n) = absurd n
 
-    pub reference_said : (l : Lookup) → ResolvesAs l (IsVisible (scopes_of t) unit x.symbol) → RefersTo program unit x → Has (reference_row l texts x) b → UseBreaks t program b
+    pub reference_said : (l : Lookup) → ResolvesAs l (IsVisible (scopes_of t) unit x.symbol) → RefersTo t program unit x → Has (reference_row l texts x) b → UseBreaks t program b
     reference_said (One e) r refers h = absurd h
     reference_said Several r refers (inl i) = of_several (unit, x, refers, r.0, r.1, r.2, r.3, r.4, i)
     reference_said Several r refers (inr n) = absurd n
@@ -55,29 +56,29 @@ module _ (t : whole.Tree) (program : Tree) (unit : ℕ) (x : Name) (b : Break) w
     row_of_several Several r d e hd he ne q = inl q
     row_of_several Nothing r d e hd he ne q = absurd (r d hd)
 
-  module _ (entities : List Entity) (are : entities ≡ described (scopes_of t)) where
-    flag_said : (e : ℕ) (d : Entity) → IsMeant t unit x.symbol e → Defines program unit x → slice_get entities e ≡ Some d
-        → (f g : Bool) → d.is_protected ≡ f → (d.scope == unit) ≡ g → Has (if f && not g then at 7 D1 x ∷ [] else []) b → UseBreaks t program b
+  module _ (entities : List Entity) (are : entities ≡ described (scopes_of t)) (holder : ℕ) (held : holder ≡ unit_of (scopes_of t) unit) where
+    flag_said : (e : ℕ) (d : Entity) → IsMeant t unit x.symbol e → Defines t program unit x → slice_get entities e ≡ Some d
+        → (f g : Bool) → d.is_protected ≡ f → (d.unit == holder) ≡ g → Has (if f && not g then at 7 D1 x ∷ [] else []) b → UseBreaks t program b
     flag_said e d means defines q true false f g (inl i) =
-        protected_defined (unit, x, defines, e, means, d, ap (λ l. slice_get l e) (sym are) ∙ q, f, eqb-false d.scope unit g, i)
+        protected_defined (unit, x, defines, e, means, d, ap (λ l. slice_get l e) (sym are) ∙ q, f, (λ same. eqb-false d.unit holder g (same ∙ sym held)), i)
     flag_said e d means defines q true false f g (inr n) = absurd n
     flag_said e d means defines q true true f g h = absurd h
     flag_said e d means defines q false s f g h = absurd h
 
-    entity_said : (e : ℕ) → IsMeant t unit x.symbol e → Defines program unit x → (o : Option Entity) → slice_get entities e ≡ o → Has (entity_row unit o x) b → UseBreaks t program b
+    entity_said : (e : ℕ) → IsMeant t unit x.symbol e → Defines t program unit x → (o : Option Entity) → slice_get entities e ≡ o → Has (entity_row holder o x) b → UseBreaks t program b
     entity_said e means defines None q h = absurd h
-    entity_said e means defines (Some d) q h = flag_said e d means defines q d.is_protected (d.scope == unit) refl refl h
+    entity_said e means defines (Some d) q h = flag_said e d means defines q d.is_protected (d.unit == holder) refl refl h
 
-    pub definition_said : (l : Lookup) → ResolvesAs l (IsVisible (scopes_of t) unit x.symbol) → Defines program unit x → Has (definition_row unit entities l x) b → UseBreaks t program b
+    pub definition_said : (l : Lookup) → ResolvesAs l (IsVisible (scopes_of t) unit x.symbol) → Defines t program unit x → Has (definition_row holder entities l x) b → UseBreaks t program b
     definition_said (One e) r defines h = entity_said e r defines (slice_get entities e) refl h
     definition_said Several r defines h = absurd h
     definition_said Nothing r defines h = absurd h
 
-    protected_row : (d : Entity) (o : Option Entity) → o ≡ Some d → d.is_protected ≡ true → d.scope ≢ unit → b ≡ at 7 D1 x → Has (entity_row unit o x) b
-    protected_row d o q f ne i = rw (q, f, ne_eqb d.scope unit ne) (inl i)
+    protected_row : (d : Entity) (o : Option Entity) → o ≡ Some d → d.is_protected ≡ true → d.unit ≢ unit_of (scopes_of t) unit → b ≡ at 7 D1 x → Has (entity_row holder o x) b
+    protected_row d o q f ne i = rw (q, f, ne_eqb d.unit holder (λ same. ne (same ∙ held))) (inl i)
 
     pub row_of_protected : (l : Lookup) → ResolvesAs l (IsVisible (scopes_of t) unit x.symbol) → (e : ℕ) → IsMeant t unit x.symbol e → (d : Entity) → slice_get (described (scopes_of t)) e ≡ Some d
-        → d.is_protected ≡ true → d.scope ≢ unit → b ≡ at 7 D1 x → Has (definition_row unit entities l x) b
+        → d.is_protected ≡ true → d.unit ≢ unit_of (scopes_of t) unit → b ≡ at 7 D1 x → Has (definition_row holder entities l x) b
     row_of_protected (One c) r e means d q f ne i =
         let same : c ≡ e = means.1 c r.0 in
         protected_row d (slice_get entities c) (ap (λ k. slice_get entities k) same ∙ ap (λ l. slice_get l e) are ∙ q) f ne i

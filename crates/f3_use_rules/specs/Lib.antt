@@ -1,4 +1,3 @@
 pub mod References
 pub mod UseBreaks
-pub mod Times
-pub mod Rows
+pub mod Inner

@@ -5,6 +5,8 @@ use Rattle.f3_tree.specs.declared.expression.Name.{Name}
 use Rattle.f3_taken.specs.declared.expression.Primary.{Primary}
 use Rattle.f3_taken.specs.declared.expression.Primary.TheVariants.{Literal, Name as Named}
 use Rattle.f3_taken.specs.declared.expression.Term.{Term}
+use Rattle.f3_tree.specs.Tree as whole
+use Rattle.f3_names.specs.Tables.{scope_numbers}
 use Rattle.f3_taken.specs.Tree.{Shows, sum, text, Act, assign, print, Acts, UnitTree, Tree}
 
 -- the name that is an operand
@@ -30,14 +32,16 @@ abbrev pub defined_names : Act → List Name
 defined_names (assign x ts) = x ∷ []
 defined_names (print xs) = []
 
--- The unit of this number has this executable statement.
-abbrev pub HasStatement : Tree → ℕ → Acts → Type 0
-HasStatement program unit statement = (source : UnitTree) × (slice_get program.units unit ≡ Some source) × Contains source.body statement
+-- The unit whose scope has this number has this executable statement.
+abbrev pub HasStatement : whole.Tree → Tree → ℕ → Acts → Type 0
+HasStatement t program scope statement =
+    (unit : ℕ) × (source : UnitTree) × (slice_get (scope_numbers 0 t.units) unit ≡ Some scope) × (slice_get program.units unit ≡ Some source)
+    × Contains source.body statement
 
--- An executable statement of the unit of this number refers to the name.
-abbrev pub RefersTo : Tree → ℕ → Name → Type 0
-RefersTo program unit x = (statement : Acts) × HasStatement program unit statement × Contains (act_names statement.act) x
+-- An executable statement in the scope of this number refers to the name.
+abbrev pub RefersTo : whole.Tree → Tree → ℕ → Name → Type 0
+RefersTo t program scope x = (statement : Acts) × HasStatement t program scope statement × Contains (act_names statement.act) x
 
--- An executable statement of the unit of this number defines what has the name.
-abbrev pub Defines : Tree → ℕ → Name → Type 0
-Defines program unit x = (statement : Acts) × HasStatement program unit statement × Contains (defined_names statement.act) x
+-- An executable statement in the scope of this number defines what has the name.
+abbrev pub Defines : whole.Tree → Tree → ℕ → Name → Type 0
+Defines t program scope x = (statement : Acts) × HasStatement t program scope statement × Contains (defined_names statement.act) x

@@ -1,5 +1,5 @@
 -- The breaks of the rules on attributes, references and definitions (phases 5 to 7) of a program that is compiled: the whole
--- tree says what its names mean. A unit has no procedures there, so that a unit's number is that of its scope.
+-- tree says what its names mean.
 use Rattle.std.specs.Prelude.{◌≡◌, ◌≢◌, ℕ, ◌+◌, ◌<◌, ◌==◌, Bool, Some, true, false, Contains, length, filter, slice_get}
 use Rattle.f3_rules.specs.declared.breaks.Break.{Break}
 use Rattle.f3_rules.specs.declared.rule.Rule.TheVariants.{T1, T9, D1}
@@ -16,6 +16,7 @@ use Rattle.f3_name_rules.specs.References as references
 use Rattle.f3_name_rules.specs.References.{text_of, IsNowhere}
 use Rattle.f3_names.specs.declared.entity.Entity.{Entity}
 use Rattle.f3_names.specs.Entities.{described}
+use Rattle.f3_names.specs.Holders.{unit_of}
 use Rattle.f3_names.specs.Meant.{IsMeant}
 use Rattle.f3_use_rules.specs.References.{RefersTo, Defines}
 
@@ -37,21 +38,22 @@ AttributeTwice program b = (unit : UnitTree) × Contains program.units unit × (
 
 -- N10 at a reference of an executable statement
 abbrev pub NotAccessible : whole.Tree → Tree → Break → Type 0
-NotAccessible t program b = references.NotAccessible 6 (scopes_of t) (RefersTo program) t.names b
+NotAccessible t program b = references.NotAccessible 6 (scopes_of t) (RefersTo t program) t.names b
 
 -- N11 at such a reference
 abbrev pub OfSeveral : whole.Tree → Tree → Break → Type 0
-OfSeveral t program b = references.OfSeveral 6 (scopes_of t) (RefersTo program) b
+OfSeveral t program b = references.OfSeveral 6 (scopes_of t) (RefersTo t program) b
 
 -- T9: a reference to the name of an intrinsic procedure, where a variable is needed; the name (7.1.2, 7.4.1.1)
 abbrev pub NoVariable : whole.Tree → Tree → Break → Type 0
-NoVariable t program b = (unit : ℕ) × (x : Name) × RefersTo program unit x × IsNowhere (scopes_of t) unit x
+NoVariable t program b = (scope : ℕ) × (x : Name) × RefersTo t program scope x × IsNowhere (scopes_of t) scope x
     × (is_intrinsic (text_of t.names x.symbol) ≡ true) × (b ≡ at 6 T9 x)
 
--- D1: the definition of a protected variable of another unit; the name (5.1.2.12)
+-- D1: the definition of a protected variable that another unit holds; the name (5.1.2.12)
 abbrev pub ProtectedDefined : whole.Tree → Tree → Break → Type 0
-ProtectedDefined t program b = (unit : ℕ) × (x : Name) × Defines program unit x
-    × (e : ℕ) × IsMeant t unit x.symbol e × (d : Entity) × (slice_get (described (scopes_of t)) e ≡ Some d) × (d.is_protected ≡ true) × (d.scope ≢ unit)
+ProtectedDefined t program b = (scope : ℕ) × (x : Name) × Defines t program scope x
+    × (e : ℕ) × IsMeant t scope x.symbol e × (d : Entity) × (slice_get (described (scopes_of t)) e ≡ Some d) × (d.is_protected ≡ true)
+    × (d.unit ≢ unit_of (scopes_of t) scope)
     × (b ≡ at 7 D1 x)
 
 -- the breaks of phases 5 to 7

@@ -1,6 +1,6 @@
 //! The rules on attributes, references and definitions, in one walk over a program.
 
-ghost use Rattle.std.specs.Prelude.{◌≡◌, map, IfOk};
+ghost use Rattle.std.specs.Prelude.{◌≡◌, map, slice_get, IfOk};
 ghost use Rattle.std.specs.List.{flat_map};
 ghost use Rattle.f3_rules.specs.Least.{first_of, Least};
 ghost use Rattle.f3_tree.specs.Tree.{Tree};
@@ -8,12 +8,13 @@ ghost use Rattle.f3_taken.specs.Tree.{view, unit_view, specification_view, decla
 ghost use Rattle.f3_names.specs.Tables.{AreNames};
 ghost use Rattle.f3_use_rules.specs.References.{operand_names, term_names, item_names};
 ghost use Rattle.f3_use_rules.specs.UseBreaks.{UseBreaks};
-ghost use Rattle.f3_use_rules.specs.Times.{listed_in};
-ghost use Rattle.f3_use_rules.specs.Rows.{reference_of, definition_of, entity_row, entity_listed, declaration_listed, statement_row, unit_row};
+ghost use Rattle.f3_use_rules.specs.Inner.Times.{listed_in};
+ghost use Rattle.f3_use_rules.specs.Inner.Rows.{reference_of, definition_of, entity_row, entity_listed, declaration_listed, statement_row, body_row, unit_row};
 
 use crate::times::{Times, is_twice, listed_times, listings, protections};
 use f3_access::table::Lookup;
 use f3_breaks::at;
+use f3_graph::UnitId;
 use f3_name_rules::is_intrinsic;
 use f3_names::entity::Entity;
 use f3_names::lookup;
@@ -30,10 +31,10 @@ use indexmap::IndexMap;
 use std::alloc::{AllocError, Global};
 
 /// The break at a reference.
-fn at_reference(names: &Names, unit: usize, x: Name) -> Option<Break>
-    ensures { result ≡ first_of (reference_of names.now unit x) }
+fn at_reference(names: &Names, scope: usize, x: Name) -> Option<Break>
+    ensures { result ≡ first_of (reference_of names.now scope x) }
 {
-    match lookup(names, ScopeId { number: unit }, x.symbol) {
+    match lookup(names, ScopeId { number: scope }, x.symbol) {
         Lookup::One(_) => None,
         Lookup::Several => Some(at(6, Rule::N11, x)),
         Lookup::Nothing => {
@@ -47,12 +48,15 @@ fn at_reference(names: &Names, unit: usize, x: Name) -> Option<Break>
 }
 
 /// The break at a definition.
-fn at_definition(names: &Names, unit: usize, x: Name) -> Option<Break>
-    ensures { result ≡ first_of (definition_of names.now unit x) }
+fn at_definition(names: &Names, scope: usize, x: Name) -> Option<Break>
+    ensures { result ≡ first_of (definition_of names.now scope x) }
 {
-    match lookup(names, ScopeId { number: unit }, x.symbol) {
+    match lookup(names, ScopeId { number: scope }, x.symbol) {
         Lookup::One(entity) => match names.entities().get(entity) {
-            Some(declared) => at_definition_of(declared, unit, x),
+            Some(declared) => {
+                let unit = names.unit(ScopeId { number: scope });
+                at_definition_of(declared, unit.number, x)
+            }
             None => None,
         },
         Lookup::Several => None,
@@ -60,11 +64,11 @@ fn at_definition(names: &Names, unit: usize, x: Name) -> Option<Break>
     }
 }
 
-/// The break where a name means this entity.
+/// The break in the unit whose scope has this number, where a name means this entity.
 fn at_definition_of(declared: &Entity, unit: usize, x: Name) -> Option<Break>
     ensures { result ≡ first_of (entity_row unit (Some declared.now) x) }
 {
-    if declared.is_protected && declared.scope != unit {
+    if declared.is_protected && declared.unit != unit {
         Some(at(7, Rule::D1, x))
     } else {
         None
@@ -72,59 +76,59 @@ fn at_definition_of(declared: &Entity, unit: usize, x: Name) -> Option<Break>
 }
 
 /// The first break in an expression.
-fn in_expression(names: &Names, unit: usize, expression: &Expression) -> Option<Break>
-    ensures { result ≡ first_of (flat_map (reference_of names.now unit) (flat_map term_names (sum_view expression.now))) }
+fn in_expression(names: &Names, scope: usize, expression: &Expression) -> Option<Break>
+    ensures { result ≡ first_of (flat_map (reference_of names.now scope) (flat_map term_names (sum_view expression.now))) }
 {
     let mut first = None;
     for term in &expression.terms {
-        first = earlier(first, at_operand(names, unit, &term.primary));
+        first = earlier(first, at_operand(names, scope, &term.primary));
     }
     first
 }
 
 /// The break at an operand.
-fn at_operand(names: &Names, unit: usize, operand: &Primary) -> Option<Break>
-    ensures { result ≡ first_of (flat_map (reference_of names.now unit) (operand_names operand.now)) }
+fn at_operand(names: &Names, scope: usize, operand: &Primary) -> Option<Break>
+    ensures { result ≡ first_of (flat_map (reference_of names.now scope) (operand_names operand.now)) }
 {
     match operand {
         Primary::Literal(_) => None,
-        Primary::Name(x) => at_reference(names, unit, *x),
+        Primary::Name(x) => at_reference(names, scope, *x),
     }
 }
 
 /// The first break in an item of a PRINT.
-fn in_item(names: &Names, unit: usize, item: &Item) -> Option<Break>
-    ensures { result ≡ first_of (flat_map (reference_of names.now unit) (item_names (item_view item.now))) }
+fn in_item(names: &Names, scope: usize, item: &Item) -> Option<Break>
+    ensures { result ≡ first_of (flat_map (reference_of names.now scope) (item_names (item_view item.now))) }
 {
     match item {
-        Item::Value(expression) => in_expression(names, unit, expression),
+        Item::Value(expression) => in_expression(names, scope, expression),
         Item::Text(_) => None,
     }
 }
 
 /// The first break in the items of a PRINT.
-fn in_items(names: &Names, unit: usize, items: &[Item]) -> Option<Break>
-    ensures { result ≡ first_of (flat_map (reference_of names.now unit) (flat_map item_names (map item_view items.now))) }
+fn in_items(names: &Names, scope: usize, items: &[Item]) -> Option<Break>
+    ensures { result ≡ first_of (flat_map (reference_of names.now scope) (flat_map item_names (map item_view items.now))) }
 {
     let mut first = None;
     for item in items {
-        first = earlier(first, in_item(names, unit, item));
+        first = earlier(first, in_item(names, scope, item));
     }
     first
 }
 
 /// The first break in an executable statement.
-fn in_statement(names: &Names, unit: usize, statement: &Statement) -> Option<Break>
-    ensures { result ≡ first_of (statement_row names.now unit (statement_view statement.now)) }
+fn in_statement(names: &Names, scope: usize, statement: &Statement) -> Option<Break>
+    ensures { result ≡ first_of (statement_row names.now scope (statement_view statement.now)) }
 {
     match &statement.action {
         Action::Assign(x, value) => {
-            let target = at_reference(names, unit, *x);
-            let operands = in_expression(names, unit, value);
-            let definition = at_definition(names, unit, *x);
+            let target = at_reference(names, scope, *x);
+            let operands = in_expression(names, scope, value);
+            let definition = at_definition(names, scope, *x);
             earlier(earlier(target, operands), definition)
         }
-        Action::Print(items) => in_items(names, unit, items.as_slice()),
+        Action::Print(items) => in_items(names, scope, items.as_slice()),
     }
 }
 
@@ -195,14 +199,24 @@ fn in_specifications(
 }
 
 /// The first break in an execution part.
-fn in_body(names: &Names, unit: usize, body: &[Statement]) -> Option<Break>
-    ensures { result ≡ first_of (flat_map (statement_row names.now unit) (map statement_view body.now)) }
+fn in_body(names: &Names, scope: usize, body: &[Statement]) -> Option<Break>
+    ensures { result ≡ first_of (flat_map (statement_row names.now scope) (map statement_view body.now)) }
 {
     let mut first = None;
     for statement in body {
-        first = earlier(first, in_statement(names, unit, statement));
+        first = earlier(first, in_statement(names, scope, statement));
     }
     first
+}
+
+/// The first break in the execution part of the unit of this number.
+fn in_execution(names: &Names, number: usize, body: &[Statement]) -> Option<Break>
+    ensures { result ≡ first_of (body_row names.now (slice_get names.now.units.items number) (map statement_view body.now)) }
+{
+    match names.unit_scope(UnitId { number }) {
+        Some(scope) => in_body(names, scope.number, body),
+        None => None,
+    }
 }
 
 /// The first break in a unit.
@@ -216,7 +230,7 @@ fn in_unit(
 {
     let listings = listings(alloc, unit.specifications.as_slice())?;
     let declared = in_specifications(&listings, unit.specifications.as_slice());
-    let acted = in_body(names, number, unit.body.as_slice());
+    let acted = in_execution(names, number, unit.body.as_slice());
     Ok(earlier(declared, acted))
 }
 

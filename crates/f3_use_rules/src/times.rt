@@ -5,7 +5,7 @@ ghost use Rattle.std.specs.List.{flat_map};
 ghost use Rattle.f3_taken.specs.Tree.{specification_view, protected_by};
 ghost use Rattle.f3_use_rules.specs.declared.times.Times.TheVariants.{Never};
 ghost use Rattle.f3_use_rules.specs.UseBreaks.{is_protected, is_named};
-ghost use Rattle.f3_use_rules.specs.Times.{one_more, counted, is_twice, listed_in};
+ghost use Rattle.f3_use_rules.specs.Inner.Times.{one_more, counted, is_twice, listed_in};
 
 use f3_taken::statement::{Attribute, Specification};
 use f3_tree::expression::Name;

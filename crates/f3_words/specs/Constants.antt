@@ -36,4 +36,6 @@ characters_of text = undoubled (slice_index text 0) (slice_range text 1 (length 
 
 -- a constant as it is written (4.4.4) has the characters that were written
 abbrev pub ConstantsHaveTheirCharacters : Type 0
-ConstantsHaveTheirCharacters = (quote : ℕ) (characters : List ℕ) → is_quote quote ≡ true → characters_of (quote ∷ (doubled quote characters ++ quote ∷ [])) ≡ characters
+ConstantsHaveTheirCharacters =
+    (quote : ℕ) (characters : List ℕ) → is_quote quote ≡ true
+    → characters_of (quote ∷ (doubled quote characters ++ quote ∷ [])) ≡ characters

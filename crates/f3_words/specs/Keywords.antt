@@ -1,7 +1,13 @@
 -- The keywords (3.3, 2.5.2), by their lengths.
 use Rattle.std.specs.Prelude.{ℕ, List, [], ◌∷◌, ◌++◌, codes}
 use Rattle.f3_words.specs.declared.item.Keyword.{Keyword}
-use Rattle.f3_words.specs.declared.item.Keyword.TheVariants.{Plain, Allocatable, Allocate, Call, Case, Contains, Continue, Cycle, Deallocate, Default, Dimension, Do, Else, ElseIf, End, EndDo, EndFunction, EndIf, EndModule, EndProgram, EndSelect, EndSubroutine, EndType, Exit, Final, Function, If, Implicit, In, InOut, Integer, Intent, Kind, Logical, Module, NoneWord, Only, Out, Parameter, Print, Private, Program, Protected, Public, Pure, Recursive, ResultWord, Return, Save, Select, SelectCase, Stat, Stop, Subroutine, Then, «Type», Use, While}
+use Rattle.f3_words.specs.declared.item.Keyword.TheVariants.{Plain, Allocatable, Allocate, Associate, Call, Case, Contains, Continue, Cycle}
+use Rattle.f3_words.specs.declared.item.Keyword.TheVariants.{Deallocate, Default, Dimension, Do, Else, ElseIf, End, EndAssociate, EndDo, EndFunction}
+use Rattle.f3_words.specs.declared.item.Keyword.TheVariants.{EndIf, EndModule, EndProgram, EndSelect, EndSubroutine, EndType, Exit, Final}
+use Rattle.f3_words.specs.declared.item.Keyword.TheVariants.{Function, If, Implicit, In, InOut, Integer, Intent, Kind, Logical, Module}
+use Rattle.f3_words.specs.declared.item.Keyword.TheVariants.{NoneWord, Only, Out, Parameter, Print, Private, Program, Protected, Public}
+use Rattle.f3_words.specs.declared.item.Keyword.TheVariants.{Pure, Recursive, ResultWord, Return, Save, Select, SelectCase, Stat, Stop}
+use Rattle.f3_words.specs.declared.item.Keyword.TheVariants.{Subroutine, Then, «Type», Use, While}
 use Rattle.f3_words.specs.Tables.{found}
 
 abbrev pub of_2 : List (List ℕ × Keyword)
@@ -33,7 +39,7 @@ of_8 = (codes "allocate", Allocate) ∷ (codes "contains", Contains) ∷ (codes 
     ∷ (codes "function", Function) ∷ (codes "implicit", Implicit) ∷ []
 
 abbrev pub of_9 : List (List ℕ × Keyword)
-of_9 = (codes "dimension", Dimension) ∷ (codes "endmodule", EndModule) ∷ (codes "endselect", EndSelect)
+of_9 = (codes "associate", Associate) ∷ (codes "dimension", Dimension) ∷ (codes "endmodule", EndModule) ∷ (codes "endselect", EndSelect)
     ∷ (codes "parameter", Parameter) ∷ (codes "protected", Protected) ∷ (codes "recursive", Recursive) ∷ []
 
 abbrev pub of_10 : List (List ℕ × Keyword)
@@ -43,11 +49,14 @@ of_10 = (codes "deallocate", Deallocate) ∷ (codes "endprogram", EndProgram) �
 abbrev pub of_11 : List (List ℕ × Keyword)
 of_11 = (codes "allocatable", Allocatable) ∷ (codes "endfunction", EndFunction) ∷ []
 
+abbrev pub of_12 : List (List ℕ × Keyword)
+of_12 = (codes "endassociate", EndAssociate) ∷ []
+
 abbrev pub of_13 : List (List ℕ × Keyword)
 of_13 = (codes "endsubroutine", EndSubroutine) ∷ []
 
 abbrev pub keywords : List (List ℕ × Keyword)
-keywords = of_2 ++ (of_3 ++ (of_4 ++ (of_5 ++ (of_6 ++ (of_7 ++ (of_8 ++ (of_9 ++ (of_10 ++ (of_11 ++ of_13)))))))))
+keywords = of_2 ++ (of_3 ++ (of_4 ++ (of_5 ++ (of_6 ++ (of_7 ++ (of_8 ++ (of_9 ++ (of_10 ++ (of_11 ++ (of_12 ++ of_13))))))))))
 
 -- the keyword that a name in lower case may be
 unfoldable pub keyword_of : List ℕ → Keyword

@@ -6,5 +6,5 @@ pub mod Keywords
 pub mod Signs
 pub mod Constants
 pub mod Lines
-pub mod Numbered
 pub mod Examples
+pub mod Inner

@@ -19,6 +19,7 @@ use Rattle.f3_words.specs.declared.item.Word.TheVariants.{Name, Text, Other}
 use Rattle.f3_words.specs.declared.item.Item.{Item}
 use Rattle.f3_words.specs.declared.line.Line.{Line as CodeLine}
 use Rattle.f3_words.specs.declared.line.Tables.{Tables}
+use Rattle.f3_words.specs.declared.names.Names.{Names}
 use Rattle.f3_words.specs.Keywords.{keyword_of}
 use Rattle.f3_words.specs.Signs.{sign_of, dot_word_of, truth_of}
 use Rattle.f3_words.specs.Constants.{integer_word, characters_of}
@@ -36,8 +37,12 @@ pub record Seen : Type 0 where
   pub names : List (List ℕ)
   pub texts : List (List ℕ)
 
+-- the names of a table, by their bytes
+abbrev pub names_of : Names → List (List ℕ)
+names_of n = map string_bytes n.set.keys
+
 abbrev pub seen_of : Tables → Seen
-seen_of t = record { names = map string_bytes t.names.keys; texts = map (λ x. x.items) t.texts.items }
+seen_of t = record { names = names_of t.names; texts = map (λ x. x.items) t.texts.items }
 
 abbrev pub nothing_seen : Seen
 nothing_seen = record { names = []; texts = [] }

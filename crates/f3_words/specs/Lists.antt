@@ -17,7 +17,9 @@ is_comma _ = false
 -- Is element token tail rest: the element from that token, with the tail behind it, and the rest behind that.
 abbrev pub EatsRun : {A : Type 0} → (Word → Bool) → (A → Item → List Item → List Item → Type 0) → List A → List Item → List Item → Type 0
 EatsRun test Is [] ts r = (ts ≡ r) × (starts test r ≡ false)
-EatsRun test Is (x ∷ xs) ts r = (i : Item) × (tail : List Item) × (mid : List Item) × (ts ≡ i ∷ tail) × (test i.word ≡ true) × Is x i tail mid × EatsRun test Is xs mid r
+EatsRun test Is (x ∷ xs) ts r =
+    (i : Item) × (tail : List Item) × (mid : List Item) × (ts ≡ i ∷ tail) × (test i.word ≡ true) × Is x i tail mid
+    × EatsRun test Is xs mid r
 
 -- elements behind commas, which say nothing themselves
 abbrev pub Separated : {A : Type 0} → (A → List Item → List Item → Type 0) → A → Item → List Item → List Item → Type 0

@@ -4,7 +4,8 @@ use Rattle.f3_lex.specs.Tokens.{lower}
 use Rattle.f3_tree.specs.declared.expression.Operator.TheVariants as operator
 use Rattle.f3_tree.specs.declared.expression.Relation.TheVariants as relation
 use Rattle.f3_words.specs.declared.item.Word.{Word}
-use Rattle.f3_words.specs.declared.item.Word.TheVariants.{Truth, Operator, Relation, Not, Equals, Arrow, Comma, Colon, Colons, Percent, Open, Close, OpenSlash, CloseSlash, OpenBracket, CloseBracket, Other}
+use Rattle.f3_words.specs.declared.item.Word.TheVariants.{Truth, Operator, Relation, Not, Equals, Arrow, Comma, Colon, Colons, Percent}
+use Rattle.f3_words.specs.declared.item.Word.TheVariants.{Open, Close, OpenSlash, CloseSlash, OpenBracket, CloseBracket, Other}
 use Rattle.f3_words.specs.Tables.{found}
 
 -- signs of one character

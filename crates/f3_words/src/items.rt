@@ -1,35 +1,40 @@
 //! From the tokens of a statement to those of the grammar.
 
-ghost use Rattle.std.specs.Prelude.{◌≡◌, [], IfOk, string_bytes, option_map, map};
+ghost use Rattle.std.specs.Prelude.{◌≡◌, IfOk, OnOk, string_bytes, option_map};
 ghost use Rattle.std.specs.Str.{IsAscii};
 ghost use Rattle.f3_rules.specs.declared.refusal.Refusal.{Refusal};
 ghost use Rattle.f3_lex.specs.declared.token.TokenKind.TheVariants as kind;
+ghost use Rattle.f3_lex.specs.Tokens.{lower};
 ghost use Rattle.f3_text.specs.Reader.{spelled_of};
-ghost use Rattle.f3_words.specs.Lines.{line_view, broken, seen_of, nothing_seen, number, with_name, plain_item, item_as, seen_as, line_of, seen_over};
-ghost use Rattle.f3_words.specs.Numbered.{IsNumbered, AreNumbered};
+ghost use Rattle.f3_words.specs.Lines.{line_view, broken, names_of, seen_of, nothing_seen, plain_item, item_as, seen_as, line_of, seen_over};
+ghost use Rattle.f3_words.specs.Inner.Numbered.{IsNumbered, IsItem, AreItems};
 
 use crate::constant::{characters, integer_word};
-use crate::item::{Item, Word};
-use crate::keyword::keyword;
+use crate::item::{Item, Keyword, Word};
 use crate::line::{Line, Tables, broken};
+use crate::names::slot_of;
 use crate::sign::{dot_word, sign, truth};
 use f3_lex::scanner::{place, text, tokens};
 use f3_lex::token::{Lexed, Token, TokenKind};
-use f3_lex::value::{integer, lower_case};
+use f3_lex::value::integer;
 use f3_rules::breaks::Break;
 use f3_rules::refusal::Refusal;
 use f3_rules::source::Place;
 use f3_text::statement::RawStatement;
 use f3_tree::expression::IntegerLiteral;
-use indexmap::IndexSet;
 use std::alloc::{AllocError, Global};
+use std::str;
 
-/// The number of a name, which is put behind the names where it is new.
-fn numbered(names: &mut IndexSet<String>, name: String) -> Result<usize, AllocError>
-    ensures { IfOk result (λ n. (n ≡ number (map string_bytes names.old.keys) (string_bytes name)) × (map string_bytes names.new.keys ≡ with_name (map string_bytes names.old.keys) (string_bytes name))) }
+/// Puts a name in lower case in the place of another. What it is of bytes past ASCII, which no name has, is left open.
+fn lower_case(lower_cased: &mut String, name: &[u8]) -> Result<(), AllocError>
+    ensures { OnOk result (IsAscii name.now → string_bytes lower_cased.new ≡ lower name.now) }
 {
-    let (index, _) = names.insert_full(name)?;
-    Ok(index)
+    lower_cased.clear();
+    if let Ok(text) = str::from_utf8(name) {
+        lower_cased.push_str(text)?;
+        lower_cased.make_ascii_lowercase();
+    }
+    Ok(())
 }
 
 /// A token that is no name, no integer and no character constant.
@@ -44,6 +49,20 @@ fn plain(word: Word, place: Place) -> Item
     }
 }
 
+/// The number of a name, which is put behind the names where it is new, and its keyword.
+fn numbered(alloc: Global, tables: &mut Tables, name: &[u8]) -> Result<(usize, Keyword), AllocError>
+    ensures { IfOk result (λ x. IsAscii name.now → IsNumbered (names_of tables.old.names) (lower name.now) x × (seen_of tables.new ≡ seen_as (seen_of tables.old) kind.Name name.now)) }
+{
+    let slot = slot_of(name);
+    if let Some(found) = tables.names.hinted(slot, name) {
+        return Ok(found);
+    }
+    lower_case(&mut tables.name, name)?;
+    let found = tables.names.number(alloc, tables.name.as_str())?;
+    tables.names.hint(slot, found.0)?;
+    Ok(found)
+}
+
 /// A name by its bytes and its place.
 fn name_item(
     alloc: Global,
@@ -53,9 +72,7 @@ fn name_item(
 ) -> Result<Item, AllocError>
     ensures { IfOk result (λ i. IsAscii bytes.now → (i ≡ item_as (seen_of tables.old) kind.Name bytes.now place) × (seen_of tables.new ≡ seen_as (seen_of tables.old) kind.Name bytes.now)) }
 {
-    let name = lower_case(alloc, bytes)?;
-    let keyword = keyword(name.as_str());
-    let symbol = numbered(&mut tables.names, name)?;
+    let (symbol, keyword) = numbered(alloc, tables, bytes)?;
     Ok(Item {
         word: Word::Name(keyword),
         symbol,
@@ -103,7 +120,7 @@ fn item(
     statement: &RawStatement,
     token: Token,
 ) -> Result<Item, AllocError>
-    ensures { IfOk result (λ i. IsNumbered (seen_of tables.old) (seen_of tables.new) (spelled_of statement.now) token i) }
+    ensures { IfOk result (λ i. IsItem (seen_of tables.old) (seen_of tables.new) (spelled_of statement.now) token i) }
 {
     let bytes = text(&statement.bytes, token);
     let place = place(statement, token);
@@ -125,9 +142,9 @@ fn items(
     statement: &RawStatement,
     tokens: &[Token],
 ) -> Result<Vec<Item>, AllocError>
-    ensures { IfOk result (λ v. AreNumbered (seen_of tables.old) (seen_of tables.new) (spelled_of statement.now) tokens.now v.items) }
+    ensures { IfOk result (λ v. AreItems (seen_of tables.old) (seen_of tables.new) (spelled_of statement.now) tokens.now v.items) }
 {
-    let mut found = Vec::new(alloc);
+    let mut found = Vec::with_capacity(alloc, tokens.len())?;
     for token in tokens {
         let item = item(alloc, tables, statement, *token)?;
         found.push(item)?;

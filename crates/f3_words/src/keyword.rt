@@ -3,7 +3,7 @@
 ghost use Rattle.std.specs.Prelude.{◌≡◌};
 ghost use Rattle.f3_words.specs.declared.item.Keyword.TheVariants.{Plain};
 ghost use Rattle.f3_words.specs.Tables.{found};
-ghost use Rattle.f3_words.specs.Keywords.{keyword_of, of_2, of_3, of_4, of_5, of_6, of_7, of_8, of_9, of_10, of_11, of_13};
+ghost use Rattle.f3_words.specs.Keywords.{keyword_of, of_2, of_3, of_4, of_5, of_6, of_7, of_8, of_9, of_10, of_11, of_12, of_13};
 
 use crate::item::Keyword;
 
@@ -162,7 +162,9 @@ fn of_eight(text: &str) -> Keyword
 fn of_nine(text: &str) -> Keyword
     ensures { result ≡ found of_9 Plain text.now }
 {
-    if text == "dimension" {
+    if text == "associate" {
+        Keyword::Associate
+    } else if text == "dimension" {
         Keyword::Dimension
     } else if text == "endmodule" {
         Keyword::EndModule
@@ -209,6 +211,17 @@ fn of_eleven(text: &str) -> Keyword
     }
 }
 
+/// The keyword of twelve letters.
+fn of_twelve(text: &str) -> Keyword
+    ensures { result ≡ found of_12 Plain text.now }
+{
+    if text == "endassociate" {
+        Keyword::EndAssociate
+    } else {
+        Keyword::Plain
+    }
+}
+
 /// The keyword of thirteen letters.
 fn of_thirteen(text: &str) -> Keyword
     ensures { result ≡ found of_13 Plain text.now }
@@ -236,6 +249,7 @@ pub fn keyword(text: &str) -> Keyword
         9 => of_nine(text),
         10 => of_ten(text),
         11 => of_eleven(text),
+        12 => of_twelve(text),
         13 => of_thirteen(text),
         _ => Keyword::Plain,
     }

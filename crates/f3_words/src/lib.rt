@@ -8,5 +8,6 @@ pub mod items;
 pub mod keyword;
 pub mod law;
 pub mod line;
+pub mod names;
 pub mod reading;
 pub mod sign;

@@ -4,10 +4,10 @@ ghost use Rattle.std.specs.Prelude.{◌≡◌};
 ghost use Rattle.f3_words.specs.Lines.{broken, seen_of, nothing_seen};
 
 use crate::item::Item;
+use crate::names::Names;
 use f3_rules::breaks::Break;
 use f3_rules::rule::Rule;
 use f3_rules::source::Place;
-use indexmap::IndexSet;
 use std::alloc::Global;
 
 /// A statement.
@@ -22,8 +22,9 @@ pub struct Line {
 /// The names and the character constants of a program.
 #[derive(Drop)]
 pub struct Tables {
-    /// Each name once, in lower case, in the order in which they first stand there.
-    pub names: IndexSet<String>,
+    pub names: Names,
+    /// The name that was looked up last, in lower case.
+    pub(crate) name: String,
     /// The character constants in the order written, each doubled quote in them once.
     pub texts: Vec<Vec<u8>>,
 }
@@ -46,7 +47,8 @@ impl Tables {
         ensures { seen_of result ≡ nothing_seen }
     {
         Tables {
-            names: IndexSet::new(alloc),
+            names: Names::new(alloc),
+            name: String::new(alloc),
             texts: Vec::new(alloc),
         }
     }

@@ -21,37 +21,37 @@ use Rattle.f3_expressions.proofs.+operation.Goals as goal
 pub arguments::argument-returns-in-None-clause-read : goal.arguments::argument-returns-in-None-clause-read
 arguments::argument-returns-in-None-clause-read t c = unnamed_reads c.args.items.now c.in-None.ensures c.positional.result c.positional.ensures.read
 
-pub arguments::within-returns-in_err-first-in-None-behind_close-clause-read : goal.arguments::within-returns-in_err-first-in-None-behind_close-clause-read
-arguments::within-returns-in_err-first-in-None-behind_close-clause-read t c =
+pub arguments::within-returns-in_err-first-in-None-behind-clause-read : goal.arguments::within-returns-in_err-first-in-None-behind-clause-read
+arguments::within-returns-in_err-first-in-None-behind-clause-read t c =
     let p = err_from_is_err_and c.from_residual.result c.from_residual.ensures.1 in
     let b = c.in-Some.ensures in
-    rw (p.1, p.2) (refused _ _ _ (argument_fails c.args.items.now b.0 c.in-Some.inner.now b.1 c.in-None-behind_close.ensures) c.in_err-first-in-None-behind_close.ensures.read)
+    rw (p.1, p.2) (refused _ _ _ (argument_fails c.args.items.now b.0 c.in-Some.inner.now b.1 c.in-None-behind.ensures) c.in_err-first-in-None-behind.ensures.read)
 
-pub arguments::within-returns-in_err-found-in-None-behind_close-clause-read : goal.arguments::within-returns-in_err-found-in-None-behind_close-clause-read
-arguments::within-returns-in_err-found-in-None-behind_close-clause-read t c =
-    let p = err_from_is_err_and c.from_residual-in_err-found-in-None-behind_close.result c.from_residual-in_err-found-in-None-behind_close.ensures.1 in
+pub arguments::within-returns-in_err-found-in-None-behind-clause-read : goal.arguments::within-returns-in_err-found-in-None-behind-clause-read
+arguments::within-returns-in_err-found-in-None-behind-clause-read t c =
+    let p = err_from_is_err_and c.from_residual-in_err-found-in-None-behind.result c.from_residual-in_err-found-in-None-behind.ensures.1 in
     let b = c.in-Some.ensures in
-    rw (p.1, p.2) (refused _ _ _ (further_fails c.args.items.now b.0 c.in-Some.inner.now _ _ b.1 c.in-None-behind_close.ensures c.in_ok-first-in-None-behind_close.ensures.read) c.in_err-found-in-None-behind_close.ensures.read)
+    rw (p.1, p.2) (refused _ _ _ (further_fails c.args.items.now b.0 c.in-Some.inner.now _ _ b.1 c.in-None-behind.ensures c.in_ok-first-in-None-behind.ensures.read) c.in_err-found-in-None-behind.ensures.read)
 
 pub arguments::within-returns-in-None-clause-read : goal.arguments::within-returns-in-None-clause-read
 arguments::within-returns-in-None-clause-read t c = no_parenthesis c.args.items.now c.in-None.ensures
 
-pub arguments::within-returns-in-Some-behind_close-clause-read : goal.arguments::within-returns-in-Some-behind_close-clause-read
-arguments::within-returns-in-Some-behind_close-clause-read t c =
+pub arguments::within-returns-in-Some-behind-clause-read : goal.arguments::within-returns-in-Some-behind-clause-read
+arguments::within-returns-in-Some-behind-clause-read t c =
     let b = c.in-Some.ensures in
-    let d = c.in-Some-behind_close.ensures in
-    rw c.new.ensures.items (none_read c.args.items.now b.0 c.in-Some.inner.now d.0 c.in-Some-behind_close.tail.now b.1 b.2 d.1 d.2)
+    let d = c.in-Some-behind.ensures in
+    rw c.new.ensures.items (none_read c.args.items.now b.0 c.in-Some.inner.now d.0 c.in-Some-behind.tail.now b.1 b.2 d.1 d.2)
 
-pub arguments::within-returns-in-Some-behind_close-2-clause-read : goal.arguments::within-returns-in-Some-behind_close-2-clause-read
-arguments::within-returns-in-Some-behind_close-2-clause-read t c =
+pub arguments::within-returns-in-Some-behind-2-clause-read : goal.arguments::within-returns-in-Some-behind-2-clause-read
+arguments::within-returns-in-Some-behind-2-clause-read t c =
     let b = c.in-Some.ensures in
-    let d = c.in-Some-behind_close-2.ensures in
-    arguments_read c.args.items.now b.0 c.in-Some.inner.now _ _ _ _ d.0 c.in-Some-behind_close-2.tail.now b.1 b.2 c.in-None-behind_close.ensures c.in_ok-first-in-None-behind_close.ensures.read c.in_ok-found-in-None-behind_close.ensures.read d.1 d.2
+    let d = c.in-Some-behind-2.ensures in
+    arguments_read c.args.items.now b.0 c.in-Some.inner.now _ _ _ _ d.0 c.in-Some-behind-2.tail.now b.1 b.2 c.in-None-behind.ensures c.in_ok-first-in-None-behind.ensures.read c.in_ok-found-in-None-behind.ensures.read d.1 d.2
 
-pub arguments::within-returns-in-None-behind_close-2-clause-read : goal.arguments::within-returns-in-None-behind_close-2-clause-read
-arguments::within-returns-in-None-behind_close-2-clause-read t c =
+pub arguments::within-returns-in-None-behind-2-clause-read : goal.arguments::within-returns-in-None-behind-2-clause-read
+arguments::within-returns-in-None-behind-2-clause-read t c =
     let b = c.in-Some.ensures in
-    arguments_unclosed c.args.items.now b.0 c.in-Some.inner.now _ _ _ _ b.1 c.in-None-behind_close.ensures c.in_ok-first-in-None-behind_close.ensures.read c.in_ok-found-in-None-behind_close.ensures.read c.in-None-behind_close-2.ensures
+    arguments_unclosed c.args.items.now b.0 c.in-Some.inner.now _ _ _ _ b.1 c.in-None-behind.ensures c.in_ok-first-in-None-behind.ensures.read c.in_ok-found-in-None-behind.ensures.read c.in-None-behind-2.ensures
 
 pub primaries::array-returns-in_err-element-clause-read : goal.primaries::array-returns-in_err-element-clause-read
 primaries::array-returns-in_err-element-clause-read t c =
@@ -229,44 +229,44 @@ expressions::operation-returns-clause-read t c =
     let one = joined_some (expression_view c.in_ok-first.first) (operands_view c.in_ok-others.others) some in
     rw (view_chain c.in_ok-new.field-0 c.in_ok-others.others, c.in_ok-new.ensures.ok) (subst (λ x. IsRead (EatsUpTo c.args.level) c.args.items.now x c.in_ok-others.rest.now) one read)
 
-pub designators::part-returns-in_err-arguments-in-Some-behind_open-clause-read : goal.designators::part-returns-in_err-arguments-in-Some-behind_open-clause-read
-designators::part-returns-in_err-arguments-in-Some-behind_open-clause-read t c =
+pub designators::part-returns-in_err-arguments-in-Some-behind-clause-read : goal.designators::part-returns-in_err-arguments-in-Some-behind-clause-read
+designators::part-returns-in_err-arguments-in-Some-behind-clause-read t c =
     let p = err_from_is_err_and c.from_residual.result c.from_residual.ensures.1 in
     let b = c.in-Some.ensures in
-    let d = c.in-Some-behind_open.ensures in
-    rw (p.1, p.2) (refused _ _ _ (part_within_fails c.args.items.now c.in-Some.item c.in-Some.tail.now d.0 c.in-Some-behind_open.field-0.now b.0 d.1 d.2) c.in_err-arguments-in-Some-behind_open.ensures.read)
+    let d = c.in-Some-behind.ensures in
+    rw (p.1, p.2) (refused _ _ _ (part_within_fails c.args.items.now c.in-Some.item c.in-Some.tail.now d.0 c.in-Some-behind.field-0.now b.0 d.1 d.2) c.in_err-arguments-in-Some-behind.ensures.read)
 
-pub designators::part-returns-in_ok-arguments-in-Some-behind_open-clause-read : goal.designators::part-returns-in_ok-arguments-in-Some-behind_open-clause-read
-designators::part-returns-in_ok-arguments-in-Some-behind_open-clause-read t c =
+pub designators::part-returns-in_ok-arguments-in-Some-behind-clause-read : goal.designators::part-returns-in_ok-arguments-in-Some-behind-clause-read
+designators::part-returns-in_ok-arguments-in-Some-behind-clause-read t c =
     let b = c.in-Some.ensures in
-    let d = c.in-Some-behind_open.ensures in
-    rw c.name.ensures (part_within c.args.items.now c.in-Some.item c.in-Some.tail.now d.0 c.in-Some-behind_open.field-0.now _ _ b.0 b.1 d.1 d.2 c.in_ok-arguments-in-Some-behind_open.ensures.read)
+    let d = c.in-Some-behind.ensures in
+    rw c.name.ensures (part_within c.args.items.now c.in-Some.item c.in-Some.tail.now d.0 c.in-Some-behind.field-0.now _ _ b.0 b.1 d.1 d.2 c.in_ok-arguments-in-Some-behind.ensures.read)
 
-pub designators::part-returns-in-None-behind_open-clause-read : goal.designators::part-returns-in-None-behind_open-clause-read
-designators::part-returns-in-None-behind_open-clause-read t c =
+pub designators::part-returns-in-None-behind-clause-read : goal.designators::part-returns-in-None-behind-clause-read
+designators::part-returns-in-None-behind-clause-read t c =
     let b = c.in-Some.ensures in
-    rw c.name-in-None-behind_open.ensures (part_bare c.args.items.now c.in-Some.item c.in-Some.tail.now b.0 b.1 (starts_no_open c.in-Some.tail.now c.in-None-behind_open.ensures))
+    rw c.name-in-None-behind.ensures (part_bare c.args.items.now c.in-Some.item c.in-Some.tail.now b.0 b.1 (starts_no_open c.in-Some.tail.now c.in-None-behind.ensures))
 
-pub arguments::positional-returns-in_err-first-in-None-behind_colon-clause-read : goal.arguments::positional-returns-in_err-first-in-None-behind_colon-clause-read
-arguments::positional-returns-in_err-first-in-None-behind_colon-clause-read t c =
+pub arguments::positional-returns-in_err-first-in-None-behind-clause-read : goal.arguments::positional-returns-in_err-first-in-None-behind-clause-read
+arguments::positional-returns-in_err-first-in-None-behind-clause-read t c =
     let p = err_from_is_err_and c.from_residual.result c.from_residual.ensures.1 in
-    rw (p.1, p.2) (refused _ _ _ (value_fails c.args.items.now c.in-None-behind_colon.ensures) c.in_err-first-in-None-behind_colon.ensures.read)
+    rw (p.1, p.2) (refused _ _ _ (value_fails c.args.items.now c.in-None-behind.ensures) c.in_err-first-in-None-behind.ensures.read)
 
 pub arguments::positional-returns-in-None-clause-read : goal.arguments::positional-returns-in-None-clause-read
 arguments::positional-returns-in-None-clause-read t c = subst (λ (x : List Item). Fails IsPositional x) (sym c.in-None.ensures) no_argument
 
-pub arguments::positional-returns-in-Some-behind_colon-clause-read : goal.arguments::positional-returns-in-Some-behind_colon-clause-read
-arguments::positional-returns-in-Some-behind_colon-clause-read t c =
-    let b = c.in-Some-behind_colon.ensures in
-    colon_first c.args.items.now c.in-Some.item _ b.0 c.in-Some-behind_colon.tail.now c.in-Some.ensures b.1 b.2 c.triplet.result c.triplet.ensures.read
+pub arguments::positional-returns-in-Some-behind-clause-read : goal.arguments::positional-returns-in-Some-behind-clause-read
+arguments::positional-returns-in-Some-behind-clause-read t c =
+    let b = c.in-Some-behind.ensures in
+    colon_first c.args.items.now c.in-Some.item _ b.0 c.in-Some-behind.tail.now c.in-Some.ensures b.1 b.2 c.triplet.result c.triplet.ensures.read
 
-pub arguments::positional-returns-in-Some-behind_colon-2-clause-read : goal.arguments::positional-returns-in-Some-behind_colon-2-clause-read
-arguments::positional-returns-in-Some-behind_colon-2-clause-read t c =
-    let b = c.in-Some-behind_colon-2.ensures in
-    colon_behind c.args.items.now c.in-Some.item _ _ _ b.0 c.in-Some-behind_colon-2.tail.now c.in-Some.ensures c.in_ok-first-in-None-behind_colon.ensures.read b.1 b.2 c.triplet-in-Some-behind_colon-2.result c.triplet-in-Some-behind_colon-2.ensures.read
+pub arguments::positional-returns-in-Some-behind-2-clause-read : goal.arguments::positional-returns-in-Some-behind-2-clause-read
+arguments::positional-returns-in-Some-behind-2-clause-read t c =
+    let b = c.in-Some-behind-2.ensures in
+    colon_behind c.args.items.now c.in-Some.item _ _ _ b.0 c.in-Some-behind-2.tail.now c.in-Some.ensures c.in_ok-first-in-None-behind.ensures.read b.1 b.2 c.triplet-in-Some-behind-2.result c.triplet-in-Some-behind-2.ensures.read
 
-pub arguments::positional-returns-in-None-behind_colon-2-clause-read : goal.arguments::positional-returns-in-None-behind_colon-2-clause-read
-arguments::positional-returns-in-None-behind_colon-2-clause-read t c = rw (view_value None c.in_ok-first-in-None-behind_colon.first) (value_reads c.args.items.now _ _ c.in-None-behind_colon.ensures c.in_ok-first-in-None-behind_colon.ensures.read c.in-None-behind_colon-2.ensures)
+pub arguments::positional-returns-in-None-behind-2-clause-read : goal.arguments::positional-returns-in-None-behind-2-clause-read
+arguments::positional-returns-in-None-behind-2-clause-read t c = rw (view_value None c.in_ok-first-in-None-behind.first) (value_reads c.args.items.now _ _ c.in-None-behind.ensures c.in_ok-first-in-None-behind.ensures.read c.in-None-behind-2.ensures)
 
 pub primaries::primary-returns-in_err-parts-in-Name-clause-read : goal.primaries::primary-returns-in_err-parts-in-Name-clause-read
 primaries::primary-returns-in_err-parts-in-Name-clause-read t c =

@@ -2,7 +2,7 @@ use Rattle.std.proofs.Common.{List, ◌++◌, map, string_bytes, ap, ◌∙◌}
 use Rattle.std.specs.List.{flat_map}
 use Rattle.f3_rules.specs.Least.{first_of}
 use Rattle.f3_scopes.specs.declared.outline.UseOutline.{UseOutline}
-use Rattle.f3_name_rules.specs.Rows.{use_row, attributes_row, mentions_row}
+use Rattle.f3_name_rules.specs.Inner.Rows.{use_row, attributes_row, mentions_row}
 use Rattle.f3_name_rules.proofs.Steps.{joined}
 use Rattle.f3_name_rules.proofs.first_in_scope.Goals as goal
 

@@ -2,7 +2,7 @@ use Rattle.std.proofs.Common.{◌≡◌, drop}
 use Rattle.std.specs.List.{flat_map}
 use Rattle.indexmap.specs.IndexSet.{insert_all}
 use Rattle.f3_access.specs.Listing.{same_pair}
-use Rattle.f3_access.specs.Calling.{called_by}
+use Rattle.f3_access.specs.Inner.Calling.{called_by}
 use Rattle.f3_access.proofs.bringing.add_module.Given as goal
 
 abbrev pub invariant-loop-export : goal.invariant-loop-export

@@ -2,10 +2,10 @@ use Rattle.std.proofs.Common.{List, ℕ, nat_eq, ◌∙◌, sym, ap, subst}
 use Rattle.std.specs.List.{flat_map}
 use Rattle.std.specs.List.Sorted.{IsPermutation}
 use Rattle.indexmap.specs.IndexMap.{get}
-use Rattle.f3_access.specs.Calling.{called_by}
+use Rattle.f3_access.specs.Inner.Calling.{called_by}
 use Rattle.f3_selecting.specs.Selecting.{names_in}
 use Rattle.f3_selecting.specs.Places.{places_in}
-use Rattle.f3_access.specs.Tables.{places_from}
+use Rattle.f3_access.specs.Parts.{places_from}
 use Rattle.f3_access.proofs.Walks.{walk_silent}
 use Rattle.f3_access.proofs.bringing.add_source.Goals as goal
 

@@ -3,8 +3,8 @@ use Rattle.std.specs.List.{flat_map}
 use Rattle.indexmap.specs.IndexSet.{insert_all}
 use Rattle.indexmap.specs.IndexMap.{get}
 use Rattle.f3_access.specs.Listing.{same_pair, exports_of}
-use Rattle.f3_access.specs.Calling.{called_by}
-use Rattle.f3_access.specs.Tables.{exports_at}
+use Rattle.f3_access.specs.Inner.Calling.{called_by}
+use Rattle.f3_access.specs.Parts.{exports_at}
 use Rattle.f3_access.proofs.bringing.selected_by.Given as goal
 
 abbrev pub invariant-loop-symbol : goal.invariant-loop-symbol

@@ -7,9 +7,9 @@ use Rattle.f3_scopes.specs.Outlines.{using_view}
 use Rattle.f3_access.specs.declared.table.Visible.{Visible}
 use Rattle.f3_access.specs.Listing.{same_pair, exports_of, called}
 use Rattle.f3_selecting.specs.Sources.{modules_of}
-use Rattle.f3_access.specs.Calling.{called_by}
+use Rattle.f3_access.specs.Inner.Calling.{called_by}
 use Rattle.f3_selecting.specs.Selecting.{AreSelections}
-use Rattle.f3_access.specs.Tables.{exports_at}
+use Rattle.f3_access.specs.Parts.{exports_at}
 use Rattle.f3_access.proofs.Chosen.{only_named, called_same, same_flat}
 use Rattle.f3_access.proofs.bringing.used_by.Goals as goal
 

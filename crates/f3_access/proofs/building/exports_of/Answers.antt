@@ -1,5 +1,5 @@
 use Rattle.std.proofs.Common.{ap, ◌∙◌}
-use Rattle.f3_access.specs.Tables.{places_from}
+use Rattle.f3_access.specs.Parts.{places_from}
 use Rattle.f3_access.proofs.building.exports_of.Goals as goal
 
 pub returns-clause-places : goal.returns-clause-places

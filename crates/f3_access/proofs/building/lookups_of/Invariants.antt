@@ -1,7 +1,7 @@
 use Rattle.std.proofs.Common.{◌≡◌, ℕ, drop, nat_eq}
 use Rattle.indexmap.specs.IndexMap.{get}
 use Rattle.f3_access.specs.declared.table.Lookup.TheVariants.{Nothing}
-use Rattle.f3_access.specs.Tables.{found, meaning}
+use Rattle.f3_access.specs.Parts.{found, meaning}
 use Rattle.f3_access.proofs.building.lookups_of.Given as goal
 
 abbrev pub invariant-loop-pair : goal.invariant-loop-pair

@@ -4,7 +4,7 @@ use Rattle.indexmap.specs.IndexMap.{get}
 use Rattle.f3_scopes.specs.Outlines.{using_view}
 use Rattle.f3_access.specs.declared.table.Visible.{Visible}
 use Rattle.f3_access.specs.Listing.{same_pair, brought}
-use Rattle.f3_access.specs.Tables.{exports_at}
+use Rattle.f3_access.specs.Parts.{exports_at}
 use Rattle.f3_selecting.proofs.Steps.{insert_more}
 use Rattle.f3_access.proofs.building.own_names.Goals as goal
 

@@ -1,7 +1,7 @@
 use Rattle.std.proofs.Common.{◌≡◌, ◌++◌, ℕ, drop, nat_eq}
 use Rattle.indexmap.specs.IndexMap.{get}
 use Rattle.f3_selecting.specs.Places.{places_in}
-use Rattle.f3_access.specs.Tables.{places_from}
+use Rattle.f3_access.specs.Parts.{places_from}
 use Rattle.f3_access.proofs.building.places_of.Given as goal
 
 abbrev pub invariant-loop-place : goal.invariant-loop-place

@@ -7,7 +7,7 @@ use Rattle.f3_access.specs.declared.table.Visible.{Visible}
 use Rattle.f3_access.specs.declared.table.Lookup.TheVariants.{Nothing}
 use Rattle.f3_scopes.specs.Kinds.{is_module}
 use Rattle.f3_access.specs.Listing.{same_pair, brought, exported}
-use Rattle.f3_access.specs.Tables.{meaning, exports_at}
+use Rattle.f3_access.specs.Parts.{meaning, exports_at}
 use Rattle.f3_access.proofs.building.table_of.Goals as goal
 
 pub returns : goal.returns

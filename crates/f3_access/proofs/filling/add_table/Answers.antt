@@ -1,7 +1,7 @@
 use Rattle.std.proofs.Common.{sym, subst}
 use Rattle.std.specs.List.{All}
 use Rattle.std.proofs.lemmas.List.Elements.{All-push}
-use Rattle.f3_access.specs.Tables.{HasPlaces}
+use Rattle.f3_access.specs.Parts.{HasPlaces}
 use Rattle.f3_access.proofs.filling.add_table.Goals as goal
 
 pub returns-clause-places : goal.returns-clause-places

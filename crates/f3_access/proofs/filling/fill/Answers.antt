@@ -3,7 +3,7 @@ use Rattle.std.proofs.lemmas.List.Elements.{All-set}
 use Rattle.f3_scopes.specs.Outlines.{scope_view}
 use Rattle.std.proofs.Common.{map}
 use Rattle.f3_access.specs.declared.table.ScopeTable.{ScopeTable}
-use Rattle.f3_access.specs.Tables.{HasPlaces, IsTableOf}
+use Rattle.f3_access.specs.Parts.{HasPlaces, IsTableOf}
 use Rattle.f3_access.proofs.filling.fill.Goals as goal
 
 pub returns-clause-table : goal.returns-clause-table

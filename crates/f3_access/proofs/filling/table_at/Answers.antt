@@ -8,7 +8,7 @@ use Rattle.f3_access.specs.declared.table.Visible.{Visible}
 use Rattle.f3_access.specs.declared.table.ScopeTable.{ScopeTable}
 use Rattle.f3_access.specs.Listing.{called, exports_of}
 use Rattle.f3_selecting.specs.Sources.{modules_of}
-use Rattle.f3_access.specs.Tables.{exports_at, HasPlaces, IsTable, IsTableOf}
+use Rattle.f3_access.specs.Parts.{exports_at, HasPlaces, IsTable, IsTableOf}
 use Rattle.f3_access.proofs.Standing.{lists_long, access_within, access_at, table_made}
 use Rattle.f3_access.proofs.filling.table_at.Goals as goal
 

@@ -2,7 +2,7 @@ use Rattle.std.proofs.Common.{List, ◌<◌, length, map, get_or, sym, ap, subst
 use Rattle.std.proofs.lemmas.List.{length-set, length-map}
 use Rattle.f3_scopes.specs.Outlines.{scope_view}
 use Rattle.f3_access.specs.declared.table.ScopeTable.{ScopeTable}
-use Rattle.f3_access.specs.Tables.{Stands}
+use Rattle.f3_access.specs.Parts.{Stands}
 use Rattle.f3_access.proofs.Standing.{inside, unit_more, units_stand}
 use Rattle.f3_access.proofs.filling.units_filled.Goals as goal
 

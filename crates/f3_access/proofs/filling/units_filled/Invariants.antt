@@ -1,7 +1,7 @@
 use Rattle.std.proofs.Common.{◌≡◌, ◌<◌, ℕ, length, map, get_or}
 use Rattle.std.specs.List.{All}
 use Rattle.f3_scopes.specs.Outlines.{scope_view}
-use Rattle.f3_access.specs.Tables.{HasPlaces, Stands}
+use Rattle.f3_access.specs.Parts.{HasPlaces, Stands}
 use Rattle.f3_access.proofs.filling.units_filled.Given as goal
 
 abbrev pub invariant-loop-at : goal.invariant-loop-at

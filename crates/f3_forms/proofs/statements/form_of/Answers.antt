@@ -35,5 +35,8 @@ returns-in-SelectCase c = subst (λ (k : Keyword). Finds (IsFormOf k c.args.plac
 pub returns-in-Case : goal.returns-in-Case
 returns-in-Case c = subst (λ (k : Keyword). Finds (IsFormOf k c.args.place) form_view c.case.result c.args.items.now) (sym c.in-Case.is) c.case.ensures
 
+pub returns-in-Associate : goal.returns-in-Associate
+returns-in-Associate c = subst (λ (k : Keyword). Finds (IsFormOf k c.args.place) form_view c.associate.result c.args.items.now) (sym c.in-Associate.is) c.associate.ensures
+
 pub returns-in-Do : goal.returns-in-Do
 returns-in-Do c = subst (λ (k : Keyword). Finds (IsFormOf k c.args.place) form_view c.do_form.result c.args.items.now) (sym c.in-Do.is) c.do_form.ensures

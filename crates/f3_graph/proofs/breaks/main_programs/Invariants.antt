@@ -1,6 +1,6 @@
 use Rattle.std.proofs.Common.{◌≡◌, false, drop}
 use Rattle.f3_rules.specs.Least.{earlier_of, first_of}
-use Rattle.f3_graph.specs.Passes.{pass, main_row, main_next}
+use Rattle.f3_graph.specs.Inner.Passes.{pass, main_row, main_next}
 use Rattle.f3_graph.proofs.Passing.{after}
 use Rattle.f3_graph.specs.Views.{nodes_view}
 use Rattle.f3_graph.proofs.breaks.main_programs.Given as goal

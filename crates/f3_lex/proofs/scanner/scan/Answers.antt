@@ -9,7 +9,7 @@ unfolding tokens_of
 loop-start-init c = record {
   within = omega arith;
   few = omega arith;
-  total = ap (λ ts. ts ++ tokens_at 0 0 0 c.args.bytes.now) c.new-tokens.ensures.items;
+  total = ap (λ ts. ts ++ tokens_at 0 0 0 c.args.bytes.now) c.in_ok-tokens.ensures.items;
 }
 
 pub loop-start-preserved-then-is_blank : goal.loop-start-preserved-then-is_blank

@@ -3,7 +3,7 @@ use Rattle.std.specs.List.{flat_map}
 use Rattle.f3_rules.specs.Least.{first_of}
 use Rattle.f3_tree.specs.declared.expression.Name.{Name}
 use Rattle.f3_scopes.specs.declared.outline.Declared.{Declared}
-use Rattle.f3_name_rules.specs.Rows.{attribute_row, declared_row}
+use Rattle.f3_name_rules.specs.Inner.Rows.{attribute_row, declared_row}
 use Rattle.f3_name_rules.proofs.Steps.{joined}
 use Rattle.f3_name_rules.proofs.attributes.first_in_attributes.Goals as goal
 

@@ -1,6 +1,6 @@
 use Rattle.std.proofs.Common.{rules}
 use Rattle.f3_breaks.proofs.Finding.{first_along}
-use Rattle.f3_name_rules.specs.Rows.{access_row}
+use Rattle.f3_name_rules.specs.Inner.Rows.{access_row}
 use Rattle.f3_name_rules.proofs.mentions.first_in_accesses.Goals as goal
 
 pub returns : goal.returns

@@ -1,6 +1,6 @@
 use Rattle.std.proofs.Common.{rules}
 use Rattle.f3_breaks.proofs.Finding.{first_along}
-use Rattle.f3_name_rules.specs.Rows.{listed_row}
+use Rattle.f3_name_rules.specs.Inner.Rows.{listed_row}
 use Rattle.f3_name_rules.proofs.mentions.first_in_list.Goals as goal
 
 pub returns : goal.returns

@@ -3,7 +3,7 @@ use Rattle.std.specs.List.{flat_map}
 use Rattle.f3_rules.specs.Least.{first_of}
 use Rattle.f3_tree.specs.declared.expression.Name.{Name}
 use Rattle.f3_scopes.specs.Kinds.{is_module}
-use Rattle.f3_name_rules.specs.Rows.{accesses_row, reference_row}
+use Rattle.f3_name_rules.specs.Inner.Rows.{accesses_row, reference_row}
 use Rattle.f3_name_rules.proofs.Steps.{joined}
 use Rattle.f3_name_rules.proofs.mentions.first_in_mentions.Goals as goal
 

@@ -1,7 +1,7 @@
 use Rattle.std.proofs.Common.{rules}
 use Rattle.f3_breaks.proofs.Finding.{first_along}
 use Rattle.std.specs.Prelude.{map, string_bytes}
-use Rattle.f3_name_rules.specs.Rows.{reference_row}
+use Rattle.f3_name_rules.specs.Inner.Rows.{reference_row}
 use Rattle.f3_name_rules.proofs.mentions.first_in_references.Goals as goal
 
 pub returns : goal.returns

@@ -1,6 +1,6 @@
 use Rattle.std.proofs.Common.{rules}
 use Rattle.f3_breaks.proofs.Finding.{first_along}
-use Rattle.f3_name_rules.specs.Rows.{item_row}
+use Rattle.f3_name_rules.specs.Inner.Rows.{item_row}
 use Rattle.f3_name_rules.proofs.uses.first_in_items.Goals as goal
 
 pub returns : goal.returns

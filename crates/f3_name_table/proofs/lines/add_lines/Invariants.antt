@@ -1,7 +1,7 @@
 use Rattle.std.proofs.Common.{◌≡◌, ◌++◌, drop, string_bytes}
 use Rattle.std.specs.List.{flat_map}
 use Rattle.f3_access.specs.Tables.{own_of}
-use Rattle.f3_name_table.specs.Lines.{line_by}
+use Rattle.f3_name_table.specs.Inner.Lines.{line_by}
 use Rattle.f3_name_table.proofs.lines.add_lines.Given as goal
 
 abbrev pub invariant-loop-visible : goal.invariant-loop-visible

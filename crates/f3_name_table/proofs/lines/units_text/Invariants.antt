@@ -1,6 +1,6 @@
 use Rattle.std.proofs.Common.{◌≡◌, ◌++◌, map, drop, string_bytes}
 use Rattle.f3_tree.specs.Tree.{unit_view}
-use Rattle.f3_name_table.specs.Lines.{units_by}
+use Rattle.f3_name_table.specs.Inner.Lines.{units_by}
 use Rattle.f3_name_table.proofs.lines.units_text.Given as goal
 
 abbrev pub invariant-loop-number : goal.invariant-loop-number

@@ -2,7 +2,8 @@ use Rattle.std.proofs.Common.{◌≡◌, List, [], ◌∷◌, ◌++◌, map, ap,
 use Rattle.f3_scopes.specs.declared.outline.Outline.{Outline}
 use Rattle.f3_scopes.specs.Outlines.{scope_view}
 use Rattle.f3_access.specs.Access.{IsUnitOrder}
-use Rattle.f3_name_tests.proofs.LoneModules.{lone_order}
+use Rattle.f3_access.specs.Hosts.{HostsBefore}
+use Rattle.f3_name_tests.proofs.LoneModules.{lone_order, lone_hosts}
 use Rattle.f3_name_tests.proofs.access.a_module_has_tables.Goals as goal
 
 pub tables-requires-clause-order : goal.tables-requires-clause-order
@@ -10,3 +11,9 @@ tables-requires-clause-order g c =
     let o = c.in_ok-module_of_two.field-0 in
     let one : c.deref.result.now ≡ o ∷ [] = c.deref.ensures.value ∙ c.in_ok-push.ensures.items ∙ ap (λ (l : List Outline). l ++ o ∷ []) c.new-outlines.ensures.items in
     subst (λ (l : List Outline). IsUnitOrder (map scope_view l) (0 ∷ [])) (sym one) (lone_order o c.in_ok-module_of_two.ensures.kind c.in_ok-module_of_two.ensures.uses)
+
+pub tables-requires-clause-hosts : goal.tables-requires-clause-hosts
+tables-requires-clause-hosts g c =
+    let o = c.in_ok-module_of_two.field-0 in
+    let one : c.deref.result.now ≡ o ∷ [] = c.deref.ensures.value ∙ c.in_ok-push.ensures.items ∙ ap (λ (l : List Outline). l ++ o ∷ []) c.new-outlines.ensures.items in
+    subst (λ (l : List Outline). HostsBefore (map scope_view l)) (sym one) (lone_hosts o c.in_ok-module_of_two.ensures.kind c.in_ok-module_of_two.ensures.uses c.in_ok-module_of_two.ensures.host)

@@ -5,7 +5,7 @@ use Rattle.f3_scopes.specs.Scopes.{scopes_of}
 use Rattle.f3_access.specs.Tables.{AreTables}
 use Rattle.f3_names.specs.Entities.{described}
 use Rattle.f3_names.specs.Tables.{scope_numbers}
-use Rattle.f3_names.proofs.Answering.{copied, numbers_are, all_fit, ordered, apart, first_found, none_found}
+use Rattle.f3_names.proofs.Answering.{copied, numbers_are, all_fit, ordered, apart, hosts_are_before, first_found, none_found}
 use Rattle.f3_names.proofs.naming.names.Goals as goal
 
 pub scope_order-requires : goal.scope_order-requires
@@ -29,6 +29,18 @@ tables-requires-clause-modules c =
     let t = view c.args.program.now in
     let scopes : map scope_view c.deref-4.result.now ≡ scopes_of t = ap (map scope_view) c.deref-4.ensures.value ∙ c.in_ok-outlines.ensures in
     apart t (map scope_view c.deref-4.result.now) scopes c.requires.units
+
+pub tables-requires-clause-hosts : goal.tables-requires-clause-hosts
+tables-requires-clause-hosts c =
+    let t = view c.args.program.now in
+    let scopes : map scope_view c.deref-4.result.now ≡ scopes_of t = ap (map scope_view) c.deref-4.ensures.value ∙ c.in_ok-outlines.ensures in
+    hosts_are_before t (map scope_view c.deref-4.result.now) scopes
+
+pub described-requires : goal.described-requires
+described-requires c =
+    let t = view c.args.program.now in
+    let last : map scope_view c.deref-in-None.result.now ≡ scopes_of t = ap (map scope_view) c.deref-in-None.ensures.value ∙ c.in_ok-outlines.ensures in
+    hosts_are_before t (map scope_view c.deref-in-None.result.now) last
 
 pub returns-in-Some : goal.returns-in-Some
 returns-in-Some c =

@@ -1,5 +1,5 @@
 use Rattle.std.proofs.Common.{◌≡◌, ◌++◌, map, drop}
-use Rattle.f3_names.specs.Making.{among_scopes}
+use Rattle.f3_names.specs.Inner.Making.{among_scopes}
 use Rattle.f3_names.proofs.numbering.scope_order.Given as goal
 
 abbrev pub invariant-loop-unit : goal.invariant-loop-unit

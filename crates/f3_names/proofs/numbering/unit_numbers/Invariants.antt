@@ -1,6 +1,6 @@
 use Rattle.std.proofs.Common.{◌≡◌, ◌++◌, map, drop}
 use Rattle.f3_scopes.specs.Outlines.{scope_view}
-use Rattle.f3_names.specs.Making.{unit_numbers}
+use Rattle.f3_names.specs.Inner.Making.{unit_numbers}
 use Rattle.f3_names.proofs.numbering.unit_numbers.Given as goal
 
 abbrev pub invariant-loop-number : goal.invariant-loop-number

@@ -2,7 +2,7 @@ use Rattle.std.proofs.Common.{◌≡◌, ◌++◌, ◌∷◌, [], false, length,
 use Rattle.std.proofs.lemmas.List.{length-replicate}
 use Rattle.std.proofs.lemmas.List.Elements.{Contains-push}
 use Rattle.f3_nodes.specs.Nodes.{targets_of}
-use Rattle.f3_nodes.specs.Search.{Searches, is_seen, see_all}
+use Rattle.f3_nodes.specs.Inner.Search.{Searches, is_seen, see_all}
 use Rattle.f3_nodes.proofs.Searching.{search_begins, search_step, unseen_all, work, answers}
 use Rattle.f3_nodes.proofs.search.is_reached.Goals as goal
 

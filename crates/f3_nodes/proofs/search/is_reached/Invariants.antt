@@ -1,5 +1,5 @@
 use Rattle.std.proofs.Common.{◌≡◌, false, replicate}
-use Rattle.f3_nodes.specs.Search.{Searches}
+use Rattle.f3_nodes.specs.Inner.Search.{Searches}
 use Rattle.f3_nodes.proofs.Searching.{work}
 use Rattle.f3_nodes.proofs.search.is_reached.Given as goal
 

@@ -2,7 +2,7 @@ use Rattle.std.proofs.Common.{◌<◌, ◌+◌, length, drop, get_or, sym, ap, s
 use Rattle.std.proofs.lemmas.List.{at_drop_more}
 use Rattle.std.proofs.lemmas.List.Elements.{Contains-get_or}
 use Rattle.f3_nodes.specs.Nodes.{targets_of}
-use Rattle.f3_nodes.specs.Search.{see_all}
+use Rattle.f3_nodes.specs.Inner.Search.{see_all}
 use Rattle.f3_nodes.proofs.Searching.{see_grows, State}
 use Rattle.f3_nodes.proofs.search.see_uses.Goals as goal
 

@@ -1,6 +1,6 @@
 use Rattle.std.proofs.Common.{◌≡◌, drop, length}
 use Rattle.f3_nodes.specs.Nodes.{targets_of}
-use Rattle.f3_nodes.specs.Search.{see_all}
+use Rattle.f3_nodes.specs.Inner.Search.{see_all}
 use Rattle.f3_nodes.proofs.search.see_uses.Given as goal
 
 abbrev pub invariant-loop-next : goal.invariant-loop-next

@@ -1,6 +1,6 @@
 use Rattle.std.proofs.Common.{◌≡◌, ◌<◌, ℕ, replicate, Contains}
 use Rattle.f3_nodes.specs.declared.walk.Mark.TheVariants.{New}
-use Rattle.f3_nodes.specs.Marks.{IsSettled, NoneOpen}
+use Rattle.f3_nodes.specs.Inner.Marks.{IsSettled, NoneOpen}
 use Rattle.f3_nodes.proofs.walk.used_first.Given as goal
 
 abbrev pub invariant-loop-unit : goal.invariant-loop-unit

@@ -2,7 +2,7 @@ use Rattle.std.proofs.Common.{◌≡◌, ◌≢◌, ◌+◌, ◌<◌, [], ◌∷
 use Rattle.std.proofs.lemmas.List.Elements.{Contains-append_left}
 use Rattle.f3_nodes.specs.declared.walk.Mark.TheVariants.{New, Open, Done}
 use Rattle.f3_nodes.specs.Nodes.{targets_of}
-use Rattle.f3_nodes.specs.Marks.{Walks, mark}
+use Rattle.f3_nodes.specs.Inner.Marks.{Walks, mark}
 use Rattle.f3_nodes.proofs.Walking.{open_more, step_more, close, cycle, next_inside, top_first, mark_read, not_new, smaller_open, smaller_done}
 use Rattle.f3_nodes.proofs.walk.visit.Goals as goal
 

@@ -1,6 +1,6 @@
 use Rattle.std.proofs.Common.{◌≢◌, ℕ, ◌+◌, map, reverse, sum_by, Contains}
 use Rattle.f3_nodes.specs.declared.walk.Mark.TheVariants.{New}
-use Rattle.f3_nodes.specs.Marks.{Walks, fresh, left_of, mark}
+use Rattle.f3_nodes.specs.Inner.Marks.{Walks, fresh, left_of, mark}
 use Rattle.f3_nodes.proofs.walk.visit.Given as goal
 
 abbrev pub invariant-loop-unit : goal.invariant-loop-unit

@@ -5,7 +5,7 @@ use Rattle.f3_words.specs.Lines.{line_view}
 use Rattle.f3_units.specs.Machine.{builder_view}
 use Rattle.f3_parse.specs.Phase.{place_of, first_place}
 use Rattle.f3_parse.specs.Spells.{ends_of}
-use Rattle.f3_parse.specs.Steps.{LeavesOpen}
+use Rattle.f3_parse.specs.Inner.Steps.{LeavesOpen}
 use Rattle.f3_parse.proofs.parser.go_on.Goals as goal
 
 pub returns-in-Some : goal.returns-in-Some

@@ -1,4 +1,4 @@
-use Rattle.std.proofs.Common.{◌≡◌, ◌≤◌, ◌∙◌, ap, sym, length, false}
+use Rattle.std.proofs.Common.{◌≤◌, ◌∙◌, ap, sym, length}
 use Rattle.std.specs.Option.{is_some}
 use Rattle.std.proofs.lemmas.Bool.{ltb-false}
 use Rattle.f3_run.proofs.Elaborating.{all_begun}

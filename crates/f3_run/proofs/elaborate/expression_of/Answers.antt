@@ -8,4 +8,4 @@ loop-term-preserved c =
     let l = c.loop-term in
     let lt = rw c.deref-term-items.ensures.value at c.loop-term-test.true in
     let o = rw c.deref-term-items.ensures.value at c.operand_of.ensures in
-    rw (c.in_ok-push.ensures.items, c.deref-term-items.ensures.value) (each_at (SameTerm (Found c.args.names.now c.args.unit)) c.args.expression.now.terms.items l.term-index _ l.terms.items _ lt l.invariant (refl, o))
+    rw (c.in_ok-push.ensures.items, c.deref-term-items.ensures.value) (each_at (SameTerm (Found c.args.names.now c.args.scope)) c.args.expression.now.terms.items l.term-index _ l.terms.items _ lt l.invariant (refl, o))

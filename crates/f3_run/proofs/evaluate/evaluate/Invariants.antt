@@ -1,7 +1,7 @@
 use Rattle.std.proofs.Common.{◌≡◌, drop}
 use Rattle.f3_meaning.specs.Value.{Number}
 use Rattle.f3_meaning.specs.Meaning.{sum_onto, value}
-use Rattle.f3_run.specs.Performs.{store_of}
+use Rattle.f3_run.specs.Inner.Performs.{store_of}
 use Rattle.f3_run.proofs.evaluate.evaluate.Given as goal
 
 -- the rest of the terms on top of this sum is the whole

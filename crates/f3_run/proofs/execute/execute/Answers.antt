@@ -1,7 +1,7 @@
 use Rattle.std.proofs.Common.{FitsSigned, w32, rules}
 use Rattle.std.proofs.lemmas.Int.{to_z-of_z}
 use Rattle.std.proofs.lemmas.Result.{err_from_is_err_and}
-use Rattle.f3_run.specs.Performs.{store_of}
+use Rattle.f3_run.specs.Inner.Performs.{store_of}
 use Rattle.f3_run.proofs.Statements.{assigned, print_stopped, print_done}
 use Rattle.f3_run.proofs.execute.execute.Goals as goal
 

@@ -1,5 +1,5 @@
 use Rattle.std.proofs.lemmas.Result.{err_from_is_err_and}
-use Rattle.f3_run.specs.Performs.{store_of}
+use Rattle.f3_run.specs.Inner.Performs.{store_of}
 use Rattle.f3_run.proofs.Statements.{items_stopped, items_go_on}
 use Rattle.f3_run.proofs.execute.print_items.Goals as goal
 

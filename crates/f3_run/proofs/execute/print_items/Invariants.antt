@@ -3,7 +3,7 @@ use Rattle.f3_meaning.specs.Event.{Event, output}
 use Rattle.f3_meaning.specs.Ran.{behind}
 use Rattle.f3_meaning.specs.Meaning.{items}
 use Rattle.f3_output.specs.Output.{Wrote, state_of}
-use Rattle.f3_run.specs.Performs.{store_of}
+use Rattle.f3_run.specs.Inner.Performs.{store_of}
 use Rattle.f3_run.proofs.execute.print_items.Given as goal
 
 -- the first items have been printed

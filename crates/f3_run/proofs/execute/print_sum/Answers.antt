@@ -2,7 +2,7 @@ use Rattle.std.proofs.Common.{FitsSigned, w32, rules, ◌≡◌, ap, ◌∙◌}
 use Rattle.std.specs.Fmt.{signed_decimal}
 use Rattle.std.proofs.lemmas.Int.{to_z-of_z}
 use Rattle.std.proofs.lemmas.Result.{err_from_is_err_and}
-use Rattle.f3_run.specs.Performs.{store_of}
+use Rattle.f3_run.specs.Inner.Performs.{store_of}
 use Rattle.f3_run.proofs.Statements.{item_stopped, item_printed}
 use Rattle.f3_run.proofs.execute.print_sum.Goals as goal
 

@@ -1,7 +1,7 @@
 use Rattle.std.proofs.Common.{◌≡◌, ◌+◌, ◌-◌, ◌≤◌, drop, suc, arith, [], length}
 use Rattle.std.proofs.lemmas.List.{drop_all}
 use Rattle.f3_meaning.specs.Meaning.{exec, steps}
-use Rattle.f3_run.specs.Performs.{store_of}
+use Rattle.f3_run.specs.Inner.Performs.{store_of}
 use Rattle.f3_output.proofs.Outputs.{wrote_none}
 use Rattle.f3_run.proofs.Course.{at_start, from_statement, at_limit, at_end, at_stop, past_statement}
 use Rattle.f3_run.proofs.run.run_steps.Goals as goal

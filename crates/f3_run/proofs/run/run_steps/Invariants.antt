@@ -3,7 +3,7 @@ use Rattle.f3_meaning.specs.Event.{Event, output}
 use Rattle.f3_meaning.specs.Ran.{behind}
 use Rattle.f3_meaning.specs.Meaning.{after, steps}
 use Rattle.f3_output.specs.Output.{Wrote, state_of}
-use Rattle.f3_run.specs.Performs.{store_of}
+use Rattle.f3_run.specs.Inner.Performs.{store_of}
 use Rattle.f3_run.proofs.run.run_steps.Given as goal
 
 -- the first statements have been executed

@@ -1,6 +1,6 @@
 use Rattle.std.proofs.Common.{rules}
 use Rattle.f3_breaks.proofs.Finding.{least_among}
-use Rattle.f3_scope_rules.specs.Rows.{ComponentsTwice}
+use Rattle.f3_scope_rules.specs.Inner.Rows.{ComponentsTwice}
 use Rattle.f3_scope_rules.proofs.access.first_component_of_types.Goals as goal
 
 pub returns : goal.returns

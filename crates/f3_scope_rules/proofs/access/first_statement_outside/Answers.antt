@@ -1,6 +1,6 @@
 use Rattle.std.proofs.Common.{rules}
 use Rattle.f3_breaks.proofs.Finding.{least_among}
-use Rattle.f3_scope_rules.specs.Rows.{StatementOutside}
+use Rattle.f3_scope_rules.specs.Inner.Rows.{StatementOutside}
 use Rattle.f3_scope_rules.proofs.access.first_statement_outside.Goals as goal
 
 pub returns : goal.returns

@@ -2,7 +2,7 @@ use Rattle.std.proofs.Common.{◌≡◌, ◌+◌, [], drop, sym, subst, ap, ◌�
 use Rattle.std.proofs.lemmas.List.{drop_all}
 use Rattle.f3_rules.specs.Least.{Least, earlier_of, first_of}
 use Rattle.f3_rules.proofs.Firsts.{earlier_none}
-use Rattle.f3_scope_rules.specs.Rows.{pass, again_row, again_next, AgainIn}
+use Rattle.f3_scope_rules.specs.Inner.Rows.{pass, again_row, again_next, AgainIn}
 use Rattle.f3_scope_rules.proofs.Twice.{least_again}
 use Rattle.f3_scope_rules.proofs.Passing.{pass_step, no_name}
 use Rattle.f3_scope_rules.proofs.again.first_again.Goals as goal

@@ -1,4 +1,4 @@
-use Rattle.f3_scope_rules.specs.Rows.{ComponentAgain}
+use Rattle.f3_scope_rules.specs.Inner.Rows.{ComponentAgain}
 use Rattle.f3_scope_rules.proofs.Passing.{among_more}
 use Rattle.f3_scope_rules.proofs.again.first_component_again.Goals as goal
 

@@ -1,7 +1,7 @@
 use Rattle.std.proofs.Common.{take}
 use Rattle.f3_rules.specs.Least.{Least}
 use Rattle.f3_breaks.specs.Among.{Among}
-use Rattle.f3_scope_rules.specs.Rows.{ComponentAgain}
+use Rattle.f3_scope_rules.specs.Inner.Rows.{ComponentAgain}
 use Rattle.f3_scope_rules.proofs.again.first_component_again.Given as goal
 
 abbrev pub invariant-loop-parts : goal.invariant-loop-parts

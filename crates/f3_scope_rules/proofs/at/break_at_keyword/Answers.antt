@@ -1,7 +1,7 @@
 use Rattle.std.proofs.Common.{Some, true, sym, subst}
 use Rattle.f3_rules.specs.Least.{Least}
 use Rattle.f3_scope_rules.specs.ScopeBreaks.{at_keyword}
-use Rattle.f3_scope_rules.specs.Rows.{If}
+use Rattle.f3_scope_rules.specs.Inner.Rows.{If}
 use Rattle.f3_scope_rules.proofs.Passing.{least_if}
 use Rattle.f3_scope_rules.proofs.at.break_at_keyword.Goals as goal
 

@@ -1,7 +1,7 @@
 use Rattle.std.proofs.Common.{rules}
 use Rattle.f3_breaks.proofs.Finding.{least_among}
 use Rattle.f3_scopes.specs.Outlines.{own_view}
-use Rattle.f3_scope_rules.specs.Rows.{Misintended}
+use Rattle.f3_scope_rules.specs.Inner.Rows.{Misintended}
 use Rattle.f3_scope_rules.proofs.intent.first_misintended.Goals as goal
 
 pub returns : goal.returns

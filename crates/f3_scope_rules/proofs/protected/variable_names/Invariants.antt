@@ -1,7 +1,7 @@
 use Rattle.std.proofs.Common.{◌≡◌, ◌++◌, map, drop}
 use Rattle.std.specs.List.{flat_map}
 use Rattle.f3_scopes.specs.Outlines.{own_view}
-use Rattle.f3_scope_rules.specs.Rows.{variable_name}
+use Rattle.f3_scope_rules.specs.Inner.Rows.{variable_name}
 use Rattle.f3_scope_rules.proofs.protected.variable_names.Given as goal
 
 abbrev pub invariant-loop-declaration : goal.invariant-loop-declaration

@@ -1,6 +1,6 @@
 use Rattle.std.proofs.Common.{rules}
 use Rattle.f3_breaks.proofs.Finding.{least_among}
-use Rattle.f3_scope_rules.specs.Rows.{Missing}
+use Rattle.f3_scope_rules.specs.Inner.Rows.{Missing}
 use Rattle.f3_scope_rules.proofs.undeclared.first_missing.Goals as goal
 
 pub returns : goal.returns

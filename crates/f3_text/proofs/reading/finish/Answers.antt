@@ -4,7 +4,7 @@ use Rattle.f3_text.specs.declared.letter.Letter.{Letter}
 use Rattle.f3_text.specs.declared.letter.Quoting.TheVariants.{Outside, Inside, Closed}
 use Rattle.f3_text.proofs.Going.{going_end, fails_from}
 use Rattle.f3_text.specs.Reader.{spelled_of}
-use Rattle.f3_text.specs.Reading.{completed}
+use Rattle.f3_text.specs.Inner.Reading.{completed}
 use Rattle.f3_text.specs.Statements.{unclosed, unless_fault, parts, all_pieces, texts}
 use Rattle.f3_text.proofs.reading.finish.Goals as goal
 

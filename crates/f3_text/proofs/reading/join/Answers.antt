@@ -2,7 +2,7 @@ use Rattle.std.proofs.Common.{refl, sym, ◌∙◌, ap, arith}
 use Rattle.f3_text.proofs.Going.{going_nothing, going_lone, going_open, going_behind, going_blank, paired_same, same_going, fails_from, mark_at, no_mark_at}
 use Rattle.f3_text.specs.Lines.{after}
 use Rattle.f3_text.specs.Reader.{spelled_of}
-use Rattle.f3_text.specs.Reading.{added}
+use Rattle.f3_text.specs.Inner.Reading.{added}
 use Rattle.f3_text.proofs.reading.join.Goals as goal
 
 pub returns-in_default : goal.returns-in_default

@@ -1,19 +1,19 @@
 use Rattle.std.proofs.Common.{refl, sym, ◌∙◌, ap, arith}
-use Rattle.f3_text.specs.Reading.{going}
+use Rattle.f3_text.specs.Inner.Reading.{going}
 use Rattle.f3_text.proofs.AlongLines.{text_nothing}
-use Rattle.f3_text.proofs.Going.{same_going, spelled_none, reads_separated}
+use Rattle.f3_text.proofs.Going.{same_going, paired_kept, reads_separated}
 use Rattle.f3_text.proofs.reading.statement.Goals as goal
 
 pub loop-letter-init : goal.loop-letter-init
 loop-letter-init c = record {
-  same = sym (same_going _ _ _ _ _ _ _ (spelled_none _ _ c.new.ensures.items c.new-2.ensures.items) c.outside-mode.ensures.quoting c.outside-mode.ensures.depth);
-  paired = rw (c.new.ensures.items, c.new-2.ensures.items) refl;
+  same = sym (same_going _ _ _ _ _ _ _ c.in-Ok.ensures c.outside-mode.ensures.quoting c.outside-mode.ensures.depth);
+  paired = paired_kept _ _ c.in-Ok.ensures refl;
   within = omega arith;
   file = refl;
 }
 
 pub finish-requires-2-clause-ended : goal.finish-requires-2-clause-ended
-finish-requires-2-clause-ended c = text_nothing _ _ c.in_default.ensures
+finish-requires-2-clause-ended c = text_nothing _ _ c.in_default-take.ensures
 
 pub returns-in-Separated-clause-read : goal.returns-in-Separated-clause-read
 returns-in-Separated-clause-read c =

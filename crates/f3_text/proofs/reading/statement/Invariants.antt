@@ -1,7 +1,7 @@
 use Rattle.std.proofs.Common.{◌≡◌, ◌≤◌, length}
 use Rattle.f3_text.specs.declared.letter.Quoting.TheVariants.{Outside}
 use Rattle.f3_text.specs.Reader.{ahead, spelled_of}
-use Rattle.f3_text.specs.Reading.{going, none, Paired}
+use Rattle.f3_text.specs.Inner.Reading.{going, none, Paired}
 use Rattle.f3_text.proofs.reading.statement.Given as goal
 
 abbrev pub invariant-loop-letter : goal.invariant-loop-letter

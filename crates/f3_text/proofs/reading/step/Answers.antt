@@ -19,8 +19,8 @@ pub returns : goal.returns
 returns c = record {
   same =
       going_more _ _ _ _ _ (sym c.if-ends_text.ensures) (sym c.if-separates.ensures) (sym c.if-joins.ensures) c.in_ok-depth.ensures.0 c.requires
-      ∙ same_going _ _ _ _ _ _ _ c.in-Ok.ensures c.after.ensures c.in_ok-depth.ensures.1;
-  paired = λ p. paired_same _ _ _ c.in-Ok.ensures p;
+      ∙ same_going _ _ _ _ _ _ _ c.in-Ok-add.ensures c.after.ensures c.in_ok-depth.ensures.1;
+  paired = λ p. paired_same _ _ _ c.in-Ok-add.ensures p;
   within = omega arith;
   file = refl;
 }

@@ -1,8 +1,8 @@
 use Rattle.std.proofs.Common.{ap, ◌∙◌}
 use Rattle.f3_rules.specs.Least.{earlier_of}
 use Rattle.f3_rules.proofs.Firsts.{first_step}
-use Rattle.f3_use_rules.specs.Times.{listed_in}
-use Rattle.f3_use_rules.specs.Rows.{entity_listed}
+use Rattle.f3_use_rules.specs.Inner.Times.{listed_in}
+use Rattle.f3_use_rules.specs.Inner.Rows.{entity_listed}
 use Rattle.f3_use_rules.proofs.rows.at_entities.Goals as goal
 
 pub loop-entity-preserved : goal.loop-entity-preserved

@@ -1,8 +1,8 @@
 use Rattle.std.proofs.Common.{◌≡◌, drop}
 use Rattle.std.specs.List.{flat_map}
 use Rattle.f3_rules.specs.Least.{earlier_of, first_of}
-use Rattle.f3_use_rules.specs.Times.{listed_in}
-use Rattle.f3_use_rules.specs.Rows.{entity_listed}
+use Rattle.f3_use_rules.specs.Inner.Times.{listed_in}
+use Rattle.f3_use_rules.specs.Inner.Rows.{entity_listed}
 use Rattle.f3_use_rules.proofs.rows.at_entities.Given as goal
 
 abbrev pub invariant-loop-entity : goal.invariant-loop-entity

@@ -1,7 +1,7 @@
 use Rattle.std.proofs.Common.{rules, ◌≡◌, length, ap, ◌∙◌, sym, subst}
 use Rattle.f3_rules.specs.Least.{earlier_of, first_of, Least}
 use Rattle.f3_taken.specs.Tree.{unit_view, view}
-use Rattle.f3_use_rules.specs.Rows.{unit_row}
+use Rattle.f3_use_rules.specs.Inner.Rows.{unit_row}
 use Rattle.f3_use_rules.specs.UseBreaks.{UseBreaks}
 use Rattle.f3_use_rules.proofs.Fused.{unit_step, unit_end}
 use Rattle.f3_use_rules.proofs.Walk.{least_use}

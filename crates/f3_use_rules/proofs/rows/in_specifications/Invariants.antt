@@ -2,8 +2,8 @@ use Rattle.std.proofs.Common.{◌≡◌, drop}
 use Rattle.std.specs.List.{flat_map}
 use Rattle.f3_rules.specs.Least.{earlier_of, first_of}
 use Rattle.f3_taken.specs.Tree.{specification_view, declared_by}
-use Rattle.f3_use_rules.specs.Times.{listed_in}
-use Rattle.f3_use_rules.specs.Rows.{declaration_listed}
+use Rattle.f3_use_rules.specs.Inner.Times.{listed_in}
+use Rattle.f3_use_rules.specs.Inner.Rows.{declaration_listed}
 use Rattle.f3_use_rules.proofs.rows.in_specifications.Given as goal
 
 abbrev pub invariant-loop-specification : goal.invariant-loop-specification

@@ -1,6 +1,6 @@
 use Rattle.std.proofs.Common.{◌≡◌, ℕ, drop, filter, length}
 use Rattle.f3_use_rules.specs.UseBreaks.{is_named}
-use Rattle.f3_use_rules.specs.Times.{counted, listed_in}
+use Rattle.f3_use_rules.specs.Inner.Times.{counted, listed_in}
 use Rattle.f3_use_rules.proofs.times.count_names.Given as goal
 
 abbrev pub invariant-loop-name : goal.invariant-loop-name

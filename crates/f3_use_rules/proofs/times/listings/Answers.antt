@@ -1,6 +1,6 @@
 use Rattle.f3_taken.specs.Tree.{specification_view, protected_by}
 use Rattle.f3_use_rules.specs.UseBreaks.{is_named}
-use Rattle.f3_use_rules.specs.Times.{listed_in}
+use Rattle.f3_use_rules.specs.Inner.Times.{listed_in}
 use Rattle.f3_use_rules.proofs.Counting.{piece_more, piece_end}
 use Rattle.f3_use_rules.proofs.times.listings.Goals as goal
 

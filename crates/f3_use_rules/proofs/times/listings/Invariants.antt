@@ -3,7 +3,7 @@ use Rattle.std.specs.List.{flat_map}
 use Rattle.f3_taken.specs.Tree.{specification_view, protected_by}
 use Rattle.f3_use_rules.specs.declared.times.Times.TheVariants.{Never}
 use Rattle.f3_use_rules.specs.UseBreaks.{is_named}
-use Rattle.f3_use_rules.specs.Times.{counted, listed_in}
+use Rattle.f3_use_rules.specs.Inner.Times.{counted, listed_in}
 use Rattle.f3_use_rules.proofs.times.listings.Given as goal
 
 abbrev pub invariant-loop-specification : goal.invariant-loop-specification

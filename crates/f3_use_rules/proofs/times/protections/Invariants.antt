@@ -1,7 +1,7 @@
 use Rattle.std.proofs.Common.{◌≡◌, drop, filter, length}
 use Rattle.f3_use_rules.specs.declared.times.Times.TheVariants.{Never}
 use Rattle.f3_use_rules.specs.UseBreaks.{is_protected}
-use Rattle.f3_use_rules.specs.Times.{counted}
+use Rattle.f3_use_rules.specs.Inner.Times.{counted}
 use Rattle.f3_use_rules.proofs.times.protections.Given as goal
 
 abbrev pub invariant-loop-attribute : goal.invariant-loop-attribute

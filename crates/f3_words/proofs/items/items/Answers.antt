@@ -5,7 +5,7 @@ use Rattle.f3_words.proofs.Numbers.{items_step, seen_step, ascii_at, items_over,
 use Rattle.f3_words.proofs.items.items.Goals as goal
 
 pub loop-token-init : goal.loop-token-init
-loop-token-init c = λ ascii. rw c.new-found.ensures.items (refl, refl)
+loop-token-init c = λ ascii. rw c.in_ok-found.ensures.items (refl, refl)
 
 pub loop-token-preserved : goal.loop-token-preserved
 loop-token-preserved c = λ ascii.

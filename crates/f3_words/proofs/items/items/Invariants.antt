@@ -1,7 +1,7 @@
 use Rattle.std.proofs.Common.{◌≡◌, ◌++◌, drop}
 use Rattle.f3_text.specs.Reader.{spelled_of}
 use Rattle.f3_words.specs.Lines.{seen_of, items_of, seen_after}
-use Rattle.f3_words.specs.Numbered.{NamesAreAscii}
+use Rattle.f3_words.specs.Inner.Numbered.{NamesAreAscii}
 use Rattle.f3_words.proofs.items.items.Given as goal
 
 abbrev pub invariant-loop-token : goal.invariant-loop-token

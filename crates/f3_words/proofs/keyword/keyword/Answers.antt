@@ -2,6 +2,9 @@ use Rattle.std.proofs.Common.{sym, ◌∙◌}
 use Rattle.f3_words.proofs.Lengths.{of_length}
 use Rattle.f3_words.proofs.keyword.keyword.Goals as goal
 
+pub returns-in-3 : goal.returns-in-3
+returns-in-3 c = c.of_three.ensures ∙ sym (of_length 3 c.args.text.now c.in-3.is)
+
 pub returns-in-4 : goal.returns-in-4
 returns-in-4 c = c.of_four.ensures ∙ sym (of_length 4 c.args.text.now c.in-4.is)
 
@@ -22,6 +25,9 @@ returns-in-9 c = c.of_nine.ensures ∙ sym (of_length 9 c.args.text.now c.in-9.i
 
 pub returns-in-10 : goal.returns-in-10
 returns-in-10 c = c.of_ten.ensures ∙ sym (of_length 10 c.args.text.now c.in-10.is)
+
+pub returns-in-12 : goal.returns-in-12
+returns-in-12 c = c.of_twelve.ensures ∙ sym (of_length 12 c.args.text.now c.in-12.is)
 
 pub returns-in-11 : goal.returns-in-11
 returns-in-11 c = c.of_eleven.ensures ∙ sym (of_length 11 c.args.text.now c.in-11.is)

@@ -3,7 +3,7 @@ use Rattle.std.proofs.lemmas.Bool.{false≢true}
 use Rattle.std.specs.Prelude.{ℤ, pos, ◌+ℤ◌, ◌-ℤ◌, ◌*ℤ◌}
 use Rattle.std.proofs.lemmas.Int.{to_z-of_z}
 use Rattle.f3_desc.specs.declared.descriptor.Dim.{Dim}
-use Rattle.f3_desc.specs.Congruent.{IsCongruent}
+use Rattle.f3_desc.specs.Inner.Congruent.{IsCongruent}
 use Rattle.f3_desc.specs.Descriptor.{IsWithin}
 use Rattle.f3_desc.proofs.Walk.{Walks, walks-none, walks-more, walks-all, walks-place, walks-out}
 use Rattle.f3_desc.proofs.descriptor.Descriptor.element.Goals as goal

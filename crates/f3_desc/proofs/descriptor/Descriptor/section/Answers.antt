@@ -5,8 +5,8 @@ use Rattle.std.proofs.lemmas.Bool.{false≢true}
 use Rattle.std.proofs.lemmas.Int.{to_z-of_z}
 use Rattle.f3_desc.specs.declared.descriptor.Dim.{Dim}
 use Rattle.f3_desc.specs.declared.descriptor.Triplet.{Triplet}
-use Rattle.f3_desc.specs.Congruent.{IsCongruent}
-use Rattle.f3_desc.specs.Cuts.{cut_of, first_of}
+use Rattle.f3_desc.specs.Inner.Congruent.{IsCongruent}
+use Rattle.f3_desc.specs.Inner.Cuts.{cut_of, first_of}
 use Rattle.f3_desc.proofs.CutWalk.{Cutting, cutting-none, cutting-room, cutting-out, cutting-more, cutting-all, cutting-section, no-step-zero, append-none}
 use Rattle.f3_desc.proofs.descriptor.Descriptor.section.Goals as goal
 

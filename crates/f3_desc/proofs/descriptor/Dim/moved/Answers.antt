@@ -3,7 +3,7 @@ use Rattle.std.specs.Prelude.{pos, ◌-ℤ◌, ◌*ℤ◌}
 use Rattle.std.specs.Int.{int_wrap, w64, cast_unsigned, cast_signed}
 use Rattle.std.proofs.lemmas.Int.{wraps}
 use Rattle.f3_desc.proofs.Congruences.{wrapped-bits, sum-congruent}
-use Rattle.f3_desc.specs.Congruent.{IsCongruent}
+use Rattle.f3_desc.specs.Inner.Congruent.{IsCongruent}
 use Rattle.f3_desc.proofs.descriptor.Dim.moved.Goals as goal
 
 pub returns : goal.returns

@@ -1,0 +1,12 @@
+-- Two allocatables in a block.
+use Rattle.std.specs.Prelude.{ℕ, pos, ◌≡◌, ◌≢◌, ◌<◌, [], ◌∷◌}
+use Rattle.f3_heap_laws.specs.Blocks.{Live, IsLive, words_of}
+
+-- a block of two integers, and one of two allocatables of rank 1, of which the first has that block and the second is not allocated
+pub record AreLists (m : Live) (numbers lists : ℕ) : Type 0 where
+  pub beneath : IsLive m numbers
+  pub live : IsLive m lists
+  pub apart : lists ≢ numbers
+  pub positive : 0 < numbers
+  pub contents : words_of m numbers ≡ pos 40 ∷ pos 41 ∷ []
+  pub written : words_of m lists ≡ pos numbers ∷ pos 1 ∷ pos 2 ∷ pos 0 ∷ pos 0 ∷ pos 0 ∷ []

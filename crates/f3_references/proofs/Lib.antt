@@ -1,0 +1,4 @@
+pub mod Matching
+pub mod Apart
+pub mod Actuals
+pub mod Building

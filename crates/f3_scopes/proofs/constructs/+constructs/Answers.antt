@@ -1,0 +1,47 @@
+use Rattle.std.proofs.Common.{rules, refl, ap, ◌∙◌, length, map}
+use Rattle.std.proofs.lemmas.Result.{on_ok_weaker}
+use Rattle.f3_tree.specs.declared.statement.Statement.{Statement}
+use Rattle.f3_tree.specs.Statements.{StatementTree, association_view, statement_view, block_of, block_view}
+use Rattle.f3_scopes.specs.Scopes.{construct_name, scope_of_construct, constructs_in, constructs_in_block, constructs_in_branches, constructs_in_cases}
+use Rattle.f3_scopes.specs.Inner.Blocks.{branches_in, branches_view, cases_in, cases_view}
+use Rattle.f3_scopes.proofs.Views.{view_if, view_select, view_associate}
+use Rattle.f3_scopes.proofs.Growing.{step, begun}
+use Rattle.f3_scopes.proofs.constructs.+constructs.Goals as goal
+
+pub add_branches-loop-body-init : goal.add_branches-loop-body-init
+add_branches-loop-body-init t c =
+    rw (ap (λ (s : Statement). branches_in (statement_view s)) c.in-If.is ∙ ap (λ (x : StatementTree). branches_in x) (view_if c.in-If.branches c.in-If.field-1)) (search rules)
+
+pub add_branches-loop-body-preserved : goal.add_branches-loop-body-preserved
+add_branches-loop-body-preserved t c =
+    step (λ n b. constructs_in_block c.args.host c.args.around n (block_view b.2)) (λ n bs. constructs_in_branches c.args.host c.args.around n (branches_view bs)) (λ n x xs. refl)
+    c.deref-body-items.result.now c.loop-body.body-index c.loop-body-item.result c.loop-body.found.items c.add_block.new.found.items _ c.loop-body-test.true
+    (search rules) c.loop-body.invariant
+
+pub add_cases-loop-body-init : goal.add_cases-loop-body-init
+add_cases-loop-body-init t c =
+    rw (ap (λ (s : Statement). cases_in (statement_view s)) c.in-Select.is ∙ ap (λ (x : StatementTree). cases_in x) (view_select c.in-Select.field-0 c.in-Select.field-1 c.in-Select.cases)) (search rules)
+
+pub add_cases-loop-body-preserved : goal.add_cases-loop-body-preserved
+add_cases-loop-body-preserved t c =
+    step (λ n b. constructs_in_block c.args.host c.args.around n (block_view b.2)) (λ n bs. constructs_in_cases c.args.host c.args.around n (cases_view bs)) (λ n x xs. refl)
+    c.deref-body-items.result.now c.loop-body.body-index c.loop-body-item.result c.loop-body.found.items c.add_block.new.found.items _ c.loop-body-test.true
+    (search rules) c.loop-body.invariant
+
+pub add_statement-returns-in-Select : goal.add_statement-returns-in-Select
+add_statement-returns-in-Select t c =
+    rw (ap (λ (s : Statement). constructs_in c.args.host c.args.around (length c.args.found.now.items) (statement_view s)) c.in-Select.is
+    ∙ ap (λ (x : StatementTree). constructs_in c.args.host c.args.around (length c.args.found.now.items) x) (view_select c.in-Select.field-0 c.in-Select.field-1 c.in-Select.field-2))
+    (rw (ap (λ (s : Statement). cases_in (statement_view s)) c.in-Select.is ∙ ap (λ (x : StatementTree). cases_in x) (view_select c.in-Select.field-0 c.in-Select.field-1 c.in-Select.field-2)) at c.add_cases.ensures)
+
+pub add_statement-returns-in_ok-push-in-Associate : goal.add_statement-returns-in_ok-push-in-Associate
+add_statement-returns-in_ok-push-in-Associate t c =
+    rw (ap (λ (s : Statement). constructs_in c.args.host c.args.around (length c.args.found.now.items) (statement_view s)) c.in-Associate.is
+    ∙ ap (λ (x : StatementTree). constructs_in c.args.host c.args.around (length c.args.found.now.items) x) (view_associate c.in-Associate.field-0 c.in-Associate.list c.in-Associate.body))
+    (on_ok_weaker c.add_block-in-Associate.result
+    (λ e. e ∙ begun c.args.found.now.items c.push.new.self.items c.in_ok-scope-in-Associate.scope
+    (scope_of_construct c.args.host c.args.around (map association_view c.in-Associate.list.items))
+    c.len-number.result c.construct_name.result (construct_name c.args.around (map association_view c.in-Associate.list.items))
+    (block_of (map statement_view c.deref-in-Associate-3.result.now)) (block_view c.in-Associate.body)
+    (search rules) (search rules) (search rules) (search rules) (search rules))
+    c.add_block-in-Associate.ensures)

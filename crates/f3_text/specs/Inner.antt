@@ -1,0 +1,4 @@
+-- What only private functions and proofs cite.
+pub mod Reading
+pub mod Sources
+pub mod Steps

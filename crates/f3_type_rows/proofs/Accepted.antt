@@ -1,0 +1,34 @@
+use Rattle.std.specs.Prelude.{refl}
+use Rattle.f3_rules.specs.Rule.{row_of}
+use Rattle.f3_rules.specs.Least.{is_before}
+use Rattle.f3_type_rows.specs.Accepted.{AcceptedShow}
+
+pub accepted_show : AcceptedShow
+unfolding row_of is_before
+accepted_show = (
+  refl,
+  refl,
+  refl,
+  refl,
+  refl,
+  refl,
+  refl,
+  refl,
+  refl,
+  refl,
+  refl,
+  refl,
+  refl,
+  refl,
+  refl,
+  refl,
+  refl,
+  refl,
+  refl,
+  refl,
+  refl,
+  refl,
+  refl,
+  refl,
+  refl,
+)

@@ -1,0 +1,8 @@
+use Rattle.std.specs.Prelude.{refl}
+use Rattle.f3_rules.specs.Rule.{row_of}
+use Rattle.f3_rules.specs.Least.{is_before}
+use Rattle.f3_type_rows.specs.T2C.{T2CShow}
+
+pub t2_c_show : T2CShow
+unfolding row_of is_before
+t2_c_show = (refl, refl, refl, refl, refl, refl, refl, refl, refl, refl, refl, refl, refl, refl, refl, refl, refl, refl, refl, refl, refl, refl, refl, refl)

@@ -1,0 +1,8 @@
+use Rattle.std.specs.Prelude.{refl}
+use Rattle.f3_rules.specs.Rule.{row_of}
+use Rattle.f3_rules.specs.Least.{is_before}
+use Rattle.f3_type_rows.specs.T9And10.{T9And10Show}
+
+pub t9_and10_show : T9And10Show
+unfolding row_of is_before
+t9_and10_show = (refl, refl, refl, refl, refl, refl, refl, refl, refl, refl, refl, refl, refl, refl)

@@ -1,0 +1,5 @@
+use Rattle.f3_type_rows.proofs.D3And4.{d3_and4_show}
+use Rattle.f3_type_rows.proofs.rows.d3_and4_show.Goals as goal
+
+pub returns : goal.returns
+returns c = d3_and4_show

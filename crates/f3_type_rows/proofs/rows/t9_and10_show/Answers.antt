@@ -1,0 +1,5 @@
+use Rattle.f3_type_rows.proofs.T9And10.{t9_and10_show}
+use Rattle.f3_type_rows.proofs.rows.t9_and10_show.Goals as goal
+
+pub returns : goal.returns
+returns c = t9_and10_show

@@ -1,0 +1,16 @@
+pub mod Constants
+pub mod Statements
+pub mod Cases
+pub mod Definitions
+pub mod Associates
+pub mod Names
+pub mod Members
+pub mod Finals
+pub mod Natures
+pub mod Scene
+pub mod Walks
+pub mod Attributes
+pub mod Shapes
+pub mod Declarations
+pub mod Bodies
+pub mod Program

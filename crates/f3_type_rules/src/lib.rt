@@ -1,0 +1,4 @@
+//! The rules on types, shapes, constants and definitions: definitions alone.
+#![tactic(auto)]
+
+pub mod definition;
