@@ -224,7 +224,7 @@ fn enter_rows(first: &mut Option<Break>, bounds: bool, object: Object, part: &Pa
 }
 
 /// The component that a name selects of an object.
-fn select(known: &Known, at: Position, object: Object, name: Name) -> Selected
+fn select(known: &Known<'_>, at: Position, object: Object, name: Name) -> Selected
     ensures { result ≡ select (context_of known.now at) object name }
 {
     match object.data_type {
@@ -250,7 +250,7 @@ fn select(known: &Known, at: Position, object: Object, name: Name) -> Selected
 
 #[tactic(auto, using(crate::proofs::Noting::noted_none))]
 fn step(
-    known: &Known,
+    known: &Known<'_>,
     at: Position,
     first: &mut Option<Break>,
     bounds: bool,
@@ -282,7 +282,7 @@ fn step(
 
 /// Goes along the parts behind `%`.
 fn along(
-    known: &Known,
+    known: &Known<'_>,
     at: Position,
     first: &mut Option<Break>,
     role: Role,
@@ -417,7 +417,7 @@ pub struct Judged {
 /// The designator of an object.
 #[tactic(auto, using(crate::proofs::Noting::noted_more))]
 pub fn object(
-    known: &Known,
+    known: &Known<'_>,
     at: Position,
     first: &mut Option<Break>,
     role: Role,

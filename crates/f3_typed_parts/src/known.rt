@@ -8,9 +8,9 @@ use f3_tree::expression::Name;
 
 /// What is known of the names of a program.
 #[derive(Drop)]
-pub struct Known {
+pub struct Known<'a> {
     /// What each scope sees.
-    pub tables: Tables,
+    pub tables: &'a Tables,
     /// What each entity is, by its number.
     pub things: Vec<Thing>,
     /// The intrinsic procedure of each name, by the number of the name.

@@ -20,7 +20,7 @@ use std::alloc::{AllocError, Global};
 #[tactic(auto, using(f3_typed_parts::proofs::Noting::noted_none))]
 fn part(
     alloc: Global,
-    known: &Known,
+    known: &Known<'_>,
     at: Position,
     first: &mut Option<Break>,
     name: Name,
@@ -41,7 +41,7 @@ fn part(
 /// What is said of what stands behind each part.
 fn parts(
     alloc: Global,
-    known: &Known,
+    known: &Known<'_>,
     at: Position,
     first: &mut Option<Break>,
     list: &[(Name, Option<Vec<Argument>>)],
@@ -60,7 +60,7 @@ fn parts(
 #[tactic(auto, using(crate::proofs::Trees::parts_same, crate::proofs::Trees::parts_breaks, f3_typed_parts::proofs::Noting::noted_more))]
 pub fn designator(
     alloc: Global,
-    known: &Known,
+    known: &Known<'_>,
     at: Position,
     first: &mut Option<Break>,
     role: Role,

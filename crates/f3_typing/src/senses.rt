@@ -60,7 +60,7 @@ fn unmeant(first: &mut Option<Break>, rule: Rule, part: &Part, others: &[Part]) 
 /// A name that is this entity.
 fn entity(
     alloc: Global,
-    known: &Known,
+    known: &Known<'_>,
     at: Position,
     first: &mut Option<Break>,
     role: Role,
@@ -125,7 +125,7 @@ fn entity(
 }
 
 /// The intrinsic procedure that a name means where no entity has it.
-fn intrinsic_of(known: &Known, at: Position, symbol: usize) -> Option<Intrinsic>
+fn intrinsic_of(known: &Known<'_>, at: Position, symbol: usize) -> Option<Intrinsic>
     ensures { result ≡ (context_of known.now at).intrinsic symbol }
 {
     match known.intrinsics.get(symbol) {
@@ -155,7 +155,7 @@ fn is_function(intrinsic: Intrinsic) -> bool
 /// A name that no entity has.
 #[tactic(auto, using(crate::proofs::Intrinsics::sense_given, crate::proofs::Intrinsics::sense_bare))]
 fn unlisted(
-    known: &Known,
+    known: &Known<'_>,
     at: Position,
     first: &mut Option<Break>,
     role: Role,
@@ -184,7 +184,7 @@ fn unlisted(
 /// A designator, by what its first name means.
 fn meant(
     alloc: Global,
-    known: &Known,
+    known: &Known<'_>,
     at: Position,
     first: &mut Option<Break>,
     role: Role,
@@ -195,7 +195,7 @@ fn meant(
     ensures has { IfOk result (λ j. j.has ≡ sense_has (context_of known.now at) role (part_of part.now) (map part_of others.now) (sense (context_of known.now at) role (part_of part.now) (map part_of others.now))) }
     ensures noted { OnOk result (first.new ≡ noted first.old (sense_rows (context_of known.now at) role (part_of part.now) (map part_of others.now) (sense (context_of known.now at) role (part_of part.now) (map part_of others.now)))) }
 {
-    match lookup(&known.tables, at.scope, part.name.symbol) {
+    match lookup(known.tables, at.scope, part.name.symbol) {
         Lookup::One(number) => match known.things.get(number) {
             Some(thing) => entity(alloc, known, at, first, role, part, others, number, thing),
             None => Ok(unmeant(first, Rule::N10, part, others)),
@@ -218,7 +218,7 @@ fn nowhere() -> Place
 /// What is said of a designator.
 pub fn designator(
     alloc: Global,
-    known: &Known,
+    known: &Known<'_>,
     at: Position,
     first: &mut Option<Break>,
     role: Role,

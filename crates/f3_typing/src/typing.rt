@@ -29,7 +29,7 @@ use std::alloc::{AllocError, Global};
 #[tactic(auto, using(f3_typed_parts::proofs::Noting::noted_more, f3_typed_parts::proofs::Noting::noted_none))]
 pub fn expression(
     alloc: Global,
-    known: &Known,
+    known: &Known<'_>,
     at: Position,
     first: &mut Option<Break>,
     e: &Expression,
@@ -112,7 +112,7 @@ fn level(others: &[(Operator, Expression)]) -> Wanted
 #[cycle(typing)]
 fn rest(
     alloc: Global,
-    known: &Known,
+    known: &Known<'_>,
     at: Position,
     first: &mut Option<Break>,
     others: &[(Operator, Expression)],
@@ -130,7 +130,7 @@ fn rest(
 #[cycle(typing)]
 fn all(
     alloc: Global,
-    known: &Known,
+    known: &Known<'_>,
     at: Position,
     first: &mut Option<Break>,
     items: &[Expression],
@@ -150,7 +150,7 @@ fn all(
 #[tactic(auto, using(f3_typed_parts::proofs::Noting::noted_none))]
 fn parts(
     alloc: Global,
-    known: &Known,
+    known: &Known<'_>,
     at: Position,
     first: &mut Option<Break>,
     e: &Expression,
@@ -202,7 +202,7 @@ pub fn alone(name: Name) -> Part
 #[cycle(typing)]
 pub fn arguments(
     alloc: Global,
-    known: &Known,
+    known: &Known<'_>,
     at: Position,
     first: &mut Option<Break>,
     list: &[Argument],
@@ -221,7 +221,7 @@ pub fn arguments(
 #[tactic(auto, using(f3_typed_parts::proofs::Noting::noted_more))]
 fn argument(
     alloc: Global,
-    known: &Known,
+    known: &Known<'_>,
     at: Position,
     first: &mut Option<Break>,
     one: &Argument,
@@ -247,7 +247,7 @@ fn argument(
 #[tactic(auto, using(f3_typed_parts::proofs::Noting::noted_none))]
 fn perhaps(
     alloc: Global,
-    known: &Known,
+    known: &Known<'_>,
     at: Position,
     first: &mut Option<Break>,
     e: &Option<Expression>,

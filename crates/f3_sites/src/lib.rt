@@ -1,0 +1,4 @@
+//! What is known where an executable statement stands.
+#![tactic(auto)]
+
+pub mod site;
