@@ -1,6 +1,7 @@
 -- When tables of names are those of a program.
 use Rattle.std.specs.Prelude.{◌≡◌, ℕ, List, [], Option, None, Some, map, slice_get, string_bytes}
 use Rattle.f3_tree.specs.Tree.{Tree}
+use Rattle.f3_scopes.specs.Outlines.{Scope, scope_view}
 use Rattle.f3_scopes.specs.Scopes.{scopes_of}
 use Rattle.f3_access.specs.declared.table.Visible.{Visible}
 use Rattle.f3_access.specs.declared.table.Lookup.{Lookup}
@@ -12,6 +13,10 @@ use Rattle.f3_names.specs.Holders.{outermost}
 pub use Rattle.f3_names.specs.Parts.{scope_numbers}
 use Rattle.f3_names.specs.Parts.{AreNamesOf}
 
+-- the scopes of a program
+abbrev pub outlined : Names → List Scope
+outlined names = map scope_view names.outlines.items
+
 -- the entities of a program, and the texts of its names in lower case
 abbrev pub entities_of : Names → List Entity
 entities_of names = names.entities.items
@@ -19,9 +24,9 @@ entities_of names = names.entities.items
 abbrev pub texts_of : Names → List (List ℕ)
 texts_of names = map string_bytes names.texts.keys
 
--- the entities, what each scope sees, the texts of the names and the numbers of the units are the program's
+-- the scopes, the entities, what each scope sees, the texts of the names and the numbers of the units are the program's
 abbrev pub AreNames : Tree → Names → Type 0
-AreNames t names = AreNamesOf t (entities_of names) names.tables (texts_of names) names.units.items
+AreNames t names = AreNamesOf t (outlined names) (entities_of names) names.tables (texts_of names) names.units.items
 
 -- what the tables have for a name of a scope
 abbrev pub lookup_at : Names → ℕ → ℕ → Lookup

@@ -37,7 +37,7 @@ pub fn names(alloc: Global, program: &Program, order: &UnitOrder) -> Result<Name
         None => {
             let entities = described(alloc, &outlines)?;
             let texts = program.names.clone()?;
-            Ok(Names::new(entities, tables, texts, units))
+            Ok(Names::new(outlines, entities, tables, texts, units))
         }
     }
 }

@@ -1,12 +1,13 @@
 //! What is visible in a scope, and what an entity is.
 
-ghost use Rattle.std.specs.Prelude.{◌≡◌, ℕ, ◌<◌, Some, option_map, length, slice_get};
+ghost use Rattle.std.specs.Prelude.{◌≡◌, ℕ, ◌<◌, Some, map, option_map, length, slice_get};
+ghost use Rattle.f3_scopes.specs.Outlines.{scope_view};
 ghost use Rattle.f3_access.specs.Lookups.{Resolves};
 ghost use Rattle.f3_access.specs.Pairs.{pairs_left};
 ghost use Rattle.f3_access.specs.Tables.{own_of, visible_of, private_of};
 ghost use Rattle.f3_name_rules.specs.NameBreaks.{text_of};
 ghost use Rattle.f3_names.specs.Entities.{VisibleIsEntity};
-ghost use Rattle.f3_names.specs.Tables.{AreNames, entities_of, texts_of, lookup_at, unit_at, exports_at, IsVisibleAs};
+ghost use Rattle.f3_names.specs.Tables.{AreNames, outlined, entities_of, texts_of, lookup_at, unit_at, exports_at, IsVisibleAs};
 ghost use Rattle.f3_names.specs.Texts.{lowered};
 ghost use Rattle.f3_tree.specs.Tree.{Tree};
 
@@ -14,8 +15,9 @@ use crate::entity::Entity;
 use crate::table::{Names, ScopeId};
 use crate::texts::symbol_of;
 use f3_access::pairs::VisiblePairs;
-use f3_access::table::{EntityId, Lookup, Visible};
+use f3_access::table::{EntityId, Lookup, Tables, Visible};
 use f3_graph::UnitId;
+use f3_scopes::outline::Outline;
 
 /// What is visible in a scope under a name, by the number of the name among the program's.
 ///
@@ -41,6 +43,20 @@ pub fn resolve(names: &Names, scope: ScopeId, name: &str) -> Lookup
 }
 
 impl Names {
+    /// What the rules on names speak of in each scope, in the order of their numbers.
+    pub fn outlines(&self) -> &[Outline]
+        ensures { map scope_view result.now ≡ outlined self.now }
+    {
+        &self.outlines
+    }
+
+    /// What each scope sees.
+    pub fn tables(&self) -> &Tables
+        ensures { result.now ≡ self.now.tables }
+    {
+        &self.tables
+    }
+
     /// The entities of the program, by their numbers: scope by scope, each scope's in the order of their places.
     pub fn entities(&self) -> &[Entity]
         ensures { result.now ≡ entities_of self.now }

@@ -1,5 +1,7 @@
 use Rattle.std.proofs.Common.{◌≡◌, map, string_bytes, ap, sym, subst, ◌∙◌}
 use Rattle.f3_tree.specs.Tree.{view}
+use Rattle.std.specs.Global.{Vec}
+use Rattle.f3_scopes.specs.declared.outline.Outline.{Outline}
 use Rattle.f3_scopes.specs.Outlines.{scope_view}
 use Rattle.f3_scopes.specs.Scopes.{scopes_of}
 use Rattle.f3_access.specs.Tables.{AreTables}
@@ -42,8 +44,8 @@ described-requires c =
     let last : map scope_view c.deref-in-None.result.now ≡ scopes_of t = ap (map scope_view) c.deref-in-None.ensures.value ∙ c.in_ok-outlines.ensures in
     hosts_are_before t (map scope_view c.deref-in-None.result.now) last
 
-pub returns-in-Some : goal.returns-in-Some
-returns-in-Some c =
+pub returns-in_ok-refusal-in-Some : goal.returns-in_ok-refusal-in-Some
+returns-in_ok-refusal-in-Some c =
     let t = view c.args.program.now in
     let scopes : map scope_view c.deref-6.result.now ≡ scopes_of t = ap (map scope_view) c.deref-6.ensures.value ∙ c.in_ok-outlines.ensures in
     (c.in-Some.found, first_found t (map scope_view c.deref-6.result.now) c.in_ok-found.field-0 c.in-Some.found scopes c.in-Some.is c.in_ok-found.ensures, c.in_ok-refusal-in-Some.ensures)
@@ -57,6 +59,7 @@ new-requires c =
     ∣ (
       t,
       record {
+        scopes = c.in_ok-outlines.ensures;
         tables = subst (λ ss. AreTables ss c.in_ok-tables.tables) four c.in_ok-tables.ensures;
         entities = c.in_ok-entities-in-None.ensures ∙ ap described last;
         texts = copied string_bytes c.args.program.now.names.keys c.in_ok-texts-in-None.texts.keys c.in_ok-texts-in-None.ensures.cases;
@@ -64,14 +67,15 @@ new-requires c =
       },
     ) ∣₁
 
-pub returns : goal.returns
-returns c =
+pub returns-in_ok-texts-in-None : goal.returns-in_ok-texts-in-None
+returns-in_ok-texts-in-None c =
     let t = view c.args.program.now in
     let four : map scope_view c.deref-4.result.now ≡ scopes_of t = ap (map scope_view) c.deref-4.ensures.value ∙ c.in_ok-outlines.ensures in
     let six : map scope_view c.deref-6.result.now ≡ scopes_of t = ap (map scope_view) c.deref-6.ensures.value ∙ c.in_ok-outlines.ensures in
     let first : map scope_view c.deref.result.now ≡ scopes_of t = ap (map scope_view) c.deref.ensures.value ∙ c.in_ok-outlines.ensures in
     let last : map scope_view c.deref-in-None.result.now ≡ scopes_of t = ap (map scope_view) c.deref-in-None.ensures.value ∙ c.in_ok-outlines.ensures in (
       record {
+        scopes = ap (λ (v : Vec Outline). map scope_view v.items) c.new.ensures.outlines ∙ c.in_ok-outlines.ensures;
         tables = subst (AreTables (scopes_of t)) (sym c.new.ensures.tables) (subst (λ ss. AreTables ss c.in_ok-tables.tables) four c.in_ok-tables.ensures);
         entities = ap (λ v. v.items) c.new.ensures.entities ∙ c.in_ok-entities-in-None.ensures ∙ ap described last;
         texts = ap (λ s. map string_bytes s.keys) c.new.ensures.texts ∙ copied string_bytes c.args.program.now.names.keys c.in_ok-texts-in-None.texts.keys c.in_ok-texts-in-None.ensures.cases;
