@@ -6,6 +6,7 @@ use Rattle.std.proofs.lemmas.List.Folds.{list_all-append}
 use Rattle.f3_rules.specs.declared.breaks.Break.{Break}
 use Rattle.f3_kinds.specs.Things.{map_or}
 use Rattle.f3_kinds.specs.Rows.{unless}
+use Rattle.f3_type_rules.specs.Walks.{along}
 use Rattle.f3_phase_laws.specs.Laws.{late_phases}
 
 abbrev pub is_timely : Break → Bool
@@ -40,3 +41,7 @@ perhaps f None h = none
 perhaps f (Some x) h = h x
 
 pub ruleset lists = (none, one, both, one_unless, when, each, perhaps)
+
+pub walk : {S X : Type 0} (rows : S → X → List Break) (next : S → X → S) (s : S) (xs : List X) → ((s : S) (x : X) → Timely (rows s x)) → Timely (along rows next s xs)
+walk rows next s [] h = none
+walk rows next s (x ∷ xs) h = both (h s x) (walk rows next (next s x) xs h)
