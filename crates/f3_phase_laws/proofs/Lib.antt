@@ -3,3 +3,5 @@ pub mod Expressions
 pub mod Declarations
 pub mod Statements
 pub mod Program
+pub mod Constructs
+pub mod Numbers

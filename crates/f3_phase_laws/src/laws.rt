@@ -1,6 +1,7 @@
 //! Laws on the breaks of rules on types, shapes, constants and definitions.
 
 ghost use Rattle.f3_phase_laws.specs.Laws.{BreaksHaveLatePhases, RulesTellPhases};
+ghost use Rattle.f3_phase_laws.specs.Numbers.{UnitsHaveTheirNumbers, UnitsAreThose};
 
 /// The breaks of rules on types, shapes, constants and definitions are of phases 5 to 7, behind all of those on text, units and names.
 pub fn breaks_have_late_phases()
@@ -11,4 +12,11 @@ pub fn breaks_have_late_phases()
 /// and another in executable statements.
 pub fn rules_tell_phases()
     ensures { RulesTellPhases }
+{}
+
+/// The rules on types and definitions number the units of a program as the tables of names do, and know each unit and each procedure
+/// by the numbers of its scope and entity.
+pub fn units_are_numbered()
+    ensures numbers { UnitsHaveTheirNumbers }
+    ensures units { UnitsAreThose }
 {}
