@@ -1,10 +1,9 @@
 -- Blocks have as many constructs as they make scopes.
 use Rattle.std.proofs.Common.{◌≡◌, refl, ap, ℕ, suc, ◌+◌, List, ◌++◌, length, arith, length-append}
 use Rattle.f3_tree.specs.declared.expression.Name.{Name}
-use Rattle.f3_tree.specs.Statements.{AssociationTree, StatementTree, acts, acts_if, branches, selects, repeats, associates}
+use Rattle.f3_tree.specs.Statements.{StatementTree, acts, acts_if, branches, selects, repeats, associates}
 use Rattle.f3_tree.specs.Statements.{Block, no_statements, statements, Branches, no_branches, branch}
 use Rattle.f3_tree.specs.Statements.{Alternative, no_alternative, alternative, Cases, no_cases, case_block}
-use Rattle.f3_scopes.specs.Outlines.{Scope}
 use Rattle.f3_scopes.specs.Scopes.{construct_name, constructs_in, constructs_in_block, constructs_in_branches, constructs_in_alternative, constructs_in_cases}
 use Rattle.f3_type_rules.specs.Associates.{constructs_of, constructs_of_block, constructs_of_branches, constructs_of_other, constructs_of_cases}
 

@@ -1,27 +1,27 @@
 -- The breaks of specification parts and of headers.
-use Rattle.std.proofs.Common.{◌≡◌, ℕ, Bool, true, false, List, [], ◌∷◌, ◌++◌, Option, Some, None, refl}
+use Rattle.std.proofs.Common.{ℕ, Bool, List, [], ◌∷◌, Option, Some, None, refl}
 use Rattle.f3_tree.specs.declared.expression.Name.{Name}
 use Rattle.f3_tree.specs.declared.declaration.TypeSpecifier.{TypeSpecifier}
 use Rattle.f3_tree.specs.declared.declaration.TypeSpecifier.TheVariants as specifier
 use Rattle.f3_tree.specs.declared.program.ProcedureKind.{ProcedureKind}
 use Rattle.f3_tree.specs.declared.program.ProcedureKind.TheVariants.{Subroutine, Function}
 use Rattle.f3_tree.specs.Expressions.{Tree}
-use Rattle.f3_tree.specs.Declarations.{Bounds, ShapeTree, explicit, deferred, AttributeTree, access, protected, parameter, save, allocatable, dimension, intent}
+use Rattle.f3_tree.specs.Declarations.{ShapeTree, explicit, deferred, AttributeTree, access, protected, parameter, save, allocatable, dimension, intent}
 use Rattle.f3_tree.specs.Declarations.{EntityTree, DeclarationTree, TypeTree, SpecificationTree, declares, defines}
 use Rattle.f3_kinds.specs.declared.types.DataType.{DataType}
 use Rattle.f3_kinds.specs.declared.types.DataType.TheVariants.{Integer, Logical, Derived}
-use Rattle.f3_kinds.specs.Things.{map_or, Context}
+use Rattle.f3_kinds.specs.Things.{Context}
 use Rattle.f3_kinds.specs.Calls.{added}
 use Rattle.f3_kinds.specs.Values.{value_of, is_number}
 use Rattle.f3_type_rules.specs.Constants.{constant_rows}
-use Rattle.f3_type_rules.specs.Names.{Declared, entries, attributes_of, type_of}
+use Rattle.f3_type_rules.specs.Names.{Declared, attributes_of}
 use Rattle.f3_type_rules.specs.Members.{Member, Numbered}
 use Rattle.f3_type_rules.specs.Finals.{final_rows}
 use Rattle.f3_type_rules.specs.Scene.{Scene}
-use Rattle.f3_type_rules.specs.Walks.{along, Known, Spot, context}
+use Rattle.f3_type_rules.specs.Walks.{Known, Spot, context}
 use Rattle.f3_type_rules.specs.Shapes.{bound_rows, shape_rows, dimension_rows, size_rows}
 use Rattle.f3_type_rules.specs.Declarations.{type_rows, specifier_rows, entity_rows, entity_next, declaration_rows, component_rows, type_definition_rows, specification_rows, local_rows, header_rows, member_rows, unit_rows}
-use Rattle.f3_phase_laws.proofs.Lists.{is_timely, Timely, none, one, both, one_unless, each, lists, walk}
+use Rattle.f3_phase_laws.proofs.Lists.{Timely, none, one, both, one_unless, each, lists, walk}
 use Rattle.f3_phase_laws.proofs.Expressions.{IsStatementPhase, breaks_timely}
 
 pub constant_timely : (phase : ℕ) → IsStatementPhase phase → (c : Context) → IsStatementPhase c.phase → (right : Bool) (e : Tree) → Timely (constant_rows phase c right e)

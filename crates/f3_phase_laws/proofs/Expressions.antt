@@ -1,6 +1,6 @@
 -- The breaks of expressions.
-use Rattle.std.proofs.Common.{◌≡◌, ℕ, ◌+◌, Bool, true, false, List, [], ◌∷◌, ◌++◌, Option, Some, None, refl}
-use Rattle.std.specs.Prelude.{◌&&◌, nat_eq}
+use Rattle.std.proofs.Common.{◌≡◌, ℕ, ◌+◌, Bool, true, List, [], ◌∷◌, Option, Some, None, refl}
+use Rattle.std.specs.Prelude.{nat_eq}
 use Rattle.std.specs.List.{list_any}
 use Rattle.f3_rules.specs.declared.source.Place.{Place}
 use Rattle.f3_tree.specs.declared.expression.Name.{Name}
@@ -11,7 +11,6 @@ use Rattle.f3_kinds.specs.declared.types.DataType.{DataType}
 use Rattle.f3_kinds.specs.declared.types.Object.{Object}
 use Rattle.f3_kinds.specs.declared.types.Wanted.{Wanted}
 use Rattle.f3_kinds.specs.declared.types.Wanted.TheVariants as wanted
-use Rattle.f3_kinds.specs.declared.said.Form.{Form}
 use Rattle.f3_kinds.specs.declared.said.Has.{Has}
 use Rattle.f3_kinds.specs.declared.said.Said.{Said}
 use Rattle.f3_kinds.specs.declared.said.Given.{Given}
@@ -26,9 +25,9 @@ use Rattle.f3_kinds.specs.declared.things.Dummy.{Dummy}
 use Rattle.f3_kinds.specs.declared.things.Intrinsic.{Intrinsic}
 use Rattle.f3_kinds.specs.declared.things.Intrinsic.TheVariants as intrinsic_is
 use Rattle.f3_kinds.specs.Things.{Nature, constant, variable, derived, subroutine, function, Context, Meaning, nothing, several, intrinsic, entity, meaning_of}
-use Rattle.f3_kinds.specs.Rows.{typed_rows, type_rows, has_rows, scalar_rows}
+use Rattle.f3_kinds.specs.Rows.{type_rows, has_rows, scalar_rows}
 use Rattle.f3_kinds.specs.Operands.{chain_rows, mixed_rows, array_rows, has_same}
-use Rattle.f3_kinds.specs.Designators.{Part, rows_perhaps, subscript_rows, part_rows, is_allocation, is_last, enter, start, select, enter_rows, step, step_selected_rows, step_rows, along_rows, reach_rows, object_reach, object_rows}
+use Rattle.f3_kinds.specs.Designators.{Part, rows_perhaps, subscript_rows, part_rows, select, enter_rows, step_selected_rows, step_rows, along_rows, reach_rows, object_rows}
 use Rattle.f3_kinds.specs.Calls.{Matched, match_next, argument_rows, function_rows, call_rows, actual_rows, or_first, integer_type, intrinsic_rows, value_rows, missing_rows, private_at, component_rows, given_rows, constructor_given, constructor_rows}
 use Rattle.f3_kinds.specs.Typing.{Sense, unmeant, object, reference, intrinsic_reference, construction, called, sense_entity, sense_intrinsic, sense_of, sense, sense_rows, designator_rows, level_of, said, said_rest, said_all, said_parts, breaks, breaks_rest, breaks_all, breaks_parts, breaks_behind, breaks_arguments, breaks_argument, breaks_perhaps, designator_breaks}
 use Rattle.f3_phase_laws.proofs.Lists.{is_timely, Timely, none, one, both, one_unless, when, lists}

@@ -1,5 +1,5 @@
 -- The numbers of units and procedures.
-use Rattle.std.proofs.Common.{◌≡◌, refl, sym, ap, ◌∙◌, subst, ℕ, suc, ◌+◌, List, [], ◌∷◌, ◌++◌, map, length, take, Some, arith, append_assoc, length-append}
+use Rattle.std.proofs.Common.{◌≡◌, refl, sym, ap, ◌∙◌, ℕ, ◌+◌, List, [], ◌∷◌, ◌++◌, map, length, take, Some, arith, append_assoc, length-append}
 use Rattle.std.specs.Prelude.{slice_get}
 use Rattle.std.specs.List.{All, flat_map}
 use Rattle.std.proofs.Math.Seq.{take-append_seam}
@@ -9,7 +9,7 @@ use Rattle.f3_access.specs.Access.{entities_of, first_entity}
 use Rattle.f3_names.specs.Parts.{scope_numbers}
 use Rattle.f3_scopes.specs.Outlines.{Own, Scope}
 use Rattle.f3_scopes.specs.Scopes.{declared_in, constructs_in_block, scope_of_procedure, procedure_own, scope_of_unit, procedure_scopes, procedures_from, own_scopes, unit_scopes, scopes_from, scopes_of}
-use Rattle.f3_tree.specs.Tree.{ProcedureTree, UnitTree, Tree}
+use Rattle.f3_tree.specs.Tree.{ProcedureTree, UnitTree}
 use Rattle.f3_type_rules.specs.Associates.{constructs_of_block}
 use Rattle.f3_type_rules.specs.Members.{Member, Numbered, members_from, numbered, units_from}
 use Rattle.f3_phase_laws.specs.Numbers.{UnitsHaveTheirNumbers, IsProcedure, IsUnit, UnitsAreThose}
@@ -50,16 +50,16 @@ members_placed all unit after behind (p ∷ ps) front before n e scopes scope en
     let longer = length-append front own in
     let more = length-append before (procedure_own p ∷ []) in
     All-cons (IsProcedure all unit) _ (members_from all (e + 1) next ps)
-        (record {
-          scope = at_end all front (scope_of_procedure unit p) _ n scopes scope;
-          first = refl;
-          entity = at_end (entities_of all) before (procedure_own p) _ e entities entity;
-        })
-        (members_placed all unit after behind ps (front ++ own) (before ++ procedure_own p ∷ []) next (e + 1)
-            (scopes ∙ regroup front own (others (n + length own)) behind ∙ ap (λ k. (front ++ own) ++ (others k ++ behind)) same)
-            (omega (arith, same, longer))
-            (entities ∙ regroup before (procedure_own p ∷ []) (map procedure_own ps) after)
-            (omega (arith, more)))
+    (record {
+      scope = at_end all front (scope_of_procedure unit p) _ n scopes scope;
+      first = refl;
+      entity = at_end (entities_of all) before (procedure_own p) _ e entities entity;
+    })
+    (members_placed all unit after behind ps (front ++ own) (before ++ procedure_own p ∷ []) next (e + 1)
+    (scopes ∙ regroup front own (others (n + length own)) behind ∙ ap (λ k. (front ++ own) ++ (others k ++ behind)) same)
+    (omega (arith, same, longer))
+    (entities ∙ regroup before (procedure_own p ∷ []) (map procedure_own ps) after)
+    (omega (arith, more)))
 
 -- ---- units
 
@@ -96,10 +96,10 @@ unit_placed all front behind n u scopes scope =
       procedures = member_trees all (first_entity all n + length specified) next u.procedures;
       members =
           members_placed all n (entities_of around) behind u.procedures (front ++ own) (entities_of front ++ specified) next (first_entity all n + length specified)
-              (scopes ∙ regroup front own (within (n + length own)) behind ∙ ap (λ k. (front ++ own) ++ (within k ++ behind)) same)
-              (omega (arith, same, longer))
-              (entities_at all front s around scopes ∙ regroup (entities_of front) specified (map procedure_own u.procedures) (entities_of around))
-              (omega (arith, first, more));
+          (scopes ∙ regroup front own (within (n + length own)) behind ∙ ap (λ k. (front ++ own) ++ (within k ++ behind)) same)
+          (omega (arith, same, longer))
+          (entities_at all front s around scopes ∙ regroup (entities_of front) specified (map procedure_own u.procedures) (entities_of around))
+          (omega (arith, first, more));
     }
 
 units_placed : (all : List Scope) (us : List UnitTree) (front : List Scope) (n : ℕ) → all ≡ front ++ scopes_from n us → n ≡ length front → All (IsUnit all) (units_from all n us)
@@ -108,7 +108,7 @@ units_placed all (u ∷ us) front n scopes scope =
     let own : List Scope = unit_scopes n u in
     let longer = length-append front own in
     All-cons (IsUnit all) (numbered all n u) (units_from all (n + length own) us) (unit_placed all front _ n u scopes scope)
-        (units_placed all us (front ++ own) (n + length own) (scopes ∙ sym (append_assoc front own (scopes_from (n + length own) us))) (omega (arith, longer)))
+    (units_placed all us (front ++ own) (n + length own) (scopes ∙ sym (append_assoc front own (scopes_from (n + length own) us))) (omega (arith, longer)))
 
 pub numbers : UnitsHaveTheirNumbers
 numbers t = unit_numbers (scopes_of t) 0 t.units

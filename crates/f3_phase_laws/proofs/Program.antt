@@ -1,7 +1,7 @@
 -- The breaks of a whole program.
-use Rattle.std.proofs.Common.{◌≡◌, ℕ, ◌≤◌, Bool, true, false, nat_eq, List, [], ◌∷◌, refl, arith, rules}
+use Rattle.std.proofs.Common.{◌≡◌, ℕ, ◌≤◌, Bool, true, false, List, refl, arith}
 use Rattle.std.specs.Prelude.{nat_le, ◌&&◌}
-use Rattle.std.specs.List.{All, Contains, list_all, list_any}
+use Rattle.std.specs.List.{Contains, list_all}
 use Rattle.std.proofs.lemmas.List.Elements.{All-contains, All-weaker}
 use Rattle.std.proofs.lemmas.List.Sums.{AllPass-from_list_all}
 use Rattle.std.proofs.lemmas.Map.Views.{Contains-from_any}
@@ -45,7 +45,7 @@ timely_phase b h = Contains-from_any eqb-true b.phase (late_phases b.rule) h
 pub rules_tell : RulesTellPhases
 rules_tell t look order =
     All-weaker (λ b. is_timely b ≡ true) (λ b. Contains (late_phases b.rule) b.phase) timely_phase (program_breaks t look order)
-        (AllPass-from_list_all is_timely (program_breaks t look order) (program_timely t look order).passes)
+    (AllPass-from_list_all is_timely (program_breaks t look order) (program_timely t look order).passes)
 
 is_late : ℕ → Bool
 is_late k = nat_le 5 k && nat_le k 7

@@ -1,9 +1,9 @@
 -- The breaks of executable statements.
-use Rattle.std.proofs.Common.{◌≡◌, ℕ, ◌+◌, Bool, true, false, List, [], ◌∷◌, ◌++◌, map, length, Option, Some, None, refl}
+use Rattle.std.proofs.Common.{◌≡◌, ℕ, ◌+◌, true, false, List, [], ◌∷◌, map, length, Option, Some, None, refl}
 use Rattle.f3_rules.specs.declared.source.Place.{Place}
 use Rattle.f3_rules.specs.declared.breaks.Break.{Break}
 use Rattle.f3_tree.specs.declared.expression.Name.{Name}
-use Rattle.f3_tree.specs.Expressions.{Tree, integer, truth, text, designator, group, array, signed, negation, comparison, chain, Parts, arguments_of}
+use Rattle.f3_tree.specs.Expressions.{Tree, text, Parts, arguments_of}
 use Rattle.f3_tree.specs.Statements.{Act, assign, call, allocate, deallocate, print, stop, Controls, forever, counted, while}
 use Rattle.f3_tree.specs.Statements.{CaseTree, one as one_value, from, up_to, range, Cases}
 use Rattle.f3_tree.specs.Statements.{AssociationTree, StatementTree, acts, acts_if, branches, selects, repeats, associates}
@@ -16,17 +16,14 @@ use Rattle.f3_kinds.specs.declared.said.Form.TheVariants.{Computed, Constant, Va
 use Rattle.f3_kinds.specs.declared.said.Has.{Has}
 use Rattle.f3_kinds.specs.declared.said.Said.{Said}
 use Rattle.f3_kinds.specs.declared.said.Given.{Given}
-use Rattle.f3_kinds.specs.declared.said.Role.{Role}
 use Rattle.f3_kinds.specs.declared.said.Role.TheVariants as role
-use Rattle.f3_kinds.specs.declared.things.Dummy.{Dummy}
 use Rattle.f3_kinds.specs.declared.things.Intrinsic.TheVariants as intrinsic_is
-use Rattle.f3_kinds.specs.Things.{Nature, constant, variable, derived, subroutine, function, Context, Meaning, nothing, several, intrinsic, entity, meaning_of}
-use Rattle.f3_kinds.specs.Operands.{type_in}
-use Rattle.f3_kinds.specs.Typing.{said, said_arguments, breaks, designator_at}
+use Rattle.f3_kinds.specs.Things.{constant, variable, derived, subroutine, function, Context, Meaning, nothing, several, intrinsic, entity, meaning_of}
+use Rattle.f3_kinds.specs.Typing.{said, said_arguments, designator_at}
 use Rattle.f3_type_rules.specs.declared.definition.Holder.{Holder}
 use Rattle.f3_type_rules.specs.Statements.{assigned_has, called_rows, moving_dummies, item_rows, item_breaks, act_breaks, number_defined, condition_breaks, number_breaks, variable_of, control_breaks}
 use Rattle.f3_type_rules.specs.Cases.{selected_type, case_rows, Span, span_of, overlap_rows, all_values, defaults, default_rows, select_breaks}
-use Rattle.f3_type_rules.specs.Definitions.{Site, protected_rows, intent_rows, active_rows, pure_rows, holder_rows, link_rows, form_rows, definition_rows, called_impure, impure, act_definitions, control_definitions, in_loop}
+use Rattle.f3_type_rules.specs.Definitions.{Site, holder_rows, link_rows, form_rows, definition_rows, called_impure, impure, act_definitions, in_loop}
 use Rattle.f3_type_rules.specs.Associates.{constructs_of, constructs_of_branches, constructs_of_block, site_inside}
 use Rattle.f3_type_rules.specs.Bodies.{act_rows, control_rows, selector_rows, statement_breaks, block_breaks, branch_breaks, other_breaks, case_breaks}
 use Rattle.f3_phase_laws.proofs.Lists.{is_timely, Timely, none, one, both, one_unless, each, lists}
