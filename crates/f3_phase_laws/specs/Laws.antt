@@ -1,15 +1,21 @@
 -- In which phases the rules on types, shapes, constants and definitions are broken.
-use Rattle.std.specs.Prelude.{ℕ, ◌≤◌, List, [], ◌∷◌}
+use Rattle.std.specs.Prelude.{◌≡◌, ℕ, ◌≤◌, List, [], ◌∷◌, Some}
 use Rattle.std.specs.List.{All, Contains}
 use Rattle.f3_access.specs.declared.table.Lookup.{Lookup}
 use Rattle.f3_rules.specs.declared.rule.Rule.{Rule}
 use Rattle.f3_rules.specs.declared.rule.Rule.TheVariants.{N10, N11, N12, N13, T1, T2, T3, T4, T5, T6, T7, T8, T9, T10, T11, T12, D1, D2, D3, D4, D5, D6}
 use Rattle.f3_rules.specs.declared.breaks.Break.{Break}
+use Rattle.f3_rules.specs.Least.{earlier_of, first_of}
 use Rattle.f3_tree.specs.Tree.{Tree}
 use Rattle.f3_type_rules.specs.Program.{program_breaks}
 
 abbrev pub BreaksHaveLatePhases : Type 0
 BreaksHaveLatePhases = (t : Tree) (look : ℕ → ℕ → Lookup) (order : List ℕ) → All (λ (b : Break). (5 ≤ b.phase) × (b.phase ≤ 7)) (program_breaks t look order)
+
+-- a break of an earlier phase comes before all of them
+abbrev pub EarlyBreaksStand : Type 0
+EarlyBreaksStand =
+    (b : Break) → b.phase ≤ 4 → (t : Tree) (look : ℕ → ℕ → Lookup) (order : List ℕ) → earlier_of (Some b) (first_of (program_breaks t look order)) ≡ Some b
 
 -- The phases behind those of names in which a rule is broken: 5 in specification parts and headers; 6 of expressions and in executable
 -- statements; 7 of definitions. Two rules have two. None of those on text and units is broken there, and of those on names four.

@@ -1,11 +1,13 @@
 //! Laws on the breaks of rules on types, shapes, constants and definitions.
 
-ghost use Rattle.f3_phase_laws.specs.Laws.{BreaksHaveLatePhases, RulesTellPhases};
+ghost use Rattle.f3_phase_laws.specs.Laws.{BreaksHaveLatePhases, EarlyBreaksStand, RulesTellPhases};
 ghost use Rattle.f3_phase_laws.specs.Numbers.{UnitsHaveTheirNumbers, UnitsAreThose};
 
-/// The breaks of rules on types, shapes, constants and definitions are of phases 5 to 7, behind all of those on text, units and names.
+/// The breaks of rules on types, shapes, constants and definitions are of phases 5 to 7, behind all of those on text, units and names: a
+/// break of phases 1 to 4 is reported before any of them.
 pub fn breaks_have_late_phases()
-    ensures { BreaksHaveLatePhases }
+    ensures phases { BreaksHaveLatePhases }
+    ensures order { EarlyBreaksStand }
 {}
 
 /// A rule tells in which of these phases it is broken: one of each rule but two, which have one phase in specification parts and headers,
