@@ -10,8 +10,8 @@ pub fn breaks_have_late_phases()
     ensures order { EarlyBreaksStand }
 {}
 
-/// A rule tells in which of these phases it is broken: one of each rule but two, which have one phase in specification parts and headers,
-/// and another in executable statements.
+/// A rule tells in which of these phases it is broken; T2 and T12, which have two, are broken in phase 5 in specification parts and headers,
+/// and in phase 6 in blocks.
 pub fn rules_tell_phases()
     ensures { RulesTellPhases }
 {}
