@@ -1,1 +1,3 @@
 pub mod Expressions
+pub mod Values
+pub mod Declarations
