@@ -1,3 +1,4 @@
 pub mod Expressions
 pub mod Values
 pub mod Declarations
+pub mod Entries
