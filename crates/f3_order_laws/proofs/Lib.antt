@@ -2,3 +2,4 @@ pub mod Expressions
 pub mod Values
 pub mod Declarations
 pub mod Entries
+pub mod Walking
