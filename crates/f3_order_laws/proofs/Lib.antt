@@ -3,3 +3,4 @@ pub mod Values
 pub mod Declarations
 pub mod Entries
 pub mod Walking
+pub mod Orders
