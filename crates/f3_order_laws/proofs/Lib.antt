@@ -4,3 +4,5 @@ pub mod Declarations
 pub mod Entries
 pub mod Walking
 pub mod Orders
+pub mod Constructs
+pub mod Places
