@@ -6,3 +6,4 @@ pub mod Walking
 pub mod Orders
 pub mod Constructs
 pub mod Places
+pub mod Seen
