@@ -7,3 +7,4 @@ pub mod Orders
 pub mod Constructs
 pub mod Places
 pub mod Seen
+pub mod Programs

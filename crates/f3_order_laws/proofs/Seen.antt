@@ -86,7 +86,7 @@ module _ (us : List UnitTree) where
   pub lies : (i : ℕ) (u : UnitTree) → slice_get us i ≡ Some u → Lies scopes (from i) (unit_scopes (from i) u)
   lies i u at = unit_lies scopes i 0 us u whole_lies at
 
-  next_from : (i : ℕ) (u : UnitTree) → slice_get us i ≡ Some u → from (i + 1) ≡ from i + length (unit_scopes (from i) u)
+  pub next_from : (i : ℕ) (u : UnitTree) → slice_get us i ≡ Some u → from (i + 1) ≡ from i + length (unit_scopes (from i) u)
   next_from i u at = ap from (let e : i + 1 ≡ suc i = omega arith in e) ∙ start_next i 0 us u at
 
   pub unit_at : (i : ℕ) (u : UnitTree) → slice_get us i ≡ Some u → slice_get scopes (from i) ≡ Some (scope_of_unit u)
