@@ -8,3 +8,5 @@ pub mod Constructs
 pub mod Places
 pub mod Seen
 pub mod Programs
+pub mod Firsts
+pub mod Resolved

@@ -1,12 +1,14 @@
 -- Of the orders of a program's units in which used modules come first it is no matter which is taken.
-use Rattle.std.specs.Prelude.{◌≡◌, ℕ, List, Contains}
+use Rattle.std.specs.Prelude.{◌≡◌, ℕ, List, Option, None, Some, Contains}
 use Rattle.f3_rules.specs.declared.breaks.Break.{Break}
+use Rattle.f3_rules.specs.Least.{first_of}
 use Rattle.f3_tree.specs.Tree.{Tree}
 use Rattle.f3_scopes.specs.Outlines.{Scope}
 use Rattle.f3_scopes.specs.Scopes.{scopes_of}
 use Rattle.f3_access.specs.declared.table.Lookup.{Lookup}
 use Rattle.f3_access.specs.declared.table.Lookup.TheVariants.{One}
 use Rattle.f3_access.specs.Access.{IsVisible}
+use Rattle.f3_access.specs.Lookups.{Resolves}
 use Rattle.f3_graph.specs.Units.{nodes_of}
 use Rattle.f3_graph.specs.Order.{IsOrderOf}
 use Rattle.f3_type_rules.specs.Program.{program_breaks}
@@ -15,8 +17,37 @@ use Rattle.f3_type_rules.specs.Program.{program_breaks}
 abbrev pub AnswersVisible : List Scope → (ℕ → ℕ → Lookup) → Type 0
 AnswersVisible scopes look = (scope symbol entity : ℕ) → look scope symbol ≡ One entity → IsVisible scopes scope symbol entity
 
--- the same rules are broken at the same places, under the same names
+-- which holds where one entity, none or several are answered as one, none or several are visible
+abbrev pub ResolvedIsVisible : Type 0
+ResolvedIsVisible = (scopes : List Scope) (look : ℕ → ℕ → Lookup)
+    → ((scope symbol : ℕ) → Resolves (look scope symbol) (IsVisible scopes scope symbol)) → AnswersVisible scopes look
+
+-- Each break along one order is one along each other.
 abbrev pub OrdersAreAlike : Type 0
 OrdersAreAlike = (t : Tree) (look : ℕ → ℕ → Lookup) (o p : List ℕ)
     → AnswersVisible (scopes_of t) look → IsOrderOf (nodes_of t) o → IsOrderOf (nodes_of t) p
     → (b : Break) → Contains (program_breaks t look o) b → Contains (program_breaks t look p) b
+
+-- ---- the first break
+
+-- none of both, or two of one rule at one place
+abbrev pub AreAlike : Option Break → Option Break → Type 0
+AreAlike None None = Unit {0}
+AreAlike None (Some c) = ⊥
+AreAlike (Some b) None = ⊥
+AreAlike (Some b) (Some c) = (b.phase ≡ c.phase) × (b.place ≡ c.place) × (b.rule ≡ c.rule)
+
+abbrev pub FirstsAreAlike : Type 0
+FirstsAreAlike = (t : Tree) (look : ℕ → ℕ → Lookup) (o p : List ℕ)
+    → AnswersVisible (scopes_of t) look → IsOrderOf (nodes_of t) o → IsOrderOf (nodes_of t) p
+    → AreAlike (first_of (program_breaks t look o)) (first_of (program_breaks t look p))
+
+-- what breaks one rule at one place has one name
+abbrev pub HaveOneName : List Break → Type 0
+HaveOneName bs = (b c : Break) → Contains bs b → Contains bs c → AreAlike (Some b) (Some c) → b.name ≡ c.name
+
+-- then the first break is one, with its name
+abbrev pub FirstsAreOne : Type 0
+FirstsAreOne = (t : Tree) (look : ℕ → ℕ → Lookup) (o p : List ℕ)
+    → AnswersVisible (scopes_of t) look → IsOrderOf (nodes_of t) o → IsOrderOf (nodes_of t) p → HaveOneName (program_breaks t look o)
+    → first_of (program_breaks t look o) ≡ first_of (program_breaks t look p)
