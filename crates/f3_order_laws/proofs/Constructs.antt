@@ -11,12 +11,11 @@ use Rattle.f3_tree.specs.Statements.{StatementTree, acts, acts_if, branches, sel
 use Rattle.f3_tree.specs.Statements.{Block, no_statements, statements, Branches, no_branches, branch}
 use Rattle.f3_tree.specs.Statements.{Alternative, no_alternative, alternative, Cases, no_cases, case_block}
 use Rattle.f3_tree.specs.Tree.{ProcedureTree, UnitTree}
-use Rattle.f3_scopes.specs.declared.outline.ScopeKind.{ScopeKind}
 use Rattle.f3_scopes.specs.declared.outline.ScopeKind.TheVariants as scope
 use Rattle.f3_scopes.specs.Outlines.{Scope, Using}
 use Rattle.f3_scopes.specs.Scopes.{using, construct_name, constructs_in, constructs_in_block, constructs_in_branches, constructs_in_alternative, constructs_in_cases}
 use Rattle.f3_scopes.specs.Scopes.{procedure_kind, scope_of_unit, scope_of_procedure, procedure_scopes, procedures_from, own_scopes, unit_scopes}
-use Rattle.f3_graph.specs.Units.{Node, used_in, used_in_procedure, node_of, uses_of}
+use Rattle.f3_graph.specs.Units.{used_in, used_in_procedure, node_of, uses_of}
 use Rattle.f3_type_rules.specs.Associates.{constructs_of, constructs_of_block, constructs_of_branches, constructs_of_other, constructs_of_cases}
 
 -- ---- as many scopes as constructs

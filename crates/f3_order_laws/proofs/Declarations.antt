@@ -1,11 +1,11 @@
 -- Where two agree on what is known of all that a unit sees, they break the same rules in it and know the same behind it.
-use Rattle.std.proofs.Common.{◌≡◌, refl, ℕ, ◌+◌, Bool, true, false, not, ◌&&◌, ◌||◌, ◌==◌, if◌then◌else◌, cond, List, [], ◌∷◌, ◌++◌, map, Option, None, Some, ap, ◌∙◌, sym, inl, inr}
+use Rattle.std.proofs.Common.{◌≡◌, refl, ℕ, ◌+◌, Bool, true, false, not, ◌&&◌, ◌||◌, ◌==◌, cond, List, [], ◌∷◌, map, Option, None, Some, ap, ◌∙◌, inl, inr}
 use Rattle.std.specs.Prelude.{nat_eq, nat_lt, slice_get}
-use Rattle.std.specs.List.{flat_map, list_any}
+use Rattle.std.specs.List.{flat_map}
 use Rattle.std.specs.Option.{option_map}
 use Rattle.std.specs.Map.{lookup}
 use Rattle.f3_nodes.proofs.Members.{Has}
-use Rattle.f3_rules.specs.declared.rule.Rule.TheVariants.{T1, T3, T5}
+use Rattle.f3_rules.specs.declared.rule.Rule.TheVariants.{T3, T5}
 use Rattle.f3_rules.specs.declared.breaks.Break.{Break}
 use Rattle.f3_access.specs.declared.table.Lookup.{Lookup}
 use Rattle.f3_access.specs.declared.table.Lookup.TheVariants.{One, Nothing, Several}
@@ -17,7 +17,7 @@ use Rattle.f3_tree.specs.declared.declaration.TypeSpecifier.TheVariants as speci
 use Rattle.f3_tree.specs.declared.program.ProcedureKind.{ProcedureKind}
 use Rattle.f3_tree.specs.declared.program.ProcedureKind.TheVariants.{Subroutine, Function}
 use Rattle.f3_tree.specs.Expressions.{Tree}
-use Rattle.f3_tree.specs.Declarations.{ShapeTree, EntityTree, DeclarationTree, AccessTree, TypeTree, SpecificationTree, declares, accesses, protects, saves, defines}
+use Rattle.f3_tree.specs.Declarations.{ShapeTree, EntityTree, DeclarationTree, TypeTree, SpecificationTree, declares, accesses, protects, saves, defines}
 use Rattle.f3_tree.specs.Declarations.{parameter}
 use Rattle.f3_kinds.specs.declared.types.DataType.{DataType}
 use Rattle.f3_kinds.specs.declared.types.DataType.TheVariants.{Integer, Logical, Derived}
@@ -25,7 +25,7 @@ use Rattle.f3_kinds.specs.declared.types.Object.{Object}
 use Rattle.f3_kinds.specs.declared.types.Scalar.{Scalar}
 use Rattle.f3_kinds.specs.Things.{map_or, Context}
 use Rattle.f3_kinds.specs.Rows.{at_name, unless}
-use Rattle.f3_kinds.specs.Values.{value_of, converted}
+use Rattle.f3_kinds.specs.Values.{converted}
 use Rattle.f3_type_rules.specs.declared.definition.Holder.{Holder}
 use Rattle.f3_type_rules.specs.Constants.{constant_rows}
 use Rattle.f3_type_rules.specs.Names.{Names, Declared, attributes_of, shape_of, dimensions, type_if, type_named, type_of, object_of}
@@ -33,8 +33,8 @@ use Rattle.f3_type_rules.specs.Members.{Member, Numbered}
 use Rattle.f3_type_rules.specs.Finals.{final_rank, final_rows}
 use Rattle.f3_type_rules.specs.Scene.{Scene, context_in}
 use Rattle.f3_type_rules.specs.Walks.{after, along, Known, Spot, context, is_among}
-use Rattle.f3_type_rules.specs.Attributes.{has, conflicts}
-use Rattle.f3_type_rules.specs.Shapes.{shape_rows, multiplied, summed, elements, initial_right, at_most, are_dimensions_small, type_cells, cells_of, cells_in, size_rows}
+use Rattle.f3_type_rules.specs.Attributes.{has}
+use Rattle.f3_type_rules.specs.Shapes.{multiplied, summed, elements, initial_right, at_most, are_dimensions_small, type_cells, cells_in, size_rows}
 use Rattle.f3_type_rules.specs.Declarations.{type_rows, specifier_rows, entity_rows, given_value, with_entry, constant_value, entity_next, declaration_rows, component_rows, all_cells, type_definition_rows}
 use Rattle.f3_type_rules.specs.Declarations.{specification_rows, specification_next, header_rows, spot_of, within_member, member_rows, member_next, unit_spot, within_unit, behind_part, unit_rows, unit_next}
 use Rattle.f3_order_laws.proofs.Expressions.{joined}
@@ -117,8 +117,8 @@ module _ (Is : ℕ → Type 0) (s : Spot) (sees : (symbol e : ℕ) → ((s.scene
     size_same : (x : Declared) → size_rows s k x ≡ size_rows s j x
     size_same x =
         let small : (at_most 16777216 (cells_in s k x) && are_dimensions_small (context s k) (shape_of x)) ≡ (at_most 16777216 (cells_in s j x) && are_dimensions_small (context s j) (shape_of x)) =
-            ap (λ (c : Option ℕ). at_most 16777216 c && are_dimensions_small (context s k) (shape_of x)) (cells_same x)
-            ∙ ap (λ (t : Bool). at_most 16777216 (cells_in s j x) && t) (values.dimensions_same here v w seen (shape_of x)) in
+        ap (λ (c : Option ℕ). at_most 16777216 c && are_dimensions_small (context s k) (shape_of x)) (cells_same x)
+        ∙ ap (λ (t : Bool). at_most 16777216 (cells_in s j x) && t) (values.dimensions_same here v w seen (shape_of x)) in
         ap (λ (t : Bool). unless (at_most 7 (option_map dimensions (shape_of x)) && (is_among s.dummies x.1 || t)) (at_name 5 T5 (x.1).name)) small
 
     -- ---- an entity
@@ -169,7 +169,7 @@ module _ (Is : ℕ → Type 0) (s : Spot) (sees : (symbol e : ℕ) → ((s.scene
     pub all_cells_same : (t : TypeTree) → all_cells s k t ≡ all_cells s j t
     all_cells_same t =
         let pieces : (λ (d : DeclarationTree). map (λ (x : EntityTree). cells_in s k (d, x)) d.entities) ≡ (λ (d : DeclarationTree). map (λ (x : EntityTree). cells_in s j (d, x)) d.entities) =
-            λ i d. map (λ (x : EntityTree). cells_same (d, x) i) d.entities in
+        λ i d. map (λ (x : EntityTree). cells_same (d, x) i) d.entities in
         ap (λ (f : DeclarationTree → List (Option ℕ)). after summed (Some 0) (flat_map f t.components)) pieces
 
     pub header_same : (n : Name) (kind : ProcedureKind) → header_rows s k n kind ≡ header_rows s j n kind
@@ -236,5 +236,5 @@ module _ (Is : ℕ → Type 0) (scene : Scene) where
   unit_same u sees members k j same =
       let part = part_same Is (unit_spot scene u) sees u.members ((u.tree).part).specifications (within_unit u k) (within_unit u j) (refl, same) in
       let rest = walk_same (Agree Is) (member_rows scene u.scope) (member_next scene u.scope) u.members (λ m h. member_steps u.scope m (members m h))
-          (behind_part scene u k) (behind_part scene u j) part.1 in
+      (behind_part scene u k) (behind_part scene u j) part.1 in
       (joined part.0 rest.0, rest.1)

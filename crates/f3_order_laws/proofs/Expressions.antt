@@ -1,6 +1,5 @@
 -- What is said of an expression, and what it breaks, does not hang on the values of named constants.
-use Rattle.std.proofs.Common.{◌≡◌, refl, ℕ, Bool, ◌&&◌, List, [], ◌∷◌, ◌++◌, Option, None, Some, ap, ◌∙◌, sym}
-use Rattle.f3_rules.specs.declared.source.Place.{Place}
+use Rattle.std.proofs.Common.{◌≡◌, refl, ℕ, Bool, ◌&&◌, List, [], ◌∷◌, ◌++◌, Option, Some, ap, ◌∙◌}
 use Rattle.f3_rules.specs.declared.breaks.Break.{Break}
 use Rattle.f3_tree.specs.declared.expression.Name.{Name}
 use Rattle.f3_tree.specs.Expressions.{Tree, integer, truth, text, designator, group, array, signed, negation, comparison, chain, Rest, no_more, more}
@@ -19,7 +18,7 @@ use Rattle.f3_kinds.specs.declared.said.Role.TheVariants as role
 use Rattle.f3_kinds.specs.Things.{Context}
 use Rattle.f3_kinds.specs.Rows.{scalar_rows}
 use Rattle.f3_kinds.specs.Operands.{chain_said, chain_rows, comparison_said, signed_said, not_said, group_said, array_said, array_rows}
-use Rattle.f3_kinds.specs.Designators.{Part, step, step_rows, along, along_rows, enter, enter_rows, start, reach_rows, reached_parts, is_allocation, is_last, object_reach, object_rows, object_parts, reach_has}
+use Rattle.f3_kinds.specs.Designators.{Part, step, step_rows, along, along_rows, enter, enter_rows, start, reach_rows, reached_parts, is_allocation, is_last, object_reach, object_rows, reach_has}
 use Rattle.f3_kinds.specs.Typing.{Sense, unmeant, object, reference, intrinsic_reference, construction, sense, sense_has, sense_parts, sense_rows, named_said, designator_said, designator_rows, level_of}
 use Rattle.f3_kinds.specs.Typing.{said, said_rest, said_all, said_parts, said_behind, said_arguments, said_argument, said_perhaps}
 use Rattle.f3_kinds.specs.Typing.{breaks, breaks_rest, breaks_all, breaks_parts, breaks_behind, breaks_arguments, breaks_argument, breaks_perhaps}

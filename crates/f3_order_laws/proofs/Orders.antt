@@ -1,6 +1,5 @@
 -- In an order of the units each stands behind all modules that it takes, directly or by others.
-use Rattle.std.proofs.Common.{◌≡◌, ◌≢◌, refl, ℕ, zero, suc, ◌+◌, ◌<◌, ◌≤◌, ◌⊎◌, inl, inr, List, [], ◌∷◌, ◌++◌, length, take, get_or, Option, None, Some, ap, ◌∙◌, sym, subst, arith, slice_get, Contains}
-use Rattle.std.specs.List.{flat_map}
+use Rattle.std.proofs.Common.{◌≡◌, ℕ, suc, ◌+◌, ◌<◌, inl, inr, List, [], ◌∷◌, ◌++◌, length, take, get_or, Option, Some, ap, ◌∙◌, sym, subst, arith, slice_get, Contains}
 use Rattle.std.proofs.lemmas.Bool.{cases_lt}
 use Rattle.std.proofs.lemmas.List.{get_or-take, length-take, get_or_default}
 use Rattle.std.proofs.lemmas.Option.{slice_get_within, get_or_from_slice_get}
@@ -62,8 +61,8 @@ module _ (nodes : List Node) (order : List ℕ) (is : IsOrderOf nodes order) whe
         let new : Has done i → ⊥ = λ h. (let e = from i h in is.once e.0 k e.1 lt (e.3 ∙ sym here)) in
         let behind : (v : ℕ) → Needs nodes i v → Has done v = λ v n. to v (needs_early k i v lt here n) in
         let later = stands_from rest (k + 1) (i ∷ done)
-            (λ j. same (suc j) ∙ ap (slice_get order) (let e : k + suc j ≡ (k + 1) + j = omega arith in e))
-            (λ v e. more_done k done i v here to e) (λ v h. more_early k done i v lt here from h) in
+        (λ j. same (suc j) ∙ ap (slice_get order) (let e : k + suc j ≡ (k + 1) + j = omega arith in e))
+        (λ v e. more_done k done i v here to e) (λ v h. more_early k done i v lt here from h) in
         subst (Standing units (Needs nodes) done (i ∷ rest)) (first_unit i rest u.0 u.1) (u.1, new, behind, later)
       where
         more_done : (k : ℕ) (done : List ℕ) (i v : ℕ) → get_or order k 0 ≡ i → ((w : ℕ) → Early order k w → Has done w) → Early order (k + 1) v → Has (i ∷ done) v

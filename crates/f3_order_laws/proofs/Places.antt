@@ -1,12 +1,11 @@
 -- Where the scopes of units and procedures stand, and which entities they declare.
-use Rattle.std.proofs.Common.{◌≡◌, ◌≢◌, refl, ℕ, zero, suc, ◌+◌, ◌<◌, ◌≤◌, ◌⊎◌, inl, inr, List, [], ◌∷◌, ◌++◌, map, length, take, Some, ap, ◌∙◌, sym, subst, arith, slice_get}
-use Rattle.std.proofs.lemmas.Bool.{cases_lt}
+use Rattle.std.proofs.Common.{◌≡◌, refl, ℕ, zero, suc, ◌+◌, ◌<◌, ◌≤◌, ◌⊎◌, inl, inr, List, [], ◌∷◌, ◌++◌, length, take, Some, ap, ◌∙◌, sym, subst, arith, slice_get}
 use Rattle.std.proofs.lemmas.List.{length-append}
 use Rattle.std.proofs.lemmas.Option.{slice_get_within}
 use Rattle.f3_nodes.proofs.Members.{Has}
 use Rattle.f3_tree.specs.Tree.{ProcedureTree, UnitTree}
 use Rattle.f3_scopes.specs.Outlines.{Scope}
-use Rattle.f3_scopes.specs.Scopes.{constructs_in_block, scope_of_procedure, procedure_scopes, procedures_from, unit_scopes, scopes_from}
+use Rattle.f3_scopes.specs.Scopes.{scope_of_procedure, procedure_scopes, procedures_from, unit_scopes, scopes_from}
 use Rattle.f3_access.specs.Access.{entities_of, first_entity}
 use Rattle.f3_type_rules.specs.Associates.{constructs_of_block}
 use Rattle.f3_type_rules.specs.Members.{Member, Numbered, members_from, numbered, units_from}
@@ -111,7 +110,7 @@ members_placed scopes host e n (p ∷ ps) lies m (inl same) =
     let later = procedures_from host (n + length (procedure_scopes host n p)) ps in
     let long = length-append (procedure_scopes host n p) later in
     let at : slice_get scopes n ≡ Some (scope_of_procedure host p) =
-        subst (λ k. slice_get scopes k ≡ Some (scope_of_procedure host p)) (let z : n + 0 ≡ n = omega arith in z) (lies 0 (scope_of_procedure host p) refl) in
+    subst (λ k. slice_get scopes k ≡ Some (scope_of_procedure host p)) (let z : n + 0 ≡ n = omega arith in z) (lies 0 (scope_of_procedure host p) refl) in
     subst (IsPlaced scopes host n (n + length (procedures_from host n (p ∷ ps)))) (sym same) (at, refl, omega arith, omega (arith, long))
 members_placed scopes host e n (p ∷ ps) lies m (inr h) =
     let next = n + length (procedure_scopes host n p) in
@@ -120,7 +119,7 @@ members_placed scopes host e n (p ∷ ps) lies m (inr h) =
     let count = block_long n (p.header).name (n + 1) p.body in
     let step : n + 1 + length (constructs_of_block p.body) ≡ next = omega (arith, count) in
     let there = members_placed scopes host (e + 1) next ps (lies_right scopes n (procedure_scopes host n p) later lies) m
-        (subst (λ k. Has (members_from scopes (e + 1) k ps) m) step h) in
+    (subst (λ k. Has (members_from scopes (e + 1) k ps) m) step h) in
     wider scopes host next (next + length later) n (n + length (procedures_from host n (p ∷ ps))) m (omega arith) (omega (arith, long)) there
 
 -- ---- entities

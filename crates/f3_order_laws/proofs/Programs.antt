@@ -1,5 +1,5 @@
 -- The breaks of a program are the same along each order of its units.
-use Rattle.std.proofs.Common.{◌≡◌, refl, ℕ, zero, suc, ◌+◌, ◌<◌, ◌≤◌, ◌⊎◌, inl, inr, Bool, false, List, [], ◌∷◌, ◌++◌, map, length, Option, None, Some, ap, ◌∙◌, sym, subst, arith, slice_get, Contains}
+use Rattle.std.proofs.Common.{◌≡◌, refl, ℕ, zero, suc, ◌+◌, ◌<◌, ◌⊎◌, inl, inr, Bool, false, List, [], ◌∷◌, ◌++◌, map, length, Option, Some, ap, sym, subst, arith, slice_get, Contains}
 use Rattle.std.specs.Prelude.{nat_eq}
 use Rattle.std.specs.List.{flat_map}
 use Rattle.std.specs.Map.{lookup}
@@ -7,13 +7,12 @@ use Rattle.std.proofs.lemmas.List.{length-append, length-map}
 use Rattle.std.proofs.lemmas.Option.{slice_get_within}
 use Rattle.f3_nodes.proofs.Members.{Has, has_of, contains_of, has_parts, has_left, has_right}
 use Rattle.f3_rules.specs.declared.breaks.Break.{Break}
-use Rattle.f3_tree.specs.Statements.{Block}
 use Rattle.f3_tree.specs.Tree.{UnitTree, Tree}
 use Rattle.f3_scopes.specs.Outlines.{Scope}
 use Rattle.f3_scopes.specs.Scopes.{declared_in, procedure_own, scope_of_unit, scope_of_procedure, unit_scopes}
 use Rattle.f3_access.specs.declared.table.Lookup.{Lookup}
 use Rattle.f3_access.specs.Access.{first_entity}
-use Rattle.f3_graph.specs.Units.{nodes_of, node_of}
+use Rattle.f3_graph.specs.Units.{node_of}
 use Rattle.f3_graph.specs.Order.{IsOrderOf}
 use Rattle.f3_kinds.specs.declared.types.Scalar.{Scalar}
 use Rattle.f3_type_rules.specs.Members.{Member, Numbered, numbered, units_from}
@@ -109,10 +108,10 @@ module _ (t : Tree) (look : ℕ → ℕ → Lookup) (visible : AnswersVisible (s
   same_numbered : (i : ℕ) (u : UnitTree) → slice_get us i ≡ Some u → (k j : Known) → AgreeOn i k j → Same i k j (numbered scopes (from i) u)
   same_numbered i u at k j agree =
       let r = unit_same (seen.Sees us i) scene (numbered scopes (from i) u)
-          (λ symbol e h. seen.unit_sees us (from i) symbol e (visible (from i) symbol e h) i u at refl)
-          (λ m has symbol e h. (let placed = seen.member_at us i u at m has in
-          seen.member_sees us m.scope symbol e (visible m.scope symbol e h) i u at m.tree placed.0 placed.2 placed.3))
-          k j (λ e s. agree s.0 e s.1 s.2) in
+      (λ symbol e h. seen.unit_sees us (from i) symbol e (visible (from i) symbol e h) i u at refl)
+      (λ m has symbol e h. (let placed = seen.member_at us i u at m has in
+      seen.member_sees us m.scope symbol e (visible m.scope symbol e h) i u at m.tree placed.0 placed.2 placed.3))
+      k j (λ e s. agree s.0 e s.1 s.2) in
       (r.0, λ e b. (r.1).1 e (i, inl refl, b))
 
   same : (i : ℕ) (x : Numbered) → slice_get units i ≡ Some x → (k j : Known) → AgreeOn i k j → Same i k j x

@@ -1,9 +1,9 @@
 -- What is visible in a unit and its procedures belongs to the unit, or to a module that it needs.
-use Rattle.std.proofs.Common.{◌≡◌, ◌≢◌, refl, ℕ, zero, suc, ◌+◌, ◌<◌, ◌≤◌, ◌⊎◌, inl, inr, List, [], ◌∷◌, ◌++◌, map, length, Option, None, Some, ap, ◌∙◌, sym, subst, arith, slice_get, Contains}
+use Rattle.std.proofs.Common.{◌≡◌, refl, ℕ, suc, ◌+◌, ◌<◌, ◌≤◌, ◌⊎◌, inl, inr, List, map, length, None, Some, ap, ◌∙◌, sym, subst, arith, slice_get, Contains}
 use Rattle.std.specs.List.{flat_map}
 use Rattle.std.specs.Option.{option_map}
 use Rattle.std.proofs.lemmas.Bool.{cases_lt, cases_order}
-use Rattle.std.proofs.lemmas.List.{length-append, length-map}
+use Rattle.std.proofs.lemmas.List.{length-append}
 use Rattle.std.proofs.lemmas.Option.{slice_get_within, slice_get-map}
 use Rattle.f3_nodes.proofs.Members.{Has, has_of, contains_of}
 use Rattle.f3_tree.specs.declared.program.UnitKind.{UnitKind}
@@ -11,14 +11,14 @@ use Rattle.f3_tree.specs.declared.program.UnitKind.TheVariants.{Module, Program 
 use Rattle.f3_tree.specs.Tree.{ProcedureTree, UnitTree}
 use Rattle.f3_scopes.specs.declared.outline.ScopeKind.TheVariants as scope
 use Rattle.f3_scopes.specs.Outlines.{Scope, Using, Own}
-use Rattle.f3_scopes.specs.Scopes.{declared_in, procedure_own, unit_kind, constructs_in_block, scope_of_unit, scope_of_procedure, procedures_from, own_scopes, unit_scopes, scopes_from}
+use Rattle.f3_scopes.specs.Scopes.{declared_in, unit_kind, scope_of_unit, scope_of_procedure, procedures_from, own_scopes, unit_scopes, scopes_from}
 use Rattle.f3_access.specs.Access.{first_entity, IsCalled, IsOwn, IsVisible}
 use Rattle.f3_access.specs.Hosts.{host_in}
 use Rattle.f3_graph.specs.Units.{Node, node_of, uses_of}
 use Rattle.f3_type_rules.specs.Associates.{constructs_of_block}
-use Rattle.f3_type_rules.specs.Members.{Member, Numbered, members_from, numbered}
+use Rattle.f3_type_rules.specs.Members.{Member, members_from, numbered}
 use Rattle.f3_order_laws.proofs.Constructs.{block_long, unit_scope_at, scope_uses}
-use Rattle.f3_order_laws.proofs.Entries.{Out, declared_by}
+use Rattle.f3_order_laws.proofs.Entries.{Out}
 use Rattle.f3_order_laws.proofs.Orders.{Takes, Needs}
 use Rattle.f3_order_laws.proofs.Places.{Lies, lies_right, start, start_grows, start_next, unit_lies, unit_of, IsPlaced, members_placed, first_more, first_grows}
 
@@ -101,7 +101,7 @@ module _ (us : List UnitTree) where
       let count = block_long n u.name (n + 1) u.body in
       let same : n + 1 + length (constructs_of_block u.body) ≡ first = omega (arith, count) in
       let placed = members_placed scopes n e first u.procedures (lies_right scopes n (own_scopes n u) (procedures_from n first u.procedures) (lies i u at)) m
-          (subst (λ k. Has (members_from scopes e k u.procedures) m) same h) in
+      (subst (λ k. Has (members_from scopes e k u.procedures) m) same h) in
       let long = length-append (own_scopes n u) (procedures_from n first u.procedures) in
       let end = next_from i u at in
       (placed.0, placed.1, (let a = placed.2 in omega (arith, a)), (let b = placed.3 in omega (arith, b, long, end)))
@@ -150,9 +150,16 @@ module _ (us : List UnitTree) where
           let first : giver ≡ scope_of_unit u = elim (unit_scope_at (from j) u q giver in_unit) [
             | inl here ↦ here.1
             | inr inner ↦ absurd (inner.1 kind)
-          ] in
-          (node_of x.0, node_of u, y.from, node_at us i x.0 x.3, node_at us j u at, contains_of (uses_of (node_of x.0)) y.from uses,
-          is_module u.kind (ap (λ (s : Scope). s.kind) (sym first) ∙ kind), ap (λ (s : Scope). s.name.symbol) (sym first) ∙ sym named)
+          ] in (
+            node_of x.0,
+            node_of u,
+            y.from,
+            node_at us i x.0 x.3,
+            node_at us j u at,
+            contains_of (uses_of (node_of x.0)) y.from uses,
+            is_module u.kind (ap (λ (s : Scope). s.kind) (sym first) ∙ kind),
+            ap (λ (s : Scope). s.name.symbol) (sym first) ∙ sym named,
+          )
 
       by : (i j e : ℕ) → Takes nodes i j → Sees j e → Sees i e
       by i j e takes (v, inl same, belongs) = (v, inr (Needs.at_once i v (subst (Takes nodes i) (sym same) takes)), belongs)

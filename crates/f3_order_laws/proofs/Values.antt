@@ -1,15 +1,13 @@
 -- Values of constant expressions, and what hangs on them, are the same where the values of all named constants that are asked are.
-use Rattle.std.proofs.Common.{◌≡◌, refl, ℕ, Bool, true, false, not, ◌&&◌, ◌||◌, if◌then◌else◌, List, [], ◌∷◌, ◌++◌, map, Option, None, Some, ap, ◌∙◌, sym}
+use Rattle.std.proofs.Common.{◌≡◌, refl, ℕ, Bool, true, false, not, ◌&&◌, ◌||◌, if◌then◌else◌, List, [], map, Option, None, Some, ap, ◌∙◌}
 use Rattle.std.specs.Prelude.{pos, nat_eq}
 use Rattle.std.specs.List.{flat_map, list_all}
 use Rattle.f3_rules.specs.declared.rule.Rule.TheVariants.{T2}
-use Rattle.f3_rules.specs.declared.breaks.Break.{Break}
 use Rattle.f3_access.specs.declared.table.Lookup.{Lookup}
 use Rattle.f3_access.specs.declared.table.Lookup.TheVariants.{One, Nothing, Several}
-use Rattle.f3_tree.specs.declared.expression.Operator.{Operator}
 use Rattle.f3_tree.specs.declared.expression.IntegerKind.TheVariants.{Four}
 use Rattle.f3_tree.specs.Expressions.{Tree, integer, truth, text, designator, group, array, signed, negation, comparison, chain, Rest, no_more, more}
-use Rattle.f3_tree.specs.Expressions.{Trees, no_trees, trees, Parts, no_parts, parts, Behind, bare, within}
+use Rattle.f3_tree.specs.Expressions.{Trees, no_trees, trees, Parts, no_parts, parts, bare, within}
 use Rattle.f3_tree.specs.Declarations.{Bounds, ShapeTree, explicit, deferred, AttributeTree, dimension}
 use Rattle.f3_kinds.specs.declared.types.DataType.{DataType}
 use Rattle.f3_kinds.specs.declared.types.DataType.TheVariants.{Integer, Logical, Derived}

@@ -1,5 +1,5 @@
 -- Two walks along the same units, each unit behind those that it needs, meet the same rows and know the same at their ends.
-use Rattle.std.proofs.Common.{◌≡◌, refl, ℕ, ◌⊎◌, inl, inr, List, [], ◌∷◌, ◌++◌, Option, None, Some, ap, ◌∙◌, sym, subst, slice_get}
+use Rattle.std.proofs.Common.{◌≡◌, refl, ℕ, ◌⊎◌, inl, inr, List, [], ◌∷◌, Some, sym, subst, slice_get}
 use Rattle.f3_nodes.proofs.Members.{Has, has_left, has_right, has_parts}
 use Rattle.f3_rules.specs.declared.breaks.Break.{Break}
 use Rattle.f3_type_rules.specs.Members.{Numbered}
