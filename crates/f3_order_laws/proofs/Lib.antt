@@ -10,3 +10,6 @@ pub mod Seen
 pub mod Programs
 pub mod Firsts
 pub mod Resolved
+pub mod PlacedExpressions
+pub mod PlacedTrees
+pub mod PlacedUnits
