@@ -7,11 +7,14 @@ use Rattle.f3_rules.specs.declared.breaks.Break.{Break}
 use Rattle.f3_rules.specs.declared.rule.Rule.{Rule}
 use Rattle.f3_rules.specs.declared.rule.Rule.TheVariants.{S1, S2, S3, S4, S5, S6, S7, S8, U1, U2, U3, U4, N1, N2, N3, N4, N5, N6, N7, N8, N9, N10, N11, N12, N13, T1, T2, T3, T4, T5, T6, T7, T8, T9, T10, T11, T12, D1, D2, D3, D4, D5, D6}
 use Rattle.f3_rules.specs.Rule.{row_of}
-use Rattle.f3_rules.specs.Least.{before, rank, is_before, first_of, LeastAs}
-use Rattle.f3_rules.proofs.Firsts.{first_is_least}
-use Rattle.f3_type_rules.specs.Program.{program_breaks}
-use Rattle.f3_order_laws.specs.Laws.{AreAlike, HaveOneName, FirstsAreAlike, FirstsAreOne}
-use Rattle.f3_order_laws.proofs.Programs.{orders}
+use Rattle.f3_rules.specs.Least.{before, rank, is_before, earlier_of, first_of, LeastAs}
+use Rattle.f3_rules.proofs.Firsts.{first_is_least, first-append}
+use Rattle.f3_nodes.proofs.Members.{has_of, contains_of}
+use Rattle.f3_type_rules.specs.Walks.{along}
+use Rattle.f3_type_rules.specs.Declarations.{unit_rows, unit_next}
+use Rattle.f3_type_rules.specs.Program.{nothing_known, units_in, program_breaks}
+use Rattle.f3_order_laws.specs.Laws.{AreAlike, FirstsAreAlike, FirstsAreOne}
+use Rattle.f3_order_laws.proofs.Programs.{orders, units, scene, behind, parts_alike, parts_one, blocks_alike}
 
 -- the rules in the order of the table
 abbrev table : List Rule
@@ -126,21 +129,27 @@ module _ (xs ys : List Break) (to : (b : Break) → Contains xs b → Contains y
   pub firsts_alike : AreAlike (first_of xs) (first_of ys)
   firsts_alike = both (first_of xs) (first_of ys) (first_is_least xs).as_said (first_is_least ys).as_said
 
-  named : HaveOneName xs → (f g : Option Break) → LeastAs f (Contains xs) → LeastAs g (Contains ys) → AreAlike f g → f ≡ g
-  named names None None l m a = refl
-  named names None (Some g) l m a = absurd a
-  named names (Some f) None l m a = absurd a
-  named names (Some f) (Some g) l m a =
-      let name = names f g l.0 (from g m.0) a in
-      λ i. Some record { phase = a.0 i; place = a.1 i; rule = a.2 i; name = name i }
-
-  pub firsts_one : HaveOneName xs → first_of xs ≡ first_of ys
-  firsts_one names = named names (first_of xs) (first_of ys) (first_is_least xs).as_said (first_is_least ys).as_said firsts_alike
-
 pub first_of_orders : FirstsAreAlike
 first_of_orders t look o p visible one two =
     firsts_alike (program_breaks t look o) (program_breaks t look p) (orders t look o p visible one two) (orders t look p o visible two one)
 
+-- ---- two lists of which the second parts are one, and the first parts have one first break where they have two at one place
+
+earlier_one : (f g h : Option Break) → AreAlike f g → ((x y : Break) → f ≡ Some x → g ≡ Some y → x.place ≡ y.place → x ≡ y) → earlier_of f h ≡ earlier_of g h
+earlier_one None None h a one = refl
+earlier_one None (Some y) h a one = absurd a
+earlier_one (Some x) None h a one = absurd a
+earlier_one (Some x) (Some y) h a one = ap (λ (b : Break). earlier_of (Some b) h) (one x y refl refl a.1)
+
 pub named_of_orders : FirstsAreOne
-named_of_orders t look o p visible one two =
-    firsts_one (program_breaks t look o) (program_breaks t look p) (orders t look o p visible one two) (orders t look p o visible two one)
+named_of_orders t look o p visible one two differ =
+    let xs = along (unit_rows (scene t look visible)) (unit_next (scene t look visible)) nothing_known (units_in (units t look visible) o) in
+    let ys = along (unit_rows (scene t look visible)) (unit_next (scene t look visible)) nothing_known (units_in (units t look visible) p) in
+    let zs = behind t look visible o in
+    let ws = behind t look visible p in
+    first-append xs zs
+    ∙ earlier_one (first_of xs) (first_of ys) (first_of zs)
+      (firsts_alike xs ys (λ b h. contains_of ys b (parts_alike t look visible o p one two b (has_of xs b h))) (λ b h. contains_of xs b (parts_alike t look visible p o two one b (has_of ys b h))))
+      (parts_one t look visible o p one two differ)
+    ∙ ap (λ (bs : List Break). earlier_of (first_of ys) (first_of bs)) (blocks_alike t look visible o p one two)
+    ∙ sym (first-append ys ws)

@@ -6,7 +6,9 @@ use Rattle.std.specs.Map.{lookup}
 use Rattle.std.proofs.lemmas.List.{length-append, length-map}
 use Rattle.std.proofs.lemmas.Option.{slice_get_within}
 use Rattle.f3_nodes.proofs.Members.{Has, has_of, contains_of, has_parts, has_left, has_right}
+use Rattle.f3_rules.specs.declared.source.Place.{Place}
 use Rattle.f3_rules.specs.declared.breaks.Break.{Break}
+use Rattle.f3_rules.specs.Least.{first_of}
 use Rattle.f3_tree.specs.Tree.{UnitTree, Tree}
 use Rattle.f3_scopes.specs.Outlines.{Scope}
 use Rattle.f3_scopes.specs.Scopes.{declared_in, procedure_own, scope_of_unit, scope_of_procedure, unit_scopes}
@@ -22,11 +24,14 @@ use Rattle.f3_type_rules.specs.Bodies.{block_breaks}
 use Rattle.f3_type_rules.specs.Walks.{after, along, Known}
 use Rattle.f3_type_rules.specs.Declarations.{spot_of, unit_rows, unit_next}
 use Rattle.f3_type_rules.specs.Program.{unit_breaks, nothing_known, units_in, program_breaks}
-use Rattle.f3_order_laws.specs.Laws.{AnswersVisible, OrdersAreAlike}
+use Rattle.f3_order_laws.specs.Laws.{AnswersVisible, OrdersAreAlike, PlacesDiffer}
+use Rattle.f3_order_laws.specs.Places.{unit_places}
+use Rattle.f3_order_laws.proofs.PlacedExpressions.{are_of, place_in}
+use Rattle.f3_order_laws.proofs.PlacedUnits.{unit_at}
 use Rattle.f3_order_laws.proofs.Expressions.{valued}
 use Rattle.f3_order_laws.proofs.Declarations.{Alike, unit_same}
 use Rattle.f3_order_laws.proofs.Entries.{Out, narrower, declared_by, unit_kept}
-use Rattle.f3_order_laws.proofs.Walking.{Standing, ends_alike, rows_alike}
+use Rattle.f3_order_laws.proofs.Walking.{Standing, ends_alike, rows_alike, firsts_one}
 use Rattle.f3_order_laws.proofs.Orders.{Needs, stands, all_there}
 use Rattle.f3_order_laws.proofs.Places.{numbered_at, numbered_of, first_more, first_grows}
 use Rattle.f3_order_laws.proofs.Seen as seen
@@ -51,19 +56,19 @@ module _ (s : Scene) (v : ℕ → Option Scalar) where
   blocks units = flat_map unit_blocks units
 
 module _ (t : Tree) (look : ℕ → ℕ → Lookup) (visible : AnswersVisible (seen.scopes t.units) look) where
-  abbrev us : List UnitTree
+  abbrev pub us : List UnitTree
   us = t.units
 
-  abbrev scopes : List Scope
+  abbrev pub scopes : List Scope
   scopes = seen.scopes us
 
   abbrev from : ℕ → ℕ
   from = seen.from us
 
-  abbrev units : List Numbered
+  abbrev pub units : List Numbered
   units = units_from scopes 0 us
 
-  abbrev scene : Scene
+  abbrev pub scene : Scene
   scene = scene_of (names_of t look) scopes units
 
   -- ---- a unit changes what is known of its own entities alone
@@ -119,6 +124,28 @@ module _ (t : Tree) (look : ℕ → ℕ → Lookup) (visible : AnswersVisible (s
       let r = numbered_of scopes i 0 us x at in
       subst (Same i k j) (sym r.2) (same_numbered i r.0 r.1 k j agree)
 
+  -- the breaks of all blocks, with the values that are known behind an order
+  abbrev pub behind : List ℕ → List Break
+  behind order = flat_map (unit_breaks scene (after (unit_next scene) nothing_known (units_in units order)).values) units
+
+  -- ---- where the units break rules
+
+  placed_in : (i : ℕ) (x : Numbered) → slice_get units i ≡ Some x → (k : Known) (b : Break) → Has (unit_rows scene k x) b
+      → (u : UnitTree) × (slice_get us i ≡ Some u) × Contains (unit_places u) b.place
+  placed_in i x at k b h =
+      let r = numbered_of scopes i 0 us x at in
+      let u = r.0 in
+      let P : Place → Type 0 = λ p. Contains (unit_places u) p in
+      let rows = unit_at P scene scopes (from i) u k (are_of P (unit_places u) (λ p m. contains_of (unit_places u) p m)) in
+      (u, r.1, place_in P (unit_rows scene k (numbered scopes (from i) u)) b rows (subst (λ y. Has (unit_rows scene k y) b) r.2 h))
+
+  apart_rows : PlacesDiffer t → (i v : ℕ) (x y : Numbered) (k j : Known) (b c : Break) → slice_get units i ≡ Some x → slice_get units v ≡ Some y
+      → Has (unit_rows scene k x) b → Has (unit_rows scene j y) c → b.place ≡ c.place → i ≡ v
+  apart_rows differ i v x y k j b c at_i at_v here there same_place =
+      let a = placed_in i x at_i k b here in
+      let z = placed_in v y at_v j c there in
+      differ i v a.0 z.0 c.place a.1 z.1 (subst (λ p. Contains (unit_places a.0) p) same_place a.2) z.2
+
   -- ---- orders
 
   unit_there : (i : ℕ) → i < length (seen.nodes us) → (x : Numbered) × (slice_get units i ≡ Some x)
@@ -147,10 +174,16 @@ module _ (t : Tree) (look : ℕ → ℕ → Lookup) (visible : AnswersVisible (s
         ends_alike units (unit_rows scene) (unit_next scene) (seen.Belongs us) (Needs (seen.nodes us)) (seen.decided us) (seen.apart us) kept same
         o p first second first_stands second_stands (all_there (seen.nodes us) p two o one) (all_there (seen.nodes us) o one p two)
 
-    parts_alike : (b : Break) → Has (along (unit_rows scene) (unit_next scene) nothing_known first) b → Has (along (unit_rows scene) (unit_next scene) nothing_known second) b
+    pub parts_alike : (b : Break) → Has (along (unit_rows scene) (unit_next scene) nothing_known first) b → Has (along (unit_rows scene) (unit_next scene) nothing_known second) b
     parts_alike =
         rows_alike units (unit_rows scene) (unit_next scene) (seen.Belongs us) (Needs (seen.nodes us)) (seen.decided us) (seen.apart us) kept same
         o p first second first_stands second_stands (all_there (seen.nodes us) p two o one) (all_there (seen.nodes us) o one p two)
+
+    pub parts_one : PlacesDiffer t → (x y : Break) → first_of (along (unit_rows scene) (unit_next scene) nothing_known first) ≡ Some x
+        → first_of (along (unit_rows scene) (unit_next scene) nothing_known second) ≡ Some y → x.place ≡ y.place → x ≡ y
+    parts_one differ =
+        firsts_one units (unit_rows scene) (unit_next scene) (seen.Belongs us) (Needs (seen.nodes us)) (seen.decided us) (seen.apart us) kept same
+        o p first second first_stands second_stands (all_there (seen.nodes us) p two o one) (all_there (seen.nodes us) o one p two) (apart_rows differ)
 
     abbrev value_at : List Numbered → ℕ → Option Scalar
     value_at ordered e = lookup (nat_eq e) (end ordered).values
@@ -158,7 +191,7 @@ module _ (t : Tree) (look : ℕ → ℕ → Lookup) (visible : AnswersVisible (s
     values_alike : value_at first ≡ value_at second
     values_alike = λ n e. (known_alike e).0 n
 
-    blocks_alike : flat_map (unit_breaks scene (end first).values) units ≡ flat_map (unit_breaks scene (end second).values) units
+    pub blocks_alike : flat_map (unit_breaks scene (end first).values) units ≡ flat_map (unit_breaks scene (end second).values) units
     blocks_alike = ap (λ (v : ℕ → Option Scalar). blocks scene v units) values_alike
 
     pub breaks_alike : (b : Break) → Contains (program_breaks t look o) b → Contains (program_breaks t look p) b

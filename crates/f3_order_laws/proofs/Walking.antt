@@ -1,12 +1,27 @@
 -- Two walks along the same units, each unit behind those that it needs, meet the same rows and know the same at their ends.
-use Rattle.std.proofs.Common.{◌≡◌, refl, ℕ, ◌⊎◌, inl, inr, List, [], ◌∷◌, Some, sym, subst, slice_get}
-use Rattle.f3_nodes.proofs.Members.{Has, has_left, has_right, has_parts}
+use Rattle.std.proofs.Common.{◌≡◌, refl, ℕ, ◌⊎◌, inl, inr, Bool, true, false, if◌then◌else◌, List, [], ◌∷◌, ◌++◌, Option, None, Some, ap, ◌∙◌, sym, subst, slice_get, Contains}
+use Rattle.f3_nodes.proofs.Members.{Has, has_of, has_left, has_right, has_parts}
 use Rattle.f3_rules.specs.declared.breaks.Break.{Break}
+use Rattle.f3_rules.specs.Least.{is_before, earlier_of, first_of, Least, LeastAs}
+use Rattle.f3_rules.proofs.Firsts.{first_is_least, first-append}
 use Rattle.f3_type_rules.specs.Members.{Numbered}
 use Rattle.f3_type_rules.specs.Walks.{after, along, Known}
 use Rattle.f3_type_rules.specs.Program.{nothing_known}
 use Rattle.f3_order_laws.proofs.Declarations.{Alike}
 use Rattle.f3_order_laws.proofs.Entries.{alike_on, alike_back}
+
+-- the earlier of two is one of them
+one_of : (f g : Option Break) (x : Break) → earlier_of f g ≡ Some x → (f ≡ Some x) ⊎ (g ≡ Some x)
+one_of None g x e = inr e
+one_of (Some a) None x e = inl e
+one_of (Some a) (Some b) x e = by (is_before b a) e
+  where
+    by : (t : Bool) → (if t then Some b else Some a) ≡ Some x → (Some a ≡ Some x) ⊎ (Some b ≡ Some x)
+    by true e = inr e
+    by false e = inl e
+
+pub first_has : (bs : List Break) (x : Break) → first_of bs ≡ Some x → Has bs x
+first_has bs x e = let l : LeastAs (Some x) (Contains bs) = subst (λ (f : Option Break). LeastAs f (Contains bs)) e (first_is_least bs).as_said in has_of bs x l.0
 
 -- These units have these numbers, none of which is done; and each stands behind all that it needs.
 abbrev pub Standing : (List Numbered) → (ℕ → ℕ → Type 0) → (done : List ℕ) → List ℕ → List Numbered → Type 0
@@ -101,6 +116,21 @@ module _ (units : List Numbered) (rows : Known → Numbered → List Break) (nex
         let later = found (i ∷ done) is us st.3 (next k u) (fresh_more k done i u st.0 fresh) b there in
         (later.0, later.1, later.2, inr later.3, later.4, later.5, later.6)
   ]
+
+  -- the first break on a walk is the first of some unit's
+  abbrev FirstAt : Known → Break → ℕ → Type 0
+  FirstAt end x i = (u : Numbered) × (k : Known) × (slice_get units i ≡ Some u) × Before end i u k × (first_of (rows k u) ≡ Some x)
+
+  first_found : (done is : List ℕ) (us : List Numbered) → Stands done is us → (k : Known) → Fresh k done → (x : Break) → first_of (along rows next k us) ≡ Some x
+      → (i : ℕ) × Has is i × FirstAt (after next k us) x i
+  first_found done [] [] st k fresh x e = absurd (let no : ⊥ = cc in no)
+  first_found done [] (u ∷ us) st k fresh x e = absurd st
+  first_found done (i ∷ is) [] st k fresh x e = absurd st
+  first_found done (i ∷ is) (u ∷ us) st k fresh x e =
+      elim (one_of (first_of (rows k u)) (first_of (along rows next (next k u) us)) x (sym (first-append (rows k u) (along rows next (next k u) us)) ∙ e)) [
+        | inl here ↦ (i, inl refl, (u, k, st.0, before_first done i is u us st k fresh, here))
+        | inr there ↦ let later = first_found (i ∷ done) is us st.3 (next k u) (fresh_more k done i u st.0 fresh) x there in (later.0, inr later.1, later.2)
+      ]
 
   -- ---- two walks
 
@@ -203,3 +233,28 @@ module _ (units : List Numbered) (rows : Known → Numbered → List Break) (nex
         let lists : rows k u ≡ rows j u = (same i u r.4 k j (counts end other i u k j r.5 before (λ v e need belongs. ends_alike e))).0 in
         let mine : Has (rows j u) b = subst (λ l. Has l b) lists r.6 in
         there.4 b (subst (λ n. Has (rows j n) b) (sym one_u) mine)
+
+    -- no two units have rows at one place
+    abbrev pub RowsApart : Type 0
+    RowsApart = (i v : ℕ) (x y : Numbered) (k j : Known) (b c : Break) → slice_get units i ≡ Some x → slice_get units v ≡ Some y
+        → Has (rows k x) b → Has (rows j y) c → b.place ≡ c.place → i ≡ v
+
+    -- two first breaks at one place are one
+    pub firsts_one : RowsApart → (x y : Break) → first_of (along rows next nothing_known os) ≡ Some x → first_of (along rows next nothing_known ps) ≡ Some y → x.place ≡ y.place → x ≡ y
+    firsts_one rows_apart x y first second place =
+        let r = first_found [] o os one nothing_known fresh_first x first in
+        let q = first_found [] p ps two nothing_known fresh_first y second in
+        let a = r.2 in
+        let z = q.2 in
+        let one_place : q.0 ≡ r.0 =
+            sym (rows_apart r.0 q.0 a.0 z.0 a.1 z.1 x y a.2 z.2 (first_has (rows a.1 a.0) x a.4) (first_has (rows z.1 z.0) y z.4) place) in
+        same_first r.0 x y a (subst (FirstAt other y) one_place z)
+      where
+        same_first : (i : ℕ) (x y : Break) → FirstAt end x i → FirstAt other y i → x ≡ y
+        same_first i x y (u, k, at, before, f) (v, j, at_v, later, g) =
+            let one_u : v ≡ u = one_unit end other i v u at_v at in
+            let there : Before other i u j = subst (λ n. Before other i n j) one_u later in
+            let lists : rows k u ≡ rows j u = (same i u at k j (counts end other i u k j before there (λ w e need belongs. ends_alike e))).0 in
+            let g_u : first_of (rows j u) ≡ Some y = subst (λ n. first_of (rows j n) ≡ Some y) one_u g in
+            let both : Some x ≡ Some y = sym f ∙ ap first_of lists ∙ g_u in
+            cc

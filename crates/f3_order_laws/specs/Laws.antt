@@ -1,8 +1,9 @@
 -- Of the orders of a program's units in which used modules come first it is no matter which is taken.
-use Rattle.std.specs.Prelude.{◌≡◌, ℕ, List, Option, None, Some, Contains}
+use Rattle.std.specs.Prelude.{◌≡◌, ℕ, List, Option, None, Some, Contains, slice_get}
+use Rattle.f3_rules.specs.declared.source.Place.{Place}
 use Rattle.f3_rules.specs.declared.breaks.Break.{Break}
 use Rattle.f3_rules.specs.Least.{first_of}
-use Rattle.f3_tree.specs.Tree.{Tree}
+use Rattle.f3_tree.specs.Tree.{UnitTree, Tree}
 use Rattle.f3_scopes.specs.Outlines.{Scope}
 use Rattle.f3_scopes.specs.Scopes.{scopes_of}
 use Rattle.f3_access.specs.declared.table.Lookup.{Lookup}
@@ -12,6 +13,7 @@ use Rattle.f3_access.specs.Lookups.{Resolves}
 use Rattle.f3_graph.specs.Units.{nodes_of}
 use Rattle.f3_graph.specs.Order.{IsOrderOf}
 use Rattle.f3_type_rules.specs.Program.{program_breaks}
+use Rattle.f3_order_laws.specs.Places.{unit_places}
 
 -- the one entity that is answered for a name in a scope is visible there under this name
 abbrev pub AnswersVisible : List Scope → (ℕ → ℕ → Lookup) → Type 0
@@ -42,12 +44,13 @@ FirstsAreAlike = (t : Tree) (look : ℕ → ℕ → Lookup) (o p : List ℕ)
     → AnswersVisible (scopes_of t) look → IsOrderOf (nodes_of t) o → IsOrderOf (nodes_of t) p
     → AreAlike (first_of (program_breaks t look o)) (first_of (program_breaks t look p))
 
--- what breaks one rule at one place has one name
-abbrev pub HaveOneName : List Break → Type 0
-HaveOneName bs = (b c : Break) → Contains bs b → Contains bs c → AreAlike (Some b) (Some c) → b.name ≡ c.name
+-- No two units have a place in common.
+abbrev pub PlacesDiffer : Tree → Type 0
+PlacesDiffer t = (i j : ℕ) (u v : UnitTree) (place : Place) → slice_get t.units i ≡ Some u → slice_get t.units j ≡ Some v
+    → Contains (unit_places u) place → Contains (unit_places v) place → i ≡ j
 
 -- then the first break is one, with its name
 abbrev pub FirstsAreOne : Type 0
 FirstsAreOne = (t : Tree) (look : ℕ → ℕ → Lookup) (o p : List ℕ)
-    → AnswersVisible (scopes_of t) look → IsOrderOf (nodes_of t) o → IsOrderOf (nodes_of t) p → HaveOneName (program_breaks t look o)
+    → AnswersVisible (scopes_of t) look → IsOrderOf (nodes_of t) o → IsOrderOf (nodes_of t) p → PlacesDiffer t
     → first_of (program_breaks t look o) ≡ first_of (program_breaks t look p)

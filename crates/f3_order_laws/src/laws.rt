@@ -9,7 +9,7 @@ pub fn orders_are_alike()
 {}
 
 /// The first break behind the rules on names is of one rule at one place, whichever order is taken; and it has one name
-/// too, where what breaks one rule at one place has one name.
+/// too, where no two units have a place in common.
 pub fn first_break_is_one()
     ensures alike { FirstsAreAlike }
     ensures one { FirstsAreOne }
