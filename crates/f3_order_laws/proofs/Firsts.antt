@@ -149,7 +149,7 @@ named_of_orders t look o p visible one two differ =
     let ws = behind t look visible p in
     first-append xs zs
     ∙ earlier_one (first_of xs) (first_of ys) (first_of zs)
-      (firsts_alike xs ys (λ b h. contains_of ys b (parts_alike t look visible o p one two b (has_of xs b h))) (λ b h. contains_of xs b (parts_alike t look visible p o two one b (has_of ys b h))))
-      (parts_one t look visible o p one two differ)
+    (firsts_alike xs ys (λ b h. contains_of ys b (parts_alike t look visible o p one two b (has_of xs b h))) (λ b h. contains_of xs b (parts_alike t look visible p o two one b (has_of ys b h))))
+    (parts_one t look visible o p one two differ)
     ∙ ap (λ (bs : List Break). earlier_of (first_of ys) (first_of bs)) (blocks_alike t look visible o p one two)
     ∙ sym (first-append ys ws)

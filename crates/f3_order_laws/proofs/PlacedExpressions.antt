@@ -1,15 +1,12 @@
 -- An expression breaks rules at places of its own.
-use Rattle.std.proofs.Common.{◌≡◌, refl, ℕ, ◌+◌, Bool, true, false, not, ◌&&◌, ◌||◌, ◌==◌, if◌then◌else◌, List, [], ◌∷◌, ◌++◌, map, length, Option, None, Some, sym, subst, inl, inr}
+use Rattle.std.proofs.Common.{refl, ℕ, ◌+◌, Bool, true, false, not, ◌&&◌, ◌||◌, ◌==◌, if◌then◌else◌, List, [], ◌∷◌, ◌++◌, length, Option, None, Some, sym, subst, inl, inr}
 use Rattle.std.specs.Prelude.{nat_lt}
 use Rattle.std.specs.List.{flat_map, list_all}
 use Rattle.f3_nodes.proofs.Members.{Has}
 use Rattle.f3_rules.specs.declared.source.Place.{Place}
-use Rattle.f3_rules.specs.declared.rule.Rule.TheVariants.{T2, T6, T7, T8, T9, T10, T12}
+use Rattle.f3_rules.specs.declared.rule.Rule.TheVariants.{T6, T7, T8, T9, T10, T12}
 use Rattle.f3_rules.specs.declared.breaks.Break.{Break}
 use Rattle.f3_tree.specs.declared.expression.Name.{Name}
-use Rattle.f3_tree.specs.Expressions.{Tree, integer, truth, text, designator, group, array, signed, negation, comparison, chain, Rest, no_more, more}
-use Rattle.f3_tree.specs.Expressions.{Trees, no_trees, trees, Parts, no_parts, parts, Behind, bare, within, Arguments, no_arguments, arguments}
-use Rattle.f3_tree.specs.Expressions.{ArgumentTree, value, triplet, Perhaps, absent, present}
 use Rattle.f3_kinds.specs.declared.types.DataType.{DataType}
 use Rattle.f3_kinds.specs.declared.types.Object.{Object}
 use Rattle.f3_kinds.specs.declared.types.Wanted.{Wanted}
@@ -29,16 +26,12 @@ use Rattle.f3_kinds.specs.declared.things.Dummy.{Dummy}
 use Rattle.f3_kinds.specs.declared.things.Intrinsic.{Intrinsic}
 use Rattle.f3_kinds.specs.declared.things.Intrinsic.TheVariants as intrinsic_is
 use Rattle.f3_kinds.specs.Things.{map_or, Nature, constant, variable, derived, subroutine, function, Context, Meaning, nothing, several, intrinsic, entity, meaning_of, at_place_of}
-use Rattle.f3_kinds.specs.Rows.{at_place, at_name, unless, is_wanted, fits, has_type, typed_rows, type_rows, has_rows, scalar_rows}
-use Rattle.f3_kinds.specs.Operands.{has_same, first_type, mixed_rows, array_rows, chain_rows}
-use Rattle.f3_kinds.specs.Designators.{Part, rows_perhaps, subscript_rows, part_rows, are_fit, count_is_right, enter, enter_rows, start, select, step, step_selected_rows, step_rows, along, along_rows, reach_rows, role_fits, object_reach, object_rows, is_allocation, is_of_heap, is_last}
+use Rattle.f3_kinds.specs.Rows.{at_place, at_name, unless, is_wanted, fits, has_type, type_rows, has_rows, scalar_rows}
+use Rattle.f3_kinds.specs.Operands.{has_same, first_type, mixed_rows, array_rows}
+use Rattle.f3_kinds.specs.Designators.{Part, rows_perhaps, subscript_rows, part_rows, are_fit, count_is_right, enter, enter_rows, start, select, step, step_selected_rows, step_rows, along_rows, reach_rows, role_fits, object_reach, object_rows, is_allocation, is_of_heap, is_last}
 use Rattle.f3_kinds.specs.Calls.{given_place, no_match, Matched, match_next, place_for, argument_fits, argument_rows, are_right, is_complete, function_rows, least_count, or_first, integer_type, actual_right, actual_rows, intrinsic_parts, intrinsic_rows}
 use Rattle.f3_kinds.specs.Calls.{type_takes, value_rows, private_at, missing_rows, component_rows, given_rows, constructor_given, constructor_parts, is_constructed, constructor_rows}
-use Rattle.f3_kinds.specs.Typing.{Sense, unmeant, object, reference, intrinsic_reference, construction, called, sense_entity, sense_intrinsic, sense_of, sense, sense_rows, designator_rows, level_of}
-use Rattle.f3_kinds.specs.Typing.{said, said_rest, said_all, said_parts, said_behind, said_arguments, said_argument, said_perhaps}
-use Rattle.f3_kinds.specs.Typing.{breaks, breaks_rest, breaks_all, breaks_parts, breaks_behind, breaks_arguments, breaks_argument, breaks_perhaps}
-use Rattle.f3_type_rules.specs.Constants.{speaks, constant_rows}
-use Rattle.f3_order_laws.specs.Places.{keyword_places, unwritten, tree_places, rest_places, trees_places, parts_places, behind_places, arguments_places, argument_places, perhaps_places}
+use Rattle.f3_kinds.specs.Typing.{Sense, unmeant, object, reference, intrinsic_reference, construction, called, sense_entity, sense_intrinsic, sense_of, sense, sense_rows, designator_rows}
 
 module _ (P : Place → Type 0) where
   -- all these places are such

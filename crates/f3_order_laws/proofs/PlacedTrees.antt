@@ -1,21 +1,18 @@
 -- Whole expressions break rules at places of their own.
-use Rattle.std.proofs.Common.{◌≡◌, refl, ℕ, ◌+◌, Bool, true, false, not, ◌&&◌, ◌||◌, List, [], ◌∷◌, ◌++◌, Option, None, Some}
+use Rattle.std.proofs.Common.{ℕ, Bool, not, ◌||◌, List, ◌++◌, None, Some}
 use Rattle.std.specs.List.{flat_map}
 use Rattle.f3_rules.specs.declared.source.Place.{Place}
 use Rattle.f3_rules.specs.declared.rule.Rule.TheVariants.{T2}
 use Rattle.f3_rules.specs.declared.breaks.Break.{Break}
-use Rattle.f3_tree.specs.declared.expression.Name.{Name}
 use Rattle.f3_tree.specs.Expressions.{Tree, integer, truth, text, designator, group, array, signed, negation, comparison, chain, Rest, no_more, more}
 use Rattle.f3_tree.specs.Expressions.{Trees, no_trees, trees, Parts, no_parts, parts, Behind, bare, within, Arguments, no_arguments, arguments}
 use Rattle.f3_tree.specs.Expressions.{ArgumentTree, value, triplet, Perhaps, absent, present}
 use Rattle.f3_kinds.specs.declared.types.Wanted.{Wanted}
 use Rattle.f3_kinds.specs.declared.types.Wanted.TheVariants as wanted
-use Rattle.f3_kinds.specs.declared.said.Said.{Said}
 use Rattle.f3_kinds.specs.declared.said.Role.TheVariants as role
 use Rattle.f3_kinds.specs.Things.{Context}
 use Rattle.f3_kinds.specs.Rows.{at_place, unless, scalar_rows}
 use Rattle.f3_kinds.specs.Operands.{array_rows, chain_rows}
-use Rattle.f3_kinds.specs.Designators.{Part}
 use Rattle.f3_kinds.specs.Typing.{designator_said, designator_rows, level_of}
 use Rattle.f3_kinds.specs.Typing.{said, said_rest, said_all, said_parts, said_behind, said_arguments, said_argument, said_perhaps}
 use Rattle.f3_kinds.specs.Typing.{breaks, breaks_rest, breaks_all, breaks_parts, breaks_behind, breaks_arguments, breaks_argument, breaks_perhaps}
@@ -80,9 +77,12 @@ module _ (P : Place → Type 0) (c : Context) where
     argument_at (value None e) a = said_at e a
     argument_at (value (Some keyword) e) a = (a.0, said_at e a.1)
     argument_at (triplet p first last stride) a =
-        let rest = back (perhaps_places first) (perhaps_places last ++ perhaps_places stride) a.1 in
-        (a.0, perhaps_at first (front (perhaps_places first) (perhaps_places last ++ perhaps_places stride) a.1),
-        perhaps_at last (front (perhaps_places last) (perhaps_places stride) rest), perhaps_at stride (back (perhaps_places last) (perhaps_places stride) rest))
+        let rest = back (perhaps_places first) (perhaps_places last ++ perhaps_places stride) a.1 in (
+          a.0,
+          perhaps_at first (front (perhaps_places first) (perhaps_places last ++ perhaps_places stride) a.1),
+          perhaps_at last (front (perhaps_places last) (perhaps_places stride) rest),
+          perhaps_at stride (back (perhaps_places last) (perhaps_places stride) rest),
+        )
 
     perhaps_at : (x : Perhaps) → Are (perhaps_places x) → placed.PerhapsAt P (said_perhaps c x)
     perhaps_at absent a = tt

@@ -1,11 +1,10 @@
 -- The specification parts of a unit, and its headers, break rules at places of their own.
-use Rattle.std.proofs.Common.{◌≡◌, refl, ℕ, ◌+◌, Bool, true, false, not, ◌&&◌, ◌||◌, ◌==◌, List, [], ◌∷◌, ◌++◌, map, length, Option, None, Some, inl, inr, ap, sym, subst}
+use Rattle.std.proofs.Common.{ℕ, ◌+◌, Bool, true, not, ◌&&◌, ◌||◌, ◌==◌, List, [], ◌∷◌, ◌++◌, map, length, Option, None, Some}
 use Rattle.std.specs.Prelude.{nat_eq, nat_lt, slice_get}
 use Rattle.std.specs.List.{flat_map, list_any}
 use Rattle.std.specs.Option.{option_map}
-use Rattle.f3_nodes.proofs.Members.{Has, has_left, has_right, has_piece}
 use Rattle.f3_rules.specs.declared.source.Place.{Place}
-use Rattle.f3_rules.specs.declared.rule.Rule.TheVariants.{T1, T3, T4, T5, T9, T12}
+use Rattle.f3_rules.specs.declared.rule.Rule.TheVariants.{T1, T3, T4, T5, T12}
 use Rattle.f3_rules.specs.declared.breaks.Break.{Break}
 use Rattle.f3_scopes.specs.Outlines.{Scope}
 use Rattle.f3_scopes.specs.Scopes.{declared_in, name_or}
@@ -29,11 +28,11 @@ use Rattle.f3_kinds.specs.Values.{value_of, is_number}
 use Rattle.f3_type_rules.specs.declared.definition.Holder.{Holder}
 use Rattle.f3_type_rules.specs.Associates.{constructs_of_block}
 use Rattle.f3_type_rules.specs.Constants.{constant_rows}
-use Rattle.f3_type_rules.specs.Names.{Declared, entries, entries_in, attributes_of, shape_of, dimensions, type_of, object_of}
+use Rattle.f3_type_rules.specs.Names.{Declared, entries, attributes_of, shape_of, dimensions, type_of, object_of}
 use Rattle.f3_type_rules.specs.Members.{Member, Numbered, members_from, numbered}
 use Rattle.f3_type_rules.specs.Finals.{final_rank, final_rows}
 use Rattle.f3_type_rules.specs.Scene.{Scene}
-use Rattle.f3_type_rules.specs.Walks.{after, along, Known, Spot, context, is_among}
+use Rattle.f3_type_rules.specs.Walks.{along, Known, Spot, context, is_among}
 use Rattle.f3_type_rules.specs.Attributes.{conflicts}
 use Rattle.f3_type_rules.specs.Shapes.{bound_rows, shape_rows, dimension_rows, elements, initial_right, at_most, are_dimensions_small, cells_in, size_rows}
 use Rattle.f3_type_rules.specs.Declarations.{type_rows, specifier_rows, entity_rows, entity_next, declaration_rows, component_rows, all_cells, type_definition_rows}

@@ -1,8 +1,8 @@
 -- Two walks along the same units, each unit behind those that it needs, meet the same rows and know the same at their ends.
-use Rattle.std.proofs.Common.{◌≡◌, refl, ℕ, ◌⊎◌, inl, inr, Bool, true, false, if◌then◌else◌, List, [], ◌∷◌, ◌++◌, Option, None, Some, ap, ◌∙◌, sym, subst, slice_get, Contains}
+use Rattle.std.proofs.Common.{◌≡◌, refl, ℕ, ◌⊎◌, inl, inr, Bool, true, false, if◌then◌else◌, List, [], ◌∷◌, Option, None, Some, ap, ◌∙◌, sym, subst, slice_get, Contains}
 use Rattle.f3_nodes.proofs.Members.{Has, has_of, has_left, has_right, has_parts}
 use Rattle.f3_rules.specs.declared.breaks.Break.{Break}
-use Rattle.f3_rules.specs.Least.{is_before, earlier_of, first_of, Least, LeastAs}
+use Rattle.f3_rules.specs.Least.{is_before, earlier_of, first_of, LeastAs}
 use Rattle.f3_rules.proofs.Firsts.{first_is_least, first-append}
 use Rattle.f3_type_rules.specs.Members.{Numbered}
 use Rattle.f3_type_rules.specs.Walks.{after, along, Known}
@@ -247,7 +247,7 @@ module _ (units : List Numbered) (rows : Known → Numbered → List Break) (nex
         let a = r.2 in
         let z = q.2 in
         let one_place : q.0 ≡ r.0 =
-            sym (rows_apart r.0 q.0 a.0 z.0 a.1 z.1 x y a.2 z.2 (first_has (rows a.1 a.0) x a.4) (first_has (rows z.1 z.0) y z.4) place) in
+        sym (rows_apart r.0 q.0 a.0 z.0 a.1 z.1 x y a.2 z.2 (first_has (rows a.1 a.0) x a.4) (first_has (rows z.1 z.0) y z.4) place) in
         same_first r.0 x y a (subst (FirstAt other y) one_place z)
       where
         same_first : (i : ℕ) (x y : Break) → FirstAt end x i → FirstAt other y i → x ≡ y

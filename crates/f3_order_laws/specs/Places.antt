@@ -1,5 +1,5 @@
 -- The places at which the specification parts and the headers of a unit can break a rule.
-use Rattle.std.specs.Prelude.{ℕ, List, [], ◌∷◌, ◌++◌, Option, None, Some, map}
+use Rattle.std.specs.Prelude.{List, [], ◌∷◌, ◌++◌, Option, Some, map}
 use Rattle.std.specs.List.{flat_map}
 use Rattle.f3_rules.specs.declared.source.Place.{Place}
 use Rattle.f3_scopes.specs.Scopes.{name_or}
