@@ -32,7 +32,7 @@ OrdersAreAlike = (t : Tree) (look : ℕ → ℕ → Lookup) (o p : List ℕ)
 
 -- ---- the first break
 
--- none of both, or two of one rule at one place
+-- none of both, or two of one rule at one place, in one phase
 abbrev pub AreAlike : Option Break → Option Break → Type 0
 AreAlike None None = Unit {0}
 AreAlike None (Some c) = ⊥
@@ -44,7 +44,7 @@ FirstsAreAlike = (t : Tree) (look : ℕ → ℕ → Lookup) (o p : List ℕ)
     → AnswersVisible (scopes_of t) look → IsOrderOf (nodes_of t) o → IsOrderOf (nodes_of t) p
     → AreAlike (first_of (program_breaks t look o)) (first_of (program_breaks t look p))
 
--- No two units have a place in common.
+-- No two units have a place in common, in their specification parts and headers.
 abbrev pub PlacesDiffer : Tree → Type 0
 PlacesDiffer t = (i j : ℕ) (u v : UnitTree) (place : Place) → slice_get t.units i ≡ Some u → slice_get t.units j ≡ Some v
     → Contains (unit_places u) place → Contains (unit_places v) place → i ≡ j

@@ -3,7 +3,7 @@
 ghost use Rattle.f3_order_laws.specs.Laws.{OrdersAreAlike, FirstsAreAlike, FirstsAreOne, ResolvedIsVisible};
 
 /// Of the orders of a program's units in which used modules come first it is no matter which is taken: the same rules on
-/// types, constants and definitions are broken at the same places (own rule; a module is compiled before what uses it).
+/// types, constants and definitions are broken at the same places (own rule).
 pub fn orders_are_alike()
     ensures { OrdersAreAlike }
 {}
