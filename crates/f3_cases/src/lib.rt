@@ -1,0 +1,6 @@
+//! The rules on the selector and the values of SELECT CASE (ISO/IEC 1539-1:2004, 8.1.3).
+#![tactic(auto)]
+
+pub mod spans;
+pub mod values;
+pub mod union;
