@@ -110,10 +110,10 @@ is_true : (b : Bool) → T b → b ≡ true
 is_true true h = refl
 is_true false h = absurd h
 
-true_le : (a b : ℤ) → IsTrue (int_le a b) → a ≤ℤ b
+pub true_le : (a b : ℤ) → IsTrue (int_le a b) → a ≤ℤ b
 true_le a b h = record { le = subst (λ (t : Bool). T t) (sym h) tt }
 
-le_true : (a b : ℤ) → a ≤ℤ b → IsTrue (int_le a b)
+pub le_true : (a b : ℤ) → a ≤ℤ b → IsTrue (int_le a b)
 le_true a b h = is_true (int_le a b) h.le
 
 pub reaches_test : (g : ℤ → Option ℤ) (z z' y y' l h h' : ℤ) → z' ≡ z → y' ≡ y → h' ≡ h → Rising g → IsLast g y' (l, h) → IsTrue (int_le z' h') ↔ Reaches g z y
