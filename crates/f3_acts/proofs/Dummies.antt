@@ -1,16 +1,9 @@
 -- Walks over the dummies and the arguments of MOVE_ALLOC.
-use Rattle.std.proofs.Common.{◌≡◌, refl, ℕ, ◌+◌, ◌<◌, ◌&&◌, ◌||◌, nat_eq, nat_lt, cond, Bool, not, length, map, drop, get_or, List, [], ◌∷◌, Option, None, Some, ap, sym, ◌∙◌}
+use Rattle.std.proofs.Common.{◌≡◌, refl, ℕ, ◌+◌, nat_eq, nat_lt, cond, Bool, not, length, map, List, [], ◌∷◌, None, Some, ap, sym, ◌∙◌}
 use Rattle.std.specs.List.{prefix_len, position, position_or_len}
-use Rattle.std.proofs.lemmas.List.{at_drop_more, length-map}
-use Rattle.f3_rules.specs.declared.breaks.Break.{Break}
-use Rattle.f3_rules.specs.declared.rule.Rule.TheVariants.{T8}
-use Rattle.f3_kinds.specs.declared.said.Given.{Given}
+use Rattle.std.proofs.lemmas.List.{length-map}
 use Rattle.f3_kinds.specs.declared.things.Dummy.{Dummy}
 use Rattle.f3_kinds.specs.Things.{place_of}
-use Rattle.f3_kinds.specs.Rows.{at_place, unless}
-use Rattle.f3_kinds.specs.Calls.{Matched, is_free, added, place_for, is_keyed, argument_rows, argument_fits, matched, given_place}
-use Rattle.f3_typed_parts.specs.Noted.{noted}
-use Rattle.f3_references.proofs.Matching.{matching_more, state}
 
 first_len : (t : ℕ → Bool) (ds : List (ℕ × Dummy)) → prefix_len t (map (λ (d : ℕ × Dummy). d.0) ds) ≡ prefix_len (λ (d : ℕ × Dummy). t d.0) ds
 first_len t [] = refl

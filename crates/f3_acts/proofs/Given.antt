@@ -1,5 +1,5 @@
 -- Walks over the arguments of a CALL.
-use Rattle.std.proofs.Common.{◌≡◌, refl, ℕ, ◌+◌, ◌<◌, ◌≤◌, nat_eq, nat_lt, cond, Bool, true, false, not, length, map, drop, get_or, List, [], ◌∷◌, ◌++◌, Option, None, Some, ap, sym, ◌∙◌, if◌then◌else◌}
+use Rattle.std.proofs.Common.{◌≡◌, refl, ℕ, ◌+◌, ◌<◌, ◌≤◌, nat_eq, Bool, true, false, length, drop, get_or, List, [], ◌∷◌, ◌++◌, Option, None, ap, sym, ◌∙◌, if◌then◌else◌}
 use Rattle.std.specs.List.{flat_map}
 use Rattle.std.proofs.lemmas.Grind.{flat_map-append}
 use Rattle.std.specs.Prelude.{slice_get, option_map}

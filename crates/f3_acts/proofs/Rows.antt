@@ -1,5 +1,5 @@
 -- Breaks of two phases, and rows that end.
-use Rattle.std.proofs.Common.{◌≡◌, refl, ℕ, List, [], ◌∷◌, ◌++◌, Bool, true, false, Option, None, Some, map, ap, sym, ◌∙◌}
+use Rattle.std.proofs.Common.{◌≡◌, refl, List, [], ◌++◌, true, false, Option, None, Some, map, ap, ◌∙◌}
 use Rattle.std.specs.Global.{Vec}
 use Rattle.std.proofs.lemmas.Grind.{flat_map-append}
 use Rattle.std.proofs.lemmas.List.Folds.{flat_map-map}

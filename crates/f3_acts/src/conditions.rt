@@ -33,7 +33,7 @@ pub fn condition(
 
 /// Notes the first break of phase 6 of a bound or a step of DO, a scalar integer (8.1.6). It fails where memory runs out.
 #[tactic(auto, using(f3_typed_parts::proofs::Noting::noted_more))]
-pub fn number(
+pub(crate) fn number(
     alloc: Global,
     known: &Known<'_>,
     at: Position,
@@ -49,7 +49,7 @@ pub fn number(
 
 /// Notes the first break of phase 6 of a step of DO that may be absent. It fails where memory runs out.
 #[tactic(auto, using(f3_typed_parts::proofs::Noting::noted_none))]
-pub fn step(
+pub(crate) fn step(
     alloc: Global,
     known: &Known<'_>,
     at: Position,

@@ -3,8 +3,8 @@
 #![tactic(auto)]
 
 pub mod actions;
-pub mod calls;
+mod calls;
 pub mod conditions;
 pub mod controls;
-pub mod impurity;
-pub mod moving;
+mod impurity;
+mod moving;

@@ -7,7 +7,6 @@ use Rattle.f3_tree.specs.declared.expression.Name.{Name}
 use Rattle.f3_tree.specs.declared.expression.Expression.{Expression}
 use Rattle.f3_tree.specs.declared.expression.Argument.{Argument}
 use Rattle.f3_tree.specs.Expressions.{Tree, text, expression_view, designator_view}
-use Rattle.f3_kinds.specs.declared.said.Said.{Said}
 use Rattle.f3_kinds.specs.declared.said.Given.{Given}
 use Rattle.f3_kinds.specs.declared.said.Role.{Role}
 use Rattle.f3_kinds.specs.Things.{Context, Nature, subroutine, Meaning, entity}

@@ -2,7 +2,7 @@ use Rattle.std.proofs.Common.{rules, refl, arith, List, true, ap, ◌∙◌, ◌
 use Rattle.f3_rules.specs.declared.rule.Rule.TheVariants.{T8}
 use Rattle.f3_kinds.specs.declared.said.Given.{Given}
 use Rattle.f3_kinds.specs.Rows.{at_place, unless}
-use Rattle.f3_kinds.specs.Calls.{all_fit, argument_rows}
+use Rattle.f3_kinds.specs.Calls.{argument_rows}
 use Rattle.f3_typed_parts.specs.Noted.{noted}
 use Rattle.f3_typed_parts.proofs.Noting.{noted_done}
 use Rattle.f3_references.proofs.Matching.{state, matching_more}
