@@ -16,7 +16,7 @@ use Rattle.f3_tree.specs.declared.statement.Selector.{Selector}
 use Rattle.f3_tree.specs.declared.statement.Statement.{Statement, If, Select, Do, Associate, LogicalIf, the_lemmas}
 use Rattle.f3_tree.specs.declared.statement.Statement.{Action as Acts}
 use Rattle.f3_tree.specs.Expressions.{Tree, expression_view}
-use Rattle.f3_tree.specs.Statements.{StatementTree, Act, Controls, AssociationTree, acts, acts_if, branches, selects, repeats, associates, Block, Branches, Cases, Alternative, no_alternative, alternative, action_view, control_view, association_view, statement_view, block_of, block_view}
+use Rattle.f3_tree.specs.Statements.{StatementTree, Act, Controls, AssociationTree, acts, acts_if, branches, selects, repeats, associates, Block, Branches, no_branches, Cases, no_cases, Alternative, no_alternative, alternative, action_view, control_view, association_view, statement_view, block_of, block_view}
 use Rattle.f3_scopes.specs.Inner.Blocks.{branches_view, branches_in, alternative_view, cases_view, cases_in}
 use Rattle.f3_scopes.proofs.Views.{view_if, view_select, view_associate}
 use Rattle.f3_kinds.specs.declared.said.Said.{Said}
@@ -24,7 +24,7 @@ use Rattle.f3_kinds.specs.Things.{map_or}
 use Rattle.f3_type_rules.specs.Statements.{condition_breaks}
 use Rattle.f3_type_rules.specs.Definitions.{Site, in_loop}
 use Rattle.f3_type_rules.specs.Cases.{select_breaks}
-use Rattle.f3_type_rules.specs.Associates.{associated, associate_nature, site_inside}
+use Rattle.f3_type_rules.specs.Associates.{associated, associate_nature, site_inside, constructs_of, constructs_of_block, constructs_of_branches, constructs_of_cases}
 use Rattle.f3_type_rules.specs.Bodies.{act_rows, control_rows, selector_rows, statement_breaks, block_breaks, branch_breaks, case_breaks, other_breaks}
 use Rattle.f3_typed_parts.specs.Noted.{noted}
 use Rattle.f3_typed_parts.proofs.Noting.{noted_more, noted_none}
@@ -69,9 +69,9 @@ select_is s p x cs e = ap statement_view e ∙ view_select p x cs
 pub do_is : (s : Statement) (p : Place) (k : Control) (body : Vec Statement) (xs : List Statement) → s ≡ Do p k body → xs ≡ body.items → statement_view s ≡ repeats p (control_view k) (tree_of xs)
 do_is s p k body xs e x = ap statement_view e ∙ view_do p k body ∙ ap (λ ys. repeats p (control_view k) (tree_of ys)) (sym x)
 
-pub associate_is : (s : Statement) (p : Place) (list : Vec Association) (body : Vec Statement) (as : List Association) (xs : List Statement) → s ≡ Associate p list body → as ≡ list.items → xs ≡ body.items
-    → statement_view s ≡ associates p (map association_view as) (tree_of xs)
-associate_is s p list body as xs e a x =
+pub associate_is : (s : Statement) (p : Place) (list : Vec Association) (body : Vec Statement) (ls : List Association) (xs : List Statement) → s ≡ Associate p list body → ls ≡ list.items → xs ≡ body.items
+    → statement_view s ≡ associates p (map association_view ls) (tree_of xs)
+associate_is s p list body ls xs e a x =
     ap statement_view e ∙ view_associate p list body
     ∙ ap (λ ys. associates p (map association_view list.items) (tree_of ys)) (sym x) ∙ ap (λ ys. associates p (map association_view ys) (tree_of xs)) (sym a)
 
@@ -196,3 +196,41 @@ select_weight s p x cs xs e i =
     let v : weight (statement_view s) ≡ weight_of_cases (cases_view cs.items) + 1 = ap weight (select_is s p x cs e) in
     let j : weight_of_cases (cases_view xs) ≡ weight_of_cases (cases_view cs.items) = ap (λ ys. weight_of_cases (cases_view ys)) i in
     omega (arith, v, j)
+
+pub one_noted : (s s' : Site) (n : ℕ) (t : StatementTree) (before after : Option Break) → s' ≡ s → after ≡ noted before (statement_breaks s' n t) → after ≡ noted before (statement_breaks s n t)
+one_noted s s' n t before after same e = e ∙ ap (λ y. noted before (statement_breaks y n t)) same
+
+-- ---- sums of counts
+
+pub statements_sum : (x : Statement) (xs : List Statement) → count_of_block (tree_of (x ∷ xs)) ≡ count_of (statement_view x) + count_of_block (tree_of xs)
+statements_sum x xs = length-append (constructs_of (statement_view x)) (constructs_of_block (tree_of xs))
+
+pub branches_sum : (x : Place × Expression × Vec Statement) (xs : List (Place × Expression × Vec Statement))
+    → count_of_branches (branches_view (x ∷ xs)) ≡ count_of_block (block_view x.2) + count_of_branches (branches_view xs)
+branches_sum x xs = length-append (constructs_of_block (block_view x.2)) (constructs_of_branches (branches_view xs))
+
+pub cases_sum : (x : Place × Selector × Vec Statement) (xs : List (Place × Selector × Vec Statement))
+    → count_of_cases (cases_view (x ∷ xs)) ≡ count_of_block (block_view x.2) + count_of_cases (cases_view xs)
+cases_sum x xs = length-append (constructs_of_block (block_view x.2)) (constructs_of_cases (cases_view xs))
+
+-- the statements of a block in memory
+pub held : (v : Vec Statement) (xs : List Statement) → xs ≡ v.items → tree_of xs ≡ block_view v
+held v xs e = ap tree_of e
+
+pub select_in : (s : Statement) (p : Place) (x : Expression) (cs : Vec (Place × Selector × Vec Statement)) (xs : List (Place × Selector × Vec Statement)) → s ≡ Select p x cs → xs ≡ cs.items
+    → statement_view s ≡ selects p (expression_view x) (cases_view xs)
+select_in s p x cs xs e i = select_is s p x cs e ∙ ap (λ ys. selects p (expression_view x) (cases_view ys)) (sym i)
+
+-- ---- statements without branches, and without cases
+
+pub no_branches_noted : (s : Site) (n : ℕ) (t t' : StatementTree) (a : Option Break) → t ≡ t' → branches_in t' ≡ no_branches → a ≡ noted a (branch_breaks s n (branches_in t))
+no_branches_noted s n t t' a v z = sym (noted_none a) ∙ ap (λ b. noted a (branch_breaks s n b)) (sym (ap (λ (x : StatementTree). branches_in x) v ∙ z))
+
+pub no_branches_next : (n : ℕ) (t t' : StatementTree) → t ≡ t' → branches_in t' ≡ no_branches → n ≡ n + count_of_branches (branches_in t)
+no_branches_next n t t' v z = let e : count_of_branches (branches_in t) ≡ 0 = ap count_of_branches (ap (λ (x : StatementTree). branches_in x) v ∙ z) in omega (arith, e)
+
+pub no_cases_noted : (s : Site) (n : ℕ) (t t' : StatementTree) (a : Option Break) → t ≡ t' → cases_in t' ≡ no_cases → a ≡ noted a (case_breaks s n (cases_in t))
+no_cases_noted s n t t' a v z = sym (noted_none a) ∙ ap (λ b. noted a (case_breaks s n b)) (sym (ap (λ (x : StatementTree). cases_in x) v ∙ z))
+
+pub no_cases_next : (n : ℕ) (t t' : StatementTree) → t ≡ t' → cases_in t' ≡ no_cases → n ≡ n + count_of_cases (cases_in t)
+no_cases_next n t t' v z = let e : count_of_cases (cases_in t) ≡ 0 = ap count_of_cases (ap (λ (x : StatementTree). cases_in x) v ∙ z) in omega (arith, e)

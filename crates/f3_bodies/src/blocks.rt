@@ -100,6 +100,7 @@ fn one(
 
 /// Notes the first break of the conditions and the blocks of an IF construct, but of its ELSE.
 #[cycle(blocks)]
+#[tactic(auto, using(f3_typed_parts::proofs::Noting::noted_none))]
 fn branches(
     alloc: Global,
     site: &mut Site<'_>,
@@ -114,17 +115,25 @@ fn branches(
     ensures site { OnOk result (site_of site.new ≡ site_of site.old) }
     ensures room { OnOk result (room_of site.new ≡ room_of site.old) }
 {
-    if let Statement::If(branches, _) = statement {
-        for (_, e, body) in branches {
-            condition(alloc, &site.known, site.at, first, e)?;
-            next = block(alloc, site, first, next, body)?;
+    match statement {
+        Statement::If(branches, _) => {
+            for (_, e, body) in branches {
+                condition(alloc, &site.known, site.at, first, e)?;
+                next = block(alloc, site, first, next, body)?;
+            }
+            Ok(next)
         }
+        Statement::Action(_, _) => Ok(next),
+        Statement::LogicalIf(_, _, _, _) => Ok(next),
+        Statement::Select(_, _, _) => Ok(next),
+        Statement::Do(_, _, _) => Ok(next),
+        Statement::Associate(_, _, _) => Ok(next),
     }
-    Ok(next)
 }
 
 /// Notes the first break of the blocks of a CASE construct.
 #[cycle(blocks)]
+#[tactic(auto, using(f3_typed_parts::proofs::Noting::noted_none))]
 fn cases(
     alloc: Global,
     site: &mut Site<'_>,
@@ -139,10 +148,17 @@ fn cases(
     ensures site { OnOk result (site_of site.new ≡ site_of site.old) }
     ensures room { OnOk result (room_of site.new ≡ room_of site.old) }
 {
-    if let Statement::Select(_, _, cases) = statement {
-        for (_, _, body) in cases {
-            next = block(alloc, site, first, next, body)?;
+    match statement {
+        Statement::Select(_, _, cases) => {
+            for (_, _, body) in cases {
+                next = block(alloc, site, first, next, body)?;
+            }
+            Ok(next)
         }
+        Statement::Action(_, _) => Ok(next),
+        Statement::LogicalIf(_, _, _, _) => Ok(next),
+        Statement::If(_, _) => Ok(next),
+        Statement::Do(_, _, _) => Ok(next),
+        Statement::Associate(_, _, _) => Ok(next),
     }
-    Ok(next)
 }
