@@ -11,9 +11,12 @@ ghost use Rattle.f3_associates.specs.Standing.{room_of};
 ghost use Rattle.f3_bodies.specs.Inner.Counts.{count_of, count_of_block, count_of_branches, count_of_cases};
 
 use crate::loops::{begin_loop, end_loop};
-use crate::stubs::{act, condition, control, select};
+use f3_acts::actions::act;
+use f3_acts::conditions::condition;
+use f3_acts::controls::control;
 use f3_associates::entering::{enter, leave};
 use f3_associates::selectors::selectors;
+use f3_cases::select::select;
 use f3_rules::breaks::Break;
 use f3_sites::site::Site;
 use f3_tree::statement::Statement;

@@ -3,4 +3,3 @@
 
 pub mod blocks;
 mod loops;
-mod stubs;
