@@ -1,12 +1,12 @@
 -- Ranges in a map, by the calls of the map.
-use Rattle.std.proofs.Common.{◌≡◌, ◌≢◌, ◌↔◌, IsTrue, refl, ℤ, ◌<ℤ◌, ◌≤ℤ◌, ◌⊎◌, inl, inr, ⊎_elim, Bool, true, false, cond, Option, None, Some, IsSome, Ordering, List, ◌∷◌, ap, ◌∙◌, sym, subst, arith, rules}
+use Rattle.std.proofs.Common.{◌≡◌, ◌≢◌, ◌↔◌, IsTrue, refl, ℤ, ◌<ℤ◌, ◌≤ℤ◌, ◌⊎◌, inl, inr, ⊎_elim, Bool, true, false, cond, Option, None, Some, IsSome, Ordering, List, ◌∷◌, ap, ◌∙◌, sym, subst, arith}
 use Rattle.std.specs.Ordering.{MatchOrdering, int_cmp, is_lt, is_gt, is_eq}
 use Rattle.std.specs.declared.cmp.Ordering.TheVariants.{Less, Equal, Greater}
 use Rattle.std.specs.Int.RustNames.{int_le, int_lt}
 use Rattle.std.specs.Option.{is_some, IfSome}
 use Rattle.std.specs.List.{slice_get}
 use Rattle.std.specs.BTreeMap.{BTreeMap, get}
-use Rattle.std.specs.BTreeMap.Range.{IsLeBy, IsLtBy}
+use Rattle.std.specs.BTreeMap.Range.{IsLeBy}
 use Rattle.std.proofs.lemmas.Cmp.{int_ranked}
 use Rattle.std.proofs.lemmas.Int.{ints, by_lt_z}
 use lib.Dec.{T}
@@ -100,7 +100,7 @@ ends_later g l h m k r a b le =
     ⊎_elim (λ same. let e : h ≡ k = same_end (g m) h k (ap g (sym same.0) ∙ a) b in omega (arith, ints)) (λ other. let lt : h <ℤ k = r.rising l h m k a b (less l m le other.0) in omega (arith, ints)) (eq_from_cmp l m)
 
 pub reaches_last : (g : ℤ → Option ℤ) (z y l h : ℤ) → Rising g → IsLast g y (l, h) → Reaches g z y → z ≤ℤ h
-reaches_last g z y l h rising is reach = 
+reaches_last g z y l h rising is reach =
     let le : reach.first ≤ℤ l = is.last reach.first reach.last reach.begins reach.there in
     let more : reach.last ≤ℤ h = ends_later g reach.first reach.last l h rising reach.there is.there le in
     let ends : z ≤ℤ reach.last = reach.ends in
@@ -118,9 +118,10 @@ le_true a b h = is_true (int_le a b) h.le
 
 pub reaches_test : (g : ℤ → Option ℤ) (z z' y y' l h h' : ℤ) → z' ≡ z → y' ≡ y → h' ≡ h → Rising g → IsLast g y' (l, h) → IsTrue (int_le z' h') ↔ Reaches g z y
 reaches_test g z z' y y' l h h' e k f rising in_memory =
-    let is : IsLast g y (l, h) = subst (λ (v : ℤ). IsLast g v (l, h)) k in_memory in
-    ( (λ t. let le : z' ≤ℤ h' = true_le z' h' t in record { first = l; last = h; there = is.there; begins = is.below; ends = omega (arith, ints) })
-    , (λ reach. le_true z' h' (let le : z ≤ℤ h = reaches_last g z y l h rising is reach in omega (arith, ints))) )
+    let is : IsLast g y (l, h) = subst (λ (v : ℤ). IsLast g v (l, h)) k in_memory in (
+      (λ t. let le : z' ≤ℤ h' = true_le z' h' t in record { first = l; last = h; there = is.there; begins = is.below; ends = omega (arith, ints) }),
+      (λ reach. le_true z' h' (let le : z ≤ℤ h = reaches_last g z y l h rising is reach in omega (arith, ints))),
+    )
 
 -- ---- after a range is taken out, or put in
 
@@ -132,7 +133,6 @@ left_in g after l e q k is = ⊎_elim (λ same. inr same.0) (λ other. inl (e q 
 
 put_in : (g after : ℤ → Option ℤ) (l h : ℤ) → ((q : ℤ) → after q ≡ cond (is_eq (int_cmp l q)) (Some h) (g q)) → (q : ℤ) → (l ≡ q) × (after q ≡ Some h) ⊎ (l ≢ q) × (after q ≡ g q)
 put_in g after l h e q = ⊎_elim (λ same. inl (same.0, e q ∙ ap (λ b. cond b (Some h) (g q)) same.1)) (λ other. inr (other.0, e q ∙ ap (λ b. cond b (Some h) (g q)) other.1)) (eq_from_cmp l q)
-
 
 -- ranges that lie within one are gone, perhaps not all
 pub record Thinned (g after : ℤ → Option ℤ) (z y : ℤ) : Type 0 where
@@ -146,12 +146,12 @@ pub thinned_more : (g mid after : ℤ → Option ℤ) (z y l h : ℤ) → IsFirs
 thinned_more g mid after z y l h is le e thin = record {
   old = λ q k there. thin.old q k (taken_out mid after l e q k there);
   kept = λ q k there. ⊎_elim
-    (λ (still : mid q ≡ Some k). ⊎_elim
+      (λ (still : mid q ≡ Some k). ⊎_elim
       (λ (in_after : after q ≡ Some k). inl in_after)
       (λ (same : l ≡ q). let f : h ≡ k = same_end (mid q) h k (ap mid (sym same) ∙ is.there) still in inr (let above : z ≤ℤ l = is.above in (omega (arith, ints), omega (arith, ints))))
       (left_in mid after l e q k still))
-    (λ gone. inr gone)
-    (thin.kept q k there);
+      (λ gone. inr gone)
+      (thin.kept q k there);
 }
 
 -- none is left that begins at z or above and ends at y or below
@@ -189,21 +189,21 @@ grown_rising : (g mid after : ℤ → Option ℤ) (z y : ℤ) → Rising g → (
     → (l h m k : ℤ) → after l ≡ Some h → after m ≡ Some k → l <ℤ m → h <ℤ k
 grown_rising g mid after z y rising none cut e l h m k a b lt = ⊎_elim
     (λ (first : (z ≡ l) × (after l ≡ Some y)). ⊎_elim
-      (λ (both : (z ≡ m) × (after m ≡ Some y)). let f : z ≡ l = first.0 in let f' : z ≡ m = both.0 in absurd (omega (arith, ints)))
-      (λ (other : (z ≢ m) × (after m ≡ mid m)).
-          let f : z ≡ l = first.0 in
-          let f' : y ≡ h = same_end (after l) y h first.1 a in
-          let later : y <ℤ k = cut.beyond m k (sym other.1 ∙ b) (omega (arith, ints)) in
-          omega (arith, ints))
-      (put_in mid after z y e m))
+    (λ (both : (z ≡ m) × (after m ≡ Some y)). let f : z ≡ l = first.0 in let f' : z ≡ m = both.0 in absurd (omega (arith, ints)))
+    (λ (other : (z ≢ m) × (after m ≡ mid m)).
+    let f : z ≡ l = first.0 in
+    let f' : y ≡ h = same_end (after l) y h first.1 a in
+    let later : y <ℤ k = cut.beyond m k (sym other.1 ∙ b) (omega (arith, ints)) in
+    omega (arith, ints))
+    (put_in mid after z y e m))
     (λ (apart : (z ≢ l) × (after l ≡ mid l)). ⊎_elim
-      (λ (second : (z ≡ m) × (after m ≡ Some y)).
-          let f : z ≡ m = second.0 in
-          let f' : y ≡ k = same_end (after m) y k second.1 b in
-          let less : h <ℤ y = shorter g z y l h none (cut.old l h (sym apart.1 ∙ a)) (omega (arith, ints)) in
-          omega (arith, ints))
-      (λ (other : (z ≢ m) × (after m ≡ mid m)). rising.rising l h m k (cut.old l h (sym apart.1 ∙ a)) (cut.old m k (sym other.1 ∙ b)) lt)
-      (put_in mid after z y e m))
+    (λ (second : (z ≡ m) × (after m ≡ Some y)).
+    let f : z ≡ m = second.0 in
+    let f' : y ≡ k = same_end (after m) y k second.1 b in
+    let less : h <ℤ y = shorter g z y l h none (cut.old l h (sym apart.1 ∙ a)) (omega (arith, ints)) in
+    omega (arith, ints))
+    (λ (other : (z ≢ m) × (after m ≡ mid m)). rising.rising l h m k (cut.old l h (sym apart.1 ∙ a)) (cut.old m k (sym other.1 ∙ b)) lt)
+    (put_in mid after z y e m))
     (put_in mid after z y e l)
 
 put_there : (g after : ℤ → Option ℤ) (l h : ℤ) → ((q : ℤ) → after q ≡ cond (is_eq (int_cmp l q)) (Some h) (g q)) → after l ≡ Some h
@@ -213,19 +213,19 @@ pub grown : (g mid after : ℤ → Option ℤ) (z y : ℤ) → Rising g → (Rea
 grown g mid after z y rising none cut e = record {
   rising = record { rising = grown_rising g mid after z y rising none cut e };
   old = λ l h is. ⊎_elim
-    (λ (same : (z ≡ l) × (after l ≡ Some y)). inr (sym same.0, same_end (after l) h y is same.1))
-    (λ (other : (z ≢ l) × (after l ≡ mid l)). inl (cut.old l h (sym other.1 ∙ is)))
-    (put_in mid after z y e l);
+      (λ (same : (z ≡ l) × (after l ≡ Some y)). inr (sym same.0, same_end (after l) h y is same.1))
+      (λ (other : (z ≢ l) × (after l ≡ mid l)). inl (cut.old l h (sym other.1 ∙ is)))
+      (put_in mid after z y e l);
   kept = λ l h is. ⊎_elim
-    (λ (still : mid l ≡ Some h). ⊎_elim
+      (λ (still : mid l ≡ Some h). ⊎_elim
       (λ (same : (z ≡ l) × (after l ≡ Some y)).
-          let f : z ≡ l = same.0 in
-          let less : h <ℤ y = shorter g z y l h none is (omega (arith, ints)) in
-          record { first = l; last = y; there = same.1; begins = omega (arith, ints); ends = omega (arith, ints) })
+      let f : z ≡ l = same.0 in
+      let less : h <ℤ y = shorter g z y l h none is (omega (arith, ints)) in
+      record { first = l; last = y; there = same.1; begins = omega (arith, ints); ends = omega (arith, ints) })
       (λ (other : (z ≢ l) × (after l ≡ mid l)). record { first = l; last = h; there = other.1 ∙ still; begins = omega (arith, ints); ends = omega (arith, ints) })
       (put_in mid after z y e l))
-    (λ (gone : (z ≤ℤ l) × (h ≤ℤ y)). record { first = z; last = y; there = put_there mid after z y e; begins = gone.0; ends = gone.1 })
-    (cut.kept l h is);
+      (λ (gone : (z ≤ℤ l) × (h ≤ℤ y)). record { first = z; last = y; there = put_there mid after z y e; begins = gone.0; ends = gone.1 })
+      (cut.kept l h is);
   new = record { first = z; last = y; there = put_there mid after z y e; begins = omega (arith, ints); ends = omega (arith, ints) };
 }
 

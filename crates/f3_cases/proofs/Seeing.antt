@@ -1,5 +1,5 @@
 -- What was seen of spans, and one span more.
-use Rattle.std.proofs.Common.{◌≡◌, ◌↔◌, IsTrue, refl, ℕ, ◌+◌, ◌<◌, ◌≤◌, length, drop, get_or, map, ℤ, pos, negsuc, ◌<ℤ◌, ◌≤ℤ◌, FitsSigned, ◌⊎◌, inl, inr, ⊎_elim, Bool, true, false, not, ◌||◌, ◌&&◌, Option, None, Some, List, [], ◌∷◌, ◌++◌, ap, ◌∙◌, sym, subst, arith, rules}
+use Rattle.std.proofs.Common.{◌≡◌, ◌↔◌, IsTrue, refl, ℕ, ◌+◌, ◌<◌, length, drop, get_or, map, ℤ, pos, negsuc, ◌≤ℤ◌, FitsSigned, ◌⊎◌, inl, inr, ⊎_elim, Bool, true, false, not, ◌||◌, ◌&&◌, Option, None, Some, List, [], ◌∷◌, ap, ◌∙◌, sym, subst, arith}
 use Rattle.std.specs.Int.{w64}
 use Rattle.std.specs.Int.RustNames.{int_le}
 use Rattle.std.specs.List.{list_any}
@@ -13,7 +13,7 @@ use Rattle.f3_typed_parts.specs.Noted.{noted}
 use Rattle.f3_typed_parts.proofs.Noting.{noted_more}
 use Rattle.f3_cases.specs.declared.spans.Held.{Held}
 use Rattle.f3_cases.specs.Inner.Spans.{span_view, held_view, overlaps}
-use Rattle.f3_cases.specs.Inner.Ranges.{Rising, Reaches, IsGrown}
+use Rattle.f3_cases.specs.Inner.Ranges.{Reaches, IsGrown}
 use Rattle.f3_cases.specs.Inner.Seen.{low_end, high_end, IsStored, AreStored, meets_between, Sees}
 use Rattle.f3_cases.proofs.Numbers.{true_le, le_true}
 
@@ -96,27 +96,27 @@ numbers_seen spans g after t f a b low high grown sees = record {
   stored = ((low, high), sees.stored);
   rising = grown.rising;
   reached = λ z y p q reach. ⊎_elim
-    (λ (old : g reach.first ≡ Some reach.last).
-        second_true (meets (numbers (Some z) (Some y)) (numbers a b)) _ (sees.reached z y p q (record { first = reach.first; last = reach.last; there = old; begins = reach.begins; ends = reach.ends })))
-    (λ (new : (reach.first ≡ low_end a) × (reach.last ≡ high_end b)).
-        let begins : reach.first ≤ℤ y = reach.begins in
-        let ends : z ≤ℤ reach.last = reach.ends in
-        let e : reach.first ≡ low_end a = new.0 in
-        let e' : reach.last ≡ high_end b = new.1 in
-        first_true _ (meets_between z y spans) (at_span z y a b p q ∙ both_true _ _ (le_true z (high_end b) (subst (λ (x : ℤ). z ≤ℤ x) e' ends)) (le_true (low_end a) y (subst (λ (x : ℤ). x ≤ℤ y) e begins))))
-    (grown.old reach.first reach.last reach.there);
+      (λ (old : g reach.first ≡ Some reach.last).
+      second_true (meets (numbers (Some z) (Some y)) (numbers a b)) _ (sees.reached z y p q (record { first = reach.first; last = reach.last; there = old; begins = reach.begins; ends = reach.ends })))
+      (λ (new : (reach.first ≡ low_end a) × (reach.last ≡ high_end b)).
+      let begins : reach.first ≤ℤ y = reach.begins in
+      let ends : z ≤ℤ reach.last = reach.ends in
+      let e : reach.first ≡ low_end a = new.0 in
+      let e' : reach.last ≡ high_end b = new.1 in
+      first_true _ (meets_between z y spans) (at_span z y a b p q ∙ both_true _ _ (le_true z (high_end b) (subst (λ (x : ℤ). z ≤ℤ x) e' ends)) (le_true (low_end a) y (subst (λ (x : ℤ). x ≤ℤ y) e begins))))
+      (grown.old reach.first reach.last reach.there);
   met = λ z y p q yes. ⊎_elim
-    (λ (one : meets (numbers (Some z) (Some y)) (numbers a b) ≡ true).
-        let tests = parts_true _ _ (sym (at_span z y a b p q) ∙ one) in
-        let ends : z ≤ℤ high_end b = true_le z (high_end b) tests.0 in
-        let begins : low_end a ≤ℤ y = true_le (low_end a) y tests.1 in
-        let n : Reaches after (high_end b) (low_end a) = grown.new in
-        reaches_wider after (high_end b) (low_end a) z y n begins ends)
-    (λ (others : meets_between z y spans ≡ true).
-        let reach : Reaches g z y = sees.met z y p q others in
-        let n : Reaches after reach.last reach.first = grown.kept reach.first reach.last reach.there in
-        reaches_wider after reach.last reach.first z y n reach.begins reach.ends)
-    (one_true (meets (numbers (Some z) (Some y)) (numbers a b)) _ yes);
+      (λ (one : meets (numbers (Some z) (Some y)) (numbers a b) ≡ true).
+      let tests = parts_true _ _ (sym (at_span z y a b p q) ∙ one) in
+      let ends : z ≤ℤ high_end b = true_le z (high_end b) tests.0 in
+      let begins : low_end a ≤ℤ y = true_le (low_end a) y tests.1 in
+      let n : Reaches after (high_end b) (low_end a) = grown.new in
+      reaches_wider after (high_end b) (low_end a) z y n begins ends)
+      (λ (others : meets_between z y spans ≡ true).
+      let reach : Reaches g z y = sees.met z y p q others in
+      let n : Reaches after reach.last reach.first = grown.kept reach.first reach.last reach.there in
+      reaches_wider after reach.last reach.first z y n reach.begins reach.ends)
+      (one_true (meets (numbers (Some z) (Some y)) (numbers a b)) _ yes);
   truth = sees.truth;
   falsehood = sees.falsehood;
 }
@@ -126,13 +126,13 @@ pub reaches_stored : (spans : List Span) (g : ℤ → Option ℤ) (t f r : Bool)
     → Sees spans g t f → (IsTrue r ↔ Reaches g low high) → r ≡ list_any (meets (numbers a b)) spans
 reaches_stored spans g t f r a b low high e e' p q sees h =
     reaches_seen spans g t f r a b (subst (λ (x : ℤ). FitsSigned w64 x) e p) (subst (λ (x : ℤ). FitsSigned w64 x) e' q) sees
-      (subst (λ (x : ℤ). IsTrue r ↔ Reaches g x (high_end b)) e (subst (λ (x : ℤ). IsTrue r ↔ Reaches g low x) e' h))
+    (subst (λ (x : ℤ). IsTrue r ↔ Reaches g x (high_end b)) e (subst (λ (x : ℤ). IsTrue r ↔ Reaches g low x) e' h))
 
 pub numbers_stored : (spans : List Span) (g after : ℤ → Option ℤ) (t f : Bool) (a b : Option ℤ) (low high : ℤ) → low ≡ low_end a → high ≡ high_end b → FitsSigned w64 low → FitsSigned w64 high
     → IsGrown g after low high → Sees spans g t f → Sees (numbers a b ∷ spans) after t f
 numbers_stored spans g after t f a b low high e e' p q grown sees =
     numbers_seen spans g after t f a b (subst (λ (x : ℤ). FitsSigned w64 x) e p) (subst (λ (x : ℤ). FitsSigned w64 x) e' q)
-      (subst (λ (x : ℤ). IsGrown g after x (high_end b)) e (subst (λ (x : ℤ). IsGrown g after low x) e' grown)) sees
+    (subst (λ (x : ℤ). IsGrown g after x (high_end b)) e (subst (λ (x : ℤ). IsGrown g after low x) e' grown)) sees
 
 -- ---- a loop over values
 

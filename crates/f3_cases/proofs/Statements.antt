@@ -142,7 +142,7 @@ pub select_stored : (c : Context) (e : Tree) (cs : List Case) (s : Said) (t : Op
 select_stored c e cs s t xs ys a b1 b2 b3 b4 b5 is type e1 e2 e3 h same e4 e5 =
     let f : t ≡ selected_type (said c e) = type ∙ ap selected_type is in
     select_noted c e cs (map held_view ys) a b1 b2 b3 b4 b5 e1
-      (e2 ∙ ap (λ (x : Said). noted b1 (scalar_rows wanted.Intrinsic x)) is)
-      (e3 ∙ ap (λ (x : Option DataType). noted b2 (flat_map (λ (y : Case). chosen_rows c x y.1) cs)) f)
-      (ap (map held_view) same ∙ h ∙ ap (λ (x : Option DataType). flat_map (λ (y : Case). chosen_held c x y.1) cs) f)
-      e4 e5
+    (e2 ∙ ap (λ (x : Said). noted b1 (scalar_rows wanted.Intrinsic x)) is)
+    (e3 ∙ ap (λ (x : Option DataType). noted b2 (flat_map (λ (y : Case). chosen_rows c x y.1) cs)) f)
+    (ap (map held_view) same ∙ h ∙ ap (λ (x : Option DataType). flat_map (λ (y : Case). chosen_held c x y.1) cs) f)
+    e4 e5

@@ -91,7 +91,11 @@ fn constant(
 {
     let said = expression(alloc, known, at, first, e)?;
     let speaks = speaks(&said);
-    unless(first, !speaks || is_right, at_place(6, Rule::T2, said.place));
+    unless(
+        first,
+        !speaks || is_right,
+        at_place(6, Rule::T2, said.place),
+    );
     Ok(said.place)
 }
 
@@ -112,24 +116,36 @@ fn held(
         CaseValue::Value(e) => {
             let value = case_value(known, at, data_type, e);
             let place = constant(alloc, known, at, first, has_value(value), e)?;
-            Ok(Held { span: one_span(value), place })
+            Ok(Held {
+                span: one_span(value),
+                place,
+            })
         }
         CaseValue::From(e) => {
             let value = case_value(known, at, data_type, e);
             let place = constant(alloc, known, at, first, is_number(value), e)?;
-            Ok(Held { span: from_span(value), place })
+            Ok(Held {
+                span: from_span(value),
+                place,
+            })
         }
         CaseValue::UpTo(place, e) => {
             let value = case_value(known, at, data_type, e);
             constant(alloc, known, at, first, is_number(value), e)?;
-            Ok(Held { span: up_to_span(value), place: *place })
+            Ok(Held {
+                span: up_to_span(value),
+                place: *place,
+            })
         }
         CaseValue::Range(low, high) => {
             let least = case_value(known, at, data_type, low);
             let greatest = case_value(known, at, data_type, high);
             let place = constant(alloc, known, at, first, is_number(least), low)?;
             constant(alloc, known, at, first, has_value(greatest), high)?;
-            Ok(Held { span: range_span(least, greatest), place })
+            Ok(Held {
+                span: range_span(least, greatest),
+                place,
+            })
         }
     }
 }

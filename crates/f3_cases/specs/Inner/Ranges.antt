@@ -1,5 +1,5 @@
 -- Ranges in a map, from the number where each begins to the one where it ends: where one begins later it ends later.
-use Rattle.std.specs.Prelude.{◌≡◌, ℤ, ◌<ℤ◌, ◌≤ℤ◌, ◌⊎◌, Option, None, Some, IsSome}
+use Rattle.std.specs.Prelude.{◌≡◌, ℤ, ◌<ℤ◌, ◌≤ℤ◌, ◌⊎◌, Option, Some}
 use Rattle.std.specs.Ordering.{int_cmp}
 use Rattle.std.specs.BTreeMap.{BTreeMap, get}
 

@@ -1,5 +1,5 @@
 -- What values hold, in memory, and the values of a SELECT CASE one by one.
-use Rattle.std.specs.Prelude.{ℤ, List, [], ◌∷◌, ◌++◌, not, Option, None, Some}
+use Rattle.std.specs.Prelude.{List, [], ◌∷◌, ◌++◌, not, Option, None, Some}
 use Rattle.std.specs.List.{list_any}
 use Rattle.f3_rules.specs.declared.source.Place.{Place}
 use Rattle.f3_rules.specs.declared.rule.Rule.TheVariants.{T11}

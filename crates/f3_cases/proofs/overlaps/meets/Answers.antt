@@ -13,4 +13,4 @@ returns-in-Numbers c = λ spans sees.
     let low : FitsSigned w64 c.low_end-low.result = search rules in
     let high : FitsSigned w64 c.high_end-high.result = search rules in
     rw c.in-Numbers.is (reaches_stored spans (end_of c.args.seen.now.ranges) c.args.seen.now.truth c.args.seen.now.falsehood c.reaches.result c.in-Numbers.low c.in-Numbers.high c.low_end-low.result c.high_end-high.result
-      c.low_end-low.ensures c.high_end-high.ensures low high sees (simp to_z-of_z at c.reaches.ensures))
+    c.low_end-low.ensures c.high_end-high.ensures low high sees (simp to_z-of_z at c.reaches.ensures))

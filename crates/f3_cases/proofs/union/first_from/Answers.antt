@@ -11,4 +11,4 @@ returns-in-Some c =
     let entry = of_first _ _ _ _ c.in-Some.ensures.steps (c.range-above.ensures.in_range tt).1 in
     let least = (c.range-above.ensures.in_range tt).2 in
     first_same _ _ _ _ _ _ _ (to_z-of_z w64 _ c.ranges.start) (to_z-of_z w64 _ p) (to_z-of_z w64 _ q)
-      (first_made c.args.ranges.now _ c.in-Some.first.now c.in-Some.last.now entry.0.0 entry.1 (λ k over there. of_first _ _ _ _ c.in-Some.ensures.steps (least k (over, tt) there)))
+    (first_made c.args.ranges.now _ c.in-Some.first.now c.in-Some.last.now entry.0.0 entry.1 (λ k over there. of_first _ _ _ _ c.in-Some.ensures.steps (least k (over, tt) there)))

@@ -11,4 +11,4 @@ returns-in-Some c =
     let entry = (c.range-below.ensures.in_range tt).3 _ _ c.in-Some.ensures.steps in
     let last = (c.range-below.ensures.in_range tt).4 _ _ c.in-Some.ensures.steps in
     last_same _ _ _ _ _ _ _ (to_z-of_z w64 _ c.ranges.end) (to_z-of_z w64 _ p) (to_z-of_z w64 _ q)
-      (last_made c.args.ranges.now _ c.in-Some.first.now c.in-Some.last.now entry.0.1 entry.1 (λ k under. last k (tt, under)))
+    (last_made c.args.ranges.now _ c.in-Some.first.now c.in-Some.last.now entry.0.1 entry.1 (λ k under. last k (tt, under)))

@@ -1,4 +1,4 @@
-use Rattle.std.proofs.Common.{rules, refl, arith, sym, ap, ◌∙◌, map}
+use Rattle.std.proofs.Common.{rules, refl, arith, ap, ◌∙◌, map}
 use Rattle.std.proofs.lemmas.List.{map-append}
 use Rattle.std.specs.List.{flat_map}
 use Rattle.f3_typed_parts.specs.Known.{context_of}
