@@ -1,0 +1,5 @@
+pub mod Standings
+pub mod Declarations
+pub mod Scenery
+pub mod Spots
+pub mod Inner
