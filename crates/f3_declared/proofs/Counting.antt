@@ -1,8 +1,9 @@
 -- What attributes say, one attribute more.
-use Rattle.std.proofs.Common.{◌≡◌, ℕ, ◌+◌, ◌<◌, List, [], ◌∷◌, ◌++◌, Option, Some, None, Bool, true, false, length, map, filter, take, get_or, cond, refl, ap, sym, ◌∙◌, arith}
+use Rattle.std.proofs.Common.{◌≡◌, ℕ, ◌+◌, ◌<◌, List, [], ◌∷◌, ◌++◌, Option, Some, None, Bool, true, false, length, map, filter, take, get_or, cond, nat_eq, refl, ap, sym, ◌∙◌, arith}
 use Rattle.std.specs.List.{flat_map}
 use Rattle.std.specs.Prelude.{nat_lt}
-use Rattle.std.proofs.lemmas.List.{take_more, length-append, map-append}
+use Rattle.std.proofs.lemmas.List.{take_more, length-append, map-append, append-nil}
+use Rattle.f3_tree.specs.declared.expression.Name.{Name}
 use Rattle.std.proofs.lemmas.Grind.{flat_map-append}
 use Rattle.std.proofs.lemmas.List.Elements.{filter-append}
 use Rattle.std.proofs.lemmas.Bool.Decides.{nat_tests}
@@ -120,3 +121,24 @@ intent_more f xs i x before after lt is h e =
 pub attributes_same : (xs : List Attribute) → map (λ (a : Attribute). attribute_view a.kind) xs ≡ map (λ (p : Placed). p.attribute) (map placed_view xs)
 attributes_same [] = refl
 attributes_same (x ∷ xs) = ap (λ ys. attribute_view x.kind ∷ ys) (attributes_same xs)
+
+-- names that are counted, one more
+pub named_more : {X : Type 0} (f : X → ℕ) (q : ℕ) (xs : List X) (i : ℕ) (x : X) (n : ℕ) → i < length xs → x ≡ get_or xs i x
+    → cond (nat_eq q (f x)) (n + length (filter (nat_eq q) (map f (take i xs))) + 1) (n + length (filter (nat_eq q) (map f (take i xs)))) ≡ n + length (filter (nat_eq q) (map f (take (i + 1) xs)))
+named_more f q xs i x n lt is =
+    moved (nat_eq q (f x)) n (length (filter (nat_eq q) (map f (take i xs))))
+    ∙ ap (λ m. n + m) (sym (count_push (nat_eq q) (map f (take i xs)) (f x)) ∙ ap (λ ys. length (filter (nat_eq q) ys)) (sym (map_more f xs i x lt is)))
+  where
+    moved : (b : Bool) (n m : ℕ) → cond b (n + m + 1) (n + m) ≡ n + cond b (m + 1) m
+    moved true n m = omega arith
+    moved false n m = refl
+
+-- a list of names for each item, one item more
+pub listed_more : {X Y : Type 0} (p : ℕ → Bool) (v : X → Y) (g : Y → List Name) (xs : List X) (i : ℕ) (x : X) → i < length xs → x ≡ get_or xs i x
+    → length (filter p (map (λ (m : Name). m.symbol) (flat_map g (map v (take i xs))))) + length (filter p (map (λ (m : Name). m.symbol) (g (v x))))
+    ≡ length (filter p (map (λ (m : Name). m.symbol) (flat_map g (map v (take (i + 1) xs)))))
+listed_more p v g xs i x lt is = sym (
+    ap (λ ys. length (filter p (map (λ (m : Name). m.symbol) ys))) (ap (flat_map g) (map_more v xs i x lt is) ∙ flat_map-append g (map v (take i xs)) (v x ∷ []) ∙ ap (λ ys. flat_map g (map v (take i xs)) ++ ys) (append-nil (g (v x))))
+    ∙ ap (λ ys. length (filter p ys)) (map-append (λ (m : Name). m.symbol) (flat_map g (map v (take i xs))) (g (v x)))
+    ∙ ap length (filter-append p (map (λ (m : Name). m.symbol) (flat_map g (map v (take i xs)))) (map (λ (m : Name). m.symbol) (g (v x))))
+    ∙ length-append (filter p (map (λ (m : Name). m.symbol) (flat_map g (map v (take i xs))))) (filter p (map (λ (m : Name). m.symbol) (g (v x)))))

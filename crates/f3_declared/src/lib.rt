@@ -3,6 +3,9 @@
 
 pub mod asking;
 pub mod attributes;
+pub mod bools;
+pub mod conflicts;
 pub mod names;
 pub mod scenery;
+pub mod specifiers;
 pub mod spots;

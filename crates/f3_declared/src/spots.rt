@@ -1,6 +1,6 @@
 //! Where a declaration stands.
 
-ghost use Rattle.std.specs.Prelude.{◌≡◌, ◌+◌, ◌++◌, ℕ, length, filter, map, nat_eq, unwrap_or, OnOk, IfOk};
+ghost use Rattle.std.specs.Prelude.{◌≡◌, ◌==◌, if◌then◌else◌, ◌+◌, ◌++◌, ℕ, length, filter, map, nat_eq, unwrap_or, OnOk, IfOk};
 ghost use Rattle.std.specs.List.{flat_map, list_any};
 ghost use Rattle.indexmap.specs.IndexSet.{contains};
 ghost use Rattle.indexmap.specs.IndexMap.{get};
@@ -61,4 +61,51 @@ pub fn name_set<'a>(alloc: Global, names: &'a [Name]) -> Result<NameSet<'a>, All
         symbols.insert(name.symbol)?;
     }
     Ok(NameSet { names, symbols })
+}
+
+fn add_name(standings: &mut IndexMap<usize, Standing>, symbol: usize) -> Result<(), AllocError>
+    ensures { OnOk result ((q n : ℕ) → unwrap_or (get nat_eq standings.old q) (standing 0) ≡ standing n → unwrap_or (get nat_eq standings.new q) (standing 0) ≡ standing (if q == symbol then n + 1 else n)) }
+{
+    let before = standings.get(&symbol).copied().unwrap_or(never());
+    standings.insert(symbol, again(before))?;
+    Ok(())
+}
+
+fn add_names(standings: &mut IndexMap<usize, Standing>, names: &[Name]) -> Result<(), AllocError>
+    ensures { OnOk result ((q n : ℕ) → unwrap_or (get nat_eq standings.old q) (standing 0) ≡ standing n → unwrap_or (get nat_eq standings.new q) (standing 0) ≡ standing (n + length (filter (nat_eq q) (map (λ m. m.symbol) names.now)))) }
+{
+    for name in names {
+        add_name(standings, name.symbol)?;
+    }
+    Ok(())
+}
+
+fn add_listings(
+    standings: &mut IndexMap<usize, Standing>,
+    specification: &Specification,
+) -> Result<(), AllocError>
+    ensures { OnOk result ((q n : ℕ) → unwrap_or (get nat_eq standings.old q) (standing 0) ≡ standing n → unwrap_or (get nat_eq standings.new q) (standing 0) ≡ standing (n + length (filter (nat_eq q) (map (λ m. m.symbol) (protects_in (specification_view specification.now)))))) }
+{
+    match specification {
+        Specification::Protected(_, names) => add_names(standings, names),
+        Specification::Declaration(_) => Ok(()),
+        Specification::Access(_) => Ok(()),
+        Specification::Save(_) => Ok(()),
+        Specification::Type(_) => Ok(()),
+    }
+}
+
+/// How often names stand in the PROTECTED statements of a specification part.
+///
+/// # Errors
+///
+/// Where memory runs out.
+pub fn counted_listings<'a>(alloc: Global, part: &'a [Specification]) -> Result<Listings<'a>, AllocError>
+    ensures { IfOk result (λ l. l.part.now ≡ part.now) }
+{
+    let mut standings = IndexMap::new(alloc);
+    for specification in part {
+        add_listings(&mut standings, specification)?;
+    }
+    Ok(Listings { part, standings })
 }
