@@ -28,7 +28,6 @@ open_all (x ∷ xs) = ap (λ b. b && list_all (λ (l : Option Expression). not (
 together_twice : (m n : ℕ) → (together (standing m) (standing n)).twice ≡ nat_lt 1 (m + n)
 together_twice m n = grind (arith, nat_tests)
 
-
 pub given_some : (o : Option Expression) → is_some o ≡ is_given (option_map expression_view o)
 given_some None = refl
 given_some (Some e) = refl
@@ -50,7 +49,7 @@ conflicts_asked s d x kinds listed dummy outcome of_procedure initial derived re
     ∙ ap (λ z. conflicts_by (kinds_in d) z s.is_type s.is_pure dummy of_procedure initial derived shape) l
     ∙ ap (λ z. conflicts_by (kinds_in d) (standing (length (filter (nat_eq (x.name).symbol) s.listed))) s.is_type s.is_pure z of_procedure initial derived shape) a
     ∙ ap (λ z. conflicts_by (kinds_in d) (standing (length (filter (nat_eq (x.name).symbol) s.listed))) s.is_type s.is_pure (is_among s.dummies x) z initial derived shape)
-        (o ∙ ap (λ z. z || outcome) a ∙ ap (λ z. is_among s.dummies x || z) b)
+    (o ∙ ap (λ z. z || outcome) a ∙ ap (λ z. is_among s.dummies x || z) b)
     ∙ ap (λ z. conflicts_by (kinds_in d) (standing (length (filter (nat_eq (x.name).symbol) s.listed))) s.is_type s.is_pure (is_among s.dummies x) (is_among s.dummies x || is_among s.results x) z derived shape) i
     ∙ ap (λ z. conflicts_by (kinds_in d) (standing (length (filter (nat_eq (x.name).symbol) s.listed))) s.is_type s.is_pure (is_among s.dummies x) (is_among s.dummies x || is_among s.results x) (is_given x.initial) z shape) t
     ∙ ap (λ z. conflicts_by (kinds_in d) (standing (length (filter (nat_eq (x.name).symbol) s.listed))) s.is_type s.is_pure (is_among s.dummies x) (is_among s.dummies x || is_among s.results x) (is_given x.initial) (is_derived d.specifier) z) h

@@ -71,7 +71,7 @@ kinds_push : (xs : List AttributeTree) (x : AttributeTree) → kinds_of (xs ++ (
 unfolding step_of
 kinds_push xs x =
     six _ _ _ _ _ _ _ _ _ _ _ _ (stands_push protected xs x) (stands_push parameter xs x) (stands_push save xs x) (stands_push allocatable xs x)
-        (stands_push any_dimension xs x) (stands_push any_intent xs x)
+    (stands_push any_dimension xs x) (stands_push any_intent xs x)
     ∙ step_is (kinds_of xs) x
 
 pub kinds_more : {X : Type 0} (f : X → AttributeTree) (xs : List X) (i : ℕ) (x : X) (before after : Kinds) → i < length xs → x ≡ get_or xs i x → before ≡ kinds_of (map f (take i xs))

@@ -20,11 +20,7 @@ pub fn has_name(set: &NameSet<'_>, symbol: usize) -> bool
 pub fn listed_standing(listings: &Listings<'_>, symbol: usize) -> Standing
     ensures { result ≡ standing (length (filter (nat_eq symbol) (listed_of listings.now))) }
 {
-    listings
-        .standings
-        .get(&symbol)
-        .copied()
-        .unwrap_or(never())
+    listings.standings.get(&symbol).copied().unwrap_or(never())
 }
 
 /// Whether a name is a dummy where it stands.

@@ -12,8 +12,8 @@ ghost use Rattle.f3_declared.specs.Spots.{spot_in};
 ghost use Rattle.f3_declared.specs.Inner.Conflicts.{twice_by, allocatable_by, parameter_by, pure_by, shape_by, type_by, conflicts_by};
 
 use crate::asking::{is_dummy, is_result, listings_of};
-use crate::bools::{both, either};
 use crate::attributes::{Kinds, Reading, Standing, together};
+use crate::bools::{both, either};
 use crate::names::shape_of;
 use crate::spots::Spot;
 use f3_tree::declaration::{Entity, Shape, TypeSpecifier};
@@ -129,7 +129,8 @@ fn is_shape_wrong(kinds: Kinds, dummy: bool, shape: Option<&Shape>) -> bool
 fn is_type_wrong(kinds: Kinds, is_type: bool) -> bool
     ensures { result ≡ type_by kinds is_type }
 {
-    is_type && (kinds.protected.once || kinds.parameter.once || kinds.save.once || kinds.intent.once)
+    is_type
+        && (kinds.protected.once || kinds.parameter.once || kinds.save.once || kinds.intent.once)
 }
 
 /// What the rule asks of a name besides its attributes and its shape.
@@ -150,7 +151,10 @@ fn conflicts_by(kinds: Kinds, listed: Standing, asked: Asked, shape: Option<&Sha
     let broken = either(broken, is_allocatable_wrong(kinds, asked.initial, shape));
     let parameter = is_parameter_wrong(kinds, asked.initial, asked.derived, shape);
     let broken = either(broken, parameter);
-    let broken = either(broken, both(asked.initial, either(asked.of_procedure, asked.derived)));
+    let broken = either(
+        broken,
+        both(asked.initial, either(asked.of_procedure, asked.derived)),
+    );
     let broken = either(broken, both(kinds.save.once, asked.of_procedure));
     let broken = either(broken, is_pure_wrong(kinds, asked.is_pure, asked.initial));
     let broken = either(broken, is_shape_wrong(kinds, asked.dummy, shape));

@@ -63,11 +63,11 @@ pub fn name_set<'a>(alloc: Global, names: &'a [Name]) -> Result<NameSet<'a>, All
     Ok(NameSet { names, symbols })
 }
 
-fn add_name(standings: &mut IndexMap<usize, Standing>, symbol: usize) -> Result<(), AllocError>
-    ensures { OnOk result ((q n : ℕ) → unwrap_or (get nat_eq standings.old q) (standing 0) ≡ standing n → unwrap_or (get nat_eq standings.new q) (standing 0) ≡ standing (if q == symbol then n + 1 else n)) }
+fn add_name(standings: &mut IndexMap<usize, Standing>, name: Name) -> Result<(), AllocError>
+    ensures { OnOk result ((q n : ℕ) → unwrap_or (get nat_eq standings.old q) (standing 0) ≡ standing n → unwrap_or (get nat_eq standings.new q) (standing 0) ≡ standing (if q == name.symbol then n + 1 else n)) }
 {
-    let before = standings.get(&symbol).copied().unwrap_or(never());
-    standings.insert(symbol, again(before))?;
+    let before = standings.get(&name.symbol).copied().unwrap_or(never());
+    standings.insert(name.symbol, again(before))?;
     Ok(())
 }
 
@@ -75,7 +75,7 @@ fn add_names(standings: &mut IndexMap<usize, Standing>, names: &[Name]) -> Resul
     ensures { OnOk result ((q n : ℕ) → unwrap_or (get nat_eq standings.old q) (standing 0) ≡ standing n → unwrap_or (get nat_eq standings.new q) (standing 0) ≡ standing (n + length (filter (nat_eq q) (map (λ m. m.symbol) names.now)))) }
 {
     for name in names {
-        add_name(standings, name.symbol)?;
+        add_name(standings, *name)?;
     }
     Ok(())
 }
@@ -100,7 +100,10 @@ fn add_listings(
 /// # Errors
 ///
 /// Where memory runs out.
-pub fn counted_listings<'a>(alloc: Global, part: &'a [Specification]) -> Result<Listings<'a>, AllocError>
+pub fn counted_listings<'a>(
+    alloc: Global,
+    part: &'a [Specification],
+) -> Result<Listings<'a>, AllocError>
     ensures { IfOk result (λ l. l.part.now ≡ part.now) }
 {
     let mut standings = IndexMap::new(alloc);

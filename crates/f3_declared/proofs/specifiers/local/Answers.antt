@@ -17,6 +17,6 @@ returns c =
     c.unless.ensures
     ∙ ap (λ b. noted c.args.first.now (unless c.either-right.result b)) c.at_name.ensures
     ∙ ap (λ z. noted c.args.first.now (unless z (at_name 5 T12 c.args.entity.now.name)))
-        (c.either-right.ensures
-        ∙ ap (λ z. not z || c.may_finalize-may.result) (c.is_finalizable-finalizable.ensures ∙ ap (is_finalizable scene) c.type_of-data_type.ensures)
-        ∙ ap (λ z. not (is_finalizable scene (type_of scene.names c.args.spot.now.scope c.args.reading.now.declaration.now.specifier)) || z) (c.may_finalize-may.ensures scene))
+    (c.either-right.ensures
+    ∙ ap (λ z. not z || c.may_finalize-may.result) (c.is_finalizable-finalizable.ensures ∙ ap (is_finalizable scene) c.type_of-data_type.ensures)
+    ∙ ap (λ z. not (is_finalizable scene (type_of scene.names c.args.spot.now.scope c.args.reading.now.declaration.now.specifier)) || z) (c.may_finalize-may.ensures scene))

@@ -17,7 +17,7 @@ loop-specification-preserved c = λ q.
 pub invariant_of-result : goal.invariant_of-result
 invariant_of-result c = record {
   counted = λ q.
-    c.loop-specification.invariant q
-    ∙ ap (λ (ys : List Specification). standing (length (filter (nat_eq q) (map (λ (m : Name). m.symbol) (flat_map protects_in (map specification_view ys))))))
-        (take_all c.loop-specification.specification-index c.args.part.now (omega (arith, c.loop-specification-test.false)));
+      c.loop-specification.invariant q
+      ∙ ap (λ (ys : List Specification). standing (length (filter (nat_eq q) (map (λ (m : Name). m.symbol) (flat_map protects_in (map specification_view ys))))))
+      (take_all c.loop-specification.specification-index c.args.part.now (omega (arith, c.loop-specification-test.false)));
 }
