@@ -1,1 +1,2 @@
 pub mod Capping
+pub mod Shaping
