@@ -3,4 +3,5 @@
 
 pub mod bounds;
 pub mod counts;
+pub mod initial;
 pub mod sizes;

@@ -23,14 +23,13 @@ ghost use Rattle.std.specs.Prelude.{pos};
 use crate::counts::{at_most, extent, multiplied};
 use f3_declared::bools::{both, either};
 use f3_declared::names::dimensions as rank;
+use f3_kinds::types::{DataType, Object, Scalar};
 use f3_rules::breaks::Break;
 use f3_rules::rule::Rule;
-use f3_tree::expression::Name;
-use f3_typed_parts::noted::{at_name, unless};
-use f3_kinds::types::{DataType, Object, Scalar};
 use f3_tree::declaration::Shape;
-use f3_tree::expression::{Expression, IntegerKind};
+use f3_tree::expression::{Expression, IntegerKind, Name};
 use f3_typed_parts::known::{Known, Position};
+use f3_typed_parts::noted::{at_name, unless};
 use f3_values::values::value;
 
 /// What a shape says of the object that has it.
@@ -83,11 +82,7 @@ fn is_small(known: &Known<'_>, at: Position, bounds: &(Option<Expression>, Expre
     at_most(9223372036854775807, bounds_extent(known, at, bounds))
 }
 
-fn are_small(
-    known: &Known<'_>,
-    at: Position,
-    list: &[(Option<Expression>, Expression)],
-) -> bool
+fn are_small(known: &Known<'_>, at: Position, list: &[(Option<Expression>, Expression)]) -> bool
     ensures { result ≡ list_all (λ b. at_most 9223372036854775807 (bounds_extent (context_of known.now at) (bounds_view b))) list.now }
 {
     list.iter().all(|bounds| is_small(known, at, bounds))

@@ -15,9 +15,9 @@ use Rattle.f3_extents.proofs.bounds.dimensions.Goals as goal
 pub loop-attribute-preserved : goal.loop-attribute-preserved
 loop-attribute-preserved c =
     item_step (λ (a : Attribute). dimension_rows (context_of c.args.known.now c.args.at) (attribute_view a.kind))
-        c.args.list.now c.loop-attribute.attribute-index c.attribute-item.result c.loop-attribute.first c.dimension.new.first _ c.loop-attribute-test.true c.attribute-item.is (search rules) c.loop-attribute.invariant
+    c.args.list.now c.loop-attribute.attribute-index c.attribute-item.result c.loop-attribute.first c.dimension.new.first _ c.loop-attribute-test.true c.attribute-item.is (search rules) c.loop-attribute.invariant
 
 pub returns : goal.returns
 returns c =
     noted_done (flat_map (λ (a : Attribute). dimension_rows (context_of c.args.known.now c.args.at) (attribute_view a.kind)))
-        c.args.list.now c.loop-attribute.attribute-index c.loop-attribute.first _ (omega (arith, c.loop-attribute-test.false)) refl c.loop-attribute.invariant
+    c.args.list.now c.loop-attribute.attribute-index c.loop-attribute.first _ (omega (arith, c.loop-attribute-test.false)) refl c.loop-attribute.invariant

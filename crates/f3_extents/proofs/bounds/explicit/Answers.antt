@@ -15,9 +15,9 @@ use Rattle.f3_extents.proofs.bounds.explicit.Goals as goal
 pub loop-bounds-preserved : goal.loop-bounds-preserved
 loop-bounds-preserved c =
     item_step (λ (b : Option Expression × Expression). rows_of_bounds (context_of c.args.known.now c.args.at) (bounds_view b))
-        c.args.list.now c.loop-bounds.bounds-index c.bounds-item.result c.loop-bounds.first c.both_bounds.new.first _ c.loop-bounds-test.true c.bounds-item.is (search rules) c.loop-bounds.invariant
+    c.args.list.now c.loop-bounds.bounds-index c.bounds-item.result c.loop-bounds.first c.both_bounds.new.first _ c.loop-bounds-test.true c.bounds-item.is (search rules) c.loop-bounds.invariant
 
 pub returns : goal.returns
 returns c =
     noted_done (flat_map (λ (b : Option Expression × Expression). rows_of_bounds (context_of c.args.known.now c.args.at) (bounds_view b)))
-        c.args.list.now c.loop-bounds.bounds-index c.loop-bounds.first _ (omega (arith, c.loop-bounds-test.false)) refl c.loop-bounds.invariant
+    c.args.list.now c.loop-bounds.bounds-index c.loop-bounds.first _ (omega (arith, c.loop-bounds-test.false)) refl c.loop-bounds.invariant
