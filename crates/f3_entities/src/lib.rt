@@ -2,4 +2,5 @@
 #![tactic(auto)]
 
 pub mod entities;
+pub mod growing;
 pub mod growth;
