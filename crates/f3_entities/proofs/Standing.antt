@@ -1,5 +1,5 @@
 -- What is known where a declaration stands.
-use Rattle.std.proofs.Common.{◌≡◌, ℕ, nat_eq, not, ◌&&◌, ◌||◌, List, [], ◌++◌, map, Option, None, refl, ap, sym, ◌∙◌}
+use Rattle.std.proofs.Common.{◌≡◌, not, ◌&&◌, ◌||◌, List, [], ◌++◌, Option, refl, ap, sym, ◌∙◌}
 use Rattle.std.specs.Option.{option_map}
 use Rattle.f3_rules.specs.declared.breaks.Break.{Break}
 use Rattle.f3_rules.specs.declared.rule.Rule.TheVariants.{T1, T5}
@@ -14,13 +14,10 @@ use Rattle.f3_type_rules.specs.Constants.{constant_rows}
 use Rattle.f3_type_rules.specs.Declarations.{entity_rows}
 use Rattle.f3_type_rules.specs.Names.{Declared, dimensions, shape_of, object_of}
 use Rattle.f3_type_rules.specs.Shapes.{shape_rows, elements, at_most, are_dimensions_small, cells_of, initial_right}
-use Rattle.std.specs.Prelude.{slice_get}
-use Rattle.std.specs.Map.{lookup}
 use Rattle.std.proofs.lemmas.Option.{slice_get-map}
-use Rattle.f3_kinds.specs.declared.types.Scalar.{Scalar}
-use Rattle.f3_kinds.specs.Things.{map_or, Nature, Context}
+use Rattle.f3_kinds.specs.Things.{map_or, Context}
 use Rattle.f3_typed_parts.specs.Known.{nature_of, context_of}
-use Rattle.f3_type_rules.specs.Scene.{Scene, context_in}
+use Rattle.f3_type_rules.specs.Scene.{Scene}
 use Rattle.f3_type_rules.specs.Walks.{Known, Spot, context, is_among}
 use Rattle.f3_declared.specs.declared.spots.Spot.{Spot as Standpoint}
 use Rattle.f3_declared.specs.Scenery.{names_in, scene_in}

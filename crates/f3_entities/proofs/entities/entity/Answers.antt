@@ -1,8 +1,7 @@
 use Rattle.std.proofs.Common.{◌≡◌, ap, sym, ◌∙◌, ℕ, not, ◌&&◌, ◌||◌, List, Option, subst}
 use Rattle.std.specs.Option.{option_map}
-use Rattle.f3_rules.specs.declared.breaks.Break.{Break}
 use Rattle.f3_rules.specs.declared.rule.Rule.TheVariants.{T1, T5}
-use Rattle.f3_tree.specs.Declarations.{ShapeTree, shape_view, DeclarationTree, EntityTree, entity_view}
+use Rattle.f3_tree.specs.Declarations.{ShapeTree, DeclarationTree, EntityTree, entity_view}
 use Rattle.f3_kinds.specs.declared.types.Object.{Object}
 use Rattle.f3_kinds.specs.Rows.{at_name, unless}
 use Rattle.f3_kinds.specs.Things.{Context}

@@ -25,13 +25,13 @@ returns c = λ s k h.
     let x : EntityTree = entity_view c.args.entity.now in
     let o : Object = object_of s.names c.args.spot.now.scope (d, x) in
     let named : c.args.reading.now.kinds.parameter.once ≡ has parameter d =
-        ap (λ (z : Kinds). z.parameter.once) c.requires.read.kinds ∙ once_any (same_sort parameter) (attributes_of d) in
+    ap (λ (z : Kinds). z.parameter.once) c.requires.read.kinds ∙ once_any (same_sort parameter) (attributes_of d) in
     let object : c.object_of-object.result ≡ o = c.object_of-object.ensures ∙ ap (λ (z : Scene). object_of z.names c.args.spot.now.scope (d, x)) (sym h.scene) in
     let value : c.given_value-value.result ≡ constant_value spot d k x =
-        c.given_value-value.ensures
-        ∙ ap (λ z. given_value here z c.object_of-object.result.data_type x.initial) (c.both-named.ensures ∙ ap (λ z. z && nat_eq c.object_of-object.result.rank 0) named)
-        ∙ ap (λ (z : Object). given_value here (has parameter d && nat_eq z.rank 0) z.data_type x.initial) object
-        ∙ ap (λ (z : Context). given_value z (has parameter d && nat_eq o.rank 0) o.data_type x.initial) (sym (context_same s c.args.growth.now k c.args.spot.now h)) in
+    c.given_value-value.ensures
+    ∙ ap (λ z. given_value here z c.object_of-object.result.data_type x.initial) (c.both-named.ensures ∙ ap (λ z. z && nat_eq c.object_of-object.result.rank 0) named)
+    ∙ ap (λ (z : Object). given_value here (has parameter d && nat_eq z.rank 0) z.data_type x.initial) object
+    ∙ ap (λ (z : Context). given_value z (has parameter d && nat_eq o.rank 0) o.data_type x.initial) (sym (context_same s c.args.growth.now k c.args.spot.now h)) in
     record {
       scene = h.scene;
       next = ap (λ n. n + 1) h.next;
