@@ -123,7 +123,7 @@ fn extent_of(shape: &Shape) -> Extent
 }
 
 /// The shape of the last DIMENSION.
-#[tactic(auto, using(crate::proofs::Attributes::last_of_map))]
+
 fn dimension(list: &[Attribute]) -> Option<Extent>
     ensures { result ≡ option_map extent (last_of None (flat_map dimension_in (map (λ p. p.attribute) (map placed_view list.now)))) }
 {
