@@ -1,1 +1,3 @@
 pub mod Objects
+pub mod Parts
+pub mod Procedures

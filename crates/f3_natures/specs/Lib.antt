@@ -1,2 +1,3 @@
 pub mod Known
+pub mod Entries
 pub mod Inner

@@ -1,0 +1,21 @@
+//! Entries by name, of which the first of each name counts.
+
+ghost use Rattle.std.specs.Prelude.{◌≡◌, OnOk};
+ghost use Rattle.f3_natures.specs.Entries.{with_first};
+
+use indexmap::IndexMap;
+use std::alloc::AllocError;
+
+/// Adds an entry where no other has its name.
+pub fn keep_first<T: Copy>(
+    entries: &mut IndexMap<usize, T>,
+    symbol: usize,
+    item: T,
+) -> Result<(), AllocError>
+    ensures { OnOk result (entries.new.entries ≡ with_first entries.old.entries symbol item) }
+{
+    if entries.get(&symbol).is_none() {
+        entries.insert(symbol, item)?;
+    }
+    Ok(())
+}
