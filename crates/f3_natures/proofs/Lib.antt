@@ -1,2 +1,4 @@
 pub mod Attributes
 pub mod First
+pub mod Growing
+pub mod Owned

@@ -1,3 +1,4 @@
 pub mod Known
 pub mod Entries
+pub mod Constructs
 pub mod Inner

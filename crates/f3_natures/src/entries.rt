@@ -7,6 +7,7 @@ use indexmap::IndexMap;
 use std::alloc::AllocError;
 
 /// Adds an entry where no other has its name.
+#[tactic(auto, using(crate::proofs::First::inserted))]
 pub fn keep_first<T: Copy>(
     entries: &mut IndexMap<usize, T>,
     symbol: usize,
@@ -14,8 +15,11 @@ pub fn keep_first<T: Copy>(
 ) -> Result<(), AllocError>
     ensures { OnOk result (entries.new.entries ≡ with_first entries.old.entries symbol item) }
 {
-    if entries.get(&symbol).is_none() {
-        entries.insert(symbol, item)?;
+    match entries.get(&symbol) {
+        Some(_) => Ok(()),
+        None => {
+            entries.insert(symbol, item)?;
+            Ok(())
+        }
     }
-    Ok(())
 }
