@@ -4,6 +4,7 @@
 pub mod constructs;
 pub mod entries;
 pub mod names;
+pub mod natures;
 pub mod objects;
 pub mod parts;
 pub mod procedures;

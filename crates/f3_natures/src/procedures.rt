@@ -126,7 +126,7 @@ fn result_by(
 }
 
 /// What a procedure is, by its header and what it declares.
-pub fn procedure(
+pub fn procedure_thing(
     alloc: Global,
     names: &Names<'_>,
     scope: usize,
