@@ -2,3 +2,4 @@ pub mod Attributes
 pub mod First
 pub mod Growing
 pub mod Owned
+pub mod Steps

@@ -3,7 +3,7 @@
 ghost use Rattle.std.specs.Prelude.{◌≡◌, ◌++◌, ◌∷◌, [], ◌+◌, ◌^◌, ◌<◌, nat_lt, Some, length, map, replicate, IfOk, OnOk};
 ghost use Rattle.std.specs.List.{flat_map, list_any};
 ghost use Rattle.f3_tree.specs.Declarations.{declaration_view, specification_view};
-ghost use Rattle.f3_tree.specs.Tree.{procedure_view, unit_view, view};
+ghost use Rattle.f3_tree.specs.Tree.{procedure_view, unit_view};
 ghost use Rattle.f3_scopes.specs.Scopes.{declared_in};
 ghost use Rattle.f3_kinds.specs.Things.{variable};
 ghost use Rattle.f3_type_rules.specs.Names.{undeclared};
@@ -11,13 +11,13 @@ ghost use Rattle.f3_type_rules.specs.Natures.{object_nature, declared_nature, ty
 ghost use Rattle.f3_typed_parts.specs.Known.{nature_of};
 ghost use Rattle.f3_natures.specs.Known.{names_view};
 ghost use Rattle.f3_natures.specs.Inner.Procedures.{is_for};
-ghost use Rattle.f3_natures.specs.Inner.Walk.{final_at, is_final, made_one, made_all};
+ghost use Rattle.f3_natures.specs.Inner.Walk.{final_at, is_final, made_one, made_all, count_of, end_of, along, final_made, procedure_made, inner_made, all_finals, all_made, all_inner, own_count, unit_start, unit_end, unit_made, units_made, units_end};
 
-
+use crate::constructs::constructs;
 use crate::names::Names;
 use crate::objects::{common_of, describe, typed_object, undeclared};
 use crate::parts::components;
-
+use crate::procedures::{final_type, locals, procedure_thing};
 use f3_access::lookup;
 use f3_access::table::Lookup;
 use f3_kinds::things::{Thing, TypeTable};
@@ -25,7 +25,7 @@ use f3_kinds::types::Object;
 use f3_scopes::outline::EntityKind;
 use f3_tree::declaration::{Declaration, Specification};
 use f3_tree::expression::Name;
-use f3_tree::program::ProcedureKind;
+use f3_tree::program::{Procedure, ProcedureKind, Unit};
 use std::alloc::{AllocError, Global};
 
 /// A declared name: of a constant or of a variable.
@@ -206,4 +206,158 @@ fn add_typed(
         ProcedureKind::Function(None, _) => Ok(()),
         ProcedureKind::Subroutine => Ok(()),
     }
+}
+
+/// What is found of a procedure by its header: the type that it may be final for, and what it is.
+fn add_procedure(
+    alloc: Global,
+    names: &Names<'_>,
+    scope: usize,
+    finals: &mut Vec<Option<usize>>,
+    made: &mut Vec<Thing>,
+    procedure: &Procedure,
+) -> Result<(), AllocError>
+    ensures finals { OnOk result (finals.new.items ≡ finals.old.items ++ final_made (names_view names.now) scope (procedure_view procedure.now)) }
+    ensures made { OnOk result (map nature_of made.new.items ≡ map nature_of made.old.items ++ procedure_made (names_view names.now) scope (procedure_view procedure.now)) }
+{
+    let locals = locals(alloc, names, scope, &procedure.part.specifications)?;
+    finals.push(final_type(&locals, &procedure.header))?;
+    let thing = procedure_thing(alloc, names, scope, &locals, &procedure.header)?;
+    drop(locals);
+    made.push(thing)?;
+    Ok(())
+}
+
+/// What a procedure declares. The answer is the number of the scope behind its own and those of its constructs.
+fn add_inner(
+    alloc: Global,
+    names: &Names<'_>,
+    scope: usize,
+    inner: &mut Vec<Thing>,
+    procedure: &Procedure,
+) -> Result<usize, AllocError>
+    requires { scope + 1 + count_of (procedure_view procedure.now).body < 2 ^ 64 }
+    ensures next { IfOk result (λ n. n ≡ scope + 1 + count_of (procedure_view procedure.now).body) }
+    ensures inner { OnOk result (map nature_of inner.new.items ≡ map nature_of inner.old.items ++ inner_made (names_view names.now) scope (procedure_view procedure.now)) }
+{
+    add_typed(names, scope, inner, procedure.header.kind)?;
+    add_specifications(
+        alloc,
+        names,
+        scope,
+        0,
+        &[],
+        inner,
+        &procedure.part.specifications,
+    )?;
+    let constructs = constructs(alloc, &procedure.body)?;
+    add_associates(inner, &constructs)?;
+    Ok(scope + 1 + constructs.len())
+}
+
+/// The procedures of a module, of which the first has this scope. The answer is the number of the scope behind them.
+fn add_procedures(
+    alloc: Global,
+    names: &Names<'_>,
+    scope: usize,
+    finals: &mut Vec<Option<usize>>,
+    made: &mut Vec<Thing>,
+    inner: &mut Vec<Thing>,
+    list: &[Procedure],
+) -> Result<usize, AllocError>
+    requires { end_of scope (map procedure_view list.now) < 2 ^ 64 }
+    ensures next { IfOk result (λ n. n ≡ end_of scope (map procedure_view list.now)) }
+    ensures finals { OnOk result (finals.new.items ≡ finals.old.items ++ all_finals (names_view names.now) scope (map procedure_view list.now)) }
+    ensures made { OnOk result (map nature_of made.new.items ≡ map nature_of made.old.items ++ all_made (names_view names.now) scope (map procedure_view list.now)) }
+    ensures inner { OnOk result (map nature_of inner.new.items ≡ map nature_of inner.old.items ++ all_inner (names_view names.now) scope (map procedure_view list.now)) }
+{
+    let mut next = scope;
+    for procedure in list {
+        add_procedure(alloc, names, next, finals, made, procedure)?;
+        next = add_inner(alloc, names, next, inner, procedure)?;
+    }
+    Ok(next)
+}
+
+/// The number of entities that a specification declares.
+fn declared_by(specification: &Specification) -> usize
+    ensures { result ≡ length (declared_in (specification_view specification.now)) }
+{
+    match specification {
+        Specification::Declaration(declaration) => declaration.entities.len(),
+        Specification::Type(_) => 1,
+        Specification::Access(_) => 0,
+        Specification::Protected(_, _) => 0,
+        Specification::Save(_) => 0,
+    }
+}
+
+/// The number behind the entities that a specification part declares, of which the first has this number.
+fn behind_declared(first: usize, list: &[Specification]) -> usize
+    requires { first + length (flat_map declared_in (map specification_view list.now)) < 2 ^ 64 }
+    ensures { result ≡ first + length (flat_map declared_in (map specification_view list.now)) }
+{
+    let mut next = first;
+    for specification in list {
+        next += declared_by(specification);
+    }
+    next
+}
+
+/// A unit: what it declares, what its procedures are, and what these declare. The answer is the number of the scope
+/// behind all of these.
+fn add_unit(
+    alloc: Global,
+    names: &Names<'_>,
+    scope: usize,
+    things: &mut Vec<Thing>,
+    unit: &Unit,
+) -> Result<usize, AllocError>
+    requires scopes { unit_end scope (unit_view unit.now) < 2 ^ 64 }
+    requires entities { length things.old.items + own_count (unit_view unit.now) < 2 ^ 64 }
+    ensures next { IfOk result (λ n. n ≡ unit_end scope (unit_view unit.now)) }
+    ensures things { OnOk result (map nature_of things.new.items ≡ map nature_of things.old.items ++ unit_made (names_view names.now) (length things.old.items) scope (unit_view unit.now)) }
+{
+    let constructs = constructs(alloc, &unit.body)?;
+    let start = scope + 1 + constructs.len();
+    let mut finals = Vec::new(alloc);
+    let mut made = Vec::new(alloc);
+    let mut inner = Vec::new(alloc);
+    let next = add_procedures(
+        alloc,
+        names,
+        start,
+        &mut finals,
+        &mut made,
+        &mut inner,
+        &unit.procedures,
+    )?;
+    let first = behind_declared(things.len(), &unit.part.specifications);
+    add_specifications(
+        alloc,
+        names,
+        scope,
+        first,
+        &finals,
+        things,
+        &unit.part.specifications,
+    )?;
+    things.append(&mut made)?;
+    add_associates(things, &constructs)?;
+    things.append(&mut inner)?;
+    Ok(next)
+}
+
+/// The units of a program.
+pub fn units(alloc: Global, names: &Names<'_>, list: &[Unit]) -> Result<Vec<Thing>, AllocError>
+    requires scopes { units_end 0 (map unit_view list.now) < 2 ^ 64 }
+    requires entities { length (units_made (names_view names.now) 0 0 (map unit_view list.now)) < 2 ^ 64 }
+    ensures { IfOk result (λ v. map nature_of v.items ≡ units_made (names_view names.now) 0 0 (map unit_view list.now)) }
+{
+    let mut things = Vec::new(alloc);
+    let mut scope = 0;
+    for unit in list {
+        scope = add_unit(alloc, names, scope, &mut things, unit)?;
+    }
+    Ok(things)
 }

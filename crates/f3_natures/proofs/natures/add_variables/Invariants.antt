@@ -4,5 +4,5 @@ use Rattle.f3_type_rules.specs.Names.{undeclared}
 use Rattle.f3_typed_parts.specs.Known.{nature_of}
 use Rattle.f3_natures.proofs.natures.add_variables.Given as goal
 
-abbrev pub invariant-loop-_name : goal.invariant-loop-_name
-invariant-loop-_name l = map nature_of l.things.items ≡ map nature_of l.fn.things.items ++ replicate l._name (variable undeclared)
+abbrev pub invariant-loop-name : goal.invariant-loop-name
+invariant-loop-name l = map nature_of l.things.items ≡ map nature_of l.fn.things.items ++ replicate l._name (variable undeclared)
