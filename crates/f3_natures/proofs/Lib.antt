@@ -3,3 +3,4 @@ pub mod First
 pub mod Growing
 pub mod Owned
 pub mod Steps
+pub mod Looked
