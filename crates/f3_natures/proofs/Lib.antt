@@ -4,3 +4,4 @@ pub mod Growing
 pub mod Owned
 pub mod Steps
 pub mod Looked
+pub mod Same

@@ -83,7 +83,7 @@ same_false : (b : Bool) → (if b then false else false) ≡ false
 same_false true = refl
 same_false false = refl
 
-never : (t : ℕ) (l : Lookup) → is_final_in 0 [] t l ≡ false
+pub never : (t : ℕ) (l : Lookup) → is_final_in 0 [] t l ≡ false
 never t (One f) = same_false (nat_lt f 0)
 never t Nothing = refl
 never t Several = refl
@@ -146,7 +146,7 @@ unit_joined names e scope first start u finals f0 l0 l1 l2 l3 l4 made m0 inner i
     ∙ ap (λ zs. zs ++ i) (joined ∙ ap (λ zs. zs ++ a) (e2 ∙ ap (λ zs. l1 ++ zs) ms ∙ ap (λ zs. zs ++ m) own))
     ∙ append_assoc ((l0 ++ o) ++ m) a i ∙ append_assoc (l0 ++ o) m (a ++ i) ∙ append_assoc l0 o (m ++ (a ++ i))
 
-one_long : (names : Names) (scope : ℕ) (has : ℕ → Name → Bool) (e : ℕ) (s : SpecificationTree) → length (made_one names scope has e s) ≡ length (declared_in s)
+pub one_long : (names : Names) (scope : ℕ) (has : ℕ → Name → Bool) (e : ℕ) (s : SpecificationTree) → length (made_one names scope has e s) ≡ length (declared_in s)
 one_long names scope has e (declares d) = length-map d.entities (declared_nature names scope d) ∙ sym (length-map d.entities (own d.attributes))
 one_long names scope has e (accesses a) = refl
 one_long names scope has e (protects p ns) = refl
