@@ -46,7 +46,7 @@ cond_else : {X : Type 0} (b : Bool) (x : X) (o o' : Option X) → cond b (Some x
 cond_else true x o o' = refl
 cond_else false x o o' = refl
 
-lookup_append : {X : Type 0} (k : ℕ) (xs ys : List (ℕ × X)) → lookup (nat_eq k) (xs ++ ys) ≡ or_else (lookup (nat_eq k) xs) (lookup (nat_eq k) ys)
+pub lookup_append : {X : Type 0} (k : ℕ) (xs ys : List (ℕ × X)) → lookup (nat_eq k) (xs ++ ys) ≡ or_else (lookup (nat_eq k) xs) (lookup (nat_eq k) ys)
 lookup_append k [] ys = refl
 lookup_append k (x ∷ xs) ys = ap (cond (nat_eq k x.0) (Some x.1)) (lookup_append k xs ys) ∙ cond_else (nat_eq k x.0) x.1 (lookup (nat_eq k) xs) (lookup (nat_eq k) ys)
 

@@ -3,6 +3,8 @@
 
 pub mod constructs;
 pub mod entries;
+pub mod holders;
+pub mod intrinsics;
 pub mod names;
 pub mod natures;
 pub mod objects;
