@@ -7,3 +7,5 @@ pub mod Looked
 pub mod Same
 pub mod Standing
 pub mod Distinct
+pub mod Held
+pub mod Symbols
