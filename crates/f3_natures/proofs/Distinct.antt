@@ -10,7 +10,7 @@ use Rattle.f3_scopes.specs.Scopes.{declared_in, unit_scopes, scopes_of}
 use Rattle.f3_tree.specs.declared.expression.Name.{Name}
 use Rattle.f3_tree.specs.declared.program.ProcedureKind.{ProcedureKind}
 use Rattle.f3_tree.specs.declared.program.ProcedureKind.TheVariants.{Subroutine, Function}
-use Rattle.f3_tree.specs.Declarations.{EntityTree, DeclarationTree, TypeTree, SpecificationTree, declares, accesses, protects, saves, defines}
+use Rattle.f3_tree.specs.Declarations.{EntityTree, DeclarationTree, SpecificationTree, declares, accesses, protects, saves, defines}
 use Rattle.f3_tree.specs.Tree.{ProcedureTree, UnitTree, Tree}
 use Rattle.f3_kinds.specs.declared.types.Object.{Object}
 use Rattle.f3_kinds.specs.declared.things.Component.{Component}
@@ -21,8 +21,8 @@ use Rattle.f3_type_rules.specs.Associates.{constructs_of_block}
 use Rattle.f3_type_rules.specs.Names.{Names, Declared, or_else, is_given, component, components, entries}
 use Rattle.f3_type_rules.specs.Members.{Member, members_from, numbered, units_from}
 use Rattle.f3_type_rules.specs.Finals.{final_rank}
-use Rattle.f3_type_rules.specs.Natures.{declared_nature, natures_in, natures_from, dummy, result_object, specifier_of, kind_nature, procedure_nature, typed_natures, associate_natures, member_natures, unit_natures}
-use Rattle.f3_natures.specs.Entries.{with_first, firsts_after, firsts}
+use Rattle.f3_type_rules.specs.Natures.{natures_in, natures_from, dummy, kind_nature, procedure_nature, typed_natures, associate_natures, member_natures, unit_natures}
+use Rattle.f3_natures.specs.Entries.{firsts_after, firsts}
 use Rattle.f3_natures.specs.Natures.{natures_of, kept, are_distinct, names_in, has_distinct_components, has_distinct_dummies, is_procedure_distinct, is_unit_distinct, HasDistinctParts}
 use Rattle.f3_natures.proofs.Looked.{lookup_append}
 use Rattle.f3_natures.proofs.Same.{kept_typed, kept_associates, kept_declared}

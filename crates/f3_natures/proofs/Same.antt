@@ -1,5 +1,5 @@
 -- What is made of units is what they are, with the first of each name.
-use Rattle.std.proofs.Common.{◌≡◌, refl, sym, ap, ◌∙◌, ℕ, ◌+◌, ◌-◌, ◌<◌, ◌≤◌, nat_eq, nat_lt, Bool, true, false, ◌||◌, List, [], ◌∷◌, ◌++◌, map, length, Option, None, Some, if◌then◌else◌, cond, slice_get, add-one, inl, inr, arith}
+use Rattle.std.proofs.Common.{◌≡◌, refl, sym, ap, ◌∙◌, ℕ, ◌+◌, ◌-◌, ◌<◌, nat_eq, nat_lt, Bool, true, false, ◌||◌, List, [], ◌∷◌, ◌++◌, map, length, Option, None, Some, if◌then◌else◌, cond, slice_get, add-one, inl, inr, arith}
 use Rattle.std.specs.List.{flat_map, list_any}
 use Rattle.std.specs.Map.{lookup}
 use Rattle.std.proofs.lemmas.List.{map-append}
@@ -12,7 +12,6 @@ use Rattle.f3_scopes.specs.declared.outline.EntityKind.{EntityKind}
 use Rattle.f3_scopes.specs.declared.outline.EntityKind.TheVariants as entity
 use Rattle.f3_scopes.specs.Scopes.{declared_in, kind_of}
 use Rattle.f3_tree.specs.declared.expression.Name.{Name}
-use Rattle.f3_tree.specs.declared.declaration.TypeSpecifier.{TypeSpecifier}
 use Rattle.f3_tree.specs.declared.program.ProcedureKind.{ProcedureKind}
 use Rattle.f3_tree.specs.declared.program.ProcedureKind.TheVariants.{Subroutine, Function}
 use Rattle.f3_tree.specs.Declarations.{EntityTree, DeclarationTree, SpecificationTree, declares, accesses, protects, saves, defines}
@@ -28,7 +27,7 @@ use Rattle.f3_type_rules.specs.Natures.{object_nature, declared_nature, natures_
 use Rattle.f3_natures.specs.Entries.{firsts}
 use Rattle.f3_natures.specs.Natures.{kept}
 use Rattle.f3_natures.specs.Inner.Procedures.{is_for}
-use Rattle.f3_natures.specs.Inner.Walk.{final_at, is_final_in, is_final, made_one, made_all, count_of, declared_at, final_made, procedure_made, no_final, inner_made, all_finals, all_made, all_inner, own_count, unit_start, unit_end, own_made, unit_made}
+use Rattle.f3_natures.specs.Inner.Walk.{final_at, is_final_in, is_final, made_one, made_all, count_of, no_final, inner_made, all_finals, all_made, all_inner, own_count, unit_start, unit_made}
 use Rattle.f3_natures.proofs.Looked.{procedure_same, final_same}
 use Rattle.f3_natures.proofs.Steps.{one_long, none_all, never}
 

@@ -5,14 +5,13 @@ use Rattle.std.proofs.lemmas.List.{map-append, length-append, length-map}
 use Rattle.std.proofs.Math.Seq.{take-append_seam}
 use Rattle.f3_access.specs.Access.{entities_of, first_entity}
 use Rattle.f3_scopes.specs.Outlines.{Own, Scope}
-use Rattle.f3_scopes.specs.Scopes.{declared_in, association_own, procedure_own, scope_of_procedure, constructs_in_block, procedure_scopes, procedures_from, own_scopes, unit_scopes, scopes_from, typed_result}
+use Rattle.f3_scopes.specs.Scopes.{declared_in, association_own, procedure_own, constructs_in_block, procedure_scopes, procedures_from, own_scopes, unit_scopes, scopes_from, typed_result}
 use Rattle.f3_tree.specs.declared.expression.Name.{Name}
-use Rattle.f3_tree.specs.declared.declaration.TypeSpecifier.{TypeSpecifier}
 use Rattle.f3_tree.specs.declared.program.ProcedureKind.{ProcedureKind}
 use Rattle.f3_tree.specs.declared.program.ProcedureKind.TheVariants.{Subroutine, Function}
 use Rattle.f3_tree.specs.Statements.{AssociationTree, Block}
 use Rattle.f3_tree.specs.Tree.{ProcedureTree, UnitTree}
-use Rattle.f3_kinds.specs.Things.{Nature, variable}
+use Rattle.f3_kinds.specs.Things.{variable}
 use Rattle.f3_type_rules.specs.Associates.{constructs_of_block}
 use Rattle.f3_type_rules.specs.Names.{Names, undeclared}
 use Rattle.f3_type_rules.specs.Members.{numbered, units_from}
@@ -161,7 +160,7 @@ units_same names scopes before (u ∷ us) all =
     let first : e ≡ first_entity scopes n = ap (λ (l : List Scope). length (entities_of l)) (sym (ap (take n) all ∙ take-append_seam before (scopes_from n (u ∷ us)))) in
     let long : length next ≡ k = length-append before here in
     let entities : e + length (unit_made names e n u) ≡ length (entities_of next) =
-        ap (λ m. e + m) (unit_long names e n u) ∙ sym (ap length (entities_append before here) ∙ length-append (entities_of before) (entities_of here)) in
+    ap (λ m. e + m) (unit_long names e n u) ∙ sym (ap length (entities_append before here) ∙ length-append (entities_of before) (entities_of here)) in
     let rest : scopes ≡ next ++ scopes_from (length next) us = all ∙ sym (append_assoc before here (scopes_from k us)) ∙ ap (λ m. next ++ scopes_from m us) (sym long) in
     ap (λ l. l ++ units_made names (e + length (unit_made names e n u)) (unit_end n u) us) (ap (λ m. unit_made names m n u) first ∙ unit_same names scopes n u)
     ∙ ap (λ l. map kept (unit_natures names (numbered scopes n u)) ++ l)

@@ -2,7 +2,7 @@
 use Rattle.std.specs.Prelude.{ℕ, Bool, true, not, ◌&&◌, nat_eq, List, [], ◌∷◌, map, IsTrue}
 use Rattle.std.specs.List.{flat_map, list_any, list_all}
 use Rattle.f3_tree.specs.declared.expression.Name.{Name}
-use Rattle.f3_tree.specs.Declarations.{EntityTree, DeclarationTree, TypeTree, SpecificationTree, defines}
+use Rattle.f3_tree.specs.Declarations.{EntityTree, DeclarationTree, SpecificationTree, defines}
 use Rattle.f3_tree.specs.Tree.{ProcedureTree, UnitTree, Tree}
 use Rattle.f3_kinds.specs.Things.{Nature, constant, variable, derived, subroutine, function}
 use Rattle.f3_scopes.specs.Scopes.{scopes_of}

@@ -46,7 +46,10 @@ fn intrinsic_of(text: &str) -> Option<Intrinsic>
 }
 
 /// The intrinsic procedure of each name of a program, by the number of the name.
-pub fn intrinsics(alloc: Global, names: &IndexSet<String>) -> Result<Vec<Option<Intrinsic>>, AllocError>
+pub fn intrinsics(
+    alloc: Global,
+    names: &IndexSet<String>,
+) -> Result<Vec<Option<Intrinsic>>, AllocError>
     ensures { IfOk result (λ v. v.items ≡ map intrinsic_of (map string_bytes names.now.keys)) }
 {
     let mut found = Vec::new(alloc);

@@ -136,14 +136,7 @@ fn add_specification(
             let table = TypeTable {
                 home: scope,
                 components: components(alloc, names, scope, definition)?,
-                is_finalizable: has_final(
-                    names,
-                    scope,
-                    first,
-                    finals,
-                    entity,
-                    &definition.finals,
-                ),
+                is_finalizable: has_final(names, scope, first, finals, entity, &definition.finals),
             };
             things.push(Thing::Type(table))?;
             Ok(())
@@ -367,7 +360,11 @@ fn units(alloc: Global, names: &Names<'_>, list: &[Unit]) -> Result<Vec<Thing>, 
 /// What each entity of a program is, by its number; of two components of a type, or two dummies of a procedure, that have
 /// one name the first. Of a type it is said whether it has a final subroutine of its own (4.5.5).
 #[tactic(auto, using(crate::proofs::Standing::units_ends, crate::proofs::Standing::units_long, crate::proofs::Standing::program_same))]
-pub fn natures(alloc: Global, names: &Names<'_>, program: &Program) -> Result<Vec<Thing>, AllocError>
+pub fn natures(
+    alloc: Global,
+    names: &Names<'_>,
+    program: &Program,
+) -> Result<Vec<Thing>, AllocError>
     requires scopes { length (scopes_of (view program.now)) < 2 ^ 64 }
     requires entities { length (entities_of (scopes_of (view program.now))) < 2 ^ 64 }
     ensures all { IfOk result (λ v. map nature_of v.items ≡ map kept (natures_of (names_view names.now) (view program.now))) }

@@ -1,5 +1,5 @@
 -- What a declaration says of each of its names.
-use Rattle.std.specs.Prelude.{ℕ, Bool, false, List, Option, None, Some, option_map}
+use Rattle.std.specs.Prelude.{ℕ, false, Option, None, Some, option_map}
 use Rattle.std.specs.List.{flat_map, list_any}
 use Rattle.f3_scopes.specs.Scopes.{kind_of, intent_of as intents}
 use Rattle.f3_tree.specs.Declarations.{ShapeTree, EntityTree, DeclarationTree}

@@ -16,9 +16,9 @@ loop-declared-preserved c =
     let n = c.args.number in
     let d = c.declared-item.result in
     let b : contains nat_eq c.in_ok-protects.protects d.name.symbol ≡ list_any (λ (m : Name). nat_eq m.symbol d.name.symbol) s.protects =
-        c.in_ok-protects.ensures d.name.symbol ∙ ap (λ (l : List Name). list_any (λ (m : Name). nat_eq m.symbol d.name.symbol) l) c.deref.ensures.value in
+    c.in_ok-protects.ensures d.name.symbol ∙ ap (λ (l : List Name). list_any (λ (m : Name). nat_eq m.symbol d.name.symbol) l) c.deref.ensures.value in
     let h = held_same n s (own_view d) c.unwrap_or-unit.result c.is_protected.result (contains nat_eq c.in_ok-protects.protects d.name.symbol) c.last_intent.result
-        c.unwrap_or-unit.ensures (search rules) b (search rules) in
+    c.unwrap_or-unit.ensures (search rules) b (search rules) in
     grown_more (λ (x : Declared). holder n s (own_view x) ∷ []) (λ (xs : List Declared). map (holder n s) (map own_view xs)) (λ x xs. refl)
     c.deref-declared-items.result.now c.loop-declared.declared-index d c.loop-declared.found.items c.push.new.self.items _ c.loop-declared-test.true c.declared-item.is
     (c.in_ok-push.ensures.items ∙ ap (λ (x : Holder). c.loop-declared.found.items ++ x ∷ []) h) c.loop-declared.invariant
