@@ -1,0 +1,4 @@
+pub mod Found
+pub mod Made
+pub mod Ranked
+pub mod Rows

@@ -2,7 +2,7 @@
 
 ghost use Rattle.std.specs.Prelude.{◌≡◌, ◌+◌, ◌<◌, ◌^◌, ℕ, List, None, map, nat_eq, option_map, IfOk};
 ghost use Rattle.std.specs.Map.{lookup};
-ghost use Rattle.f3_tree.specs.Declarations.{shape_view, entity_view, declaration_view, specification_view};
+ghost use Rattle.f3_tree.specs.Declarations.{shape_view, declaration_view, specification_view};
 ghost use Rattle.f3_tree.specs.Tree.{procedure_view};
 ghost use Rattle.f3_scopes.specs.Outlines.{Scope};
 ghost use Rattle.f3_kinds.specs.Things.{map_or};
@@ -12,7 +12,7 @@ ghost use Rattle.f3_type_rules.specs.Names.{entries, entries_in};
 ghost use Rattle.f3_declared.specs.Scenery.{names_in};
 ghost use Rattle.f3_natures.specs.Inner.Walk.{count_of, end_of};
 ghost use Rattle.f3_finals.specs.Candidates.{AreCandidates};
-ghost use Rattle.f3_finals.specs.Inner.Candidates.{typed_candidate, candidate_by, candidate_of, candidate_in};
+ghost use Rattle.f3_finals.specs.Inner.Candidates.{entry_of, found_view, typed_candidate, candidate_by, candidate_of, candidate_in};
 
 use f3_declared::attributes::read;
 use f3_declared::names::{object_of, shape_of};
@@ -41,7 +41,7 @@ struct Found<'a> {
 }
 
 fn find_in(declaration: &Declaration, symbol: usize) -> Option<Found<'_>>
-    ensures { option_map (λ f. (declaration_view f.declaration.now, entity_view f.entity.now)) result ≡ lookup (nat_eq symbol) (map (λ x. (x.name.symbol, (declaration_view declaration.now, x))) (declaration_view declaration.now).entities) }
+    ensures { option_map found_view result ≡ lookup (nat_eq symbol) (map (entry_of (declaration_view declaration.now)) (declaration_view declaration.now).entities) }
 {
     for entity in &declaration.entities {
         if symbol == entity.name.symbol {
@@ -55,7 +55,7 @@ fn find_in(declaration: &Declaration, symbol: usize) -> Option<Found<'_>>
 }
 
 fn find_one(specification: &Specification, symbol: usize) -> Option<Found<'_>>
-    ensures { option_map (λ f. (declaration_view f.declaration.now, entity_view f.entity.now)) result ≡ lookup (nat_eq symbol) (entries_in (specification_view specification.now)) }
+    ensures { option_map found_view result ≡ lookup (nat_eq symbol) (entries_in (specification_view specification.now)) }
 {
     match specification {
         Specification::Declaration(declaration) => find_in(declaration, symbol),
@@ -68,11 +68,12 @@ fn find_one(specification: &Specification, symbol: usize) -> Option<Found<'_>>
 
 /// Where a specification part declares a name; of two declarations the first.
 fn find(part: &[Specification], symbol: usize) -> Option<Found<'_>>
-    ensures { option_map (λ f. (declaration_view f.declaration.now, entity_view f.entity.now)) result ≡ lookup (nat_eq symbol) (entries (map specification_view part.now)) }
+    ensures { option_map found_view result ≡ lookup (nat_eq symbol) (entries (map specification_view part.now)) }
 {
     for specification in part {
-        if let Some(found) = find_one(specification, symbol) {
-            return Some(found);
+        match find_one(specification, symbol) {
+            Some(found) => return Some(found),
+            None => {}
         }
     }
     None
@@ -136,7 +137,7 @@ fn candidate_of(
     scope: usize,
     found: Found<'_>,
 ) -> Option<Candidate>
-    ensures { result ≡ candidate_of (names_in known.now scenery.entry) scope (declaration_view found.entry.declaration.now, entity_view found.entry.entity.now) }
+    ensures { result ≡ candidate_of (names_in known.now scenery.entry) scope (found_view found.entry) }
 {
     let reading = read(found.declaration);
     let object = object_of(known, scenery, scope, &reading, found.entity);

@@ -5,7 +5,7 @@ use Rattle.f3_tree.specs.declared.expression.Name.{Name}
 use Rattle.f3_tree.specs.declared.declaration.Intent.{Intent}
 use Rattle.f3_tree.specs.declared.program.ProcedureKind.{ProcedureKind}
 use Rattle.f3_tree.specs.declared.program.ProcedureKind.TheVariants.{Subroutine}
-use Rattle.f3_tree.specs.Declarations.{ShapeTree, SpecificationTree}
+use Rattle.f3_tree.specs.Declarations.{ShapeTree, EntityTree, DeclarationTree, SpecificationTree, entity_view, declaration_view}
 use Rattle.f3_tree.specs.Tree.{ProcedureTree}
 use Rattle.f3_kinds.specs.declared.types.DataType.{DataType}
 use Rattle.f3_kinds.specs.declared.types.DataType.TheVariants.{Derived}
@@ -15,6 +15,14 @@ use Rattle.f3_type_rules.specs.Names.{Names, Declared, entries, shape_of, intent
 use Rattle.f3_type_rules.specs.Finals.{is_out, is_explicit}
 use Rattle.f3_natures.specs.Inner.Walk.{along}
 use Rattle.f3_finals.specs.declared.candidate.Candidate.{Candidate}
+use Rattle.f3_finals.specs.declared.candidate.Found.{Found}
+
+-- a declared name by its number
+abbrev pub entry_of : DeclarationTree → EntityTree → ℕ × Declared
+entry_of d x = ((x.name).symbol, (d, x))
+
+abbrev pub found_view : Found → Declared
+found_view f = (declaration_view f.declaration.now, entity_view f.entity.now)
 
 abbrev pub typed_candidate : (rank : ℕ) → Option DataType → Option Candidate
 typed_candidate rank (Some (Derived e)) = Some record { data_type = e; rank = rank }
