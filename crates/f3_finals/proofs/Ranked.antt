@@ -10,7 +10,6 @@ use Rattle.f3_access.specs.Access.{first_entity}
 use Rattle.f3_scopes.specs.Outlines.{Scope}
 use Rattle.f3_tree.specs.Tree.{ProcedureTree}
 use Rattle.f3_kinds.specs.Things.{map_or}
-use Rattle.f3_type_rules.specs.Associates.{constructs_of_block}
 use Rattle.f3_type_rules.specs.Finals.{member_at}
 use Rattle.f3_type_rules.specs.Members.{Member, members_from}
 use Rattle.f3_type_rules.specs.Names.{Names}

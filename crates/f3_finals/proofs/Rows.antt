@@ -52,8 +52,8 @@ either_swapped false false = refl
 there_already : (k s : ℕ) (xs : List ℕ) → list_any (nat_eq s) xs ≡ true → nat_eq k s || list_any (nat_eq k) xs ≡ list_any (nat_eq k) xs
 there_already k s xs h = elim (eqb_tells k s) [
   | inl e ↦
-    let t : list_any (nat_eq k) xs ≡ true = ap (λ j. list_any (nat_eq j) xs) e.1 ∙ h in
-    ap (λ (x : Bool). nat_eq k s || x) t ∙ either_true (nat_eq k s) ∙ sym t
+      let t : list_any (nat_eq k) xs ≡ true = ap (λ j. list_any (nat_eq j) xs) e.1 ∙ h in
+      ap (λ (x : Bool). nat_eq k s || x) t ∙ either_true (nat_eq k s) ∙ sym t
   | inr e ↦ ap (λ (b : Bool). b || list_any (nat_eq k) xs) e.0
 ]
 

@@ -112,11 +112,7 @@ fn typed_candidate(rank: usize, data_type: Option<DataType>) -> Option<Candidate
 }
 
 /// What a subroutine with this dummy alone could finalize.
-fn candidate_by(
-    object: Object,
-    intent: Option<Intent>,
-    shape: Option<&Shape>,
-) -> Option<Candidate>
+fn candidate_by(object: Object, intent: Option<Intent>, shape: Option<&Shape>) -> Option<Candidate>
     ensures { result ≡ candidate_by object intent (option_map (λ s. shape_view s.now) shape.entry) }
 {
     if object.is_allocatable {

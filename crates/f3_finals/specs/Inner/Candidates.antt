@@ -1,5 +1,5 @@
 -- What a procedure could finalize, by its header and what it declares.
-use Rattle.std.specs.Prelude.{ℕ, ◌+◌, ◌||◌, nat_eq, List, [], ◌∷◌, ◌++◌, Option, None, Some, if◌then◌else◌}
+use Rattle.std.specs.Prelude.{ℕ, ◌||◌, nat_eq, List, [], ◌∷◌, Option, None, Some, if◌then◌else◌}
 use Rattle.std.specs.Map.{lookup}
 use Rattle.f3_tree.specs.declared.expression.Name.{Name}
 use Rattle.f3_tree.specs.declared.declaration.Intent.{Intent}

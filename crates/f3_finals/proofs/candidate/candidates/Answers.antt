@@ -1,4 +1,4 @@
-use Rattle.std.proofs.Common.{rules, arith, ap, sym, ◌∙◌, ◌^◌, ◌++◌, map, List}
+use Rattle.std.proofs.Common.{rules, arith, ap, sym, ◌∙◌, ◌^◌, ◌++◌, map}
 use Rattle.std.proofs.lemmas.List.{at_drop_all, append-nil}
 use Rattle.f3_tree.specs.Tree.{procedure_view}
 use Rattle.f3_declared.specs.Scenery.{names_in}

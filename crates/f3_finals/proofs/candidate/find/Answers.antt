@@ -1,4 +1,4 @@
-use Rattle.std.proofs.Common.{refl, arith, map, List}
+use Rattle.std.proofs.Common.{refl, map, List}
 use Rattle.f3_tree.specs.declared.declaration.Specification.{Specification}
 use Rattle.f3_tree.specs.Declarations.{specification_view}
 use Rattle.f3_type_rules.specs.Names.{entries, entries_in}

@@ -1,10 +1,6 @@
-use Rattle.std.proofs.Common.{rules, arith, ap, refl, ◌∙◌, [], not, ◌&&◌, nat_eq, List, get_or}
-use Rattle.std.specs.List.{list_any}
+use Rattle.std.proofs.Common.{rules, arith, ap, refl, ◌∙◌, List}
 use Rattle.f3_access.specs.Tables.{lookup_of}
-use Rattle.f3_rules.specs.declared.rule.Rule.TheVariants.{T4}
 use Rattle.f3_tree.specs.declared.expression.Name.{Name}
-use Rattle.f3_kinds.specs.Calls.{is_new, added}
-use Rattle.f3_kinds.specs.Rows.{at_name, unless}
 use Rattle.f3_type_rules.specs.Finals.{final_rows}
 use Rattle.f3_typed_parts.specs.Noted.{noted}
 use Rattle.f3_typed_parts.proofs.Noting.{noted_done}
