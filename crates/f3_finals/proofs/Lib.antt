@@ -1,3 +1,4 @@
+pub mod Ends
 pub mod Found
 pub mod Made
 pub mod Ranked

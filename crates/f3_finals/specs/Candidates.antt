@@ -1,5 +1,8 @@
 -- What the procedures of a module could finalize (ISO/IEC 1539-1:2004, 4.5.5).
-use Rattle.std.specs.Prelude.{◌≡◌, ℕ, nat_eq, List, Option, None, Some, map, if◌then◌else◌}
+use Rattle.std.specs.Prelude.{◌≡◌, ℕ, ◌+◌, nat_eq, List, [], ◌∷◌, length, Option, None, Some, map, if◌then◌else◌}
+use Rattle.f3_scopes.specs.Scopes.{unit_scopes}
+use Rattle.f3_tree.specs.Tree.{ProcedureTree, UnitTree}
+use Rattle.f3_type_rules.specs.Associates.{constructs_of_block}
 use Rattle.f3_type_rules.specs.Names.{Names}
 use Rattle.f3_type_rules.specs.Members.{Member}
 use Rattle.f3_type_rules.specs.Finals.{header_rank}
@@ -16,3 +19,13 @@ member_rank names t m = header_rank names t m ((m.tree).header).kind ((m.tree).h
 -- one for each procedure of a module; for whatever type, it says what the rules say of the procedure
 abbrev pub AreCandidates : Names → List Member → List (Option Candidate) → Type 0
 AreCandidates names ms cs = (type : ℕ) → map (rank_for type) cs ≡ map (member_rank names type) ms
+
+-- the scope behind those of procedures, of which the first has this scope
+abbrev pub behind_procedures : (scope : ℕ) → List ProcedureTree → ℕ
+behind_procedures scope [] = scope
+behind_procedures scope (p ∷ ps) = behind_procedures (scope + 1 + length (constructs_of_block p.body)) ps
+
+-- The scopes of a unit end where those of its procedures do.
+abbrev pub UnitsEndWithProcedures : Type 0
+UnitsEndWithProcedures = (scope : ℕ) (u : UnitTree)
+    → behind_procedures (scope + 1 + length (constructs_of_block u.body)) u.procedures ≡ scope + length (unit_scopes scope u)

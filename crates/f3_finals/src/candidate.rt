@@ -10,8 +10,8 @@ ghost use Rattle.f3_type_rules.specs.Finals.{is_out, is_explicit};
 ghost use Rattle.f3_type_rules.specs.Members.{members_from};
 ghost use Rattle.f3_type_rules.specs.Names.{entries, entries_in};
 ghost use Rattle.f3_declared.specs.Scenery.{names_in};
-ghost use Rattle.f3_natures.specs.Inner.Walk.{count_of, end_of};
-ghost use Rattle.f3_finals.specs.Candidates.{AreCandidates};
+ghost use Rattle.f3_natures.specs.Inner.Walk.{count_of};
+ghost use Rattle.f3_finals.specs.Candidates.{AreCandidates, behind_procedures, UnitsEndWithProcedures};
 ghost use Rattle.f3_finals.specs.Inner.Candidates.{entry_of, found_view, typed_candidate, candidate_by, candidate_of, candidate_in};
 
 use f3_declared::attributes::read;
@@ -185,7 +185,7 @@ pub fn candidates(
     scope: usize,
     procedures: &[Procedure],
 ) -> Result<Vec<Option<Candidate>>, AllocError>
-    requires { end_of scope (map procedure_view procedures.now) < 2 ^ 64 }
+    requires { behind_procedures scope (map procedure_view procedures.now) < 2 ^ 64 }
     ensures { IfOk result (λ v. (scopes : List Scope) → (entity : ℕ) → AreCandidates (names_in known.now scenery.entry) (members_from scopes entity scope (map procedure_view procedures.now)) v.items) }
 {
     let mut found = Vec::new(alloc);
@@ -196,3 +196,8 @@ pub fn candidates(
     }
     Ok(found)
 }
+
+/// The scopes of a unit end where those of its procedures do.
+pub fn units_end_with_procedures()
+    ensures { UnitsEndWithProcedures }
+{}

@@ -5,13 +5,14 @@ use Rattle.f3_declared.specs.Scenery.{names_in}
 use Rattle.f3_natures.proofs.Steps.{end_fits, end_more, along_more}
 use Rattle.f3_finals.specs.Candidates.{rank_for}
 use Rattle.f3_finals.specs.Inner.Candidates.{candidate_made, candidates_from}
+use Rattle.f3_finals.proofs.Ends.{behind_same}
 use Rattle.f3_finals.proofs.Made.{candidates_same}
 use Rattle.f3_finals.proofs.candidate.candidates.Goals as goal
 
 pub behind-requires : goal.behind-requires
 behind-requires c =
     end_fits c.args.procedures.now c.loop-procedure.procedure-index c.procedure-item.result c.loop-procedure.next _ (2 ^ 64)
-    c.loop-procedure-test.true c.procedure-item.is c.loop-procedure.invariant.next c.requires
+    c.loop-procedure-test.true c.procedure-item.is c.loop-procedure.invariant.next (rw (behind_same c.args.scope (map procedure_view c.args.procedures.now)) at c.requires)
 
 pub loop-procedure-preserved : goal.loop-procedure-preserved
 loop-procedure-preserved c =
