@@ -2,6 +2,7 @@
 use Rattle.std.proofs.Common.{◌≡◌, ℕ, ◌+◌, ◌<◌, List, [], ◌∷◌, ◌++◌, map, take, get_or, length, refl, ap, sym, ◌∙◌}
 use Rattle.std.proofs.lemmas.List.{take_more, map-append, append-nil}
 use Rattle.std.proofs.Common.{append_assoc, Option}
+use Rattle.std.specs.List.{flat_map}
 use Rattle.f3_rules.specs.declared.breaks.Break.{Break}
 use Rattle.f3_typed_parts.specs.Noted.{noted}
 use Rattle.f3_typed_parts.proofs.Noting.{noted_more}
@@ -43,3 +44,15 @@ along_noted rows next f s xs i x old before now lt is p q =
     q ∙ ap (λ z. noted z (rows (after next s (map f (take i xs))) (f x))) p
     ∙ noted_more old (along rows next s (map f (take i xs))) (rows (after next s (map f (take i xs))) (f x))
     ∙ ap (noted old) (along_more rows next f s xs i x lt is)
+
+flat_map_push : {X Y : Type 0} (f : X → List Y) (xs : List X) (x : X) → flat_map f (xs ++ (x ∷ [])) ≡ flat_map f xs ++ f x
+flat_map_push f [] x = append-nil (f x)
+flat_map_push f (y ∷ ys) x = ap (λ zs. f y ++ zs) (flat_map_push f ys x) ∙ sym (append_assoc (f y) (flat_map f ys) (f x))
+
+-- a walk along what a list has in all its items: one item more
+pub after_flat_more : {S X Y : Type 0} (next : S → Y → S) (f : X → List Y) (s : S) (xs : List X) (i : ℕ) (x : X) → i < length xs → x ≡ get_or xs i x
+    → after next (after next s (flat_map f (take i xs))) (f x) ≡ after next s (flat_map f (take (i + 1) xs))
+after_flat_more next f s xs i x lt is = sym (
+    ap (λ ys. after next s (flat_map f ys)) (take_more xs i x lt ∙ ap (λ y. take i xs ++ (y ∷ [])) (sym is))
+    ∙ ap (after next s) (flat_map_push f (take i xs) x)
+    ∙ after_append next s (flat_map f (take i xs)) (f x))

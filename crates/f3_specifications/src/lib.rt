@@ -2,3 +2,5 @@
 #![tactic(auto)]
 
 pub mod declarations;
+pub mod components;
+pub mod definitions;
