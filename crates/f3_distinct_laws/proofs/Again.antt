@@ -5,7 +5,7 @@ use Rattle.std.proofs.lemmas.Bool.{true≢false}
 use Rattle.f3_tree.specs.declared.expression.Name.{Name}
 use Rattle.f3_scope_rules.specs.ScopeBreaks.{Again}
 use Rattle.f3_selecting.proofs.Members.{has_of, contains_of}
-use Rattle.f3_distinct_laws.specs.Parts.{are_distinct}
+use Rattle.f3_natures.specs.Natures.{are_distinct}
 
 abbrev pub symbols : List Name → List ℕ
 symbols ns = map (λ (n : Name). n.symbol) ns

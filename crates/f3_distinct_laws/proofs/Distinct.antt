@@ -10,7 +10,7 @@ use Rattle.f3_scopes.specs.Scopes.{component, components_of, types_in, scope_of_
 use Rattle.f3_scope_rules.specs.ScopeBreaks.{at, component_names, DeclaredTwice, BreaksOf}
 use Rattle.f3_names.specs.Answers.{BreaksOfNames}
 use Rattle.f3_selecting.proofs.Members.{Has, contains_of, has_piece}
-use Rattle.f3_distinct_laws.specs.Parts.{are_distinct, names_in, has_distinct_components, has_distinct_dummies, is_procedure_distinct, is_unit_distinct}
+use Rattle.f3_natures.specs.Natures.{are_distinct, names_in, has_distinct_components, has_distinct_dummies, is_procedure_distinct, is_unit_distinct}
 use Rattle.f3_distinct_laws.specs.Laws.{PartsAreDistinct}
 use Rattle.f3_distinct_laws.proofs.Again.{symbols, again_behind, again_before, distinct}
 use Rattle.f3_distinct_laws.proofs.Standing.{unit_stands, own_stands, member_stands}

@@ -8,7 +8,7 @@ use Rattle.f3_access.specs.declared.table.Tables.{Tables}
 use Rattle.f3_access.specs.Access.{entities_of}
 use Rattle.f3_access.specs.Tables.{lookup_of, AreTables}
 use Rattle.f3_names.specs.Answers.{BreaksOfNames}
-use Rattle.f3_distinct_laws.specs.Parts.{HasDistinctParts}
+use Rattle.f3_natures.specs.Natures.{HasDistinctParts}
 
 -- a program that breaks no rule on names has distinct parts (16.2, 16.3, 4.5.3)
 abbrev pub PartsAreDistinct : Type 0

@@ -1,0 +1,11 @@
+pub mod Attributes
+pub mod First
+pub mod Growing
+pub mod Owned
+pub mod Steps
+pub mod Looked
+pub mod Same
+pub mod Standing
+pub mod Distinct
+pub mod Held
+pub mod Symbols
