@@ -110,13 +110,6 @@ pub fn declaration(
     );
     dimensions(alloc, &growth.known, at, first, &declaration.attributes)?;
     let reading = read(declaration);
-    entities(
-        alloc,
-        growth,
-        spot,
-        first,
-        &reading,
-        &declaration.entities,
-    )?;
+    entities(alloc, growth, spot, first, &reading, &declaration.entities)?;
     Ok(())
 }

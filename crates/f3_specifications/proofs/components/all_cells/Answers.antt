@@ -1,4 +1,4 @@
-use Rattle.std.proofs.Common.{arith, refl, ap, ◌∙◌, ℕ, List, Option, Some, map}
+use Rattle.std.proofs.Common.{arith, ap, ◌∙◌, ℕ, List, Option, Some, map}
 use Rattle.std.specs.List.{flat_map}
 use Rattle.std.proofs.lemmas.List.{take_all}
 use Rattle.f3_tree.specs.declared.declaration.Declaration.{Declaration}

@@ -1,6 +1,5 @@
-use Rattle.std.proofs.Common.{◌≡◌, ap, sym, ◌∙◌, List, map}
+use Rattle.std.proofs.Common.{ap, ◌∙◌, List}
 use Rattle.std.specs.List.{flat_map}
-use Rattle.f3_rules.specs.declared.breaks.Break.{Break}
 use Rattle.f3_tree.specs.declared.declaration.Attribute.{Attribute}
 use Rattle.f3_tree.specs.declared.declaration.Declaration.{Declaration}
 use Rattle.f3_tree.specs.declared.declaration.Entity.{Entity}

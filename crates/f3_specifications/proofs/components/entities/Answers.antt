@@ -1,11 +1,9 @@
-use Rattle.std.proofs.Common.{refl, arith, List}
+use Rattle.std.proofs.Common.{refl, arith}
 use Rattle.std.specs.List.{flat_map}
-use Rattle.f3_rules.specs.declared.breaks.Break.{Break}
 use Rattle.f3_tree.specs.declared.declaration.Entity.{Entity}
 use Rattle.f3_tree.specs.Declarations.{entity_view}
 use Rattle.f3_typed_parts.proofs.Noting.{item_step, noted_done}
 use Rattle.f3_type_rules.specs.Declarations.{entity_rows}
-use Rattle.f3_type_rules.specs.Walks.{Known}
 use Rattle.f3_declared.specs.Declarations.{tree_of}
 use Rattle.f3_declared.specs.Spots.{spot_in}
 use Rattle.f3_specifications.proofs.components.entities.Goals as goal

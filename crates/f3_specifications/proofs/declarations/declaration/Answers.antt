@@ -1,4 +1,4 @@
-use Rattle.std.proofs.Common.{◌≡◌, ap, sym, ◌∙◌, List, map, subst}
+use Rattle.std.proofs.Common.{ap, ◌∙◌, List, map, subst}
 use Rattle.std.specs.List.{flat_map}
 use Rattle.f3_rules.specs.declared.breaks.Break.{Break}
 use Rattle.f3_tree.specs.declared.declaration.Attribute.{Attribute}
@@ -13,7 +13,7 @@ use Rattle.f3_type_rules.specs.Names.{attributes_of}
 use Rattle.f3_type_rules.specs.Shapes.{dimension_rows}
 use Rattle.f3_type_rules.specs.Walks.{after, along, context, Spot}
 use Rattle.f3_declared.specs.Spots.{spot_in}
-use Rattle.f3_entities.specs.Growth.{Stands, position_of}
+use Rattle.f3_entities.specs.Growth.{Stands}
 use Rattle.f3_specifications.proofs.Specifying.{specifier_here, dimensions_here, three_noted}
 use Rattle.f3_specifications.proofs.declarations.declaration.Goals as goal
 

@@ -1,12 +1,11 @@
-use Rattle.std.proofs.Common.{◌≡◌, arith, rules, ap, sym, ◌∙◌, List, map, subst}
+use Rattle.std.proofs.Common.{arith, rules, ap, sym, ◌∙◌, List, map, subst}
 use Rattle.std.proofs.lemmas.List.{take_all}
-use Rattle.f3_rules.specs.declared.breaks.Break.{Break}
 use Rattle.f3_tree.specs.declared.declaration.Entity.{Entity}
-use Rattle.f3_tree.specs.Declarations.{DeclarationTree, EntityTree, entity_view}
+use Rattle.f3_tree.specs.Declarations.{DeclarationTree, entity_view}
 use Rattle.f3_typed_parts.specs.Noted.{noted}
 use Rattle.f3_typed_parts.proofs.Noting.{noted_none}
 use Rattle.f3_type_rules.specs.Declarations.{entity_rows, entity_next}
-use Rattle.f3_type_rules.specs.Walks.{after, along, Known, Spot}
+use Rattle.f3_type_rules.specs.Walks.{after, along, Spot}
 use Rattle.f3_declared.specs.Declarations.{tree_of}
 use Rattle.f3_declared.specs.Spots.{spot_in}
 use Rattle.f3_entities.specs.Growth.{Stands}

@@ -1,4 +1,4 @@
-use Rattle.std.proofs.Common.{◌≡◌, ◌+◌, ◌≤◌, take, map, length, vec_len}
+use Rattle.std.proofs.Common.{◌≡◌, ◌+◌, take, map, vec_len}
 use Rattle.std.specs.Option.{option_map}
 use Rattle.f3_tree.specs.Declarations.{shape_view, entity_view}
 use Rattle.f3_typed_parts.specs.Known.{context_of}

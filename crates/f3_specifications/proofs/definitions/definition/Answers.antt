@@ -9,14 +9,10 @@ use Rattle.f3_typed_parts.specs.Noted.{noted}
 use Rattle.f3_typed_parts.proofs.Noting.{noted_more}
 use Rattle.f3_type_rules.specs.Declarations.{all_cells, component_rows}
 use Rattle.f3_type_rules.specs.Shapes.{at_most, cells_in, summed}
-use Rattle.f3_type_rules.specs.Scene.{Scene}
-use Rattle.f3_type_rules.specs.Walks.{after, Known, Spot}
-use Rattle.f3_declared.specs.declared.spots.Spot.{Spot as Standpoint}
+use Rattle.f3_type_rules.specs.Walks.{after, Spot}
 use Rattle.f3_declared.specs.Spots.{spot_in}
 use Rattle.f3_extents.proofs.Shaping.{flat_map_map}
 use Rattle.f3_extents.specs.Counts.{counted}
-use Rattle.f3_entities.specs.declared.growth.Growth.{Growth}
-use Rattle.f3_entities.specs.Growth.{Stands}
 use Rattle.f3_specifications.proofs.Summing.{cells_along}
 use Rattle.f3_specifications.proofs.definitions.definition.Goals as goal
 
