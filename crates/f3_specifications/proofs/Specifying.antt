@@ -37,7 +37,7 @@ type_next s k j n (Some (Integer i)) h = refl
 type_next s k j n (Some Logical) h = refl
 type_next s k j n None h = refl
 
-specifier_next : (s : Spot) (k j : Known) (t : TypeSpecifier) → k.next ≡ j.next → specifier_rows s k t ≡ specifier_rows s j t
+pub specifier_next : (s : Spot) (k j : Known) (t : TypeSpecifier) → k.next ≡ j.next → specifier_rows s k t ≡ specifier_rows s j t
 specifier_next s k j (specifier.Derived n) h = type_next s k j n (type_of (s.scene).names s.scope (specifier.Derived n)) h
 specifier_next s k j (specifier.Integer i) h = refl
 specifier_next s k j specifier.Logical h = refl
