@@ -5,11 +5,13 @@ ghost use Rattle.f3_tree.specs.Declarations.{shape_view, entity_view};
 ghost use Rattle.f3_typed_parts.specs.Known.{context_of};
 ghost use Rattle.f3_typed_parts.specs.Noted.{noted};
 ghost use Rattle.f3_type_rules.specs.Scene.{Scene};
+ghost use Rattle.f3_type_rules.specs.Shapes.{cells_in};
 ghost use Rattle.f3_type_rules.specs.Names.{shape_of};
 ghost use Rattle.f3_type_rules.specs.Walks.{Known as Grown};
 ghost use Rattle.f3_type_rules.specs.Declarations.{entity_rows};
 ghost use Rattle.f3_declared.specs.Declarations.{IsRead, tree_of};
 ghost use Rattle.f3_declared.specs.Spots.{spot_in};
+ghost use Rattle.f3_extents.specs.Counts.{counted};
 ghost use Rattle.f3_extents.specs.Extents.{extents_of};
 ghost use Rattle.f3_entities.specs.Growth.{Stands, position_of};
 
@@ -45,6 +47,29 @@ fn extents_by(
         Some(shape) => shape_extents(known, at, Some(shape)),
         None => dimension,
     }
+}
+
+/// How many cells a declared name has. What DIMENSION says of it is given, so that it is read once for all names of a declaration.
+pub fn cells_in(
+    growth: &Growth<'_>,
+    spot: &Spot<'_>,
+    reading: &Reading<'_>,
+    dimension: Extents,
+    entity: &Entity,
+) -> Option<u64>
+    requires read { IsRead reading.now }
+    requires dimension { dimension ≡ extents_of (context_of growth.now.known (position_of spot.now)) (option_map (λ s. shape_view s.now) reading.now.dimension) }
+    ensures { (s : Scene) → (k : Grown) → Stands s growth.now k → result ≡ counted (cells_in (spot_in s spot.now) k (tree_of reading.now, entity_view entity.now)) }
+{
+    let at = Position {
+        scope: spot.scope,
+        unit: spot.unit,
+        phase: 5,
+    };
+    let known = &growth.known;
+    let object = object_of(known, growth.scenery, spot.scope, reading, entity);
+    let extents = extents_by(known, at, dimension, reading, entity);
+    cells_of(&growth.cells, object, extents.elements)
 }
 
 /// Notes the breaks of the rules on a declared name. What DIMENSION says of it is given, so that it is read once for all names of

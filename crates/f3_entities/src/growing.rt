@@ -1,6 +1,6 @@
 //! How what is known grows behind a declared name.
 
-ghost use Rattle.std.specs.Prelude.{◌≡◌, ◌+◌, ◌<◌, ℕ, List, vec_len};
+ghost use Rattle.std.specs.Prelude.{◌≡◌, ◌+◌, ◌<◌, ℕ, false, List, vec_len};
 ghost use Rattle.f3_kinds.specs.declared.types.Scalar.{Scalar as Valued};
 ghost use Rattle.f3_tree.specs.Declarations.{entity_view};
 ghost use Rattle.f3_type_rules.specs.Scene.{Scene};
@@ -20,21 +20,37 @@ use f3_kinds::types::Scalar;
 use f3_tree::declaration::Entity;
 use f3_typed_parts::known::Position;
 
-fn put(values: &mut Vec<Option<Scalar>>, number: usize, value: Option<Scalar>)
+/// Puts down a value where there is one, and says whether there is.
+fn put(values: &mut Vec<Option<Scalar>>, number: usize, value: Option<Scalar>) -> bool
     requires { number < vec_len values.old }
-    ensures { (xs : List (ℕ × Valued)) → HasValues values.old.items xs → HasValues values.new.items (with_entry number value xs) }
+    ensures grown { (xs : List (ℕ × Valued)) → HasValues values.old.items xs → HasValues values.new.items (with_entry number value xs) }
+    ensures room { vec_len values.new ≡ vec_len values.old }
+    ensures kept { result ≡ false → values.new ≡ values.old }
 {
     match value {
-        Some(value) => values[number] = Some(value),
-        None => {}
+        Some(value) => {
+            values[number] = Some(value);
+            true
+        }
+        None => false,
     }
 }
 
-/// Behind a declared name its value is known, if it is that of a scalar constant, and the entity behind it is declared next.
-pub fn declare(growth: &mut Growth<'_>, spot: &Spot<'_>, reading: &Reading<'_>, entity: &Entity)
+/// Behind a declared name its value is known, if it is that of a scalar constant, and the entity behind it is declared next. Says
+/// whether a value became known.
+pub fn declare(
+    growth: &mut Growth<'_>,
+    spot: &Spot<'_>,
+    reading: &Reading<'_>,
+    entity: &Entity,
+) -> bool
     requires read { IsRead reading.now }
     requires room { growth.old.next < vec_len growth.old.known.values }
-    ensures { (s : Scene) → (k : Grown) → Stands s growth.old k → Stands s growth.new (entity_next (spot_in s spot.now) (tree_of reading.now) k (entity_view entity.now)) }
+    ensures stands { (s : Scene) → (k : Grown) → Stands s growth.old k → Stands s growth.new (entity_next (spot_in s spot.now) (tree_of reading.now) k (entity_view entity.now)) }
+    ensures next { growth.new.next ≡ growth.old.next + 1 }
+    ensures values { vec_len growth.new.known.values ≡ vec_len growth.old.known.values }
+    ensures cells { growth.new.cells ≡ growth.old.cells }
+    ensures kept { result ≡ false → growth.new.known ≡ growth.old.known }
 {
     let at = Position {
         scope: spot.scope,
@@ -47,6 +63,7 @@ pub fn declare(growth: &mut Growth<'_>, spot: &Spot<'_>, reading: &Reading<'_>, 
     let value = given_value(known, at, named, object.data_type, &entity.initial);
     let number = growth.next;
     let values = &mut growth.known.values;
-    put(values, number, value);
+    let given = put(values, number, value);
     growth.next = number + 1;
+    given
 }

@@ -17,8 +17,8 @@ use Rattle.f3_entities.specs.Growth.{HasValues, position_of}
 use Rattle.f3_entities.proofs.Standing.{context_same}
 use Rattle.f3_entities.proofs.growing.declare.Goals as goal
 
-pub returns : goal.returns
-returns c = λ s k h.
+pub returns-clause-stands : goal.returns-clause-stands
+returns-clause-stands c = λ s k h.
     let here : Context = context_of c.args.growth.now.known (position_of c.args.spot.now) in
     let spot : Spot = spot_in s c.args.spot.now in
     let d : DeclarationTree = tree_of c.args.reading.now in
@@ -36,7 +36,7 @@ returns c = λ s k h.
       scene = h.scene;
       next = ap (λ n. n + 1) h.next;
       values =
-          subst (λ (v : Option Scalar). HasValues c.put.new.values.items (with_entry k.next v k.values)) value
-          (subst (λ (n : ℕ). HasValues c.put.new.values.items (with_entry n c.given_value-value.result k.values)) h.next (c.put.ensures k.values h.values));
+          subst (λ (v : Option Scalar). HasValues c.put-given.new.values.items (with_entry k.next v k.values)) value
+          (subst (λ (n : ℕ). HasValues c.put-given.new.values.items (with_entry n c.given_value-value.result k.values)) h.next (c.put-given.ensures.grown k.values h.values));
       cells = h.cells;
     }

@@ -1,0 +1,2 @@
+pub mod Finalizers
+pub mod Room
