@@ -1,15 +1,14 @@
 -- The statements of a specification part.
-use Rattle.std.proofs.Common.{◌≡◌, ℕ, ◌+◌, ◌<◌, ◌≤◌, ◌++◌, List, [], ◌∷◌, map, take, drop, get_or, length, Option, refl, ap, sym, ◌∙◌, arith, append_assoc}
+use Rattle.std.proofs.Common.{◌≡◌, ℕ, ◌+◌, ◌<◌, ◌≤◌, ◌++◌, List, [], map, drop, get_or, length, Option, ap, sym, ◌∙◌, append_assoc}
 use Rattle.std.specs.List.{flat_map}
 use Rattle.std.proofs.lemmas.List.{at_drop_more, drop_all, length-append}
 use Rattle.f3_rules.specs.declared.breaks.Break.{Break}
 use Rattle.f3_tree.specs.declared.expression.Name.{Name}
 use Rattle.f3_typed_parts.specs.Noted.{noted}
 use Rattle.f3_typed_parts.proofs.Noting.{noted_more}
-use Rattle.f3_access.specs.declared.table.Lookup.{Lookup}
 use Rattle.f3_access.specs.Tables.{lookup_of}
 use Rattle.f3_type_rules.specs.Finals.{final_rank, final_rows}
-use Rattle.f3_type_rules.specs.Members.{Member, members_from}
+use Rattle.f3_type_rules.specs.Members.{Member}
 use Rattle.f3_type_rules.specs.Scene.{Scene}
 use Rattle.f3_extents.proofs.Shaping.{flat_map_map}
 use Rattle.f3_entities.specs.declared.growth.Growth.{Growth}

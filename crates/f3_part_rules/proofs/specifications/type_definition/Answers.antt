@@ -1,4 +1,4 @@
-use Rattle.std.proofs.Common.{◌≡◌, ap, ◌∙◌, [], true, List}
+use Rattle.std.proofs.Common.{ap, ◌∙◌, [], true, List}
 use Rattle.std.specs.List.{flat_map}
 use Rattle.f3_rules.specs.declared.rule.Rule.TheVariants.{T5}
 use Rattle.f3_tree.specs.declared.expression.Name.{Name}
