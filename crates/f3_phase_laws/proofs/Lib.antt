@@ -1,0 +1,5 @@
+pub mod Lists
+pub mod Expressions
+pub mod Declarations
+pub mod Statements
+pub mod Program
