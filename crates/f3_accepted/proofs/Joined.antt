@@ -1,5 +1,5 @@
 -- The answers of the phases, joined.
-use Rattle.std.proofs.Common.{◌≡◌, Err, Some, sym, subst}
+use Rattle.std.proofs.Common.{◌≡◌, List, Err, Some, sym, subst}
 use Rattle.f3_rules.specs.declared.source.Source.{Source}
 use Rattle.f3_rules.specs.declared.breaks.Break.{Break}
 use Rattle.f3_rules.specs.declared.refusal.Refusal.{Refusal}

@@ -1,6 +1,7 @@
 -- The breaks of a program, phase by phase.
-use Rattle.std.proofs.Common.{◌≡◌, ℕ, ◌<◌, List, [], ◌∷◌, false, refl, ap, arith, inl, inr, Some}
+use Rattle.std.proofs.Common.{◌≡◌, ℕ, ◌<◌, ◌≤◌, List, [], ◌∷◌, false, refl, ap, arith, inl, inr, Some}
 use Rattle.std.proofs.lemmas.Bool.{le-ltb, ne_eqb}
+use Rattle.std.proofs.lemmas.List.Elements.{All-contains}
 use Rattle.f3_rules.specs.declared.breaks.Break.{Break}
 use Rattle.f3_rules.specs.Rule.{row_of}
 use Rattle.f3_rules.specs.Least.{Least, before, is_before}
@@ -13,7 +14,7 @@ use Rattle.f3_name_rules.specs.NameBreaks as name_rules
 use Rattle.f3_names.specs.Answers.{BreaksOfNames}
 use Rattle.f3_type_rules.specs.Program.{program_breaks}
 use Rattle.f3_types.specs.Breaks.{TypeBreaks}
-use Rattle.f3_phase_laws.proofs.Late.{late}
+use Rattle.f3_phase_laws.proofs.Program.{late}
 use Rattle.f3_accepted.specs.Accepted.{Breaks, of_units, of_names, of_types}
 
 later : (x y : ℕ) (xs ys : List ℕ) → y < x → before (x ∷ xs) (y ∷ ys) ≡ false
@@ -90,7 +91,7 @@ of_phase_3 t b (inl h) = in_4 b (scope_of_4 h.0 b h.2)
 of_phase_3 t b (inr h) = of_access _ _ b h
 
 past_phase_4 : (t : Tree) (b : Break) → TypeBreaks t b → 4 < b.phase
-past_phase_4 t b h = let e : 5 ≤ b.phase = late t h.0 h.1 b h.4 in omega (arith, e)
+past_phase_4 t b h = let e : 5 ≤ b.phase = (All-contains (λ (b : Break). (5 ≤ b.phase) × (b.phase ≤ 7)) (program_breaks t h.0 h.1) b (late t h.0 h.1) h.4).0 in omega (arith, e)
 
 -- ---- the least break of the first phase that has one is the least of all
 

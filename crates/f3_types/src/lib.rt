@@ -1,0 +1,4 @@
+//! What the entities of a program are, and the rules on types, shapes, constants and definitions.
+#![tactic(auto)]
+
+pub mod table;
