@@ -1,0 +1,4 @@
+pub mod Stepping
+pub mod Settled
+pub mod Exchanged
+pub mod Inside

@@ -1,0 +1,4 @@
+-- What only private functions and proofs cite.
+pub mod Said
+pub mod Holders
+pub mod Laid

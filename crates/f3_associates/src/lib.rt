@@ -1,0 +1,6 @@
+//! ASSOCIATE constructs: their selectors, and what is known inside of them.
+#![tactic(auto)]
+
+pub mod entering;
+pub mod exchanging;
+pub mod selectors;
