@@ -1,3 +1,4 @@
 pub mod Types
 pub mod Breaks
 pub mod Answers
+pub mod Inner

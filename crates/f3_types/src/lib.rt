@@ -1,4 +1,6 @@
 //! What the entities of a program are, and the rules on types, shapes, constants and definitions.
 #![tactic(auto)]
 
+mod bodies;
+mod stubs;
 pub mod table;
