@@ -1,0 +1,155 @@
+-- The first of two lists that hold the same breaks.
+use Rattle.std.proofs.Common.{◌≡◌, ℕ, zero, suc, ◌<◌, List, [], ◌∷◌, true, false, Option, None, Some, refl, sym, ap, ◌∙◌, arith, inl, inr, Contains}
+use Rattle.std.proofs.lemmas.Bool.{cases_lt, true≢false}
+use Rattle.std.proofs.lemmas.Bool.Decides.{nat_tests}
+use Rattle.f3_rules.specs.declared.source.Place.{Place}
+use Rattle.f3_rules.specs.declared.breaks.Break.{Break}
+use Rattle.f3_rules.specs.declared.rule.Rule.{Rule}
+use Rattle.f3_rules.specs.declared.rule.Rule.TheVariants.{S1, S2, S3, S4, S5, S6, S7, S8, U1, U2, U3, U4, N1, N2, N3, N4, N5, N6, N7, N8, N9, N10, N11, N12, N13, T1, T2, T3, T4, T5, T6, T7, T8, T9, T10, T11, T12, D1, D2, D3, D4, D5, D6}
+use Rattle.f3_rules.specs.Rule.{row_of}
+use Rattle.f3_rules.specs.Least.{before, rank, is_before, earlier_of, first_of, LeastAs}
+use Rattle.f3_rules.proofs.Firsts.{first_is_least, first-append}
+use Rattle.f3_nodes.proofs.Members.{has_of, contains_of}
+use Rattle.f3_type_rules.specs.Walks.{along}
+use Rattle.f3_type_rules.specs.Declarations.{unit_rows, unit_next}
+use Rattle.f3_type_rules.specs.Program.{nothing_known, units_in, program_breaks}
+use Rattle.f3_order_laws.specs.Laws.{AreAlike, FirstsAreAlike, FirstsAreOne}
+use Rattle.f3_order_laws.proofs.Programs.{orders, units, scene, behind, parts_alike, parts_one, blocks_alike}
+
+-- the rules in the order of the table
+abbrev table : List Rule
+table = S1 ∷ S2 ∷ S3 ∷ S4 ∷ S5 ∷ S6 ∷ S7 ∷ S8 ∷ U1 ∷ U2 ∷ U3
+    ∷ U4 ∷ N1 ∷ N2 ∷ N3 ∷ N4 ∷ N5 ∷ N6 ∷ N7 ∷ N8 ∷ N9 ∷ N10
+    ∷ N11 ∷ N12 ∷ N13 ∷ T1 ∷ T2 ∷ T3 ∷ T4 ∷ T5 ∷ T6 ∷ T7 ∷ T8
+    ∷ T9 ∷ T10 ∷ T11 ∷ T12 ∷ D1 ∷ D2 ∷ D3 ∷ D4 ∷ D5 ∷ D6
+    ∷ []
+
+abbrev rule_at : List Rule → ℕ → Rule
+rule_at [] n = S1
+rule_at (r ∷ rs) zero = r
+rule_at (r ∷ rs) (suc n) = rule_at rs n
+
+at_row : (r : Rule) → rule_at table (row_of r) ≡ r
+unfolding row_of
+at_row S1 = refl
+at_row S2 = refl
+at_row S3 = refl
+at_row S4 = refl
+at_row S5 = refl
+at_row S6 = refl
+at_row S7 = refl
+at_row S8 = refl
+at_row U1 = refl
+at_row U2 = refl
+at_row U3 = refl
+at_row U4 = refl
+at_row N1 = refl
+at_row N2 = refl
+at_row N3 = refl
+at_row N4 = refl
+at_row N5 = refl
+at_row N6 = refl
+at_row N7 = refl
+at_row N8 = refl
+at_row N9 = refl
+at_row N10 = refl
+at_row N11 = refl
+at_row N12 = refl
+at_row N13 = refl
+at_row T1 = refl
+at_row T2 = refl
+at_row T3 = refl
+at_row T4 = refl
+at_row T5 = refl
+at_row T6 = refl
+at_row T7 = refl
+at_row T8 = refl
+at_row T9 = refl
+at_row T10 = refl
+at_row T11 = refl
+at_row T12 = refl
+at_row D1 = refl
+at_row D2 = refl
+at_row D3 = refl
+at_row D4 = refl
+at_row D5 = refl
+at_row D6 = refl
+
+same_rule : (r q : Rule) → row_of r ≡ row_of q → r ≡ q
+same_rule r q same = sym (at_row r) ∙ ap (rule_at table) same ∙ at_row q
+
+-- ---- numbers of which neither list comes before the other
+
+less : (x y : ℕ) (xs ys : List ℕ) → x < y → before (x ∷ xs) (y ∷ ys) ≡ true
+less x y xs ys lt = grind (arith, nat_tests, lt)
+
+same : (x y : ℕ) (xs ys : List ℕ) → x ≡ y → before (x ∷ xs) (y ∷ ys) ≡ before xs ys
+same x y xs ys e = grind (arith, nat_tests, e)
+
+heads : (x y : ℕ) (xs ys : List ℕ) → before (x ∷ xs) (y ∷ ys) ≡ false → before (y ∷ ys) (x ∷ xs) ≡ false
+    → (x ≡ y) × (before xs ys ≡ false) × (before ys xs ≡ false)
+heads x y xs ys p q = elim (cases_lt x y) [
+  | inl lt ↦ absurd (true≢false (sym (less x y xs ys lt) ∙ p))
+  | inr ge ↦ elim (cases_lt y x) [
+    | inl gt ↦ absurd (true≢false (sym (less y x ys xs gt) ∙ q))
+    | inr le ↦
+        let e : x ≡ y = omega (arith, ge, le) in
+        (e, sym (same x y xs ys e) ∙ p, sym (same y x ys xs (sym e)) ∙ q)
+  ]
+]
+
+abbrev place_of : ℕ → ℕ → ℕ → Place
+place_of file line column = record { file = file; line = line; column = column }
+
+alike : (a b : Break) → before (rank a) (rank b) ≡ false → before (rank b) (rank a) ≡ false → AreAlike (Some a) (Some b)
+alike a b p q =
+    let rest = λ (c : Break). c.place.file ∷ c.place.line ∷ c.place.column ∷ row_of c.rule ∷ [] in
+    let phase = heads a.phase b.phase (rest a) (rest b) p q in
+    let behind = λ (c : Break). c.place.line ∷ c.place.column ∷ row_of c.rule ∷ [] in
+    let file = heads a.place.file b.place.file (behind a) (behind b) phase.1 phase.2 in
+    let line = heads a.place.line b.place.line (a.place.column ∷ row_of a.rule ∷ []) (b.place.column ∷ row_of b.rule ∷ []) file.1 file.2 in
+    let column = heads a.place.column b.place.column (row_of a.rule ∷ []) (row_of b.rule ∷ []) line.1 line.2 in
+    let row = heads (row_of a.rule) (row_of b.rule) [] [] column.1 column.2 in
+    let place : a.place ≡ b.place = λ i. record { file = file.0 i; line = line.0 i; column = column.0 i } in
+    (phase.0, place, same_rule a.rule b.rule row.0)
+
+neither : (a b : Break) → is_before a b ≡ false → is_before b a ≡ false → AreAlike (Some a) (Some b)
+unfolding is_before
+neither a b p q = alike a b p q
+
+-- ---- two lists
+
+module _ (xs ys : List Break) (to : (b : Break) → Contains xs b → Contains ys b) (from : (b : Break) → Contains ys b → Contains xs b) where
+  both : (f g : Option Break) → LeastAs f (Contains xs) → LeastAs g (Contains ys) → AreAlike f g
+  both None None l m = tt
+  both None (Some g) l m = l g (from g m.0)
+  both (Some f) None l m = m f (to f l.0)
+  both (Some f) (Some g) l m = neither f g (m.1 f (to f l.0)) (l.1 g (from g m.0))
+
+  pub firsts_alike : AreAlike (first_of xs) (first_of ys)
+  firsts_alike = both (first_of xs) (first_of ys) (first_is_least xs).as_said (first_is_least ys).as_said
+
+pub first_of_orders : FirstsAreAlike
+first_of_orders t look o p visible one two =
+    firsts_alike (program_breaks t look o) (program_breaks t look p) (orders t look o p visible one two) (orders t look p o visible two one)
+
+-- ---- two lists of which the second parts are one, and the first parts have one first break where they have two at one place
+
+earlier_one : (f g h : Option Break) → AreAlike f g → ((x y : Break) → f ≡ Some x → g ≡ Some y → x.place ≡ y.place → x ≡ y) → earlier_of f h ≡ earlier_of g h
+earlier_one None None h a one = refl
+earlier_one None (Some y) h a one = absurd a
+earlier_one (Some x) None h a one = absurd a
+earlier_one (Some x) (Some y) h a one = ap (λ (b : Break). earlier_of (Some b) h) (one x y refl refl a.1)
+
+pub named_of_orders : FirstsAreOne
+named_of_orders t look o p visible one two differ =
+    let xs = along (unit_rows (scene t look visible)) (unit_next (scene t look visible)) nothing_known (units_in (units t look visible) o) in
+    let ys = along (unit_rows (scene t look visible)) (unit_next (scene t look visible)) nothing_known (units_in (units t look visible) p) in
+    let zs = behind t look visible o in
+    let ws = behind t look visible p in
+    first-append xs zs
+    ∙ earlier_one (first_of xs) (first_of ys) (first_of zs)
+    (firsts_alike xs ys (λ b h. contains_of ys b (parts_alike t look visible o p one two b (has_of xs b h))) (λ b h. contains_of xs b (parts_alike t look visible p o two one b (has_of ys b h))))
+    (parts_one t look visible o p one two differ)
+    ∙ ap (λ (bs : List Break). earlier_of (first_of ys) (first_of bs)) (blocks_alike t look visible o p one two)
+    ∙ sym (first-append ys ws)

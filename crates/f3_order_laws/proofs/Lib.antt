@@ -1,0 +1,15 @@
+pub mod Expressions
+pub mod Values
+pub mod Declarations
+pub mod Entries
+pub mod Walking
+pub mod Orders
+pub mod Constructs
+pub mod Places
+pub mod Seen
+pub mod Programs
+pub mod Firsts
+pub mod Resolved
+pub mod PlacedExpressions
+pub mod PlacedTrees
+pub mod PlacedUnits
