@@ -1,0 +1,4 @@
+pub mod Spans
+pub mod Ranges
+pub mod Seen
+pub mod Blocks
