@@ -1,0 +1,4 @@
+pub mod Objects
+pub mod Parts
+pub mod Procedures
+pub mod Walk

@@ -1,0 +1,5 @@
+pub mod Known
+pub mod Entries
+pub mod Constructs
+pub mod Natures
+pub mod Inner
