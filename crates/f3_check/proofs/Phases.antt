@@ -88,12 +88,31 @@ of_phase_3 : (t : whole.Tree) (b : Break) → BreaksOfNames t b → IsOfNames b
 of_phase_3 t b (inl h) = in_4 b (scope_of_4 h.0 b h.2)
 of_phase_3 t b (inr h) = of_access _ _ b h
 
+is_5 : (n : ℕ) → n ≡ 5 → 4 < n
+is_5 n e = omega (arith, e)
+
+is_6 : (n : ℕ) → n ≡ 6 → 4 < n
+is_6 n e = omega (arith, e)
+
+is_7 : (n : ℕ) → n ≡ 7 → 4 < n
+is_7 n e = omega (arith, e)
+
 past_phase_4 : (t : whole.Tree) (program : Tree) (b : Break) → UseBreaks t program b → 4 < b.phase
-past_phase_4 t program b (attribute_twice h) = let e : b.phase ≡ 5 = phase_is h.7 in omega (arith, e)
-past_phase_4 t program b (not_accessible h) = let e : b.phase ≡ 6 = phase_is h.5 in omega (arith, e)
-past_phase_4 t program b (of_several h) = let e : b.phase ≡ 6 = phase_is h.8 in omega (arith, e)
-past_phase_4 t program b (no_variable h) = let e : b.phase ≡ 6 = phase_is h.5 in omega (arith, e)
-past_phase_4 t program b (protected_defined h) = let e : b.phase ≡ 7 = phase_is h.9 in omega (arith, e)
+past_phase_4 t program b (attribute_twice h) = is_5 b.phase (phase_is h.7)
+past_phase_4 t program b (not_accessible h) = is_6 b.phase (phase_is h.5)
+past_phase_4 t program b (of_several h) = is_6 b.phase (phase_is h.8)
+past_phase_4 t program b (no_variable h) = is_6 b.phase (phase_is h.5)
+past_phase_4 t program b (protected_defined h) = is_7 b.phase (phase_is h.9)
+
+-- These stand alone: `omega` reads all that is in scope, and what a program breaks is long.
+from_2 : (m n : ℕ) → m ≡ 2 → 2 < n → m < n
+from_2 m n e h = omega (arith, e, h)
+
+from_2_past_4 : (m n : ℕ) → m ≡ 2 → 4 < n → m < n
+from_2_past_4 m n e h = omega (arith, e, h)
+
+from_4 : (m n : ℕ) → m < 5 → 4 < n → m < n
+from_4 m n less past = omega (arith, less, past)
 
 -- ---- the least break of the first phase that has one is the least of all
 
@@ -103,8 +122,8 @@ module _ (t : whole.Tree) (program : Tree) (f : Break) where
     where
       others : (b : Break) → Breaks t program b → is_before b f ≡ false
       others b (of_units h) = l.as_said.1 b h
-      others b (of_names h) = let x = of_phase_2 t f l.as_said.0 in let y = (of_phase_3 t b h).0 in later_phase f b (omega (arith, x, y))
-      others b (of_uses h) = let x = of_phase_2 t f l.as_said.0 in let y = past_phase_4 t program b h in later_phase f b (omega (arith, x, y))
+      others b (of_names h) = later_phase f b (from_2 f.phase b.phase (of_phase_2 t f l.as_said.0) (of_phase_3 t b h).0)
+      others b (of_uses h) = later_phase f b (from_2_past_4 f.phase b.phase (of_phase_2 t f l.as_said.0) (past_phase_4 t program b h))
 
   module _ (units : (b : Break) → UnitBreaks t b → ⊥) where
     pub least_of_names : Least (Some f) (BreaksOfNames t) → Least (Some f) (Breaks t program)
@@ -113,7 +132,7 @@ module _ (t : whole.Tree) (program : Tree) (f : Break) where
         others : (b : Break) → Breaks t program b → is_before b f ≡ false
         others b (of_units h) = absurd (units b h)
         others b (of_names h) = l.as_said.1 b h
-        others b (of_uses h) = let x = (of_phase_3 t f l.as_said.0).1 in let y = past_phase_4 t program b h in later_phase f b (omega (arith, x, y))
+        others b (of_uses h) = later_phase f b (from_4 f.phase b.phase (of_phase_3 t f l.as_said.0).1 (past_phase_4 t program b h))
 
     pub least_of_uses : ((b : Break) → BreaksOfNames t b → ⊥) → Least (Some f) (UseBreaks t program) → Least (Some f) (Breaks t program)
     least_of_uses names l = record { as_said = (of_uses l.as_said.0, others) }

@@ -42,4 +42,9 @@ impl Checked {
     {
         &self.names
     }
+
+    /// Gives back its memory: what a crate above need not prove again of all that is in it.
+    pub fn release(self) {
+        drop(self);
+    }
 }

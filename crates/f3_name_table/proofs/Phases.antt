@@ -59,16 +59,26 @@ of_scope s b (undeclared h) = ap (λ (c : Break). c.phase) h.3
 past_2 : (b : Break) (n : ℕ) → b.phase ≡ n → 2 < n → 2 < b.phase
 past_2 b n e h = omega (arith, e, h)
 
+-- These stand alone: `omega` reads all that is in scope, and what a program breaks is long.
+below_3 : 2 < 3
+below_3 = omega arith
+
+below_4 : 2 < 4
+below_4 = omega arith
+
+from_2 : (m n : ℕ) → m ≡ 2 → 2 < n → m < n
+from_2 m n e h = omega (arith, e, h)
+
 of_visible : (scopes : List Scope) (texts : List (List ℕ)) (b : Break) → AccessBreaks scopes texts b → 2 < b.phase
-of_visible scopes texts b (no_such_name h) = past_2 b 3 (ap (λ (c : Break). c.phase) h.4) (omega arith)
-of_visible scopes texts b (private_there h) = past_2 b 3 (ap (λ (c : Break). c.phase) h.8) (omega arith)
-of_visible scopes texts b (attribute_on_used h) = past_2 b 4 (ap (λ (c : Break). c.phase) h.7) (omega arith)
-of_visible scopes texts b (access_to_nothing h) = past_2 b 4 (ap (λ (c : Break). c.phase) h.9) (omega arith)
-of_visible scopes texts b (not_accessible h) = past_2 b 4 (ap (λ (c : Break). c.phase) h.5) (omega arith)
-of_visible scopes texts b (of_several h) = past_2 b 4 (ap (λ (c : Break). c.phase) h.8) (omega arith)
+of_visible scopes texts b (no_such_name h) = past_2 b 3 (ap (λ (c : Break). c.phase) h.4) below_3
+of_visible scopes texts b (private_there h) = past_2 b 3 (ap (λ (c : Break). c.phase) h.8) below_3
+of_visible scopes texts b (attribute_on_used h) = past_2 b 4 (ap (λ (c : Break). c.phase) h.7) below_4
+of_visible scopes texts b (access_to_nothing h) = past_2 b 4 (ap (λ (c : Break). c.phase) h.9) below_4
+of_visible scopes texts b (not_accessible h) = past_2 b 4 (ap (λ (c : Break). c.phase) h.5) below_4
+of_visible scopes texts b (of_several h) = past_2 b 4 (ap (λ (c : Break). c.phase) h.8) below_4
 
 past_phase_2 : (t : Tree) (b : Break) → BreaksOfNames t b → 2 < b.phase
-past_phase_2 t b (inl h) = past_2 b 4 (of_scope h.0 b h.2) (omega arith)
+past_phase_2 t b (inl h) = past_2 b 4 (of_scope h.0 b h.2) below_4
 past_phase_2 t b (inr h) = of_visible _ _ b h
 
 -- the least break of the first phase that has one is the least of all
@@ -77,7 +87,7 @@ least_of_units t f l = record { as_said = (of_units l.as_said.0, others) }
   where
     others : (b : Break) → EarlyBreaks t b → is_before b f ≡ false
     others b (of_units h) = l.as_said.1 b h
-    others b (of_names h) = let x = of_phase_2 t f l.as_said.0 in let y = past_phase_2 t b h in later_phase f b (omega (arith, x, y))
+    others b (of_names h) = later_phase f b (from_2 f.phase b.phase (of_phase_2 t f l.as_said.0) (past_phase_2 t b h))
 
 pub least_of_names : (t : Tree) (f : Break) → ((b : Break) → UnitBreaks t b → ⊥) → Least (Some f) (BreaksOfNames t) → Least (Some f) (EarlyBreaks t)
 least_of_names t f none l = record { as_said = (of_names l.as_said.0, others) }

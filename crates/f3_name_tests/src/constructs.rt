@@ -3,8 +3,10 @@
 use crate::table::sources;
 use f3_graph::{CheckFault, order};
 use f3_names::names;
+use f3_names::table::Names;
 use f3_parse::parser::parse;
 use f3_rules::refusal::render;
+use f3_rules::source::Source;
 use f3_scopes::outline::Outline;
 use f3_scopes::scopes::outlines;
 use f3_tree::program::Program;
@@ -30,32 +32,97 @@ fn show(
     shown.push_str("\n")
 }
 
-/// The scopes of this text, in a line each.
-fn scopes(alloc: Global, text: &str) -> Result<String, AllocError> {
-    let Ok(program) = parse(alloc, sources(alloc, &[text])?.as_slice()) else {
-        return String::from_str(alloc, "no program");
-    };
+fn show_all(alloc: Global, program: &Program, outlines: &[Outline]) -> Result<String, AllocError> {
     let mut shown = String::new(alloc);
-    for outline in &outlines(alloc, &program)? {
-        show(alloc, &mut shown, &program, outline)?;
+    for outline in outlines {
+        show(alloc, &mut shown, program, outline)?;
     }
     Ok(shown)
+}
+
+fn scopes_of(alloc: Global, program: &Program) -> Result<String, AllocError> {
+    let outlines = outlines(alloc, program)?;
+    let shown = show_all(alloc, program, &outlines);
+    drop(outlines);
+    shown
+}
+
+fn parsed_scopes(alloc: Global, sources: &[Source]) -> Result<String, AllocError> {
+    match parse(alloc, sources) {
+        Ok(program) => {
+            let scopes = scopes_of(alloc, &program);
+            drop(program);
+            scopes
+        }
+        Err(fault) => {
+            drop(fault);
+            String::from_str(alloc, "no program")
+        }
+    }
+}
+
+/// The scopes of this text, in a line each.
+fn scopes(alloc: Global, text: &str) -> Result<String, AllocError> {
+    let sources = sources(alloc, &[text])?;
+    let scopes = parsed_scopes(alloc, &sources);
+    drop(sources);
+    scopes
+}
+
+/// The line of a refusal, or that there is none.
+fn told(
+    alloc: Global,
+    sources: &[Source],
+    named: Result<Names, CheckFault>,
+) -> Result<String, AllocError> {
+    match named {
+        Ok(names) => {
+            drop(names);
+            String::from_str(alloc, "accepted")
+        }
+        Err(CheckFault::Refused(refusal)) => {
+            let line = render(alloc, sources, &refusal);
+            drop(refusal);
+            line
+        }
+        Err(CheckFault::Memory) => Err(AllocError),
+    }
+}
+
+fn refused_of(alloc: Global, sources: &[Source], program: &Program) -> Result<String, AllocError> {
+    match order(alloc, program) {
+        Ok(order) => {
+            let named = names(alloc, program, &order);
+            drop(order);
+            told(alloc, sources, named)
+        }
+        Err(fault) => {
+            drop(fault);
+            String::from_str(alloc, "no order")
+        }
+    }
+}
+
+fn parsed_refused(alloc: Global, sources: &[Source]) -> Result<String, AllocError> {
+    match parse(alloc, sources) {
+        Ok(program) => {
+            let line = refused_of(alloc, sources, &program);
+            drop(program);
+            line
+        }
+        Err(fault) => {
+            drop(fault);
+            String::from_str(alloc, "no program")
+        }
+    }
 }
 
 /// The line of the first break of phases 2 to 4, or none.
 fn refused(alloc: Global, text: &str) -> Result<String, AllocError> {
     let sources = sources(alloc, &[text])?;
-    let Ok(program) = parse(alloc, sources.as_slice()) else {
-        return String::from_str(alloc, "no program");
-    };
-    let Ok(order) = order(alloc, &program) else {
-        return String::from_str(alloc, "no order");
-    };
-    match names(alloc, &program, &order) {
-        Ok(_) => String::from_str(alloc, "accepted"),
-        Err(CheckFault::Refused(refusal)) => render(alloc, sources.as_slice(), &refusal),
-        Err(CheckFault::Memory) => Err(AllocError),
-    }
+    let line = parsed_refused(alloc, &sources);
+    drop(sources);
+    line
 }
 
 #[test]

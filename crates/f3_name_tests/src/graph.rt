@@ -1,7 +1,9 @@
 //! The refusal of a break, and the order of one unit.
 
-use f3_graph::{CheckFault, order, refusal_of};
+use crate::made::{both, one};
+use f3_graph::{CheckFault, UnitOrder, order, refusal_of};
 use f3_rules::breaks::Break;
+use f3_rules::refusal::Refusal;
 use f3_rules::rule::Rule;
 use f3_rules::source::Place;
 use f3_tree::declaration::SpecificationPart;
@@ -9,6 +11,7 @@ use f3_tree::expression::Name;
 use f3_tree::program::{Program, Unit, UnitKind};
 use indexmap::IndexSet;
 use std::alloc::{AllocError, Global};
+use std::process::Abort;
 use std::test::Fail;
 
 fn place(line: u32, column: u32) -> Place {
@@ -19,16 +22,20 @@ fn place(line: u32, column: u32) -> Place {
     }
 }
 
-// A program of one unit, named a.
-fn program(alloc: Global, kind: UnitKind) -> Result<Program, AllocError> {
+// The names of a program: a.
+fn names(alloc: Global) -> Result<IndexSet<String>, AllocError> {
     let mut names = IndexSet::new(alloc);
     names.insert(String::from_str(alloc, "a")?)?;
+    Ok(names)
+}
+
+fn unit(alloc: Global, kind: UnitKind) -> Unit {
     let part = SpecificationPart {
         uses: Vec::new(alloc),
         implicit_none: None,
         specifications: Vec::new(alloc),
     };
-    let unit = Unit {
+    Unit {
         place: place(1, 1),
         kind,
         name: Name {
@@ -40,21 +47,40 @@ fn program(alloc: Global, kind: UnitKind) -> Result<Program, AllocError> {
         contains: None,
         procedures: Vec::new(alloc),
         end: place(2, 1),
-    };
+    }
+}
+
+// A program of one unit, named a.
+fn program(alloc: Global, kind: UnitKind) -> Result<Program, AllocError> {
+    let (names, units) = both(names(alloc), one(alloc, unit(alloc, kind)))?;
     Ok(Program {
         names,
         texts: Vec::new(alloc),
-        units: vec![in alloc; unit]?,
+        units,
         end: place(3, 1),
     })
 }
 
+fn ordered(alloc: Global, kind: UnitKind) -> Result<UnitOrder, CheckFault> {
+    let program = program(alloc, kind)?;
+    let order = order(alloc, &program);
+    drop(program);
+    order
+}
+
 // How many units are in order, or the place and rule of the refusal.
 fn answer(alloc: Global, kind: UnitKind) -> Result<(usize, Option<(Place, Rule)>), AllocError> {
-    let program = program(alloc, kind)?;
-    match order(alloc, &program) {
-        Ok(order) => Ok((order.units.len(), None)),
-        Err(CheckFault::Refused(refusal)) => Ok((0, Some((refusal.place, refusal.rule)))),
+    match ordered(alloc, kind) {
+        Ok(order) => {
+            let count = order.units.len();
+            drop(order);
+            Ok((count, None))
+        }
+        Err(CheckFault::Refused(refusal)) => {
+            let found = (refusal.place, refusal.rule);
+            drop(refusal);
+            Ok((0, Some(found)))
+        }
         Err(CheckFault::Memory) => Err(AllocError),
     }
 }
@@ -68,21 +94,32 @@ fn a_program_needs_a_main_program(rt: HostRuntime) -> Result<(), Fail> {
     Ok(())
 }
 
+// The refusal of a break at this name of a program.
+fn refusal(alloc: Global, symbol: Option<usize>) -> Result<Refusal, AllocError> {
+    let program = program(alloc, UnitKind::Module)?;
+    let found = Break {
+        phase: 2,
+        place: place(3, 4),
+        rule: Rule::U2,
+        name: symbol,
+    };
+    let refusal = refusal_of(alloc, &program.names, found);
+    drop(program);
+    refusal
+}
+
+fn expect(rt: &impl Abort, refusal: &Refusal, wanted: &str) {
+    assert_eq!(rt; refusal.name.as_str(), wanted);
+    assert!(rt; refusal.place == place(3, 4));
+    assert!(rt; refusal.rule == Rule::U2);
+}
+
 #[test]
 fn a_refusal_has_the_name_of_its_break(rt: HostRuntime) -> Result<(), Fail> {
-    let alloc = rt.alloc();
-    let program = program(alloc, UnitKind::Module)?;
     for (symbol, wanted) in [(Some(0), "a"), (None, "")] {
-        let found = Break {
-            phase: 2,
-            place: place(3, 4),
-            rule: Rule::U2,
-            name: symbol,
-        };
-        let refusal = refusal_of(alloc, &program.names, found)?;
-        assert_eq!(rt; refusal.name.as_str(), wanted);
-        assert!(rt; refusal.place == place(3, 4));
-        assert!(rt; refusal.rule == Rule::U2);
+        let refusal = refusal(rt.alloc(), symbol)?;
+        expect(&rt, &refusal, wanted);
+        drop(refusal);
     }
     Ok(())
 }

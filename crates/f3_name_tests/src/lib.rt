@@ -8,6 +8,8 @@ mod constructs;
 #[cfg(test)]
 mod graph;
 #[cfg(test)]
+mod made;
+#[cfg(test)]
 mod name_rules;
 #[cfg(test)]
 mod names;

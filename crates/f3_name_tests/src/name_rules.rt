@@ -3,6 +3,7 @@
 ghost use Rattle.std.specs.Prelude.{◌≡◌, [], IfOk};
 ghost use Rattle.f3_scopes.specs.declared.outline.ScopeKind.TheVariants.{Module};
 
+use crate::made::{both, one};
 use f3_access::tables;
 use f3_name_rules::{first_name_break, is_intrinsic};
 use f3_rules::breaks::Break;
@@ -52,10 +53,10 @@ fn module_of(alloc: Global, references: &[Name]) -> Result<Outline, AllocError>
     ensures uses { IfOk result (λ o. o.uses.items ≡ []) }
     ensures host { IfOk result (λ o. o.host ≡ None) }
 {
-    let mut own = Vec::new(alloc);
-    own.push(declared(alloc, name(1, 20)))?;
-    let mut referred = Vec::new(alloc);
-    referred.extend_from_slice(references)?;
+    let (own, referred) = both(
+        one(alloc, declared(alloc, name(1, 20))),
+        Vec::from_slice(alloc, references),
+    )?;
     Ok(Outline {
         kind: ScopeKind::Module,
         name: name(0, 8),
@@ -75,16 +76,41 @@ fn module_of(alloc: Global, references: &[Name]) -> Result<Outline, AllocError>
     })
 }
 
-// The first break of a module a that declares n and refers to these names, of a, n, k and size.
-fn first_of_module(alloc: Global, references: &[Name]) -> Result<Option<Break>, AllocError> {
+// a, n, k and size.
+fn names_of_module(alloc: Global) -> Result<IndexSet<String>, AllocError> {
     let mut names = IndexSet::new(alloc);
     for text in ["a", "n", "k", "size"] {
         names.insert(String::from_str(alloc, text)?)?;
     }
-    let mut outlines = Vec::new(alloc);
-    outlines.push(module_of(alloc, references)?)?;
-    let made = tables(alloc, &outlines, &[0])?;
-    first_name_break(alloc, &outlines, &made, &names)
+    Ok(names)
+}
+
+// The first break of a module a that declares n and refers to these names, of those that are given.
+fn first_of_named(
+    alloc: Global,
+    names: &IndexSet<String>,
+    references: &[Name],
+) -> Result<Option<Break>, AllocError> {
+    let outlines = one(alloc, module_of(alloc, references)?)?;
+    let made = match tables(alloc, &outlines, &[0]) {
+        Ok(made) => made,
+        Err(error) => {
+            drop(outlines);
+            return Err(error);
+        }
+    };
+    let first = first_name_break(alloc, &outlines, &made, names);
+    drop(made);
+    drop(outlines);
+    first
+}
+
+// The first break of a module a that declares n and refers to these names, of a, n, k and size.
+fn first_of_module(alloc: Global, references: &[Name]) -> Result<Option<Break>, AllocError> {
+    let names = names_of_module(alloc)?;
+    let first = first_of_named(alloc, &names, references);
+    drop(names);
+    first
 }
 
 #[test]

@@ -1,10 +1,12 @@
 //! The names of a small program.
 
+use crate::made::{both, more, one};
 use f3_access::table::{Lookup, Visible};
 use f3_graph::{CheckFault, UnitId, order};
 use f3_names::entity::Entity;
 use f3_names::table::{Names, ScopeId};
 use f3_names::{names, resolve};
+use f3_rules::refusal::Refusal;
 use f3_rules::rule::Rule;
 use f3_rules::source::Place;
 use f3_scopes::outline::EntityKind;
@@ -16,6 +18,7 @@ use f3_tree::expression::{IntegerKind, Name};
 use f3_tree::program::{Header, Procedure, ProcedureKind, Program, Unit, UnitKind};
 use indexmap::IndexSet;
 use std::alloc::{AllocError, Global};
+use std::process::Abort;
 use std::test::Fail;
 
 const TEXTS: [&str; 8] = ["a", "x", "y", "z_1", "s", "v", "p", "w"];
@@ -37,14 +40,14 @@ fn name(symbol: usize, column: u32) -> Name {
 
 // A declaration of integers without attributes.
 fn integers(alloc: Global, declared: &[Name]) -> Result<Specification, AllocError> {
-    let mut entities = Vec::new(alloc);
-    for name in declared {
-        entities.push(Written {
+    let entities = declared
+        .iter()
+        .map(|name| Written {
             name: *name,
             shape: None,
             initial: None,
-        })?;
-    }
+        })
+        .collect(alloc)?;
     Ok(Specification::Declaration(Declaration {
         place: place(1),
         specifier: TypeSpecifier::Integer(IntegerKind::Four),
@@ -53,17 +56,21 @@ fn integers(alloc: Global, declared: &[Name]) -> Result<Specification, AllocErro
     }))
 }
 
-fn part(alloc: Global, used: &[Name], declared: &[Name]) -> Result<SpecificationPart, AllocError> {
-    let mut uses = Vec::new(alloc);
-    for name in used {
-        uses.push(Use {
+fn uses(alloc: Global, used: &[Name]) -> Result<Vec<Use>, AllocError> {
+    used.iter()
+        .map(|name| Use {
             place: place(1),
             module: *name,
             selection: Selection::All(Vec::new(alloc)),
-        })?;
-    }
-    let mut specifications = Vec::new(alloc);
-    specifications.push(integers(alloc, declared)?)?;
+        })
+        .collect(alloc)
+}
+
+fn part_of(
+    uses: Result<Vec<Use>, AllocError>,
+    specifications: Result<Vec<Specification>, AllocError>,
+) -> Result<SpecificationPart, AllocError> {
+    let (uses, specifications) = both(uses, specifications)?;
     Ok(SpecificationPart {
         uses,
         implicit_none: None,
@@ -71,37 +78,57 @@ fn part(alloc: Global, used: &[Name], declared: &[Name]) -> Result<Specification
     })
 }
 
+fn part(alloc: Global, used: &[Name], declared: &[Name]) -> Result<SpecificationPart, AllocError> {
+    let specifications = one(alloc, integers(alloc, declared)?);
+    part_of(uses(alloc, used), specifications)
+}
+
 // Subroutine s with the variable v.
 fn subroutine(alloc: Global) -> Result<Procedure, AllocError> {
+    let part = part(alloc, &[], &[name(5, 50)])?;
+    let header = Header {
+        place: place(1),
+        pure: false,
+        recursive: false,
+        kind: ProcedureKind::Subroutine,
+        name: name(4, 40),
+        dummies: Vec::new(alloc),
+    };
     Ok(Procedure {
-        header: Header {
-            place: place(1),
-            pure: false,
-            recursive: false,
-            kind: ProcedureKind::Subroutine,
-            name: name(4, 40),
-            dummies: Vec::new(alloc),
-        },
-        part: part(alloc, &[], &[name(5, 50)])?,
+        header,
+        part,
         body: Vec::new(alloc),
         end: place(1),
     })
 }
 
-// Module a with the variables x, y and z_1, of which y is private and z_1 protected, and with s.
-fn module(alloc: Global) -> Result<Unit, AllocError> {
-    let mut part = part(alloc, &[], &[name(1, 10), name(2, 20), name(3, 30)])?;
-    part.specifications.push(Specification::Access(Access {
+// PRIVATE y
+fn private_y(alloc: Global) -> Result<Specification, AllocError> {
+    let names = one(alloc, name(2, 1))?;
+    Ok(Specification::Access(Access {
         place: place(1),
         accessibility: Accessibility::Private,
-        names: Vec::from_slice(alloc, &[name(2, 1)])?,
-    }))?;
-    part.specifications.push(Specification::Protected(
-        place(1),
-        Vec::from_slice(alloc, &[name(3, 1)])?,
-    ))?;
-    let mut procedures = Vec::new(alloc);
-    procedures.push(subroutine(alloc)?)?;
+        names,
+    }))
+}
+
+// PROTECTED z_1
+fn protected_z(alloc: Global) -> Result<Specification, AllocError> {
+    let names = one(alloc, name(3, 1))?;
+    Ok(Specification::Protected(place(1), names))
+}
+
+fn module_specifications(alloc: Global) -> Result<Vec<Specification>, AllocError> {
+    let declared = integers(alloc, &[name(1, 10), name(2, 20), name(3, 30)])?;
+    let two = more(one(alloc, declared)?, private_y(alloc))?;
+    more(two, protected_z(alloc))
+}
+
+// Module a with the variables x, y and z_1, of which y is private and z_1 protected, and with s.
+fn module(alloc: Global) -> Result<Unit, AllocError> {
+    let procedures = one(alloc, subroutine(alloc)?);
+    let part = part_of(Ok(Vec::new(alloc)), module_specifications(alloc));
+    let (part, procedures) = both(part, procedures)?;
     Ok(Unit {
         place: place(1),
         kind: UnitKind::Module,
@@ -114,24 +141,33 @@ fn module(alloc: Global) -> Result<Unit, AllocError> {
     })
 }
 
-// Module a, and the program p that uses it and declares this name.
-fn program(alloc: Global, declared: Name) -> Result<Program, AllocError> {
-    let mut names = IndexSet::new(alloc);
-    for text in TEXTS {
-        names.insert(String::from_str(alloc, text)?)?;
-    }
-    let mut units = Vec::new(alloc);
-    units.push(module(alloc)?)?;
-    units.push(Unit {
+// The program p, which uses module a and declares this name.
+fn main_program(alloc: Global, declared: Name) -> Result<Unit, AllocError> {
+    let part = part(alloc, &[name(0, 1)], &[declared])?;
+    Ok(Unit {
         place: place(1),
         kind: UnitKind::Program,
         name: name(6, 60),
-        part: part(alloc, &[name(0, 1)], &[declared])?,
+        part,
         body: Vec::new(alloc),
         contains: None,
         procedures: Vec::new(alloc),
         end: place(1),
-    })?;
+    })
+}
+
+fn texts(alloc: Global) -> Result<IndexSet<String>, AllocError> {
+    let mut names = IndexSet::new(alloc);
+    for text in TEXTS {
+        names.insert(String::from_str(alloc, text)?)?;
+    }
+    Ok(names)
+}
+
+// Module a, and the program p that uses it and declares this name.
+fn program(alloc: Global, declared: Name) -> Result<Program, AllocError> {
+    let units = more(one(alloc, module(alloc)?)?, main_program(alloc, declared));
+    let (names, units) = both(texts(alloc), units)?;
     Ok(Program {
         names,
         texts: Vec::new(alloc),
@@ -140,9 +176,19 @@ fn program(alloc: Global, declared: Name) -> Result<Program, AllocError> {
     })
 }
 
-fn named(alloc: Global, program: &Program) -> Result<Names, CheckFault> {
+fn names_of(alloc: Global, program: &Program) -> Result<Names, CheckFault> {
     let order = order(alloc, program)?;
-    names(alloc, program, &order)
+    let names = names(alloc, program, &order);
+    drop(order);
+    names
+}
+
+// The names of module a and of the program p that declares this name.
+fn named(alloc: Global, declared: Name) -> Result<Names, CheckFault> {
+    let program = program(alloc, declared)?;
+    let names = names_of(alloc, &program);
+    drop(program);
+    names
 }
 
 fn pair(symbol: usize, entity: usize) -> Visible {
@@ -170,8 +216,7 @@ fn entity(
 
 // The names of module a and of the program p with the variable w.
 fn small(alloc: Global) -> Result<Names, CheckFault> {
-    let program = program(alloc, name(7, 70))?;
-    named(alloc, &program)
+    named(alloc, name(7, 70))
 }
 
 fn entities() -> [Entity; 6] {
@@ -191,11 +236,14 @@ fn entities() -> [Entity; 6] {
 
 #[test]
 fn a_program_has_its_entities(rt: HostRuntime) -> Result<(), Fail> {
-    match small(rt.alloc()) {
-        Ok(names) => assert_eq!(rt; names.entities(), &entities()[..]),
-        Err(_) => panic!(rt; "the program breaks no rule"),
-    }
+    let names = small(rt.alloc())?;
+    expect_entities(&rt, &names);
+    drop(names);
     Ok(())
+}
+
+fn expect_entities(rt: &impl Abort, names: &Names) {
+    assert_eq!(rt; names.entities(), &entities()[..]);
 }
 
 fn exported() -> [Visible; 3] {
@@ -208,46 +256,57 @@ fn visible() -> [Visible; 5] {
 
 #[test]
 fn a_scope_sees_its_names(rt: HostRuntime) -> Result<(), Fail> {
-    let alloc = rt.alloc();
-    match small(alloc) {
-        Ok(names) => {
-            assert_eq!(rt; names.exports(UnitId { number: 0 }), &exported()[..]);
-            let mut seen = names.visible(ScopeId { number: 1 });
-            for pair in visible() {
-                assert_eq!(rt; seen.next(), Some(pair));
-            }
-            assert_eq!(rt; seen.next(), None);
-        }
-        Err(_) => panic!(rt; "the program breaks no rule"),
-    }
+    let names = small(rt.alloc())?;
+    expect_seen(&rt, &names);
+    drop(names);
     Ok(())
+}
+
+fn expect_seen(rt: &impl Abort, names: &Names) {
+    assert_eq!(rt; names.exports(UnitId { number: 0 }), &exported()[..]);
+    let mut seen = names.visible(ScopeId { number: 1 });
+    for pair in visible() {
+        assert_eq!(rt; seen.next(), Some(pair));
+    }
+    assert_eq!(rt; seen.next(), None);
 }
 
 #[test]
 fn a_text_is_looked_up(rt: HostRuntime) -> Result<(), Fail> {
-    match small(rt.alloc()) {
-        Ok(names) => {
-            let main = ScopeId { number: 2 };
-            assert_eq!(rt; resolve(&names, main, "Z_1"), Lookup::One(2));
-            assert_eq!(rt; resolve(&names, main, "y"), Lookup::Nothing);
-        }
-        Err(_) => panic!(rt; "the program breaks no rule"),
-    }
+    let names = small(rt.alloc())?;
+    expect_resolved(&rt, &names);
+    drop(names);
     Ok(())
+}
+
+fn expect_resolved(rt: &impl Abort, names: &Names) {
+    let main = ScopeId { number: 2 };
+    assert_eq!(rt; resolve(names, main, "Z_1"), Lookup::One(2));
+    assert_eq!(rt; resolve(names, main, "y"), Lookup::Nothing);
+}
+
+// The refusal of a program, where it is refused.
+fn refusal_in(named: Result<Names, CheckFault>) -> Option<Refusal> {
+    match named {
+        Ok(names) => {
+            drop(names);
+            None
+        }
+        Err(CheckFault::Refused(refusal)) => Some(refusal),
+        Err(CheckFault::Memory) => None,
+    }
 }
 
 #[test]
 fn a_name_that_a_use_brings_is_not_declared(rt: HostRuntime) -> Result<(), Fail> {
-    let alloc = rt.alloc();
-    let program = program(alloc, name(1, 70))?;
-    match named(alloc, &program) {
-        Err(CheckFault::Refused(refusal)) => {
-            assert_eq!(rt; refusal.rule, Rule::N4);
-            assert_eq!(rt; refusal.place, place(70));
-            assert_eq!(rt; refusal.name.as_str(), "x");
-        }
-        Err(CheckFault::Memory) => panic!(rt; "there is memory"),
-        Ok(_) => panic!(rt; "a rule is broken"),
-    }
+    let refusal = refusal_in(named(rt.alloc(), name(1, 70))).ok_or("a rule is broken")?;
+    expect_declared_again(&rt, &refusal);
+    drop(refusal);
     Ok(())
+}
+
+fn expect_declared_again(rt: &impl Abort, refusal: &Refusal) {
+    assert_eq!(rt; refusal.rule, Rule::N4);
+    assert_eq!(rt; refusal.place, place(70));
+    assert_eq!(rt; refusal.name.as_str(), "x");
 }

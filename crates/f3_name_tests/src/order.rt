@@ -1,29 +1,60 @@
 //! Orders of the units of small programs, which are read from their texts.
 
 use crate::table::sources;
-use f3_graph::{CheckFault, order};
+use f3_graph::{CheckFault, UnitId, order};
 use f3_parse::parser::parse;
 use f3_rules::refusal::render;
+use f3_rules::source::Source;
+use f3_tree::program::Program;
 use std::alloc::{AllocError, Global};
 use std::test::Fail;
+
+/// The numbers of units, each with a blank.
+fn numbers(alloc: Global, units: &[UnitId]) -> Result<String, AllocError> {
+    let mut numbers = String::new(alloc);
+    for unit in units {
+        numbers.push_str(&format!(in alloc; "{} ", unit.number)?)?;
+    }
+    Ok(numbers)
+}
+
+/// The numbers of the units of this program in their order, or the line of the refusal.
+fn ordered(alloc: Global, sources: &[Source], program: &Program) -> Result<String, AllocError> {
+    match order(alloc, program) {
+        Ok(order) => {
+            let numbers = numbers(alloc, &order.units);
+            drop(order);
+            numbers
+        }
+        Err(CheckFault::Refused(refusal)) => {
+            let line = render(alloc, sources, &refusal);
+            drop(refusal);
+            line
+        }
+        Err(CheckFault::Memory) => Err(AllocError),
+    }
+}
+
+fn answer_of(alloc: Global, sources: &[Source]) -> Result<String, AllocError> {
+    match parse(alloc, sources) {
+        Ok(program) => {
+            let answer = ordered(alloc, sources, &program);
+            drop(program);
+            answer
+        }
+        Err(fault) => {
+            drop(fault);
+            String::from_str(alloc, "no program")
+        }
+    }
+}
 
 /// The numbers of the units of this text in their order, or the line of the refusal.
 fn answer(alloc: Global, text: &str) -> Result<String, AllocError> {
     let sources = sources(alloc, &[text])?;
-    let Ok(program) = parse(alloc, sources.as_slice()) else {
-        return String::from_str(alloc, "no program");
-    };
-    match order(alloc, &program) {
-        Ok(order) => {
-            let mut numbers = String::new(alloc);
-            for unit in &order.units {
-                numbers.push_str(&format!(in alloc; "{} ", unit.number)?)?;
-            }
-            Ok(numbers)
-        }
-        Err(CheckFault::Refused(refusal)) => render(alloc, sources.as_slice(), &refusal),
-        Err(CheckFault::Memory) => Err(AllocError),
-    }
+    let answer = answer_of(alloc, &sources);
+    drop(sources);
+    answer
 }
 
 #[test]

@@ -1,5 +1,6 @@
 //! The first breaks of small scopes.
 
+use f3_rules::breaks::Break;
 use f3_rules::rule::Rule;
 use f3_rules::source::Place;
 use f3_scope_rules::first_scope_break;
@@ -132,29 +133,62 @@ fn add_word(alloc: Global, outline: &mut Outline, mark: u8, name: Name) -> Resul
     Ok(())
 }
 
+// Words of a mark and a letter, each but the first at the column of its number, and the components of a type.
+fn add_words(
+    alloc: Global,
+    outline: &mut Outline,
+    text: &str,
+    components: &str,
+) -> Result<(), AllocError> {
+    for (at, word) in text.as_bytes().chunks(3).enumerate().skip(1) {
+        if let [mark, letter, ..] = word {
+            add_word(alloc, outline, *mark, name(*letter, (at % 50) as u32))?;
+        }
+    }
+    if !components.is_empty() {
+        outline.types.push(components_of(alloc, components)?)?;
+    }
+    Ok(())
+}
+
 // A scope: words of a mark and a letter; the first is its kind and name, and each other stands at the column of its
 // number.
 fn outline_of(alloc: Global, text: &str, components: &str) -> Result<Outline, AllocError> {
     let kind = text.bytes().next().unwrap_or(b'p');
     let own = text.bytes().nth(1).unwrap_or(b'1');
     let mut outline = empty_outline(alloc, kind, own);
-    for (at, word) in text.as_bytes().chunks(3).enumerate().skip(1) {
-        if let [mark, letter, ..] = word {
-            add_word(alloc, &mut outline, *mark, name(*letter, (at % 50) as u32))?;
+    match add_words(alloc, &mut outline, text, components) {
+        Ok(()) => Ok(outline),
+        Err(error) => {
+            drop(outline);
+            Err(error)
         }
     }
-    if !components.is_empty() {
-        outline.types.push(components_of(alloc, components)?)?;
-    }
-    Ok(outline)
 }
 
-fn answer(alloc: Global, rows: &[(&str, &str)]) -> Result<Option<(Rule, u32)>, AllocError> {
-    let mut outlines = Vec::new(alloc);
+fn add_outlines(
+    alloc: Global,
+    outlines: &mut Vec<Outline>,
+    rows: &[(&str, &str)],
+) -> Result<(), AllocError> {
     for (text, components) in rows {
         outlines.push(outline_of(alloc, text, components)?)?;
     }
-    let first = first_scope_break(alloc, &outlines)?;
+    Ok(())
+}
+
+fn first_break(alloc: Global, rows: &[(&str, &str)]) -> Result<Option<Break>, AllocError> {
+    let mut outlines = Vec::new(alloc);
+    let first = match add_outlines(alloc, &mut outlines, rows) {
+        Ok(()) => first_scope_break(alloc, &outlines),
+        Err(error) => Err(error),
+    };
+    drop(outlines);
+    first
+}
+
+fn answer(alloc: Global, rows: &[(&str, &str)]) -> Result<Option<(Rule, u32)>, AllocError> {
+    let first = first_break(alloc, rows)?;
     Ok(first.map(|found| (found.rule, found.place.column)))
 }
 

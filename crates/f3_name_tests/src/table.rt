@@ -1,5 +1,6 @@
 //! Tables of names of whole programs.
 
+use crate::made::both;
 use f3_graph::CheckFault;
 use f3_name_table::name_table;
 use f3_rules::refusal::render;
@@ -8,30 +9,43 @@ use std::alloc::{AllocError, Global};
 use std::process::Abort;
 use std::test::Fail;
 
+fn source(alloc: Global, name: &str, text: &str) -> Result<Source, AllocError> {
+    let (name, bytes) = both(
+        String::from_str(alloc, name),
+        Vec::from_slice(alloc, text.as_bytes()),
+    )?;
+    Ok(Source { name, bytes })
+}
+
 /// Sources of these texts, the first of them named a.f90 and the others b.f90.
 pub fn sources(alloc: Global, texts: &[&str]) -> Result<Vec<Source>, AllocError> {
     let mut sources = Vec::new(alloc);
     for text in texts {
         let name = if sources.is_empty() { "a.f90" } else { "b.f90" };
-        sources.push(Source {
-            name: String::from_str(alloc, name)?,
-            bytes: Vec::from_slice(alloc, text.as_bytes())?,
-        })?;
+        sources.push(source(alloc, name, text)?)?;
     }
     Ok(sources)
+}
+
+/// The table of these sources, or the line of their refusal.
+fn shown(alloc: Global, sources: &[Source]) -> Result<String, AllocError> {
+    match name_table(alloc, sources) {
+        Ok(table) => Ok(table),
+        Err(CheckFault::Refused(refusal)) => {
+            let line = render(alloc, sources, &refusal);
+            drop(refusal);
+            line
+        }
+        Err(CheckFault::Memory) => Err(AllocError),
+    }
 }
 
 /// Compares the table of these sources, or the line of their refusal.
 fn expect(rt: &impl Abort, alloc: Global, texts: &[&str], expected: &str) -> Result<(), Fail> {
     let sources = sources(alloc, texts)?;
-    match name_table(alloc, sources.as_slice()) {
-        Ok(table) => assert_eq!(rt; table.as_str(), expected),
-        Err(CheckFault::Refused(refusal)) => {
-            let line = render(alloc, sources.as_slice(), &refusal)?;
-            assert_eq!(rt; line.as_str(), expected);
-        }
-        Err(CheckFault::Memory) => assert!(rt; false, "want of memory"),
-    }
+    let shown = shown(alloc, &sources);
+    drop(sources);
+    assert_eq!(rt; shown?.as_str(), expected);
     Ok(())
 }
 

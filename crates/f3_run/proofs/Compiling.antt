@@ -29,6 +29,10 @@ use Rattle.f3_run.proofs.Meant.{has_main, elaborated_is_meaning}
 pub checked_has_main : (t : whole.Tree) (program : Program) (names : Names) → AreAccepted t (view program) names → HasMain program
 checked_has_main t program names a = has_main t program a.1.taken (λ b u. a.1.unbroken b (of_units u))
 
+-- what is below a count is below one that is as much
+below_same : (k a b c d e : ℕ) → k < a → b ≡ a → b ≡ c → d ≡ c → e ≡ d → k < e
+below_same k a b c d e lt first second third fourth = omega (arith, lt, first, second, third, fourth)
+
 -- each unit of what was accepted has a scope
 pub has_scope : (t : whole.Tree) (program : Program) (names : Names) (k : ℕ) (source : ProgramUnit) → slice_get program.units.items k ≡ Some source
     → AreAccepted t (view program) names → k < length names.units.items
@@ -38,7 +42,7 @@ has_scope t program names k source is a =
     let seen = length-map program.units.items unit_view in
     let long = numbers_long 0 t.units in
     let numbers = ap length (a.2).units in
-    omega (arith, within, many, seen, long, numbers)
+    below_same _ _ _ _ _ _ within seen many long numbers
 
 module _ (sources : List Source) where
   pub not_checked : (fault : CheckFault) → Checks (Err fault) sources → Compiles sources (Err fault)

@@ -21,7 +21,7 @@ pub fn compile(alloc: Global, sources: &[Source]) -> Result<Compiled, CheckFault
 {
     let checked = check(alloc, sources)?;
     let compiled = elaborate(alloc, &checked);
-    drop(checked);
+    checked.release();
     match compiled {
         Ok(compiled) => Ok(compiled),
         Err(_) => Err(CheckFault::Memory),
@@ -38,5 +38,7 @@ pub fn check_and_run<W: Write>(
     ensures { ChecksAndRuns sources.now limits.steps (state_of W.contents output.old) (state_of W.contents output.new) result }
 {
     let compiled = compile(alloc, sources)?;
-    Ok(run(alloc, &compiled, limits, output))
+    let end = run(alloc, &compiled, limits, output);
+    drop(compiled);
+    Ok(end)
 }

@@ -1,19 +1,19 @@
-use Rattle.std.proofs.Common.{◌≡◌, List, [], ◌∷◌, ◌++◌, map, ap, sym, subst, ◌∙◌}
+use Rattle.std.proofs.Common.{◌≡◌, List, [], ◌∷◌, map, sym, subst, ◌∙◌}
 use Rattle.f3_scopes.specs.declared.outline.Outline.{Outline}
 use Rattle.f3_scopes.specs.Outlines.{scope_view}
 use Rattle.f3_access.specs.Access.{IsUnitOrder}
 use Rattle.f3_access.specs.Hosts.{HostsBefore}
 use Rattle.f3_name_tests.proofs.LoneModules.{lone_order, lone_hosts}
-use Rattle.f3_name_tests.proofs.name_rules.first_of_module.Goals as goal
+use Rattle.f3_name_tests.proofs.name_rules.first_of_named.Goals as goal
 
 pub tables-requires-clause-order : goal.tables-requires-clause-order
 tables-requires-clause-order c =
     let o = c.in_ok-module_of.field-0 in
-    let one : c.deref.result.now ≡ o ∷ [] = c.deref.ensures.value ∙ c.in_ok-push.ensures.items ∙ ap (λ (l : List Outline). l ++ o ∷ []) c.new-outlines.ensures.items in
+    let one : c.deref.result.now ≡ o ∷ [] = c.deref.ensures.value ∙ c.in_ok-outlines.ensures in
     subst (λ (l : List Outline). IsUnitOrder (map scope_view l) (0 ∷ [])) (sym one) (lone_order o c.in_ok-module_of.ensures.kind c.in_ok-module_of.ensures.uses)
 
 pub tables-requires-clause-hosts : goal.tables-requires-clause-hosts
 tables-requires-clause-hosts c =
     let o = c.in_ok-module_of.field-0 in
-    let one : c.deref.result.now ≡ o ∷ [] = c.deref.ensures.value ∙ c.in_ok-push.ensures.items ∙ ap (λ (l : List Outline). l ++ o ∷ []) c.new-outlines.ensures.items in
+    let one : c.deref.result.now ≡ o ∷ [] = c.deref.ensures.value ∙ c.in_ok-outlines.ensures in
     subst (λ (l : List Outline). HostsBefore (map scope_view l)) (sym one) (lone_hosts o c.in_ok-module_of.ensures.kind c.in_ok-module_of.ensures.uses c.in_ok-module_of.ensures.host)
