@@ -1,2 +1,4 @@
 mod Walk
 mod Standing
+mod Linking
+mod Beginning
