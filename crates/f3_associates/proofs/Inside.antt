@@ -1,13 +1,13 @@
 -- What stands at the associate names of a construct is what the construct makes of the site.
 use Rattle.std.proofs.Common.{◌≡◌, ℕ, ◌<◌, refl, Bool, true, false, nat_eq, List, [], ◌∷◌, map, length, Option, None, Some, IsSome, sym, ap, ◌∙◌, cond}
 use Rattle.std.specs.Prelude.{if◌then◌else◌, slice_get}
-use Rattle.std.specs.List.{All, flat_map}
+use Rattle.std.specs.List.{flat_map}
 use Rattle.std.specs.Map.{lookup}
 use Rattle.std.specs.Option.{option_map}
 use Rattle.std.proofs.Math.Path.{fun_ext}
 use Rattle.std.proofs.lemmas.Bool.{eqb-true, eq-eqb}
 use Rattle.std.proofs.lemmas.Option.{slice_get_within}
-use Rattle.std.proofs.lemmas.List.Elements.{All-nil, All-cons, All-map, All-weaker, All-same}
+use Rattle.std.proofs.lemmas.List.Elements.{All-map, All-weaker, All-same}
 use Rattle.f3_kinds.specs.declared.said.Said.{Said}
 use Rattle.f3_kinds.specs.declared.things.Thing.{Thing}
 use Rattle.f3_kinds.specs.Things.{map_or, Nature}
@@ -18,9 +18,8 @@ use Rattle.f3_type_rules.specs.Definitions.{Chain, Site}
 use Rattle.f3_type_rules.specs.Associates.{associate_nature, associate_chain, associated, site_inside}
 use Rattle.f3_sites.specs.declared.site.Site.{Site as Place}
 use Rattle.f3_sites.specs.Sites.{site_of}
-use Rattle.f3_associates.specs.declared.exchanging.Standing.{Standing as Kept}
 use Rattle.f3_associates.specs.Known.{AreKnown}
-use Rattle.f3_associates.specs.Standing.{Standing, standing_of, put, put_all, in_scope, room_of, HasRoom, HaveRoom}
+use Rattle.f3_associates.specs.Standing.{Standing, put, put_all, in_scope, room_of, HasRoom, HaveRoom}
 use Rattle.f3_associates.specs.Inner.Laid.{laid}
 
 -- ---- what is found first, put last

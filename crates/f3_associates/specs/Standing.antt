@@ -1,7 +1,6 @@
 -- What stands at entities, and where statements stand once it is put there.
-use Rattle.std.specs.Prelude.{ℕ, nat_eq, ◌<◌, ◌≡◌, List, [], ◌∷◌, Option, None, Some, IsSome, map, length, if◌then◌else◌}
+use Rattle.std.specs.Prelude.{ℕ, nat_eq, ◌<◌, List, [], ◌∷◌, Option, Some, IsSome, map, length, if◌then◌else◌}
 use Rattle.std.specs.List.{All}
-use Rattle.f3_kinds.specs.declared.said.Said.{Said}
 use Rattle.f3_kinds.specs.Things.{map_or, Nature}
 use Rattle.f3_typed_parts.specs.Known.{nature_of}
 use Rattle.f3_type_rules.specs.declared.definition.Holder.{Holder}

@@ -1,11 +1,10 @@
 -- What a statement is in memory, and what the walk has of it.
-use Rattle.std.proofs.Common.{◌≡◌, ℕ, ◌+◌, ◌*◌, ◌<◌, ◌^◌, suc, length, drop, get_or, List, [], ◌∷◌, ◌++◌, map, Option, None, Some, IsSome, arith, rules, refl, sym, ap, ◌∙◌, subst, append_assoc}
+use Rattle.std.proofs.Common.{◌≡◌, ℕ, ◌+◌, ◌<◌, suc, length, List, ◌∷◌, ◌++◌, map, Option, None, Some, IsSome, arith, rules, refl, sym, ap, ◌∙◌, subst, append_assoc}
 use Rattle.std.proofs.lemmas.List.{length-append, append-nil}
 use Rattle.std.specs.Global.{Vec}
 use Rattle.std.specs.List.{flat_map}
 use Rattle.std.specs.Map.{lookup}
 use Rattle.std.specs.Prelude.{nat_eq}
-use Rattle.f3_access.specs.declared.table.Lookup.TheVariants.{One}
 use Rattle.f3_rules.specs.declared.breaks.Break.{Break}
 use Rattle.f3_rules.specs.declared.source.Place.{Place}
 use Rattle.f3_tree.specs.declared.expression.Expression.{Expression}
@@ -16,7 +15,7 @@ use Rattle.f3_tree.specs.declared.statement.Selector.{Selector}
 use Rattle.f3_tree.specs.declared.statement.Statement.{Statement, If, Select, Do, Associate, LogicalIf, the_lemmas}
 use Rattle.f3_tree.specs.declared.statement.Statement.{Action as Acts}
 use Rattle.f3_tree.specs.Expressions.{Tree, expression_view}
-use Rattle.f3_tree.specs.Statements.{StatementTree, Act, Controls, AssociationTree, acts, acts_if, branches, selects, repeats, associates, Block, Branches, no_branches, Cases, no_cases, Alternative, no_alternative, alternative, action_view, control_view, association_view, statement_view, block_of, block_view}
+use Rattle.f3_tree.specs.Statements.{StatementTree, Act, Controls, AssociationTree, acts, acts_if, branches, selects, repeats, associates, Block, Branches, no_branches, Cases, no_cases, no_alternative, alternative, action_view, control_view, association_view, statement_view, block_of, block_view}
 use Rattle.f3_scopes.specs.Inner.Blocks.{branches_view, branches_in, alternative_view, cases_view, cases_in}
 use Rattle.f3_scopes.proofs.Views.{view_if, view_select, view_associate}
 use Rattle.f3_kinds.specs.declared.said.Said.{Said}
@@ -25,7 +24,7 @@ use Rattle.f3_type_rules.specs.Statements.{condition_breaks}
 use Rattle.f3_type_rules.specs.Definitions.{Site, in_loop}
 use Rattle.f3_type_rules.specs.Cases.{select_breaks}
 use Rattle.f3_type_rules.specs.Associates.{associated, associate_nature, site_inside, constructs_of, constructs_of_block, constructs_of_branches, constructs_of_cases}
-use Rattle.f3_type_rules.specs.Bodies.{act_rows, control_rows, selector_rows, statement_breaks, block_breaks, branch_breaks, case_breaks, other_breaks}
+use Rattle.f3_type_rules.specs.Bodies.{act_rows, control_rows, selector_rows, statement_breaks, block_breaks, branch_breaks, case_breaks}
 use Rattle.f3_typed_parts.specs.Noted.{noted}
 use Rattle.f3_typed_parts.proofs.Noting.{noted_more, noted_none}
 use Rattle.f3_associates.specs.Known.{IsSettled}

@@ -1,14 +1,15 @@
 //! Blocks: all statements in them, one after the other, constructs with theirs.
 
-ghost use Rattle.std.specs.Prelude.{◌≡◌, ◌+◌, ◌<◌, ◌^◌, map, OnOk, IfOk};
+ghost use Rattle.std.specs.Prelude.{◌≡◌, ◌+◌, ◌<◌, ◌^◌, map, length, OnOk, IfOk};
 ghost use Rattle.f3_tree.specs.Statements.{statement_view, block_of};
 ghost use Rattle.f3_scopes.specs.Inner.Blocks.{branches_in, cases_in};
+ghost use Rattle.f3_type_rules.specs.Associates.{constructs_of_block};
 ghost use Rattle.f3_type_rules.specs.Bodies.{statement_breaks, block_breaks, branch_breaks, case_breaks};
 ghost use Rattle.f3_typed_parts.specs.Noted.{noted};
 ghost use Rattle.f3_sites.specs.Sites.{site_of};
 ghost use Rattle.f3_associates.specs.Known.{IsSettled};
 ghost use Rattle.f3_associates.specs.Standing.{room_of};
-ghost use Rattle.f3_bodies.specs.Inner.Counts.{count_of, count_of_block, count_of_branches, count_of_cases};
+ghost use Rattle.f3_bodies.specs.Inner.Counts.{count_of, count_of_branches, count_of_cases};
 
 use crate::loops::{begin_loop, end_loop};
 use f3_acts::actions::act;
@@ -35,9 +36,9 @@ pub fn block(
     statements: &[Statement],
 ) -> Result<usize, AllocError>
     requires settled { IsSettled (site_of site.old) }
-    requires numbers { next + count_of_block (block_of (map statement_view statements.now)) < 2 ^ 64 }
+    requires numbers { next + length (constructs_of_block (block_of (map statement_view statements.now))) < 2 ^ 64 }
     ensures noted { OnOk result (first.new ≡ noted first.old (block_breaks (site_of site.old) next (block_of (map statement_view statements.now)))) }
-    ensures next { IfOk result (λ n. n ≡ next + count_of_block (block_of (map statement_view statements.now))) }
+    ensures next { IfOk result (λ n. n ≡ next + length (constructs_of_block (block_of (map statement_view statements.now)))) }
     ensures site { OnOk result (site_of site.new ≡ site_of site.old) }
     ensures room { OnOk result (room_of site.new ≡ room_of site.old) }
 {

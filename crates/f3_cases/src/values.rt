@@ -3,7 +3,6 @@
 ghost use Rattle.std.specs.Prelude.{◌≡◌, ◌++◌, map, IfOk, OnOk};
 ghost use Rattle.std.specs.List.{flat_map};
 ghost use Rattle.f3_tree.specs.Expressions.{expression_view};
-ghost use Rattle.f3_scopes.specs.Inner.Blocks.{cases_view};
 ghost use Rattle.f3_kinds.specs.Typing.{said};
 ghost use Rattle.f3_type_rules.specs.Constants.{may_speak, speaks, constant_rows};
 ghost use Rattle.f3_type_rules.specs.Cases.{selected_type, of_type, case_value};

@@ -1,20 +1,20 @@
 -- The rule on attributes, by what was read of them.
-use Rattle.std.proofs.Common.{◌≡◌, ℕ, ◌+◌, List, [], ◌∷◌, Bool, true, false, not, ◌&&◌, ◌||◌, Option, Some, None, length, filter, nat_eq, map, cond, refl, ap, sym, ◌∙◌, arith}
+use Rattle.std.proofs.Common.{◌≡◌, ℕ, ◌+◌, List, [], ◌∷◌, Bool, not, ◌&&◌, ◌||◌, Option, Some, None, length, filter, nat_eq, map, refl, ap, ◌∙◌, arith}
 use Rattle.std.specs.Prelude.{nat_lt, is_some}
 use Rattle.std.specs.Option.{option_map}
-use Rattle.std.specs.List.{list_any, list_all}
+use Rattle.std.specs.List.{list_all}
 use Rattle.std.proofs.lemmas.Bool.Decides.{nat_tests}
 use Rattle.f3_tree.specs.declared.expression.Expression.{Expression}
 use Rattle.f3_tree.specs.Expressions.{Tree, expression_view}
-use Rattle.f3_tree.specs.Declarations.{AttributeTree, EntityTree, DeclarationTree, ShapeTree, protected, parameter, save, allocatable}
-use Rattle.f3_type_rules.specs.Names.{attributes_of, is_given, shape_of}
+use Rattle.f3_tree.specs.Declarations.{AttributeTree, EntityTree, DeclarationTree, ShapeTree, protected}
+use Rattle.f3_type_rules.specs.Names.{is_given, shape_of}
 use Rattle.f3_type_rules.specs.Walks.{Spot, is_among}
-use Rattle.f3_type_rules.specs.Attributes.{same_sort, times, has, any_intent, any_dimension, is_derived, is_twice, conflicts}
+use Rattle.f3_type_rules.specs.Attributes.{times, is_derived, conflicts}
 use Rattle.f3_declared.specs.declared.attributes.Kinds.{Kinds}
 use Rattle.f3_declared.specs.declared.attributes.Standing.{Standing}
 use Rattle.f3_declared.specs.Standings.{standing, together}
 use Rattle.f3_declared.specs.Declarations.{kinds_in}
-use Rattle.f3_declared.specs.Inner.Conflicts.{twice_by, allocatable_by, parameter_by, pure_by, shape_by, type_by, conflicts_by}
+use Rattle.f3_declared.specs.Inner.Conflicts.{conflicts_by}
 use Rattle.f3_declared.proofs.Sorts.{once_any}
 
 given_is : (o : Option Expression) → not (is_some o) ≡ not (is_given (option_map expression_view o))

@@ -7,7 +7,6 @@ use Rattle.std.specs.Prelude.{slice_get}
 use Rattle.std.specs.Option.{option_map}
 use Rattle.std.proofs.lemmas.Option.{slice_get-map}
 use Rattle.f3_kinds.specs.declared.things.Thing.{Thing}
-use Rattle.f3_kinds.specs.Things.{Nature}
 use Rattle.f3_typed_parts.specs.Known.{nature_of}
 
 pub nature_at : (xs : List Thing) (i : ℕ) → slice_get (map nature_of xs) i ≡ option_map nature_of (slice_get xs i)

@@ -1,11 +1,11 @@
 -- The names that a specification part declares.
-use Rattle.std.proofs.Common.{◌≡◌, ℕ, List, [], ◌∷◌, ◌++◌, map, refl, ap, sym, ◌∙◌}
+use Rattle.std.proofs.Common.{◌≡◌, ℕ, List, [], ◌∷◌, ◌++◌, map, refl, ap, ◌∙◌}
 use Rattle.std.specs.List.{flat_map}
 use Rattle.std.proofs.lemmas.Grind.{flat_map-append}
 use Rattle.f3_rules.specs.declared.breaks.Break.{Break}
 use Rattle.f3_tree.specs.declared.declaration.Entity.{Entity}
 use Rattle.f3_tree.specs.declared.declaration.Specification.{Specification}
-use Rattle.f3_tree.specs.Declarations.{EntityTree, entity_view, DeclarationTree, SpecificationTree, specification_view}
+use Rattle.f3_tree.specs.Declarations.{EntityTree, entity_view, DeclarationTree, specification_view}
 use Rattle.f3_type_rules.specs.Names.{Declared, entries, entries_in}
 
 pub rows_of_declaration : (row : Declared → List Break) (d : DeclarationTree) (xs : List Entity)

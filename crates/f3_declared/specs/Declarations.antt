@@ -1,8 +1,8 @@
 -- What the attributes of a declaration say, read once for all the names that it declares.
-use Rattle.std.specs.Prelude.{◌≡◌, Option, None, option_map}
+use Rattle.std.specs.Prelude.{◌≡◌, None, option_map}
 use Rattle.std.specs.List.{flat_map}
 use Rattle.f3_scopes.specs.Scopes.{intent_of as intents}
-use Rattle.f3_tree.specs.Declarations.{shape_view, protected, parameter, save, allocatable, EntityTree, DeclarationTree, declaration_view}
+use Rattle.f3_tree.specs.Declarations.{shape_view, protected, parameter, save, allocatable, DeclarationTree, declaration_view}
 use Rattle.f3_type_rules.specs.Names.{attributes_of, dimension_in, last_of}
 use Rattle.f3_type_rules.specs.Attributes.{times, any_dimension, any_intent}
 use Rattle.f3_declared.specs.declared.attributes.Kinds.{Kinds}

@@ -1,5 +1,5 @@
 -- What is known of a program wherever a declaration stands, as the rules take it.
-use Rattle.std.specs.Prelude.{ℕ, Option, None, map, slice_get}
+use Rattle.std.specs.Prelude.{Option, None, map, slice_get}
 use Rattle.f3_access.specs.Tables.{lookup_of}
 use Rattle.f3_kinds.specs.declared.things.Intrinsic.{Intrinsic}
 use Rattle.f3_kinds.specs.Things.{map_or}

@@ -1,5 +1,5 @@
 -- How often something stands somewhere, as far as the rules on attributes ask.
-use Rattle.std.specs.Prelude.{ℕ, Bool, true, ◌&&◌, ◌||◌, nat_lt}
+use Rattle.std.specs.Prelude.{ℕ, true, ◌&&◌, ◌||◌, nat_lt}
 use Rattle.f3_declared.specs.declared.attributes.Standing.{Standing}
 
 -- so many times

@@ -1,17 +1,8 @@
 -- Shapes.
-use Rattle.std.proofs.Common.{◌≡◌, ℕ, ◌+◌, ◌<◌, List, [], ◌∷◌, ◌++◌, map, take, get_or, Option, Some, None, Bool, ◌&&◌, length, refl, ap, sym, ◌∙◌}
-use Rattle.std.specs.Option.{option_map}
+use Rattle.std.proofs.Common.{◌≡◌, ℕ, ◌+◌, ◌<◌, List, [], ◌∷◌, ◌++◌, map, take, get_or, Option, Bool, ◌&&◌, length, refl, ap, sym, ◌∙◌}
 use Rattle.std.specs.List.{flat_map, list_all}
 use Rattle.std.proofs.lemmas.List.{take_more, map-append}
-use Rattle.f3_rules.specs.declared.breaks.Break.{Break}
-use Rattle.f3_tree.specs.declared.declaration.Shape.{Shape}
-use Rattle.f3_tree.specs.declared.expression.Expression.{Expression}
-use Rattle.f3_tree.specs.Expressions.{expression_view}
-use Rattle.f3_tree.specs.Declarations.{Bounds, bounds_view, shape_view}
-use Rattle.f3_kinds.specs.Things.{map_or, Context}
-use Rattle.f3_typed_parts.specs.Noted.{noted}
-use Rattle.f3_type_rules.specs.Shapes.{bound_rows, shape_rows, product, multiplied, bounds_extent}
-use Rattle.f3_extents.specs.Inner.Bounds.{rows_of_bounds}
+use Rattle.f3_type_rules.specs.Shapes.{product, multiplied}
 
 pub flat_map_map : {X Y Z : Type 0} (f : Y → List Z) (g : X → Y) (xs : List X) → flat_map (λ x. f (g x)) xs ≡ flat_map f (map g xs)
 flat_map_map f g [] = refl

@@ -21,7 +21,7 @@ module _ {T X Z : Type 0} (view : T → Z) (first : ℕ → X → List Z) (from 
       let y = get_or xs i x in
       let e' : map view after ≡ map view before ++ first (length before) y = e ∙ ap (λ z. map view before ++ first (length before) z) is in
       let long : length after ≡ length before + length (first (length before) y) =
-          sym (length-map after view) ∙ ap length e' ∙ length-append (map view before) (first (length before) y) ∙ ap (λ n. n + length (first (length before) y)) (length-map before view) in
+      sym (length-map after view) ∙ ap length e' ∙ length-append (map view before) (first (length before) y) ∙ ap (λ n. n + length (first (length before) y)) (length-map before view) in
       ap (λ n. map view after ++ from n (drop (i + 1) xs)) long
       ∙ ap (λ zs. zs ++ from (length before + length (first (length before) y)) (drop (i + 1) xs)) e'
       ∙ append_assoc (map view before) (first (length before) y) (from (length before + length (first (length before) y)) (drop (i + 1) xs))

@@ -5,3 +5,7 @@ pub mod Owned
 pub mod Steps
 pub mod Looked
 pub mod Same
+pub mod Standing
+pub mod Distinct
+pub mod Held
+pub mod Symbols

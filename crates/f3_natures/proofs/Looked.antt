@@ -1,7 +1,6 @@
 -- A look-up among the first of each name, and what a procedure is by it.
 use Rattle.std.proofs.Common.{◌≡◌, refl, sym, ap, ◌∙◌, ℕ, nat_eq, Bool, true, false, not, ◌&&◌, ◌||◌, List, [], ◌∷◌, ◌++◌, map, Option, None, Some, if◌then◌else◌, is_some, cond, inl, inr}
 use Rattle.std.specs.Option.{option_map}
-use Rattle.std.specs.List.{flat_map}
 use Rattle.std.specs.Map.{lookup}
 use Rattle.std.proofs.lemmas.List.{map-append}
 use Rattle.std.proofs.lemmas.Bool.Decides.{eqb_tells}
@@ -16,9 +15,8 @@ use Rattle.f3_kinds.specs.declared.types.DataType.{DataType}
 use Rattle.f3_kinds.specs.declared.types.DataType.TheVariants.{Integer, Logical, Derived}
 use Rattle.f3_kinds.specs.declared.types.Object.{Object}
 use Rattle.f3_kinds.specs.declared.things.Dummy.{Dummy}
-use Rattle.f3_kinds.specs.Things.{map_or, Nature}
+use Rattle.f3_kinds.specs.Things.{map_or}
 use Rattle.f3_type_rules.specs.Names.{Names, Declared, is_given, or_else, entries, entries_in, undeclared, object_of}
-
 use Rattle.f3_type_rules.specs.Finals.{is_out, is_type, dummy_rank, header_rank}
 use Rattle.f3_type_rules.specs.Natures.{dummy, result_object, specifier_of, kind_nature, procedure_nature}
 use Rattle.f3_natures.specs.declared.objects.Described.{Described}
@@ -46,7 +44,7 @@ cond_else : {X : Type 0} (b : Bool) (x : X) (o o' : Option X) → cond b (Some x
 cond_else true x o o' = refl
 cond_else false x o o' = refl
 
-lookup_append : {X : Type 0} (k : ℕ) (xs ys : List (ℕ × X)) → lookup (nat_eq k) (xs ++ ys) ≡ or_else (lookup (nat_eq k) xs) (lookup (nat_eq k) ys)
+pub lookup_append : {X : Type 0} (k : ℕ) (xs ys : List (ℕ × X)) → lookup (nat_eq k) (xs ++ ys) ≡ or_else (lookup (nat_eq k) xs) (lookup (nat_eq k) ys)
 lookup_append k [] ys = refl
 lookup_append k (x ∷ xs) ys = ap (cond (nat_eq k x.0) (Some x.1)) (lookup_append k xs ys) ∙ cond_else (nat_eq k x.0) x.1 (lookup (nat_eq k) xs) (lookup (nat_eq k) ys)
 

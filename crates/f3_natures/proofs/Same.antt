@@ -1,5 +1,5 @@
 -- What is made of units is what they are, with the first of each name.
-use Rattle.std.proofs.Common.{◌≡◌, refl, sym, ap, ◌∙◌, ℕ, ◌+◌, ◌-◌, ◌<◌, ◌≤◌, nat_eq, nat_lt, Bool, true, false, ◌||◌, List, [], ◌∷◌, ◌++◌, map, length, Option, None, Some, if◌then◌else◌, cond, slice_get, add-one, inl, inr, arith}
+use Rattle.std.proofs.Common.{◌≡◌, refl, sym, ap, ◌∙◌, ℕ, ◌+◌, ◌-◌, ◌<◌, nat_eq, nat_lt, Bool, true, false, ◌||◌, List, [], ◌∷◌, ◌++◌, map, length, Option, None, Some, if◌then◌else◌, cond, slice_get, add-one, inl, inr, arith}
 use Rattle.std.specs.List.{flat_map, list_any}
 use Rattle.std.specs.Map.{lookup}
 use Rattle.std.proofs.lemmas.List.{map-append}
@@ -12,7 +12,6 @@ use Rattle.f3_scopes.specs.declared.outline.EntityKind.{EntityKind}
 use Rattle.f3_scopes.specs.declared.outline.EntityKind.TheVariants as entity
 use Rattle.f3_scopes.specs.Scopes.{declared_in, kind_of}
 use Rattle.f3_tree.specs.declared.expression.Name.{Name}
-use Rattle.f3_tree.specs.declared.declaration.TypeSpecifier.{TypeSpecifier}
 use Rattle.f3_tree.specs.declared.program.ProcedureKind.{ProcedureKind}
 use Rattle.f3_tree.specs.declared.program.ProcedureKind.TheVariants.{Subroutine, Function}
 use Rattle.f3_tree.specs.Declarations.{EntityTree, DeclarationTree, SpecificationTree, declares, accesses, protects, saves, defines}
@@ -28,7 +27,7 @@ use Rattle.f3_type_rules.specs.Natures.{object_nature, declared_nature, natures_
 use Rattle.f3_natures.specs.Entries.{firsts}
 use Rattle.f3_natures.specs.Natures.{kept}
 use Rattle.f3_natures.specs.Inner.Procedures.{is_for}
-use Rattle.f3_natures.specs.Inner.Walk.{final_at, is_final_in, is_final, made_one, made_all, count_of, declared_at, final_made, procedure_made, no_final, inner_made, all_finals, all_made, all_inner, own_count, unit_start, unit_end, own_made, unit_made}
+use Rattle.f3_natures.specs.Inner.Walk.{final_at, is_final_in, is_final, made_one, made_all, count_of, no_final, inner_made, all_finals, all_made, all_inner, own_count, unit_start, unit_made}
 use Rattle.f3_natures.proofs.Looked.{procedure_same, final_same}
 use Rattle.f3_natures.proofs.Steps.{one_long, none_all, never}
 
@@ -118,7 +117,7 @@ kept_object entity.DerivedType o = refl
 kept_object entity.Subroutine o = refl
 kept_object entity.Function o = refl
 
-kept_declared : (names : Names) (scope : ℕ) (d : DeclarationTree) (xs : List EntityTree) → map (declared_nature names scope d) xs ≡ map kept (map (declared_nature names scope d) xs)
+pub kept_declared : (names : Names) (scope : ℕ) (d : DeclarationTree) (xs : List EntityTree) → map (declared_nature names scope d) xs ≡ map kept (map (declared_nature names scope d) xs)
 kept_declared names scope d [] = refl
 kept_declared names scope d (x ∷ xs) =
     ap (λ (n : Nature). n ∷ map (declared_nature names scope d) xs) (kept_object (kind_of d.attributes) (object_of names scope (d, x)))
@@ -146,7 +145,7 @@ module _ (names : Names) (scope : ℕ) (ms : List Member) (has : ℕ → Name �
 
 -- ---- procedures
 
-kept_typed : (names : Names) (scope : ℕ) (k : ProcedureKind) → typed_natures names scope k ≡ map kept (typed_natures names scope k)
+pub kept_typed : (names : Names) (scope : ℕ) (k : ProcedureKind) → typed_natures names scope k ≡ map kept (typed_natures names scope k)
 kept_typed names scope Subroutine = refl
 kept_typed names scope (Function None outcome) = refl
 kept_typed names scope (Function (Some s) outcome) = refl
@@ -162,14 +161,14 @@ kept_constructs (xs ∷ xss) =
     ∙ ap (λ l. map kept (map (λ (x : AssociationTree). variable undeclared) xs) ++ l) (kept_constructs xss)
     ∙ sym (map-append kept (map (λ (x : AssociationTree). variable undeclared) xs) (flat_map (map (λ (x : AssociationTree). variable undeclared)) xss))
 
-kept_associates : (b : Block) → associate_natures b ≡ map kept (associate_natures b)
+pub kept_associates : (b : Block) → associate_natures b ≡ map kept (associate_natures b)
 kept_associates b = kept_constructs (constructs_of_block b)
 
 none_same : (names : Names) (scope e : ℕ) (ss : List SpecificationTree) → made_all names scope no_final 0 ss ≡ map kept (natures_from names scope [] e ss)
 none_same names scope e ss =
     sym (none_all names scope e 0 ss) ∙ all_same names scope [] (is_final names scope 0 []) (λ t n. never_in names t (names.look scope n.symbol)) e ss
 
-joined2 : (a b : List Nature) (xs ys : List Nature) → a ≡ map kept xs → b ≡ map kept ys → a ++ b ≡ map kept (xs ++ ys)
+pub joined2 : (a b : List Nature) (xs ys : List Nature) → a ≡ map kept xs → b ≡ map kept ys → a ++ b ≡ map kept (xs ++ ys)
 joined2 a b xs ys e f = ap (λ l. l ++ b) e ∙ ap (λ l. map kept xs ++ l) f ∙ sym (map-append kept xs ys)
 
 inner_same : (names : Names) (m : Member) → inner_made names m.scope m.tree ≡ map kept (member_natures names m)

@@ -1,5 +1,5 @@
 -- Procedures and units one after the other: their scopes, and what is made of them.
-use Rattle.std.proofs.Common.{◌≡◌, refl, sym, ap, ◌∙◌, ℕ, ◌+◌, ◌<◌, ◌≤◌, nat_eq, nat_lt, Bool, true, false, cond, List, [], ◌∷◌, ◌++◌, map, length, drop, get_or, replicate, Option, append_assoc, arith, if◌then◌else◌}
+use Rattle.std.proofs.Common.{◌≡◌, refl, sym, ap, ◌∙◌, ℕ, ◌+◌, ◌<◌, ◌≤◌, nat_eq, nat_lt, Bool, true, false, List, [], ◌∷◌, ◌++◌, map, length, drop, get_or, replicate, Option, append_assoc, arith, if◌then◌else◌}
 use Rattle.std.proofs.lemmas.List.{at_drop_more, length-append, length-map, map-append}
 use Rattle.std.specs.List.{flat_map, list_any}
 use Rattle.std.specs.Map.{lookup}
@@ -22,7 +22,6 @@ use Rattle.f3_natures.specs.declared.objects.Described.{Described}
 use Rattle.f3_natures.specs.Entries.{firsts}
 use Rattle.f3_natures.specs.Inner.Procedures.{described_all, final_type, procedure_by}
 use Rattle.f3_natures.specs.Inner.Walk.{count_of, end_of, along, final_made, procedure_made, is_final, is_final_in, made_one, made_all, no_final, inner_made, all_finals, all_made, all_inner, own_count, unit_start, unit_end, own_made, unit_made, units_end, units_made}
-use Rattle.f3_natures.proofs.Growing.{numbered_more}
 
 pub end_least : (s : ℕ) (ps : List ProcedureTree) → s ≤ end_of s ps
 end_least s [] = omega arith
@@ -204,7 +203,7 @@ made_more names xs i x s s' before after whole lt is se e h =
     let rest = map unit_view (drop (i + 1) xs) in
     let e' : map nature_of after ≡ map nature_of before ++ unit_made names (length before) s y = e ∙ ap (λ z. map nature_of before ++ unit_made names (length before) s (unit_view z)) is in
     let long : length after ≡ length before + length (unit_made names (length before) s y) =
-        sym (length-map after nature_of) ∙ ap length e' ∙ length-append (map nature_of before) (unit_made names (length before) s y) ∙ ap (λ n. n + length (unit_made names (length before) s y)) (length-map before nature_of) in
+    sym (length-map after nature_of) ∙ ap length e' ∙ length-append (map nature_of before) (unit_made names (length before) s y) ∙ ap (λ n. n + length (unit_made names (length before) s y)) (length-map before nature_of) in
     let n' = length before + length (unit_made names (length before) s y) in
     ap (λ n. map nature_of after ++ units_made names n s' rest) long
     ∙ ap (λ n. map nature_of after ++ units_made names n' n rest) (se ∙ ap (λ z. unit_end s (unit_view z)) is)

@@ -2,10 +2,18 @@
 use Rattle.std.specs.Prelude.{ℕ, Bool, true, not, ◌&&◌, nat_eq, List, [], ◌∷◌, map, IsTrue}
 use Rattle.std.specs.List.{flat_map, list_any, list_all}
 use Rattle.f3_tree.specs.declared.expression.Name.{Name}
-use Rattle.f3_tree.specs.Declarations.{EntityTree, DeclarationTree, TypeTree, SpecificationTree, defines}
+use Rattle.f3_tree.specs.Declarations.{EntityTree, DeclarationTree, SpecificationTree, defines}
 use Rattle.f3_tree.specs.Tree.{ProcedureTree, UnitTree, Tree}
 use Rattle.f3_kinds.specs.Things.{Nature, constant, variable, derived, subroutine, function}
+use Rattle.f3_scopes.specs.Scopes.{scopes_of}
+use Rattle.f3_type_rules.specs.Names.{Names}
+use Rattle.f3_type_rules.specs.Members.{units_from}
+use Rattle.f3_type_rules.specs.Natures.{unit_natures}
 use Rattle.f3_natures.specs.Entries.{firsts}
+
+-- what the entities of a program are, in order
+abbrev pub natures_of : Names → Tree → List Nature
+natures_of names t = flat_map (unit_natures names) (units_from (scopes_of t) 0 t.units)
 
 abbrev pub kept : Nature → Nature
 kept (constant o) = constant o

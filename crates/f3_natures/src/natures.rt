@@ -3,13 +3,15 @@
 ghost use Rattle.std.specs.Prelude.{◌≡◌, ◌++◌, ◌∷◌, [], ◌+◌, ◌^◌, ◌<◌, nat_lt, Some, length, map, replicate, IfOk, OnOk};
 ghost use Rattle.std.specs.List.{flat_map, list_any};
 ghost use Rattle.f3_tree.specs.Declarations.{declaration_view, specification_view};
-ghost use Rattle.f3_tree.specs.Tree.{procedure_view, unit_view};
-ghost use Rattle.f3_scopes.specs.Scopes.{declared_in};
+ghost use Rattle.f3_tree.specs.Tree.{procedure_view, unit_view, view};
+ghost use Rattle.f3_scopes.specs.Scopes.{declared_in, scopes_of};
+ghost use Rattle.f3_access.specs.Access.{entities_of};
 ghost use Rattle.f3_kinds.specs.Things.{variable};
 ghost use Rattle.f3_type_rules.specs.Names.{undeclared};
 ghost use Rattle.f3_type_rules.specs.Natures.{object_nature, declared_nature, typed_natures};
 ghost use Rattle.f3_typed_parts.specs.Known.{nature_of};
 ghost use Rattle.f3_natures.specs.Known.{names_view};
+ghost use Rattle.f3_natures.specs.Natures.{kept, natures_of, HasDistinctParts};
 ghost use Rattle.f3_natures.specs.Inner.Procedures.{is_for};
 ghost use Rattle.f3_natures.specs.Inner.Walk.{final_at, is_final, made_one, made_all, count_of, end_of, along, final_made, procedure_made, inner_made, all_finals, all_made, all_inner, own_count, unit_start, unit_end, unit_made, units_made, units_end};
 
@@ -25,7 +27,7 @@ use f3_kinds::types::Object;
 use f3_scopes::outline::EntityKind;
 use f3_tree::declaration::{Declaration, Specification};
 use f3_tree::expression::Name;
-use f3_tree::program::{Procedure, ProcedureKind, Unit};
+use f3_tree::program::{Procedure, ProcedureKind, Program, Unit};
 use std::alloc::{AllocError, Global};
 
 /// A declared name: of a constant or of a variable.
@@ -134,14 +136,7 @@ fn add_specification(
             let table = TypeTable {
                 home: scope,
                 components: components(alloc, names, scope, definition)?,
-                is_finalizable: has_final(
-                    names,
-                    scope,
-                    first,
-                    finals,
-                    entity,
-                    &definition.finals,
-                ),
+                is_finalizable: has_final(names, scope, first, finals, entity, &definition.finals),
             };
             things.push(Thing::Type(table))?;
             Ok(())
@@ -349,7 +344,7 @@ fn add_unit(
 }
 
 /// The units of a program.
-pub fn units(alloc: Global, names: &Names<'_>, list: &[Unit]) -> Result<Vec<Thing>, AllocError>
+fn units(alloc: Global, names: &Names<'_>, list: &[Unit]) -> Result<Vec<Thing>, AllocError>
     requires scopes { units_end 0 (map unit_view list.now) < 2 ^ 64 }
     requires entities { length (units_made (names_view names.now) 0 0 (map unit_view list.now)) < 2 ^ 64 }
     ensures { IfOk result (λ v. map nature_of v.items ≡ units_made (names_view names.now) 0 0 (map unit_view list.now)) }
@@ -359,5 +354,22 @@ pub fn units(alloc: Global, names: &Names<'_>, list: &[Unit]) -> Result<Vec<Thin
     for unit in list {
         scope = add_unit(alloc, names, scope, &mut things, unit)?;
     }
+    Ok(things)
+}
+
+/// What each entity of a program is, by its number; of two components of a type, or two dummies of a procedure, that have
+/// one name the first. Of a type it is said whether it has a final subroutine of its own (4.5.5).
+#[tactic(auto, using(crate::proofs::Standing::units_ends, crate::proofs::Standing::units_long, crate::proofs::Standing::program_same))]
+pub fn natures(
+    alloc: Global,
+    names: &Names<'_>,
+    program: &Program,
+) -> Result<Vec<Thing>, AllocError>
+    requires scopes { length (scopes_of (view program.now)) < 2 ^ 64 }
+    requires entities { length (entities_of (scopes_of (view program.now))) < 2 ^ 64 }
+    ensures all { IfOk result (λ v. map nature_of v.items ≡ map kept (natures_of (names_view names.now) (view program.now))) }
+    ensures distinct { IfOk result (λ v. HasDistinctParts (view program.now) → map nature_of v.items ≡ natures_of (names_view names.now) (view program.now)) }
+{
+    let things = units(alloc, names, &program.units)?;
     Ok(things)
 }

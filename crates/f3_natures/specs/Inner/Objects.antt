@@ -1,10 +1,11 @@
 -- What a declaration says of each of its names.
-use Rattle.std.specs.Prelude.{ℕ, Bool, false, List, Option, None, Some, option_map}
+use Rattle.std.specs.Prelude.{ℕ, false, Option, None, Some, option_map}
 use Rattle.std.specs.List.{flat_map, list_any}
 use Rattle.f3_scopes.specs.Scopes.{kind_of, intent_of as intents}
 use Rattle.f3_tree.specs.Declarations.{ShapeTree, EntityTree, DeclarationTree}
 use Rattle.f3_kinds.specs.Things.{map_or}
-use Rattle.f3_type_rules.specs.Names.{Names, Declared, attributes_of, dimension_in, dimensions, is_allocatable, last_of, shape_of, intent_of, type_of, object_of}
+use Rattle.f3_type_rules.specs.Names.{Names, Declared, attributes_of, dimension_in, dimensions, is_allocatable, last_of}
+use Rattle.f3_type_rules.specs.Names.{shape_of, intent_of, type_of, object_of}
 use Rattle.f3_type_rules.specs.Finals.{is_explicit}
 use Rattle.f3_natures.specs.declared.objects.Extent.{Extent}
 use Rattle.f3_natures.specs.declared.objects.Common.{Common}

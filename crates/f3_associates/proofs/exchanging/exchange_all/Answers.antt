@@ -1,4 +1,4 @@
-use Rattle.std.proofs.Common.{rules, sym, subst, ◌∙◌, ℕ}
+use Rattle.std.proofs.Common.{sym, subst, ◌∙◌, ℕ}
 use Rattle.f3_sites.specs.Sites.{site_of}
 use Rattle.f3_associates.specs.Standing.{standing_of, room_of, HasRoom}
 use Rattle.f3_associates.proofs.Exchanged.{popped, pushed, popped_room, pushed_room}

@@ -1,4 +1,4 @@
-use Rattle.std.proofs.Common.{rules, refl, arith, sym, ap, ◌∙◌, map, ◌≡◌, ◌++◌}
+use Rattle.std.proofs.Common.{rules, refl, arith, map}
 use Rattle.std.specs.List.{flat_map}
 use Rattle.f3_tree.specs.declared.statement.Association.{Association}
 use Rattle.f3_tree.specs.Statements.{association_view}

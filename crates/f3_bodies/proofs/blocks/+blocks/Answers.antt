@@ -1,4 +1,4 @@
-use Rattle.std.proofs.Common.{rules, ◌≡◌, ℕ, ◌+◌, ◌++◌, List, refl, arith, sym, ap, ◌∙◌, map}
+use Rattle.std.proofs.Common.{◌≡◌, ◌+◌, ◌++◌, List, refl, arith, sym, ap, ◌∙◌, map}
 use Rattle.f3_rules.specs.declared.source.Place.{Place}
 use Rattle.f3_tree.specs.declared.expression.Expression.{Expression}
 use Rattle.f3_tree.specs.declared.statement.Selector.{Selector}
@@ -15,20 +15,23 @@ use Rattle.f3_typed_parts.proofs.Noting.{noted_done}
 use Rattle.f3_sites.specs.Sites.{site_of}
 use Rattle.f3_bodies.specs.Inner.Counts.{count_of, count_of_block, count_of_branches, count_of_cases}
 use Rattle.f3_bodies.specs.Inner.Weights.{weight, weight_of_block, weight_of_branches, weight_of_cases}
-use Rattle.f3_bodies.proofs.Walk.{walked, numbered, within, ended, lighter}
-use Rattle.f3_bodies.proofs.Arms.{action_is, logical_is, if_is, else_is, no_else_is, select_is, select_in, do_is, associate_is, action_noted, logical_noted, no_else_noted, else_noted, select_noted, do_noted, associate_noted}
-use Rattle.f3_bodies.proofs.Arms.{loop_site, loop_settled, inside_settled, settled_by, branches_count, no_else_count, select_count, do_count, associate_count, else_weight, do_weight, associate_weight}
+use Rattle.f3_bodies.proofs.Walk.{walked, numbered, within, lighter}
+use Rattle.f3_bodies.proofs.Arms.{action_is, logical_is, if_is, else_is, select_is, select_in, do_is, associate_is, logical_noted, else_noted, select_noted, do_noted, associate_noted}
+use Rattle.f3_bodies.proofs.Arms.{loop_site, loop_settled, inside_settled, settled_by, branches_count, do_count, associate_count, else_weight, do_weight, associate_weight}
 use Rattle.f3_bodies.proofs.Arms.{branches_are, cases_are, branch_noted, case_noted, branches_more, if_weight, select_weight, one_noted, no_branches_noted, no_branches_next, no_cases_noted, no_cases_next, statements_sum, branches_sum, cases_sum, held}
 use Rattle.f3_bodies.proofs.blocks.+blocks.Goals as goal
 
 pub block-one-requires : goal.block-one-requires
 block-one-requires t c =
     let h = lighter (λ (s : Statement). weight (statement_view s)) (λ (xs : List Statement). weight_of_block (block_of (map statement_view xs))) (λ x xs. refl)
-        c.args.statements.now c.loop-statement.statement-index c.statement-item.result c.loop-statement-test.true c.statement-item.is in
-    (omega (arith, h, c.decreases),
-    (settled_by (site_of c.args.site.now) (site_of c.loop-statement.site) c.loop-statement.invariant.site c.requires.settled,
-    within (λ (s : Statement). count_of (statement_view s)) (λ (xs : List Statement). count_of_block (block_of (map statement_view xs))) statements_sum
-    c.args.statements.now c.loop-statement.statement-index c.statement-item.result c.loop-statement.next _ c.loop-statement-test.true c.statement-item.is c.loop-statement.invariant.numbers c.requires.numbers))
+    c.args.statements.now c.loop-statement.statement-index c.statement-item.result c.loop-statement-test.true c.statement-item.is in (
+      omega (arith, h, c.decreases),
+      (
+        settled_by (site_of c.args.site.now) (site_of c.loop-statement.site) c.loop-statement.invariant.site c.requires.settled,
+        within (λ (s : Statement). count_of (statement_view s)) (λ (xs : List Statement). count_of_block (block_of (map statement_view xs))) statements_sum
+            c.args.statements.now c.loop-statement.statement-index c.statement-item.result c.loop-statement.next _ c.loop-statement-test.true c.statement-item.is c.loop-statement.invariant.numbers c.requires.numbers,
+      ),
+    )
 
 pub block-loop-statement-preserved : goal.block-loop-statement-preserved
 block-loop-statement-preserved t c = record {
@@ -61,13 +64,13 @@ branches-loop-e-init t c =
 pub branches-block-requires : goal.branches-block-requires
 branches-block-requires t c =
     let h = lighter (λ (x : Place × Expression × Vec Statement). weight_of_block (block_view x.2)) (λ (xs : List (Place × Expression × Vec Statement)). weight_of_branches (branches_view xs)) (λ x xs. refl)
-        c.deref-e-items.result.now c.loop-e.e-index c.loop-e-item.result c.loop-e-test.true c.loop-e-item.is in
+    c.deref-e-items.result.now c.loop-e.e-index c.loop-e-item.result c.loop-e-test.true c.loop-e-item.is in
     let k = if_weight c.args.statement.now c.in-If.branches c.in-If.field-1 c.deref-e-items.result.now c.in-If.is c.deref-e-items.ensures.value in
     let b = held c.loop-e-item.result.2 c.deref.result.now c.deref.ensures.value in
     let w = ap weight_of_block b in
     let n = ap count_of_block b in
     let m = within (λ (x : Place × Expression × Vec Statement). count_of_block (block_view x.2)) (λ (xs : List (Place × Expression × Vec Statement)). count_of_branches (branches_view xs)) branches_sum
-        c.deref-e-items.result.now c.loop-e.e-index c.loop-e-item.result c.loop-e.next (c.args.next + count_of_branches (branches_in (statement_view c.args.statement.now))) c.loop-e-test.true c.loop-e-item.is c.loop-e.invariant.numbers c.requires.numbers in
+    c.deref-e-items.result.now c.loop-e.e-index c.loop-e-item.result c.loop-e.next (c.args.next + count_of_branches (branches_in (statement_view c.args.statement.now))) c.loop-e-test.true c.loop-e-item.is c.loop-e.invariant.numbers c.requires.numbers in
     (omega (arith, h, k, w, c.decreases), (settled_by (site_of c.args.site.now) (site_of c.loop-e.site) c.loop-e.invariant.site c.requires.settled, omega (arith, m, n)))
 
 pub branches-loop-e-preserved : goal.branches-loop-e-preserved
@@ -106,13 +109,13 @@ cases-loop-body-init t c =
 pub cases-block-requires : goal.cases-block-requires
 cases-block-requires t c =
     let h = lighter (λ (x : Place × Selector × Vec Statement). weight_of_block (block_view x.2)) (λ (xs : List (Place × Selector × Vec Statement)). weight_of_cases (cases_view xs)) (λ x xs. refl)
-        c.deref-body-items.result.now c.loop-body.body-index c.loop-body-item.result c.loop-body-test.true c.loop-body-item.is in
+    c.deref-body-items.result.now c.loop-body.body-index c.loop-body-item.result c.loop-body-test.true c.loop-body-item.is in
     let k = select_weight c.args.statement.now c.in-Select.field-0 c.in-Select.field-1 c.in-Select.cases c.deref-body-items.result.now c.in-Select.is c.deref-body-items.ensures.value in
     let b = held c.loop-body-item.result.2 c.deref.result.now c.deref.ensures.value in
     let w = ap weight_of_block b in
     let n = ap count_of_block b in
     let m = within (λ (x : Place × Selector × Vec Statement). count_of_block (block_view x.2)) (λ (xs : List (Place × Selector × Vec Statement)). count_of_cases (cases_view xs)) cases_sum
-        c.deref-body-items.result.now c.loop-body.body-index c.loop-body-item.result c.loop-body.next (c.args.next + count_of_cases (cases_in (statement_view c.args.statement.now))) c.loop-body-test.true c.loop-body-item.is c.loop-body.invariant.numbers c.requires.numbers in
+    c.deref-body-items.result.now c.loop-body.body-index c.loop-body-item.result c.loop-body.next (c.args.next + count_of_cases (cases_in (statement_view c.args.statement.now))) c.loop-body-test.true c.loop-body-item.is c.loop-body.invariant.numbers c.requires.numbers in
     (omega (arith, h, k, w, c.decreases), (settled_by (site_of c.args.site.now) (site_of c.loop-body.site) c.loop-body.invariant.site c.requires.settled, omega (arith, m, n)))
 
 pub cases-loop-body-preserved : goal.cases-loop-body-preserved
@@ -164,9 +167,9 @@ one-returns-in-Some-clause-noted t c =
     let v = else_is c.args.statement.now c.in-If.field-0 c.in-If.other c.in-Some.body c.deref.result.now c.in-If.is c.in-Some.is c.deref.ensures.value in
     on_ok_weaker c.block.result
     (λ e. else_noted (site_of c.args.site.now) c.args.next (statement_view c.args.statement.now) (site_of c.branches.new.site) (branches_view c.in-If.field-0.items) (block_of (map statement_view c.deref.result.now))
-        c.in_ok-next-in-If.next c.args.first.now c.branches.new.first c.block.new.first v c.in_ok-next-in-If.ensures.site
-        (c.in_ok-next-in-If.ensures.next ∙ ap (λ x. c.args.next + count_of_branches (branches_in x)) v)
-        (c.in_ok-next-in-If.ensures.noted ∙ ap (λ x. noted c.args.first.now (branch_breaks (site_of c.args.site.now) c.args.next (branches_in x))) v) e)
+    c.in_ok-next-in-If.next c.args.first.now c.branches.new.first c.block.new.first v c.in_ok-next-in-If.ensures.site
+    (c.in_ok-next-in-If.ensures.next ∙ ap (λ x. c.args.next + count_of_branches (branches_in x)) v)
+    (c.in_ok-next-in-If.ensures.noted ∙ ap (λ x. noted c.args.first.now (branch_breaks (site_of c.args.site.now) c.args.next (branches_in x))) v) e)
     c.block.ensures.noted
 
 pub one-returns-in-Some-clause-next : goal.one-returns-in-Some-clause-next
@@ -179,17 +182,21 @@ one-returns-in-Some-clause-next t c =
 pub one-block-requires-in-Associate : goal.one-block-requires-in-Associate
 one-block-requires-in-Associate t c =
     let v = associate_is c.args.statement.now c.in-Associate.field-0 c.in-Associate.list c.in-Associate.body c.deref-in-Associate.result.now c.deref-in-Associate-3.result.now
-        c.in-Associate.is c.deref-in-Associate.ensures.value c.deref-in-Associate-3.ensures.value in
+    c.in-Associate.is c.deref-in-Associate.ensures.value c.deref-in-Associate-3.ensures.value in
     let w = associate_weight (statement_view c.args.statement.now) c.in-Associate.field-0 (map association_view c.deref-in-Associate.result.now) (block_of (map statement_view c.deref-in-Associate-3.result.now)) v in
     let n = associate_count (statement_view c.args.statement.now) c.in-Associate.field-0 (map association_view c.deref-in-Associate.result.now) (block_of (map statement_view c.deref-in-Associate-3.result.now)) v in
-    let i = c.in_ok-outside-in-Associate.ensures.inside (map association_view c.deref-in-Associate.result.now) (c.deref-in-Associate-2.ensures.value ∙ c.in_ok-names-in-Associate.ensures.names) in
-    (omega (arith, w, c.decreases), (inside_settled (site_of c.args.site.now) (site_of c.enter.new.site) c.args.next (map association_view c.deref-in-Associate.result.now) i c.requires.settled,
-    omega (arith, n, c.requires.numbers)))
+    let i = c.in_ok-outside-in-Associate.ensures.inside (map association_view c.deref-in-Associate.result.now) (c.deref-in-Associate-2.ensures.value ∙ c.in_ok-names-in-Associate.ensures.names) in (
+      omega (arith, w, c.decreases),
+      (
+        inside_settled (site_of c.args.site.now) (site_of c.enter.new.site) c.args.next (map association_view c.deref-in-Associate.result.now) i c.requires.settled,
+        omega (arith, n, c.requires.numbers),
+      ),
+    )
 
 pub one-returns-in_ok-leave-in-Associate-clause-noted : goal.one-returns-in_ok-leave-in-Associate-clause-noted
 one-returns-in_ok-leave-in-Associate-clause-noted t c =
     let v = associate_is c.args.statement.now c.in-Associate.field-0 c.in-Associate.list c.in-Associate.body c.deref-in-Associate.result.now c.deref-in-Associate-3.result.now
-        c.in-Associate.is c.deref-in-Associate.ensures.value c.deref-in-Associate-3.ensures.value in
+    c.in-Associate.is c.deref-in-Associate.ensures.value c.deref-in-Associate-3.ensures.value in
     let i = c.in_ok-outside-in-Associate.ensures.inside (map association_view c.deref-in-Associate.result.now) (c.deref-in-Associate-2.ensures.value ∙ c.in_ok-names-in-Associate.ensures.names) in
     associate_noted (site_of c.args.site.now) c.args.next (statement_view c.args.statement.now) (site_of c.enter.new.site) c.in-Associate.field-0 (map association_view c.deref-in-Associate.result.now)
     (block_of (map statement_view c.deref-in-Associate-3.result.now)) c.args.first.now c.selectors.new.first c.block-in-Associate.new.first v i c.in_ok-names-in-Associate.ensures.noted c.in_ok-behind-in-Associate.ensures.noted
@@ -206,7 +213,7 @@ one-returns-in_ok-select-in-Select-clause-noted t c =
     let v = select_in c.args.statement.now c.in-Select.field-0 c.in-Select.e c.in-Select.list c.deref-in-Select.result.now c.in-Select.is c.deref-in-Select.ensures.value in
     on_ok_weaker c.cases.result
     (λ e. select_noted (site_of c.args.site.now) c.args.next (statement_view c.args.statement.now) c.in-Select.field-0 (expression_view c.in-Select.e) (cases_view c.deref-in-Select.result.now)
-        c.args.first.now c.select.new.first c.cases.new.first v c.in_ok-select-in-Select.ensures.noted (e ∙ ap (λ x. noted c.select.new.first (case_breaks (site_of c.args.site.now) c.args.next (cases_in x))) v))
+    c.args.first.now c.select.new.first c.cases.new.first v c.in_ok-select-in-Select.ensures.noted (e ∙ ap (λ x. noted c.select.new.first (case_breaks (site_of c.args.site.now) c.args.next (cases_in x))) v))
     c.cases.ensures.noted
 
 pub branches-returns-in-Action : goal.branches-returns-in-Action

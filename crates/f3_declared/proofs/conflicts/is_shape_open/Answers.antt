@@ -1,4 +1,4 @@
-use Rattle.std.proofs.Common.{ap, sym, ◌∙◌, List, Option, Some, not}
+use Rattle.std.proofs.Common.{ap, sym, ◌∙◌, Option, Some, not}
 use Rattle.std.specs.Prelude.{is_some}
 use Rattle.std.specs.List.{list_all}
 use Rattle.f3_tree.specs.declared.declaration.Shape.{Shape}

@@ -1,14 +1,11 @@
 use Rattle.std.proofs.Common.{◌∙◌, ap, ◌||◌, not}
 use Rattle.f3_rules.specs.declared.rule.Rule.TheVariants.{T12}
-use Rattle.f3_tree.specs.Declarations.{entity_view}
 use Rattle.f3_kinds.specs.Rows.{at_name, unless}
 use Rattle.f3_typed_parts.specs.Noted.{noted}
-use Rattle.f3_type_rules.specs.Declarations.{is_finalizable, may_finalize}
+use Rattle.f3_type_rules.specs.Declarations.{is_finalizable}
 use Rattle.f3_type_rules.specs.Names.{type_of}
 use Rattle.f3_type_rules.specs.Scene.{Scene}
-use Rattle.f3_declared.specs.Declarations.{tree_of}
 use Rattle.f3_declared.specs.Scenery.{scene_in}
-use Rattle.f3_declared.specs.Spots.{spot_in}
 use Rattle.f3_declared.proofs.specifiers.local.Goals as goal
 
 pub returns : goal.returns

@@ -1,7 +1,3 @@
-use Rattle.std.proofs.Common.{ap, ◌∙◌, not, ◌||◌, ◌&&◌, Option}
-use Rattle.f3_kinds.specs.Things.{map_or}
-use Rattle.f3_type_rules.specs.Declarations.{is_in}
-use Rattle.f3_tree.specs.declared.declaration.Intent.{Intent}
 use Rattle.f3_declared.proofs.Finalizing.{may_same}
 use Rattle.f3_declared.proofs.specifiers.may_finalize.Goals as goal
 

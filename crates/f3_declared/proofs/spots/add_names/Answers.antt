@@ -1,4 +1,4 @@
-use Rattle.std.proofs.Common.{ap, ◌∙◌, ◌+◌, ℕ, nat_eq, map, filter, length, take}
+use Rattle.std.proofs.Common.{ap, ◌∙◌, ◌+◌, nat_eq, map, filter, length, take}
 use Rattle.f3_tree.specs.declared.expression.Name.{Name}
 use Rattle.f3_declared.specs.Standings.{standing}
 use Rattle.f3_declared.proofs.Counting.{named_more}

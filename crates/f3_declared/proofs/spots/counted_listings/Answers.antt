@@ -1,4 +1,4 @@
-use Rattle.std.proofs.Common.{arith, ap, ◌∙◌, ℕ, nat_eq, map, filter, length, List}
+use Rattle.std.proofs.Common.{arith, ap, ◌∙◌, nat_eq, map, filter, length, List}
 use Rattle.std.specs.List.{flat_map}
 use Rattle.std.proofs.lemmas.List.{take_all}
 use Rattle.f3_scopes.specs.Given.{protects_in}

@@ -1,4 +1,4 @@
-use Rattle.std.proofs.Common.{◌≡◌, ◌+◌, ℕ, nat_eq, map, take, length, filter, unwrap_or}
+use Rattle.std.proofs.Common.{◌≡◌, ℕ, nat_eq, map, take, length, filter, unwrap_or}
 use Rattle.std.specs.List.{flat_map}
 use Rattle.indexmap.specs.IndexMap.{get}
 use Rattle.f3_scopes.specs.Given.{protects_in}

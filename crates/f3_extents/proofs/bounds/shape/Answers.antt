@@ -1,4 +1,4 @@
-use Rattle.std.proofs.Common.{ap, sym, ◌∙◌, [], List, Option, Some}
+use Rattle.std.proofs.Common.{ap, sym, ◌∙◌, [], Option, Some}
 use Rattle.std.specs.Option.{option_map}
 use Rattle.std.specs.List.{flat_map}
 use Rattle.f3_tree.specs.declared.declaration.Shape.{Shape}

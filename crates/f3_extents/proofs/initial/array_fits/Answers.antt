@@ -1,11 +1,11 @@
-use Rattle.std.proofs.Common.{ap, sym, ◌∙◌, ◌&&◌, true, nat_eq, length, map, List, Option}
+use Rattle.std.proofs.Common.{ap, sym, ◌∙◌, ◌&&◌, true, nat_eq, length, map}
 use Rattle.std.specs.List.{list_all}
 use Rattle.f3_tree.specs.declared.expression.Expression.{Expression}
 use Rattle.f3_tree.specs.Expressions.{expression_view, trees_of}
 use Rattle.f3_kinds.specs.Things.{map_or, Context}
 use Rattle.f3_kinds.specs.Values.{value_of, converted, has_value}
 use Rattle.f3_typed_parts.specs.Known.{context_of}
-use Rattle.f3_type_rules.specs.Shapes.{all_converted, count}
+use Rattle.f3_type_rules.specs.Shapes.{all_converted}
 use Rattle.f3_extents.proofs.Initials.{all_convertible, count_length}
 use Rattle.f3_extents.proofs.initial.array_fits.Goals as goal
 

@@ -1,4 +1,4 @@
-use Rattle.std.proofs.Common.{ap, sym, ◌∙◌, [], List, Option}
+use Rattle.std.proofs.Common.{ap, sym, ◌∙◌, [], Option}
 use Rattle.std.specs.Option.{option_map}
 use Rattle.f3_tree.specs.declared.expression.Expression.{Expression}
 use Rattle.f3_tree.specs.Expressions.{Tree, expression_view}

@@ -1,5 +1,5 @@
-use Rattle.std.proofs.Common.{refl, ap, ◌∙◌, sym, ℕ, Option}
-use Rattle.f3_tree.specs.Expressions.{Tree, expression_view}
+use Rattle.std.proofs.Common.{refl, ap, ◌∙◌, sym}
+use Rattle.f3_tree.specs.Expressions.{expression_view}
 use Rattle.f3_tree.proofs.Views.{view_integer, view_truth, view_text, view_designator, view_group, view_array, view_signed, view_not, view_comparison, view_chain}
 use Rattle.f3_typed_parts.specs.Known.{context_of}
 use Rattle.f3_type_rules.specs.Shapes.{initial_fits}

@@ -1,10 +1,7 @@
 use Rattle.std.proofs.Common.{ap, ◌∙◌, ◌||◌, ◌&&◌}
-use Rattle.std.specs.Option.{option_map}
 use Rattle.f3_rules.specs.declared.rule.Rule.TheVariants.{T5}
-use Rattle.f3_tree.specs.Declarations.{shape_view}
 use Rattle.f3_kinds.specs.Rows.{at_name, unless}
 use Rattle.f3_typed_parts.specs.Noted.{noted}
-use Rattle.f3_type_rules.specs.Names.{dimensions}
 use Rattle.f3_type_rules.specs.Shapes.{at_most}
 use Rattle.f3_extents.proofs.sizes.size.Goals as goal
 

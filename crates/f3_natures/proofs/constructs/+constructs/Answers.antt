@@ -1,7 +1,6 @@
-use Rattle.std.proofs.Common.{rules, refl, ap, sym, ◌∙◌, ◌++◌, List, length, map, append_assoc}
+use Rattle.std.proofs.Common.{rules, ap, ◌∙◌, List, length, map}
 use Rattle.std.specs.Global.{Vec}
 use Rattle.std.proofs.lemmas.List.{map-append}
-use Rattle.std.proofs.lemmas.Result.{on_ok_weaker}
 use Rattle.f3_rules.specs.declared.source.Place.{Place}
 use Rattle.f3_tree.specs.declared.expression.Expression.{Expression}
 use Rattle.f3_tree.specs.declared.statement.Selector.{Selector}
@@ -9,7 +8,7 @@ use Rattle.f3_tree.specs.declared.statement.Statement.{Statement}
 use Rattle.f3_tree.specs.Statements.{StatementTree, statement_view, block_of, block_view}
 use Rattle.f3_type_rules.specs.Associates.{constructs_of, constructs_of_block, constructs_of_branches, constructs_of_cases}
 use Rattle.f3_scopes.specs.Inner.Blocks.{branches_in, branches_view, cases_in, cases_view}
-use Rattle.f3_scopes.proofs.Views.{view_if, view_select, view_associate}
+use Rattle.f3_scopes.proofs.Views.{view_if, view_select}
 use Rattle.f3_natures.proofs.Growing.{grown_more}
 use Rattle.f3_natures.proofs.constructs.+constructs.Goals as goal
 

@@ -1,5 +1,4 @@
 use Rattle.std.proofs.Common.{rules, map, ◌^◌}
-use Rattle.f3_tree.specs.Tree.{procedure_view}
 use Rattle.f3_typed_parts.specs.Known.{nature_of}
 use Rattle.f3_natures.specs.Known.{names_view}
 use Rattle.f3_natures.specs.Inner.Walk.{final_made, procedure_made, inner_made}
