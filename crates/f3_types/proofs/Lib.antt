@@ -1,4 +1,5 @@
-mod Walk
 mod Standing
 mod Linking
 mod Beginning
+mod Counting
+mod One

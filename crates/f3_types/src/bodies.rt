@@ -10,7 +10,7 @@ ghost use Rattle.f3_associates.specs.Known.{IsSettled};
 ghost use Rattle.f3_associates.specs.Standing.{room_of};
 ghost use Rattle.f3_types.specs.Inner.Bodies.{anywhere, width, widths, unit_width, unit_widths, body_rows, is_pure_in, procedure_rows, unit_rows, units_rows};
 
-use crate::stubs::block;
+use f3_bodies::blocks::block;
 use f3_rules::breaks::Break;
 use f3_sites::site::Site;
 use f3_tree::program::{Procedure, ProcedureKind, Unit};

@@ -2,5 +2,4 @@
 #![tactic(auto)]
 
 mod bodies;
-mod stubs;
 pub mod table;

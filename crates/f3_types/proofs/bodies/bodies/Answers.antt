@@ -5,7 +5,7 @@ use Rattle.f3_typed_parts.specs.Noted.{noted}
 use Rattle.f3_typed_parts.proofs.Noting.{noted_done}
 use Rattle.f3_sites.specs.Sites.{site_of}
 use Rattle.f3_types.specs.Inner.Bodies.{unit_width, unit_widths, unit_rows, units_rows}
-use Rattle.f3_types.proofs.Walk.{walked, numbered}
+use Rattle.f3_bodies.proofs.Walk.{walked, numbered}
 use Rattle.f3_types.proofs.Standing.{settled_at, unit_same}
 use Rattle.f3_types.proofs.bodies.bodies.Goals as goal
 

@@ -4,7 +4,7 @@ use Rattle.f3_tree.specs.Tree.{procedure_view}
 use Rattle.f3_typed_parts.proofs.Noting.{noted_done}
 use Rattle.f3_sites.specs.Sites.{site_of}
 use Rattle.f3_types.specs.Inner.Bodies.{width, widths, is_pure_in, body_rows, procedure_rows}
-use Rattle.f3_types.proofs.Walk.{walked, numbered}
+use Rattle.f3_bodies.proofs.Walk.{walked, numbered}
 use Rattle.f3_types.proofs.Standing.{settled_at, procedure_noted, procedure_width}
 use Rattle.f3_types.proofs.bodies.procedures.Goals as goal
 
