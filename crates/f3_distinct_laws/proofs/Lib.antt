@@ -1,0 +1,4 @@
+pub mod Again
+pub mod Standing
+pub mod Distinct
+pub mod Entities
