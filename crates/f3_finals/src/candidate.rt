@@ -163,8 +163,12 @@ fn make_candidate(
     }
 }
 
-/// The number of the scope behind those of a procedure.
-fn behind(alloc: Global, scope: usize, procedure: &Procedure) -> Result<usize, AllocError>
+/// The number of the scope behind those of a procedure: its own, and those of its constructs.
+///
+/// # Errors
+///
+/// Where memory runs out.
+pub fn behind(alloc: Global, scope: usize, procedure: &Procedure) -> Result<usize, AllocError>
     requires { scope + 1 + count_of (procedure_view procedure.now).body < 2 ^ 64 }
     ensures { IfOk result (λ n. n ≡ scope + 1 + count_of (procedure_view procedure.now).body) }
 {
