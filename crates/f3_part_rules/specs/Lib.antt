@@ -1,2 +1,4 @@
 pub mod Finalizers
 pub mod Room
+pub mod Members
+pub mod Inner

@@ -3,3 +3,4 @@
 
 pub mod finalizers;
 pub mod specifications;
+pub mod members;
