@@ -57,6 +57,13 @@ impl Names {
         &self.tables
     }
 
+    /// The number of each unit among the scopes, in the order of the units.
+    pub fn unit_scopes(&self) -> &[usize]
+        ensures { result.now ≡ self.now.units.items }
+    {
+        &self.units
+    }
+
     /// The entities of the program, by their numbers: scope by scope, each scope's in the order of their places.
     pub fn entities(&self) -> &[Entity]
         ensures { result.now ≡ entities_of self.now }
