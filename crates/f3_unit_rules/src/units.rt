@@ -2,6 +2,7 @@
 
 ghost use Rattle.std.specs.Prelude.{◌≡◌, ℕ, List, map, length, vec_len, OnOk};
 ghost use Rattle.f3_scopes.specs.Outlines.{Scope};
+ghost use Rattle.f3_graph.specs.Order.{numbers_of};
 ghost use Rattle.f3_tree.specs.Tree.{unit_view};
 ghost use Rattle.f3_typed_parts.specs.Noted.{noted};
 ghost use Rattle.f3_type_rules.specs.Declarations.{unit_rows, unit_next};
@@ -14,6 +15,7 @@ ghost use Rattle.f3_part_rules.specs.Members.{AreFirsts};
 ghost use Rattle.f3_unit_rules.specs.Units.{UnitFits, UnitsFit, AreNumbers};
 
 use f3_entities::growth::Growth;
+use f3_graph::UnitOrder;
 use f3_rules::breaks::Break;
 use f3_tree::program::Unit;
 use std::alloc::{AllocError, Global};
@@ -51,14 +53,14 @@ pub fn units(
     numbers: &[usize],
     firsts: &[usize],
     first: &mut Option<Break>,
-    order: &[usize],
+    order: &UnitOrder,
     list: &[Unit],
 ) -> Result<(), AllocError>
     requires room { vec_len growth.old.cells ≡ vec_len growth.old.known.values }
     requires fit { UnitsFit firsts.now (vec_len growth.old.known.values) numbers.now (map unit_view list.now) }
     requires numbers { length numbers.now ≡ length list.now }
-    ensures noted { OnOk result ((s : Scene) → (k : Grown) → (scopes : List Scope) → Stands s growth.old k → AreFirsts scopes firsts.now → AreNumbers scopes numbers.now (map unit_view list.now) → first.new ≡ noted first.old (along (unit_rows s) (unit_next s) k (units_in (units_from scopes 0 (map unit_view list.now)) order.now))) }
-    ensures stands { OnOk result ((s : Scene) → (k : Grown) → (scopes : List Scope) → Stands s growth.old k → AreFirsts scopes firsts.now → AreNumbers scopes numbers.now (map unit_view list.now) → Stands s growth.new (after (unit_next s) k (units_in (units_from scopes 0 (map unit_view list.now)) order.now))) }
+    ensures noted { OnOk result ((s : Scene) → (k : Grown) → (scopes : List Scope) → Stands s growth.old k → AreFirsts scopes firsts.now → AreNumbers scopes numbers.now (map unit_view list.now) → first.new ≡ noted first.old (along (unit_rows s) (unit_next s) k (units_in (units_from scopes 0 (map unit_view list.now)) (numbers_of order.now)))) }
+    ensures stands { OnOk result ((s : Scene) → (k : Grown) → (scopes : List Scope) → Stands s growth.old k → AreFirsts scopes firsts.now → AreNumbers scopes numbers.now (map unit_view list.now) → Stands s growth.new (after (unit_next s) k (units_in (units_from scopes 0 (map unit_view list.now)) (numbers_of order.now)))) }
 {
     // to be written
 }
