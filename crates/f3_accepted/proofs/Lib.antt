@@ -1,0 +1,2 @@
+mod Phases
+mod Joined

@@ -1,0 +1,26 @@
+-- What is accepted.
+use Rattle.std.specs.Prelude.{List}
+use Rattle.f3_rules.specs.declared.source.Source.{Source}
+use Rattle.f3_rules.specs.declared.breaks.Break.{Break}
+use Rattle.f3_tree.specs.Tree.{Tree}
+use Rattle.f3_parse.specs.Spells.{Spells}
+use Rattle.f3_graph.specs.Breaks.{UnitBreaks}
+use Rattle.f3_names.specs.declared.table.Names.{Names}
+use Rattle.f3_names.specs.Answers.{BreaksOfNames}
+use Rattle.f3_names.specs.Tables.{AreNames}
+use Rattle.f3_types.specs.Breaks.{TypeBreaks}
+
+-- the breaks of a program in phases 2 to 7
+pub data Breaks (t : Tree) (b : Break) : Type 0 where
+  of_units : UnitBreaks t b → Breaks t b
+  of_names : BreaksOfNames t b → Breaks t b
+  of_types : TypeBreaks t b → Breaks t b
+
+-- Accepted: the sources spell this tree, and nothing in it breaks a rule.
+pub record Accepted (sources : List Source) (t : Tree) : Type 0 where
+  pub spelled : Spells t sources
+  pub unbroken : (b : Break) → Breaks t b → ⊥
+
+-- There are sources of which this is accepted, and these are its names.
+abbrev pub AreAccepted : Tree → Names → Type 0
+AreAccepted t names = (sources : List Source) × Accepted sources t × AreNames t names

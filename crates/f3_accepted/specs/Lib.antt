@@ -1,0 +1,4 @@
+pub mod Accepted
+pub mod Checked
+pub mod Refusals
+pub mod Inner

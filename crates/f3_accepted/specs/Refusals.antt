@@ -1,0 +1,34 @@
+-- What is accepted, and what is refused first.
+use Rattle.std.specs.Prelude.{List, Result, Ok, Err, Some}
+use Rattle.f3_rules.specs.declared.source.Source.{Source}
+use Rattle.f3_rules.specs.declared.breaks.Break.{Break}
+use Rattle.f3_rules.specs.declared.refusal.Refusal.{Refusal}
+use Rattle.f3_rules.specs.Least.{Least}
+use Rattle.f3_text.specs.declared.statement.TextFault.{TextFault}
+use Rattle.f3_text.specs.declared.statement.TextFault.TheVariants as text_fault
+use Rattle.f3_tree.specs.Tree.{Tree, view}
+use Rattle.f3_parse.specs.Spells.{Spells, IsFirstFault}
+use Rattle.f3_graph.specs.declared.CheckFault.{CheckFault}
+use Rattle.f3_graph.specs.declared.CheckFault.TheVariants.{Refused, Memory}
+use Rattle.f3_graph.specs.Order.{IsRefusal}
+use Rattle.f3_names.specs.Tables.{AreNames}
+use Rattle.f3_accepted.specs.declared.checked.Checked.{Checked}
+use Rattle.f3_accepted.specs.Accepted.{Breaks, Accepted}
+use Rattle.f3_accepted.specs.Checked.{program_of, names_of}
+
+-- The first break is that of phase 1, where there is one; else the sources spell a program, and it is the least of its breaks.
+pub data First (sources : List Source) (refusal : Refusal) : Type 0 where
+  of_text : IsFirstFault refusal sources → First sources refusal
+  of_program : (t : Tree) (b : Break) → Spells t sources → Least (Some b) (Breaks t) → IsRefusal t.names b refusal → First sources refusal
+
+-- what `check` answers
+abbrev pub Checks : Result Checked CheckFault → List Source → Type 0
+Checks (Ok checked) sources =
+    Accepted sources (view (program_of checked)) × AreNames (view (program_of checked)) (names_of checked) × ((refusal : Refusal) → First sources refusal → ⊥)
+Checks (Err (Refused refusal)) sources = First sources refusal × ((t : Tree) → Accepted sources t → ⊥)
+Checks (Err Memory) sources = Unit {0}
+
+-- a fault of the text, as one of the check
+abbrev pub fault_of_text : TextFault → CheckFault
+fault_of_text (text_fault.Refused refusal) = Refused refusal
+fault_of_text text_fault.Memory = Memory

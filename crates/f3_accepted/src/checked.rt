@@ -1,0 +1,44 @@
+//! What was accepted.
+
+ghost use Rattle.std.specs.Prelude.{◌≡◌};
+ghost use Rattle.f3_tree.specs.Tree.{view};
+ghost use Rattle.f3_accepted.specs.Accepted.{AreAccepted};
+
+use f3_names::table::Names;
+use f3_tree::program::Program;
+use f3_types::table::Types;
+
+/// Sources that break no rule: their tree, what its names mean, and what its entities are. There are sources of which it is
+/// accepted: only `check` makes one.
+#[derive(Drop)]
+pub struct Checked {
+    pub(crate) program: Program,
+    pub(crate) names: Names,
+    pub(crate) types: Types,
+    pub ghost are_accepted: { ∥ AreAccepted (view program) names ∥₁ },
+}
+
+impl Checked {
+    ghost use Rattle.f3_accepted.specs.Checked.{program_of, names_of, types_of};
+
+    /// The tree.
+    pub fn program(&self) -> &Program
+        ensures { result.now ≡ program_of self.now }
+    {
+        &self.program
+    }
+
+    /// What the names mean.
+    pub fn names(&self) -> &Names
+        ensures { result.now ≡ names_of self.now }
+    {
+        &self.names
+    }
+
+    /// What the entities are.
+    pub fn types(&self) -> &Types
+        ensures { result.now ≡ types_of self.now }
+    {
+        &self.types
+    }
+}

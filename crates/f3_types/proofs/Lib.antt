@@ -1,0 +1,3 @@
+mod Begun
+mod Counting
+mod One

@@ -1,0 +1,17 @@
+-- What `typed` answers.
+use Rattle.std.specs.Prelude.{Result, Ok, Err, Some}
+use Rattle.f3_graph.specs.declared.CheckFault.{CheckFault}
+use Rattle.f3_graph.specs.declared.CheckFault.TheVariants.{Refused, Memory}
+use Rattle.f3_graph.specs.Order.{IsRefusal}
+use Rattle.f3_rules.specs.declared.breaks.Break.{Break}
+use Rattle.f3_rules.specs.Least.{Least}
+use Rattle.f3_tree.specs.Tree.{Tree}
+use Rattle.f3_types.specs.declared.table.Types.{Types}
+use Rattle.f3_types.specs.Breaks.{TypeBreaks}
+use Rattle.f3_types.specs.Types.{AreTypes}
+
+-- the types, where no rule of phases 5 to 7 is broken; else the refusal of the first break
+abbrev pub TypesAnswer : Tree → Result Types CheckFault → Type 0
+TypesAnswer t (Ok types) = AreTypes t types × ((b : Break) → TypeBreaks t b → ⊥)
+TypesAnswer t (Err (Refused refusal)) = (b : Break) × Least (Some b) (TypeBreaks t) × IsRefusal t.names b refusal
+TypesAnswer t (Err Memory) = Unit {0}

@@ -1,0 +1,20 @@
+-- What phases 5 to 7 break of a program.
+use Rattle.std.specs.Prelude.{ℕ, List, Contains}
+use Rattle.f3_access.specs.declared.table.Lookup.{Lookup}
+use Rattle.f3_access.specs.Access.{IsVisible}
+use Rattle.f3_access.specs.Lookups.{Resolves}
+use Rattle.f3_graph.specs.Order.{IsOrderOf}
+use Rattle.f3_graph.specs.Units.{nodes_of}
+use Rattle.f3_rules.specs.declared.breaks.Break.{Break}
+use Rattle.f3_scopes.specs.Scopes.{scopes_of}
+use Rattle.f3_tree.specs.Tree.{Tree}
+use Rattle.f3_type_rules.specs.Program.{program_breaks}
+
+-- This is what names mean in the scopes of a program: one, none or several of the entities that are visible there.
+abbrev pub Means : Tree → (ℕ → ℕ → Lookup) → Type 0
+Means t look = (scope symbol : ℕ) → Resolves (look scope symbol) (IsVisible (scopes_of t) scope symbol)
+
+-- A rule on types, shapes, constants or definitions is broken, with what names mean, along an order of the units in which used modules
+-- come first.
+abbrev pub TypeBreaks : Tree → Break → Type 0
+TypeBreaks t b = (look : ℕ → ℕ → Lookup) × (order : List ℕ) × Means t look × IsOrderOf (nodes_of t) order × Contains (program_breaks t look order) b

@@ -1,0 +1,52 @@
+//! What the entities of a program are.
+
+ghost use Rattle.f3_types.specs.Parts.{AreOfAProgram};
+
+use f3_access::table::EntityId;
+use f3_kinds::things::Thing;
+use f3_kinds::types::Scalar;
+
+/// What the entities of a program are, the values of its named constants, and the cells of its types. They are those of one
+/// program: only `typed` makes them.
+#[derive(Drop)]
+pub struct Types {
+    /// What each entity is, by its number.
+    pub(crate) things: Vec<Thing>,
+    /// The value of each entity that is a named constant.
+    pub(crate) values: Vec<Option<Scalar>>,
+    /// The cells of each entity that is a derived type.
+    pub(crate) cells: Vec<Option<u64>>,
+    pub ghost of_a_program: { ∥ AreOfAProgram things.items values.items cells.items ∥₁ },
+}
+
+impl Types {
+    ghost use Rattle.std.specs.Prelude.{◌≡◌, None, option_map, slice_get};
+    ghost use Rattle.f3_types.specs.Types.{value_in, cells_in};
+
+    /// What an entity is.
+    pub fn thing(&self, entity: EntityId) -> Option<&Thing>
+        ensures { option_map (λ t. t.now) result ≡ slice_get self.now.things.items entity }
+    {
+        self.things.get(entity)
+    }
+
+    /// The value of an entity that is a scalar named constant.
+    pub fn value(&self, entity: EntityId) -> Option<Scalar>
+        ensures { result ≡ value_in self.now entity }
+    {
+        match self.values.get(entity) {
+            Some(value) => *value,
+            None => None,
+        }
+    }
+
+    /// The cells of a derived type, by its entity.
+    pub fn cells(&self, entity: EntityId) -> Option<u64>
+        ensures { result ≡ cells_in self.now entity }
+    {
+        match self.cells.get(entity) {
+            Some(cells) => *cells,
+            None => None,
+        }
+    }
+}

@@ -1,0 +1,3 @@
+mod Standing
+pub mod Linking
+pub mod Widths
