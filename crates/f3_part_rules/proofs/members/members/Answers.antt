@@ -1,9 +1,6 @@
-use Rattle.std.proofs.Common.{◌≡◌, ℕ, ◌+◌, ◌<◌, ◌≤◌, List, ◌∷◌, map, drop, length, slice_get, Some, vec_len, get_or, arith, rules}
+use Rattle.std.proofs.Common.{◌≡◌, ◌<◌, ◌≤◌, length, get_or, arith, rules}
 use Rattle.std.proofs.lemmas.Option.{slice_get-get_or, get_or_from_slice_get}
-use Rattle.f3_tree.specs.declared.program.Procedure.{Procedure}
-use Rattle.f3_tree.specs.Tree.{ProcedureTree, procedure_view}
-use Rattle.f3_typed_parts.specs.Noted.{noted}
-use Rattle.f3_part_rules.specs.Members.{Fit}
+use Rattle.f3_tree.specs.Tree.{procedure_view}
 use Rattle.f3_part_rules.proofs.Walked.{scope_behind, scope_within, behind_within, fit_here, fit_more, reaches_more, noted_all, stands_behind}
 use Rattle.f3_part_rules.proofs.members.members.Goals as goal
 

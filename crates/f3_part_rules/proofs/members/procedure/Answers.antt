@@ -1,7 +1,7 @@
 use Rattle.std.proofs.Common.{◌≡◌, ◌+◌, ap, sym, ◌∙◌, ℕ, [], List, map, subst}
 use Rattle.std.specs.List.{flat_map}
 use Rattle.f3_tree.specs.declared.declaration.Specification.{Specification}
-use Rattle.f3_tree.specs.Declarations.{SpecificationTree, specification_view}
+use Rattle.f3_tree.specs.Declarations.{specification_view}
 use Rattle.f3_tree.specs.Tree.{ProcedureTree, procedure_view}
 use Rattle.f3_typed_parts.specs.Noted.{noted}
 use Rattle.f3_type_rules.specs.Declarations.{header_rows, local_rows, specification_rows, specification_next}
@@ -12,7 +12,6 @@ use Rattle.f3_declared.specs.Spots.{spot_in}
 use Rattle.f3_entities.specs.declared.growth.Growth.{Growth}
 use Rattle.f3_entities.specs.Growth.{Stands}
 use Rattle.f3_specifications.proofs.Specifying.{three_noted}
-use Rattle.f3_part_rules.specs.Finalizers.{Finalize}
 use Rattle.f3_part_rules.specs.Inner.Procedures.{within}
 use Rattle.f3_part_rules.proofs.Headers.{header_here, nothing_final}
 use Rattle.f3_part_rules.proofs.members.procedure.Goals as goal
