@@ -1,5 +1,5 @@
 -- The specification part of a unit and its procedures.
-use Rattle.std.proofs.Common.{◌≡◌, ℕ, ◌+◌, ◌<◌, ◌≤◌, List, [], ◌∷◌, ◌++◌, Option, map, length, ap, sym, ◌∙◌, subst, arith}
+use Rattle.std.proofs.Common.{◌≡◌, ℕ, ◌+◌, ◌≤◌, List, [], ◌∷◌, ◌++◌, Option, length, ap, sym, ◌∙◌, subst, arith}
 use Rattle.std.specs.List.{flat_map}
 use Rattle.f3_rules.specs.declared.breaks.Break.{Break}
 use Rattle.f3_access.specs.Access.{first_entity}
@@ -9,7 +9,7 @@ use Rattle.f3_tree.specs.Tree.{ProcedureTree, UnitTree}
 use Rattle.f3_typed_parts.specs.Noted.{noted}
 use Rattle.f3_typed_parts.proofs.Noting.{noted_more}
 use Rattle.f3_type_rules.specs.Associates.{constructs_of_block}
-use Rattle.f3_type_rules.specs.Members.{Member, members_from, numbered}
+use Rattle.f3_type_rules.specs.Members.{members_from, numbered}
 use Rattle.f3_type_rules.specs.Names.{Names}
 use Rattle.f3_type_rules.specs.Scene.{Scene}
 use Rattle.f3_type_rules.specs.Walks.{Known}

@@ -150,7 +150,15 @@ fn unit(
     let entity = firsts[scope];
     let start = members_scope(alloc, scope, given)?;
     part(alloc, growth, scope, entity, start, first, given)?;
-    members(alloc, growth, scope, start, firsts, first, &given.procedures)?;
+    members(
+        alloc,
+        growth,
+        scope,
+        start,
+        firsts,
+        first,
+        &given.procedures,
+    )?;
     Ok(())
 }
 

@@ -1,4 +1,4 @@
-use Rattle.std.proofs.Common.{◌+◌, List, ℕ, map, length, subst, sym, ap, ◌∙◌, arith, rules}
+use Rattle.std.proofs.Common.{◌+◌, List, ℕ, map, subst, sym, ap, ◌∙◌, arith, rules}
 use Rattle.f3_access.specs.Access.{first_entity}
 use Rattle.f3_scopes.specs.Outlines.{Scope, scope_view}
 use Rattle.f3_part_rules.specs.Members.{AreFirsts}

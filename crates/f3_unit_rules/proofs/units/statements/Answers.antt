@@ -3,7 +3,7 @@ use Rattle.f3_tree.specs.declared.declaration.Specification.{Specification}
 use Rattle.f3_tree.specs.Declarations.{specification_view}
 use Rattle.f3_typed_parts.specs.Noted.{noted}
 use Rattle.f3_type_rules.specs.Declarations.{specification_rows, specification_next}
-use Rattle.f3_type_rules.specs.Walks.{along, Spot}
+use Rattle.f3_type_rules.specs.Walks.{along}
 use Rattle.f3_unit_rules.specs.Inner.Steps.{part_spot}
 use Rattle.f3_unit_rules.proofs.units.statements.Goals as goal
 

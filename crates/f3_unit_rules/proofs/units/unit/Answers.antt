@@ -1,8 +1,7 @@
-use Rattle.std.proofs.Common.{◌≡◌, ◌+◌, ℕ, List, map, length, get_or, subst, sym, ap, ◌∙◌, arith}
+use Rattle.std.proofs.Common.{◌≡◌, ◌+◌, ℕ, List, map, length, get_or, subst, ap, ◌∙◌, arith}
 use Rattle.std.specs.List.{flat_map}
 use Rattle.std.proofs.lemmas.Option.{get_or_from_slice_get}
 use Rattle.f3_access.specs.Access.{first_entity}
-use Rattle.f3_scopes.specs.Outlines.{Scope}
 use Rattle.f3_scopes.specs.Scopes.{declared_in}
 use Rattle.f3_tree.specs.declared.program.Procedure.{Procedure}
 use Rattle.f3_tree.specs.Tree.{UnitTree, unit_view, procedure_view}
