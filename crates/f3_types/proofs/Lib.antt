@@ -1,3 +1,4 @@
 mod Beginning
 mod Counting
 mod One
+mod Fitting
