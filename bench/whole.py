@@ -79,4 +79,3 @@ while written < size:
     written += len(text)
     unit += 1
 print(f"program p\n  use shapes_{unit - 1}\n  print *, total\nend program p")
-sys.stdout.write("program nothing\nend program nothing\n")
