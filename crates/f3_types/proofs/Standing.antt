@@ -1,12 +1,14 @@
 -- What stands along the declarations of a program.
-use Rattle.std.proofs.Common.{◌≡◌, ℕ, List, [], ◌∷◌, Option, None, length, map, slice_get, replicate, refl, sym, ap, subst, ◌∙◌}
+use Rattle.std.proofs.Common.{◌≡◌, ◌<◌, ◌^◌, ℕ, List, [], ◌∷◌, Option, None, length, map, slice_get, replicate, refl, sym, ap, subst, ◌∙◌, arith}
 use Rattle.std.specs.Prelude.{nat_eq}
+use Rattle.std.specs.Global.{Vec}
 use Rattle.std.specs.Vec.{vec_len}
 use Rattle.std.proofs.lemmas.List.{length-map, length-replicate}
 use Rattle.f3_access.specs.declared.table.Lookup.{Lookup}
 use Rattle.f3_access.specs.Access.{entities_of}
 use Rattle.f3_names.specs.Tables.{scope_numbers}
-use Rattle.f3_scopes.specs.Outlines.{Scope}
+use Rattle.f3_scopes.specs.declared.outline.Outline.{Outline}
+use Rattle.f3_scopes.specs.Outlines.{Scope, scope_view}
 use Rattle.f3_scopes.specs.Scopes.{scopes_of}
 use Rattle.f3_tree.specs.Tree.{UnitTree, Tree}
 use Rattle.f3_kinds.specs.declared.things.Thing.{Thing}
@@ -24,12 +26,12 @@ use Rattle.f3_extents.specs.Cells.{HasCells}
 use Rattle.f3_entities.specs.declared.growth.Growth.{Growth}
 use Rattle.f3_entities.specs.Growth.{HasValues, Stands}
 use Rattle.f3_part_rules.specs.Members.{AreFirsts}
-use Rattle.f3_unit_rules.specs.Units.{UnitsFit}
+use Rattle.f3_unit_rules.specs.Units.{AreNumbers, UnitsFit}
 use Rattle.f3_types.specs.Parts.{scene_in}
 use Rattle.f3_types.specs.Inner.Scenes.{Knows}
 use Rattle.f3_types.proofs.Counting.{natures_long}
-use Rattle.f3_types.proofs.Fitting.{units_fit}
-use Rattle.f3_types.proofs.Scenes.{none_at, settled_long}
+use Rattle.f3_types.proofs.Fitting.{numbers_are, units_fit}
+use Rattle.f3_types.proofs.Scenes.{none_at, settled_long, short}
 
 -- each entity is known
 pub things_long : (t : Tree) (look : ℕ → ℕ → Lookup) (things : List Thing) → map nature_of things ≡ (scene_in t look).natures → length things ≡ length (entities_of (scopes_of t))
@@ -61,6 +63,14 @@ knows s g k h = record {
   values = h.values;
 }
 
+-- there are less scopes than addresses
+pub scopes_fit : (t : Tree) (v : Vec Outline) → map scope_view v.items ≡ scopes_of t → length (scopes_of t) < 2 ^ 64
+scopes_fit t v same =
+    let fits = short v in
+    let mapped = length-map v.items scope_view in
+    let long : length (map scope_view v.items) ≡ length (scopes_of t) = ap length same in
+    omega (arith, fits, mapped, long)
+
 -- ---- what the walk along the units asks
 
 pub firsts_are : (t : Tree) (scopes : List Scope) (firsts given : List ℕ) → scopes ≡ scopes_of t → AreFirsts scopes firsts → given ≡ firsts → AreFirsts (scopes_of t) given
@@ -73,6 +83,9 @@ pub fits : (t : Tree) (scopes : List Scope) (firsts given numbers : List ℕ) (u
 fits t scopes firsts given numbers us room same are long e numbered us_are room_is =
     let here = units_fit t given numbers (firsts_are t scopes firsts given same are e) (ap length e ∙ long ∙ ap length same) numbered in
     subst (λ xs. UnitsFit given room numbers xs) (sym us_are) (subst (λ n. UnitsFit given n numbers t.units) (sym room_is) here)
+
+pub numbered : (t : Tree) (numbers : List ℕ) (us : List UnitTree) → numbers ≡ scope_numbers 0 t.units → us ≡ t.units → AreNumbers (scopes_of t) numbers us
+numbered t numbers us same us_are = subst (λ xs. AreNumbers (scopes_of t) numbers xs) (sym us_are) (numbers_are t numbers same)
 
 pub room_is : (t : Tree) (look : ℕ → ℕ → Lookup) (known : Known) (scenery : Scenery) → standing known scenery ≡ scene_in t look
     → known.values.items ≡ replicate (length known.things.items) None → vec_len known.values ≡ length (entities_of (scopes_of t))

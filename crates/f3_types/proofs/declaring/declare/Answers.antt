@@ -1,4 +1,4 @@
-use Rattle.std.proofs.Common.{◌≡◌, length, map, sym, ap, subst, ◌∙◌}
+use Rattle.std.proofs.Common.{◌≡◌, None, length, map, replicate, refl, sym, ap, subst, ◌∙◌, rules}
 use Rattle.std.proofs.lemmas.List.{length-map}
 use Rattle.f3_access.specs.Tables.{lookup_of}
 use Rattle.f3_graph.specs.Order.{numbers_of}
@@ -12,8 +12,8 @@ use Rattle.f3_type_rules.specs.Program.{nothing_known, units_in}
 use Rattle.f3_type_rules.specs.Walks.{after, along}
 use Rattle.f3_entities.specs.Growth.{Stands}
 use Rattle.f3_types.specs.Parts.{scene_in, declared_along}
-use Rattle.f3_types.proofs.Fitting.{numbers_are, numbers_long}
-use Rattle.f3_types.proofs.Standing.{begins, firsts_are, fits, knows, room_is}
+use Rattle.f3_types.proofs.Fitting.{numbers_long}
+use Rattle.f3_types.proofs.Standing.{begins, firsts_are, fits, knows, numbered, room_is}
 use Rattle.f3_types.proofs.declaring.declare.Goals as goal
 
 pub units-requires-clause-fit : goal.units-requires-clause-fit
@@ -29,23 +29,22 @@ units-requires-clause-numbers c =
     numbers_long (view c.args.program.now) c.unit_scopes.result.now (c.unit_scopes.ensures ∙ c.requires.names.units)
     ∙ length-map c.args.program.now.units.items unit_view ∙ ap length (sym c.deref-2.ensures.value)
 
-pub returns-clause-noted : goal.returns-clause-noted
-returns-clause-noted c =
-    let t = view c.args.program.now in
-    let s = scene_in t (lookup_of c.args.names.now.tables) in
-    let us = ap (map unit_view) c.deref-2.ensures.value in
-    let same = c.outlines.ensures ∙ c.requires.names.scopes in
-    let numbers = c.unit_scopes.ensures ∙ c.requires.names.units in
-    c.in_ok-units.ensures.noted s nothing_known (scopes_of t) (begins s _ _ _ c.requires.scene refl c.requires.values c.in_ok-cells.ensures.items_if_clones_equal)
-    (firsts_are t _ _ c.deref.result.now same c.in_ok-firsts.ensures.each c.deref.ensures.value)
-    (numbered t c.unit_scopes.result.now (map unit_view c.deref-2.result.now) numbers us)
-    ∙ ap (λ xs. noted c.args.first.now (along (unit_rows s) (unit_next s) nothing_known (units_in (units_from (scopes_of t) 0 xs) (numbers_of c.args.order.now)))) us
-
-pub returns-clause-known : goal.returns-clause-known
-returns-clause-known c =
+pub returns : goal.returns
+returns c =
     let t = view c.args.program.now in
     let look = lookup_of c.args.names.now.tables in
-    ?
-
-pub returns-clause-cells : goal.returns-clause-cells
-returns-clause-cells c = ?
+    let s = scene_in t look in
+    let us = ap (map unit_view) c.deref-2.ensures.value in
+    let cells : c.in_ok-cells.cells.items ≡ replicate c.len.result None = search rules in
+    let stands = begins s _ _ _ c.requires.scene refl c.requires.values cells in
+    let firsts = firsts_are t _ _ c.deref.result.now (c.outlines.ensures ∙ c.requires.names.scopes) c.in_ok-firsts.ensures.each c.deref.ensures.value in
+    let numbers = numbered t c.unit_scopes.result.now (map unit_view c.deref-2.result.now) (c.unit_scopes.ensures ∙ c.requires.names.units) us in
+    let end : Stands s c.units.new.growth (declared_along t look (numbers_of c.args.order.now)) =
+    subst (λ xs. Stands s c.units.new.growth (after (unit_next s) nothing_known (units_in (units_from (scopes_of t) 0 xs) (numbers_of c.args.order.now)))) us
+    (c.in_ok-units.ensures.stands s nothing_known (scopes_of t) stands firsts numbers) in
+    record {
+      noted = c.in_ok-units.ensures.noted s nothing_known (scopes_of t) stands firsts numbers
+          ∙ ap (λ xs. noted c.args.first.now (along (unit_rows s) (unit_next s) nothing_known (units_in (units_from (scopes_of t) 0 xs) (numbers_of c.args.order.now)))) us;
+      known = knows s _ _ end;
+      cells = end.cells;
+    }
