@@ -2,8 +2,11 @@
 use Rattle.std.proofs.Common.{◌≡◌, ◌<◌, ℕ, zero, suc, List, [], ◌∷◌, Option, None, Some, IsSome, length, slice_get, refl, sym, ap, ◌∙◌, arith}
 use Rattle.std.specs.Prelude.{option_map}
 use Rattle.std.proofs.lemmas.List.{length-map}
+use Rattle.f3_access.specs.declared.table.Lookup.{Lookup}
+use Rattle.f3_access.specs.declared.table.Lookup.TheVariants.{One}
+use Rattle.f3_access.specs.declared.table.Tables.{Tables}
 use Rattle.f3_access.specs.Access.{entities_of}
-use Rattle.f3_access.specs.Tables.{AreTables}
+use Rattle.f3_access.specs.Tables.{AreTables, lookup_of}
 use Rattle.f3_distinct_laws.proofs.Entities.{looked_up_entity}
 use Rattle.f3_scopes.specs.Scopes.{scopes_of}
 use Rattle.f3_tree.specs.Tree.{Tree}
@@ -30,8 +33,10 @@ mapped : (o : Option Thing) → IsSome o → IsSome (option_map nature_of o)
 mapped None h = h
 mapped (Some x) h = refl
 
--- what is known of as many entities as there are is known of all that are looked up
-pub settled : (t : Tree) (p : Place) → AreTables (scopes_of t) p.known.tables.now → length p.known.things.items ≡ length (entities_of (scopes_of t)) → IsSettled (site_of p)
-settled t p are long scope symbol e h =
-    let lt : e < length (entities_of (scopes_of t)) = looked_up_entity (scopes_of t) p.known.tables.now scope symbol e are h in
+-- where these tables look names up, what is known of as many entities as there are is known of all that are looked up
+pub settled : (t : Tree) (tables : Tables) (p : Place) → AreTables (scopes_of t) tables → lookup_of p.known.tables.now ≡ lookup_of tables
+    → length p.known.things.items ≡ length (entities_of (scopes_of t)) → IsSettled (site_of p)
+settled t tables p are same long scope symbol e found =
+    let here : lookup_of tables scope symbol ≡ One e = ap (λ (l : ℕ → ℕ → Lookup). l scope symbol) (sym same) ∙ found in
+    let lt : e < length (entities_of (scopes_of t)) = looked_up_entity (scopes_of t) tables scope symbol e are here in
     mapped (slice_get p.known.things.items e) (some_at p.known.things.items e (omega (arith, lt, long)))

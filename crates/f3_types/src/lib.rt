@@ -3,5 +3,7 @@
 #![tactic(auto)]
 
 mod beginning;
+mod declaring;
+mod naming;
 pub mod table;
 pub mod typed;

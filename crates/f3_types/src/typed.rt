@@ -1,17 +1,104 @@
 //! What the entities of a program are.
 
+ghost use Rattle.std.specs.Prelude.{◌≡◌, ℕ, IfOk, OnOk};
+ghost use Rattle.std.specs.List.{flat_map};
 ghost use Rattle.f3_rules.specs.declared.breaks.Break.{Break};
+ghost use Rattle.f3_rules.specs.Least.{Least};
 ghost use Rattle.f3_tree.specs.Tree.{view};
-ghost use Rattle.f3_graph.specs.Order.{IsOrder};
+ghost use Rattle.f3_access.specs.Tables.{lookup_of};
+ghost use Rattle.f3_graph.specs.Order.{IsOrder, numbers_of};
 ghost use Rattle.f3_names.specs.Answers.{BreaksOfNames};
 ghost use Rattle.f3_names.specs.Tables.{AreNames};
+ghost use Rattle.f3_typed_parts.specs.Noted.{noted};
+ghost use Rattle.f3_type_rules.specs.Program.{unit_breaks};
+ghost use Rattle.f3_extents.specs.Cells.{HasCells};
 ghost use Rattle.f3_types.specs.Answers.{TypesAnswer};
+ghost use Rattle.f3_types.specs.Breaks.{TypeBreaks};
+ghost use Rattle.f3_types.specs.Parts.{units_of, scene_in, declared_along};
+ghost use Rattle.f3_types.specs.Types.{AreTypes};
+ghost use Rattle.f3_types.specs.Inner.Scenes.{Knows};
 
+use crate::beginning::site;
+use crate::declaring::{Declared, declare};
+use crate::naming::{Start, begin};
 use crate::table::Types;
-use f3_graph::{CheckFault, UnitOrder};
+use f3_declared::scenery::Scenery;
+use f3_graph::{CheckFault, UnitOrder, refusal_of};
 use f3_names::table::Names;
+use f3_rules::breaks::Break;
+use f3_sites::site::Site;
 use f3_tree::program::Program;
-use std::alloc::Global;
+use f3_type_rules::definition::Holder;
+use f3_typed_parts::known::Known;
+use f3_unit_bodies::bodies::bodies;
+use std::alloc::{AllocError, Global};
+
+/// What the entities of a program are, and its first break.
+#[derive(Drop)]
+struct Found {
+    types: Types,
+    first: Option<Break>,
+}
+
+/// Notes the first break of the bodies of a program, of which this is known and asked.
+fn define(
+    alloc: Global,
+    program: &Program,
+    order: &UnitOrder,
+    names: &Names,
+    holders: &[Holder],
+    declared: Declared<'_>,
+    first: &mut Option<Break>,
+) -> Result<Types, AllocError>
+    requires names { AreNames (view program.now) names.now }
+    requires order { IsOrder (view program.now) order.now }
+    requires known { let t = view program.now in let look = lookup_of names.now.tables in Knows (scene_in t look) (declared_along t look (numbers_of order.now)).values declared.known }
+    requires cells { HasCells declared.cells.items (declared_along (view program.now) (lookup_of names.now.tables) (numbers_of order.now)) }
+    requires holders { holders.now ≡ (scene_in (view program.now) (lookup_of names.now.tables)).holders }
+    ensures noted { let t = view program.now in let look = lookup_of names.now.tables in OnOk result (first.new ≡ noted first.old (flat_map (unit_breaks (scene_in t look) (declared_along t look (numbers_of order.now)).values) (units_of t))) }
+    ensures types { IfOk result (λ types. AreTypes (view program.now) types) }
+{
+    let Declared { known, cells } = declared;
+    let mut site = site(alloc, known, holders)?;
+    bodies(alloc, &mut site, first, 0, &program.units)?;
+    let Site { known, .. } = site;
+    let Known { things, values, .. } = known;
+    Ok(Types {
+        things,
+        values,
+        cells,
+    })
+}
+
+/// What the entities of a program are, and the first break of its specification parts and bodies.
+fn examine(
+    alloc: Global,
+    program: &Program,
+    order: &UnitOrder,
+    names: &Names,
+) -> Result<Found, AllocError>
+    requires names { AreNames (view program.now) names.now }
+    requires order { IsOrder (view program.now) order.now }
+    requires unbroken { (b : Break) → BreaksOfNames (view program.now) b → ⊥ }
+    ensures types { IfOk result (λ found. AreTypes (view program.now) found.types) }
+    ensures first { IfOk result (λ found. Least found.first (TypeBreaks (view program.now))) }
+{
+    let Start {
+        known,
+        kinds,
+        holders,
+    } = begin(alloc, program, names)?;
+    let scenery = Scenery {
+        kinds: &kinds,
+        holders: &holders,
+    };
+    let mut first = None;
+    let declared = declare(alloc, program, order, names, scenery, known, &mut first)?;
+    let types = define(
+        alloc, program, order, names, &holders, declared, &mut first,
+    )?;
+    Ok(Found { types, first })
+}
 
 /// What the entities of a program are, the values of its named constants and the cells of its types, along an order of its units in
 /// which used modules come first.
@@ -29,5 +116,13 @@ pub fn typed(
     requires unbroken { (b : Break) → BreaksOfNames (view program.now) b → ⊥ }
     ensures { TypesAnswer (view program.now) result }
 {
-    // to be written
+    let Found { types, first } = examine(alloc, program, order, names)?;
+    match first {
+        None => Ok(types),
+        Some(first) => {
+            drop(types);
+            let refusal = refusal_of(alloc, &program.names, first)?;
+            Err(CheckFault::Refused(refusal))
+        }
+    }
 }
