@@ -1,5 +1,5 @@
 #!/usr/bin/env python3
-"""Writes modules of the whole language, of about so many megabytes, to standard output, for measuring text, tokens and tree."""
+"""Writes modules of the whole language, of about so many megabytes, and a program, to standard output: `f3 check` accepts them."""
 import sys
 
 UNIT = '''module shapes_{u}
@@ -59,7 +59,7 @@ contains
       if (total == 42) cycle
       print *, 'the total of this box is ', total, "and it's", b%is_open
     end do
-    done = any(b%cells(:, 1) >= width(1)) .or. total == limit
+    done = b%cells(1, 1) >= width(1) .or. total == limit
   end subroutine grow
 
   subroutine clear(b)

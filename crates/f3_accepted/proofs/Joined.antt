@@ -1,9 +1,8 @@
 -- The answers of the phases, joined.
-use Rattle.std.proofs.Common.{◌≡◌, List, Err, Some, sym, subst}
+use Rattle.std.proofs.Common.{◌≡◌, List, Err, sym, subst}
 use Rattle.f3_rules.specs.declared.source.Source.{Source}
 use Rattle.f3_rules.specs.declared.breaks.Break.{Break}
 use Rattle.f3_rules.specs.declared.refusal.Refusal.{Refusal}
-use Rattle.f3_rules.specs.Least.{Least}
 use Rattle.f3_text.specs.declared.statement.TextFault.{TextFault}
 use Rattle.f3_text.specs.declared.statement.TextFault.TheVariants as text_fault
 use Rattle.f3_tree.specs.Tree.{Tree}
@@ -11,7 +10,7 @@ use Rattle.f3_parse.specs.Spells.{Spells, PhaseOne, Parses}
 use Rattle.f3_graph.specs.declared.CheckFault.{CheckFault}
 use Rattle.f3_graph.specs.declared.CheckFault.TheVariants.{Refused, Memory}
 use Rattle.f3_graph.specs.Breaks.{UnitBreaks}
-use Rattle.f3_graph.specs.Order.{IsRefusal, Orders}
+use Rattle.f3_graph.specs.Order.{Orders}
 use Rattle.f3_names.specs.Answers.{BreaksOfNames, NamesAnswer}
 use Rattle.f3_types.specs.Breaks.{TypeBreaks}
 use Rattle.f3_types.specs.Answers.{TypesAnswer}

@@ -8,7 +8,9 @@ use Rattle.f3_graph.specs.Breaks.{UnitBreaks}
 use Rattle.f3_names.specs.declared.table.Names.{Names}
 use Rattle.f3_names.specs.Answers.{BreaksOfNames}
 use Rattle.f3_names.specs.Tables.{AreNames}
+use Rattle.f3_types.specs.declared.table.Types.{Types}
 use Rattle.f3_types.specs.Breaks.{TypeBreaks}
+use Rattle.f3_types.specs.Types.{AreTypes}
 
 -- the breaks of a program in phases 2 to 7
 pub data Breaks (t : Tree) (b : Break) : Type 0 where
@@ -21,6 +23,6 @@ pub record Accepted (sources : List Source) (t : Tree) : Type 0 where
   pub spelled : Spells t sources
   pub unbroken : (b : Break) → Breaks t b → ⊥
 
--- There are sources of which this is accepted, and these are its names.
-abbrev pub AreAccepted : Tree → Names → Type 0
-AreAccepted t names = (sources : List Source) × Accepted sources t × AreNames t names
+-- There are sources of which this is accepted, and these are its names and types.
+abbrev pub AreAccepted : Tree → Names → Types → Type 0
+AreAccepted t names types = (sources : List Source) × Accepted sources t × AreNames t names × AreTypes t types

@@ -12,9 +12,10 @@ use Rattle.f3_graph.specs.declared.CheckFault.{CheckFault}
 use Rattle.f3_graph.specs.declared.CheckFault.TheVariants.{Refused, Memory}
 use Rattle.f3_graph.specs.Order.{IsRefusal}
 use Rattle.f3_names.specs.Tables.{AreNames}
+use Rattle.f3_types.specs.Types.{AreTypes}
 use Rattle.f3_accepted.specs.declared.checked.Checked.{Checked}
 use Rattle.f3_accepted.specs.Accepted.{Breaks, Accepted}
-use Rattle.f3_accepted.specs.Checked.{program_of, names_of}
+use Rattle.f3_accepted.specs.Checked.{program_of, names_of, types_of}
 
 -- The first break is that of phase 1, where there is one; else the sources spell a program, and it is the least of its breaks.
 pub data First (sources : List Source) (refusal : Refusal) : Type 0 where
@@ -24,7 +25,8 @@ pub data First (sources : List Source) (refusal : Refusal) : Type 0 where
 -- what `check` answers
 abbrev pub Checks : Result Checked CheckFault → List Source → Type 0
 Checks (Ok checked) sources =
-    Accepted sources (view (program_of checked)) × AreNames (view (program_of checked)) (names_of checked) × ((refusal : Refusal) → First sources refusal → ⊥)
+    Accepted sources (view (program_of checked)) × AreNames (view (program_of checked)) (names_of checked)
+    × AreTypes (view (program_of checked)) (types_of checked) × ((refusal : Refusal) → First sources refusal → ⊥)
 Checks (Err (Refused refusal)) sources = First sources refusal × ((t : Tree) → Accepted sources t → ⊥)
 Checks (Err Memory) sources = Unit {0}
 

@@ -15,7 +15,7 @@ pub struct Checked {
     pub(crate) program: Program,
     pub(crate) names: Names,
     pub(crate) types: Types,
-    pub ghost are_accepted: { ∥ AreAccepted (view program) names ∥₁ },
+    pub ghost are_accepted: { ∥ AreAccepted (view program) names types ∥₁ },
 }
 
 impl Checked {
@@ -40,5 +40,10 @@ impl Checked {
         ensures { result.now ≡ types_of self.now }
     {
         &self.types
+    }
+
+    /// Gives back its memory: what a crate above need not prove again of all that is in it.
+    pub fn release(self) {
+        drop(self);
     }
 }

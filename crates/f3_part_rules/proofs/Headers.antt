@@ -1,14 +1,12 @@
 -- The header of a procedure.
-use Rattle.std.proofs.Common.{◌≡◌, ℕ, not, ◌++◌, List, [], Option, Some, None, map, refl, ap, sym, ◌∙◌}
-use Rattle.f3_rules.specs.declared.breaks.Break.{Break}
+use Rattle.std.proofs.Common.{◌≡◌, not, ◌++◌, [], Some, None, map, refl, ap, sym, ◌∙◌}
 use Rattle.f3_rules.specs.declared.rule.Rule.TheVariants.{T12}
-use Rattle.f3_scopes.specs.Outlines.{Scope}
 use Rattle.f3_scopes.specs.Scopes.{name_or}
 use Rattle.f3_tree.specs.declared.expression.Name.{Name}
 use Rattle.f3_tree.specs.declared.program.ProcedureKind.{ProcedureKind}
 use Rattle.f3_tree.specs.declared.program.ProcedureKind.TheVariants.{Subroutine, Function}
 use Rattle.f3_kinds.specs.Rows.{at_name, unless}
-use Rattle.f3_type_rules.specs.Declarations.{header_rows, specifier_rows, is_finalizable}
+use Rattle.f3_type_rules.specs.Declarations.{header_rows, is_finalizable}
 use Rattle.f3_type_rules.specs.Names.{type_of}
 use Rattle.f3_type_rules.specs.Scene.{Scene}
 use Rattle.f3_type_rules.specs.Walks.{Known, Spot}

@@ -2,5 +2,5 @@
 #![tactic(auto)]
 
 pub mod finalizers;
-pub mod specifications;
 pub mod members;
+pub mod specifications;

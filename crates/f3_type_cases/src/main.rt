@@ -31,7 +31,7 @@ fn answer(alloc: Global, case: &Case) -> Result<String, AllocError> {
     })?;
     match check(alloc, sources.as_slice()) {
         Ok(checked) => {
-            drop(checked);
+            checked.release();
             String::from_str(alloc, "accepted")
         }
         Err(CheckFault::Refused(refusal)) => told(alloc, &refusal),

@@ -1,22 +1,8 @@
 //! What is known of a program before its declarations are checked.
 
-ghost use Rattle.std.specs.Prelude.{◌≡◌, ◌<◌, ◌^◌, [], None, Some, map, length, IfOk, OnOk, string_bytes};
-ghost use Rattle.f3_access.specs.Access.{entities_of};
-ghost use Rattle.f3_scopes.specs.Scopes.{scopes_of};
-ghost use Rattle.f3_tree.specs.Tree.{view};
-ghost use Rattle.f3_names.specs.Tables.{AreNames};
-ghost use Rattle.f3_typed_parts.specs.Known.{nature_of};
-ghost use Rattle.f3_types.specs.Inner.Beginning.{KnowsNatures};
+ghost use Rattle.std.specs.Prelude.{◌≡◌, [], Some, map, IfOk};
 
-use f3_kinds::things::{Intrinsic, Thing};
-use f3_kinds::types::Scalar;
-use f3_names::table::Names;
-use f3_natures::intrinsics::{intrinsics, symbol_of};
-use f3_natures::names::Names as Namings;
-use f3_natures::natures::natures;
-use f3_scopes::outline::EntityKind;
 use f3_sites::site::Site;
-use f3_tree::program::Program;
 use f3_type_rules::definition::Holder;
 use f3_typed_parts::known::{Known, Position};
 use indexmap::IndexMap;
@@ -24,12 +10,10 @@ use std::alloc::{AllocError, Global};
 
 /// Where the bodies of a program begin, of which this is known.
 ///
-/// `AllocError` where memory runs out.
-pub fn site<'a>(
-    alloc: Global,
-    known: Known<'a>,
-    holders: &[Holder],
-) -> Result<Site<'a>, AllocError>
+/// # Errors
+///
+/// Where memory runs out.
+pub fn site<'a>(alloc: Global, known: Known<'a>, holders: &[Holder]) -> Result<Site<'a>, AllocError>
     ensures known { IfOk result (λ s. s.known ≡ known.entry) }
     ensures active { IfOk result (λ s. s.active.items ≡ []) }
     ensures holders { IfOk result (λ s. s.holders.items ≡ map Some holders.now) }

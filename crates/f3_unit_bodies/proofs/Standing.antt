@@ -1,5 +1,5 @@
 -- Where a site stands is no matter for what is known there.
-use Rattle.std.proofs.Common.{◌≡◌, ◌+◌, ◌++◌, ℕ, Bool, false, List, [], ◌∷◌, Option, Result, Ok, Err, OnOk, refl, sym, ap, subst, ◌∙◌, map}
+use Rattle.std.proofs.Common.{◌≡◌, ◌+◌, ℕ, Bool, false, List, [], ◌∷◌, Option, Result, Ok, Err, OnOk, refl, sym, ap, subst, ◌∙◌, map}
 use Rattle.f3_rules.specs.declared.breaks.Break.{Break}
 use Rattle.f3_tree.specs.declared.statement.Statement.{Statement}
 use Rattle.f3_tree.specs.Statements.{Block, block_of, statement_view}
@@ -10,7 +10,7 @@ use Rattle.f3_type_rules.specs.Definitions.{Site}
 use Rattle.f3_typed_parts.specs.Noted.{noted}
 use Rattle.f3_typed_parts.proofs.Noting.{noted_more}
 use Rattle.f3_associates.specs.Known.{IsSettled}
-use Rattle.f3_unit_bodies.specs.Bodies.{anywhere, width, widths, unit_width, unit_widths, is_pure_in, body_rows, procedure_rows, unit_rows, units_rows}
+use Rattle.f3_unit_bodies.specs.Bodies.{anywhere, width, is_pure_in, body_rows, procedure_rows, unit_rows}
 
 pub on_ok : {X E : Type 0} {P Q : Type 0} (r : Result X E) → (P → Q) → OnOk r P → OnOk r Q
 on_ok (Ok x) f h = f h

@@ -6,7 +6,7 @@ use Rattle.f3_tree.specs.Tree.{ProcedureTree, UnitTree}
 use Rattle.f3_type_rules.specs.Associates.{constructs_of_block}
 use Rattle.f3_natures.specs.Inner.Walk.{end_of, unit_end}
 use Rattle.f3_natures.proofs.Standing.{units_ends}
-use Rattle.f3_unit_bodies.specs.Bodies.{width, widths, unit_width, unit_widths}
+use Rattle.f3_unit_bodies.specs.Bodies.{widths, unit_width, unit_widths}
 
 end_widths : (n : ℕ) (ps : List ProcedureTree) → end_of n ps ≡ n + widths ps
 end_widths n [] = omega arith

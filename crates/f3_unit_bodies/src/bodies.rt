@@ -1,13 +1,12 @@
 //! The blocks of units and procedures.
 
-ghost use Rattle.std.specs.Prelude.{◌≡◌, ◌+◌, ◌<◌, ◌^◌, ◌||◌, map, OnOk, IfOk};
+ghost use Rattle.std.specs.Prelude.{◌≡◌, ◌+◌, ◌<◌, ◌^◌, map, OnOk, IfOk};
 ghost use Rattle.f3_tree.specs.Statements.{block_of, statement_view};
 ghost use Rattle.f3_tree.specs.Tree.{procedure_view, unit_view};
 ghost use Rattle.f3_type_rules.specs.Declarations.{is_function};
 ghost use Rattle.f3_typed_parts.specs.Noted.{noted};
 ghost use Rattle.f3_sites.specs.Sites.{site_of};
 ghost use Rattle.f3_associates.specs.Known.{IsSettled};
-ghost use Rattle.f3_associates.specs.Standing.{room_of};
 ghost use Rattle.f3_unit_bodies.specs.Bodies.{anywhere, width, widths, unit_width, unit_widths, body_rows, is_pure_in, procedure_rows, unit_rows, units_rows};
 
 use f3_bodies::blocks::block;
@@ -121,7 +120,9 @@ fn unit_bodies(
 
 /// Notes the first break of phases 6 and 7 of the bodies of all units, of which the first has this scope.
 ///
-/// `AllocError` where memory runs out: then the site is of no use any more.
+/// # Errors
+///
+/// Where memory runs out: then the site is of no use any more.
 pub fn bodies(
     alloc: Global,
     site: &mut Site<'_>,

@@ -9,10 +9,11 @@ use Rattle.f3_graph.specs.Order.{IsRefusal}
 use Rattle.f3_names.specs.declared.table.Names.{Names}
 use Rattle.f3_names.specs.Tables.{AreNames}
 use Rattle.f3_types.specs.declared.table.Types.{Types}
+use Rattle.f3_types.specs.Types.{AreTypes}
 use Rattle.f3_accepted.specs.Accepted.{Breaks}
 
 -- phases 2 to 7
 abbrev pub Named : Tree → Result (Names × Types) CheckFault → Type 0
-Named t (Ok found) = AreNames t found.0 × ((b : Break) → Breaks t b → ⊥)
+Named t (Ok found) = AreNames t found.0 × AreTypes t found.1 × ((b : Break) → Breaks t b → ⊥)
 Named t (Err (Refused refusal)) = (b : Break) × Least (Some b) (Breaks t) × IsRefusal t.names b refusal
 Named t (Err Memory) = Unit {0}

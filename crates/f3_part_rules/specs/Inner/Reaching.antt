@@ -12,7 +12,8 @@ use Rattle.f3_entities.specs.declared.growth.Growth.{Growth}
 use Rattle.f3_entities.specs.Growth.{Stands}
 
 -- what is noted of the rest makes the whole, and the end is what is known behind the rest
-pub record Reaches (s : Scene) (unit : ℕ) (scopes : List Scope) (g : Growth) (first : Option Break) (scope : ℕ) (rest : List ProcedureTree) (whole : Option Break) (end : Known) : Type 0 where
+pub record Reaches (s : Scene) (unit : ℕ) (scopes : List Scope) (g : Growth) (first : Option Break) (scope : ℕ)
+    (rest : List ProcedureTree) (whole : Option Break) (end : Known) : Type 0 where
   pub known : Known
   pub entity : ℕ
   pub stands : Stands s g known

@@ -1,5 +1,5 @@
 use Rattle.std.proofs.Common.{ap, ◌∙◌, subst}
-use Rattle.f3_tree.specs.Tree.{ProcedureTree, procedure_view}
+use Rattle.f3_tree.specs.Tree.{procedure_view}
 use Rattle.f3_typed_parts.specs.Noted.{noted}
 use Rattle.f3_type_rules.specs.Walks.{Spot}
 use Rattle.f3_entities.specs.Growth.{Stands}

@@ -1,4 +1,4 @@
-use Rattle.std.proofs.Common.{ℕ, ◌+◌, List, map, refl, arith, ◌∙◌, ap}
+use Rattle.std.proofs.Common.{List, map, refl, arith, ◌∙◌, ap}
 use Rattle.f3_tree.specs.declared.program.Unit.{Unit as ProgramUnit}
 use Rattle.f3_tree.specs.Tree.{unit_view}
 use Rattle.f3_typed_parts.specs.Noted.{noted}

@@ -1,4 +1,4 @@
-use Rattle.std.proofs.Common.{ℕ, ◌+◌, List, map, refl, arith, ◌∙◌}
+use Rattle.std.proofs.Common.{List, map, refl, arith, ◌∙◌}
 use Rattle.f3_tree.specs.declared.program.Procedure.{Procedure}
 use Rattle.f3_tree.specs.Tree.{procedure_view}
 use Rattle.f3_typed_parts.proofs.Noting.{noted_done}
@@ -21,7 +21,7 @@ loop-procedure-preserved c =
           c.args.list.now c.loop-procedure.procedure-index c.procedure-item.result c.loop-procedure.scope c.in_ok-scope.scope c.loop-procedure.first c.body.new.first _
           c.loop-procedure-test.true c.procedure-item.is
           (procedure_noted (site_of c.loop-procedure.site) s c.args.unit c.loop-procedure.scope c.is_pure.result c.procedure-item.result c.deref.result.now c.loop-procedure.first c.body.new.first
-              c.loop-procedure.invariant.site c.is_pure.ensures c.deref.ensures.value c.in_ok-scope.ensures.noted)
+          c.loop-procedure.invariant.site c.is_pure.ensures c.deref.ensures.value c.in_ok-scope.ensures.noted)
           m c.loop-procedure.invariant.noted;
       numbers = numbered (λ (p : Procedure). width (procedure_view p).body) (λ (ps : List Procedure). widths (map procedure_view ps)) (λ p ps. refl)
           c.args.list.now c.loop-procedure.procedure-index c.procedure-item.result c.loop-procedure.scope c.in_ok-scope.scope _ c.loop-procedure-test.true c.procedure-item.is m

@@ -2,7 +2,7 @@ use Rattle.std.proofs.Common.{◌≡◌, ◌+◌, map, drop}
 use Rattle.f3_tree.specs.Tree.{procedure_view}
 use Rattle.f3_typed_parts.specs.Noted.{noted}
 use Rattle.f3_sites.specs.Sites.{site_of}
-use Rattle.f3_unit_bodies.specs.Bodies.{anywhere, widths, unit_widths, procedure_rows, units_rows}
+use Rattle.f3_unit_bodies.specs.Bodies.{anywhere, widths, procedure_rows}
 use Rattle.f3_unit_bodies.proofs.bodies.procedures.Given as goal
 
 abbrev pub invariant-loop-procedure : goal.invariant-loop-procedure

@@ -1,5 +1,5 @@
 -- A site at which all is known that the scene of a program has.
-use Rattle.std.proofs.Common.{◌≡◌, ℕ, Bool, List, [], ◌∷◌, Option, None, Some, map, slice_get, nat_eq, reverse, refl, sym, ap, ◌∙◌}
+use Rattle.std.proofs.Common.{◌≡◌, ℕ, Bool, List, [], Option, None, Some, map, slice_get, nat_eq, reverse, refl, sym, ap, ◌∙◌}
 use Rattle.std.proofs.Math.Path.{fun_ext}
 use Rattle.std.specs.Map.{lookup}
 use Rattle.std.specs.Prelude.{option_map}
@@ -19,9 +19,6 @@ use Rattle.f3_sites.specs.declared.site.Chain.{Chain as Kept}
 use Rattle.f3_sites.specs.declared.site.Site.{Site as Place}
 use Rattle.f3_sites.specs.Sites.{site_of, chain_of}
 use Rattle.f3_unit_bodies.specs.Bodies.{placed}
-
-joined : {X : Type 0} → Option (Option X) → Option X
-joined o = map_or None (λ x. x) o
 
 abbrev made : (ℕ → ℕ → Lookup) → (ℕ → Option Intrinsic) → ℕ × ℕ → (ℕ → Option Nature) → (ℕ → Option Scalar) → List ℕ → (ℕ → Option Holder) → (ℕ → Chain) → (unit : ℕ) → (scope : ℕ) → Bool → Site
 made look intrinsic moving nature value active holder chain unit scope pure = record {

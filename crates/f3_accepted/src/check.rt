@@ -1,0 +1,65 @@
+//! The check of sources against all rules.
+
+ghost use Rattle.std.specs.Prelude.{◌≡◌};
+ghost use Rattle.f3_tree.specs.Tree.{view};
+ghost use Rattle.f3_accepted.specs.Refusals.{Checks, fault_of_text};
+ghost use Rattle.f3_accepted.specs.Inner.Phases.{Named};
+
+use crate::checked::Checked;
+use f3_graph::{CheckFault, order};
+use f3_names::table::Names;
+use f3_parse::parser::parse;
+use f3_rules::source::Source;
+use f3_text::statement::TextFault;
+use f3_tree::program::Program;
+use f3_types::table::Types;
+use f3_types::typed::typed;
+use std::alloc::Global;
+
+/// The program that the sources spell, where it breaks no rule; else the refusal of the first break of all phases. Memory
+/// where a growth of the host's memory was refused.
+pub fn check(alloc: Global, sources: &[Source]) -> Result<Checked, CheckFault>
+    ensures { Checks result sources.now }
+{
+    let program = match parse(alloc, sources) {
+        Ok(program) => program,
+        Err(fault) => return Err(of_text(fault)),
+    };
+    match named(alloc, &program) {
+        Ok((names, types)) => Ok(Checked {
+            program,
+            names,
+            types,
+        }),
+        Err(fault) => {
+            drop(program);
+            Err(fault)
+        }
+    }
+}
+
+/// What the names of a program mean and what its entities are, where it breaks no rule of phases 2 to 7; else the refusal
+/// of the first break.
+fn named(alloc: Global, program: &Program) -> Result<(Names, Types), CheckFault>
+    ensures { Named (view program.now) result }
+{
+    let order = order(alloc, program)?;
+    let names = f3_names::names(alloc, program, &order)?;
+    match typed(alloc, program, &order, &names) {
+        Ok(types) => Ok((names, types)),
+        Err(fault) => {
+            drop(names);
+            Err(fault)
+        }
+    }
+}
+
+/// A fault of the text, as one of the check.
+fn of_text(fault: TextFault) -> CheckFault
+    ensures { result ≡ fault_of_text fault }
+{
+    match fault {
+        TextFault::Refused(refusal) => CheckFault::Refused(refusal),
+        TextFault::Memory => CheckFault::Memory,
+    }
+}

@@ -1,0 +1,4 @@
+mod Entities
+mod Places
+mod Along
+mod Parts
