@@ -18,7 +18,7 @@ use Rattle.f3_run.specs.declared.end.End.TheVariants.{Done, Stopped, Error, Step
 use Rattle.f3_run.specs.Answers.{Answers, Refuses}
 use Rattle.f3_run.specs.Compiles.{Means}
 use Rattle.f3_command.specs.declared.report.Outcome.TheVariants.{Ended}
-use Rattle.f3_command.specs.Work.{Runs, Shows, Shown, outcome_of}
+use Rattle.f3_command.specs.Work.{AreAccepted, Runs, Shows, Shown, outcome_of}
 use Rattle.f3_command.specs.Reading.{IsOf, AreOf}
 
 pub on_ok : {T E : Type 0} {P Q : Type 0} (r : Result T E) → (P → Q) → OnOk r P → OnOk r Q
@@ -85,13 +85,13 @@ not_handed_on p steps a b c WriteFault h f = record { turns = h.turns; faulted =
 not_handed_on p steps a b c Memory h f = record { turns = 0; faulted = faulted_before (output (prints p 0 []).out) (faulted_on h f) }
 
 -- what runs answer, memory wanting among it
-pub runs_so : (sources : List Source) (steps : ℕ) (a b : State) (end : End) (p : Elaborated) → Means sources p → Answers p steps a b end → Runs sources steps a b (Ended end)
-runs_so sources steps a b Done p m h = (p, m, h)
-runs_so sources steps a b (Stopped code) p m h = (p, m, h)
-runs_so sources steps a b (Error error place) p m h = (p, m, h)
-runs_so sources steps a b StepLimit p m h = (p, m, h)
-runs_so sources steps a b WriteFault p m h = (p, m, h)
-runs_so sources steps a b Memory p m h = h
+pub runs_so : (sources : List Source) (steps : ℕ) (a b : State) (end : End) (p : Elaborated) → AreAccepted sources → Means sources p → Answers p steps a b end → Runs sources steps a b (Ended end)
+runs_so sources steps a b Done p are m h = (are, p, m, h)
+runs_so sources steps a b (Stopped code) p are m h = (are, p, m, h)
+runs_so sources steps a b (Error error place) p are m h = (are, p, m, h)
+runs_so sources steps a b StepLimit p are m h = (are, p, m, h)
+runs_so sources steps a b WriteFault p are m h = (are, p, m, h)
+runs_so sources steps a b Memory p are m h = h
 
 -- the table of names that is shown
 pub shows_so : (sources : List Source) (text : String Global) (a b : State) (end : End) → table.Answers (Ok text) sources → Shown a b (string_bytes text) end → Shows sources a b (Ended end)

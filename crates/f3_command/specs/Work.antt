@@ -1,17 +1,20 @@
 -- What f3 does with its files.
-use Rattle.std.specs.Prelude.{ℕ, List, [], Option, Ok, Err, Contains, String, string_bytes}
+use Rattle.std.specs.Prelude.{ℕ, List, [], Option, Result, Ok, Err, ◌⊎◌, Contains, String, string_bytes}
 use Rattle.std.specs.Global.{Global}
 use Rattle.f3_rules.specs.declared.source.Source.{Source}
+use Rattle.f3_rules.specs.declared.refusal.Refusal.{Refusal}
+use Rattle.f3_tree.specs.Tree.{Tree}
 use Rattle.f3_graph.specs.declared.CheckFault.{CheckFault}
 use Rattle.f3_graph.specs.declared.CheckFault.TheVariants as fault
 use Rattle.f3_name_table.specs.Answers as table
 use Rattle.f3_meaning.specs.declared.elaborated.Elaborated.{Elaborated}
 use Rattle.f3_output.specs.Output.{State, Wrote, Faulted}
-use Rattle.f3_run.specs.declared.compiled.Compiled.{Compiled}
 use Rattle.f3_run.specs.declared.end.End.{End}
 use Rattle.f3_run.specs.declared.end.End.TheVariants.{Done, WriteFault, Memory}
 use Rattle.f3_run.specs.Answers.{Answers}
-use Rattle.f3_run.specs.Compiles.{Compiles, Means, IsRefused}
+use Rattle.f3_run.specs.Compiles.{Means, IsRefused}
+use Rattle.f3_accepted.specs.Accepted.{Accepted}
+use Rattle.f3_accepted.specs.Refusals.{First}
 use Rattle.f3_command.specs.declared.report.Outcome.{Outcome}
 use Rattle.f3_command.specs.declared.report.Outcome.TheVariants.{Ended, Refused, Unreadable}
 use Rattle.f3_command.specs.declared.work.Task.{Task}
@@ -24,12 +27,29 @@ abbrev pub outcome_of : CheckFault → Outcome
 outcome_of (fault.Refused refusal) = Refused refusal
 outcome_of fault.Memory = Ended Memory
 
+-- Accepted: the sources spell a program that breaks no rule of the whole language.
+pub record AreAccepted (sources : List Source) : Type 0 where
+  pub tree : Tree
+  pub accepted : Accepted sources tree
+  pub never : (refusal : Refusal) → First sources refusal → ⊥
+
+-- A refusal is that of the first break of all rules, and the sources are not accepted.
+pub record AreRefused (sources : List Source) (refusal : Refusal) : Type 0 where
+  pub first : First sources refusal
+  pub never : (tree : Tree) → Accepted sources tree → ⊥
+
 -- the sources are accepted, or refused; or memory is wanting
 abbrev pub Checks : List Source → Outcome → Type 0
-Checks sources (Ended Done) = (compiled : Compiled) × Compiles sources (Ok compiled)
-Checks sources (Refused refusal) = IsRefused sources refusal
+Checks sources (Ended Done) = AreAccepted sources
+Checks sources (Refused refusal) = AreRefused sources refusal
 Checks sources (Ended Memory) = Unit {0}
 Checks sources outcome = ⊥
+
+-- what the check of the sources answers
+abbrev pub Accepts : List Source → Result Unit CheckFault → Type 0
+Accepts sources (Ok done) = AreAccepted sources
+Accepts sources (Err (fault.Refused refusal)) = AreRefused sources refusal
+Accepts sources (Err fault.Memory) = Unit {0}
 
 -- a text is written, or a front of it where the writer refuses
 abbrev pub Shown : State → State → List ℕ → End → Type 0
@@ -45,11 +65,15 @@ Shows sources old new (Refused refusal) = table.Answers (Err (fault.Refused refu
 Shows sources old new (Ended Memory) = Wrote old new []
 Shows sources old new outcome = ⊥
 
+-- refused as they break a rule, or accepted and refused since they are not run yet
+abbrev pub NotRun : List Source → Refusal → Type 0
+NotRun sources refusal = AreRefused sources refusal ⊎ (AreAccepted sources × IsRefused sources refusal)
+
 -- the answers of a run, of the steps that it may make; or the sources are refused
 abbrev pub Runs : List Source → ℕ → State → State → Outcome → Type 0
 Runs sources steps old new (Ended Memory) = Wrote old new []
-Runs sources steps old new (Ended end) = (p : Elaborated) × Means sources p × Answers p steps old new end
-Runs sources steps old new (Refused refusal) = IsRefused sources refusal × Wrote old new []
+Runs sources steps old new (Ended end) = AreAccepted sources × (p : Elaborated) × Means sources p × Answers p steps old new end
+Runs sources steps old new (Refused refusal) = NotRun sources refusal × Wrote old new []
 Runs sources steps old new (Unreadable name) = ⊥
 
 -- What becomes of a task, of the output before and now.

@@ -8,9 +8,13 @@ const STEPS: &str = "100000000";
 /// The words of a run's heap, where no option says more.
 const HEAP_WORDS: &str = "1048576";
 
+/// The version of f3, and the toolchain that proved it.
+const VERSION: &str = "0.1.0 (rattle-kit-13b, logic dac8208d650f15bf)";
+
 /// The command line of f3: `check FILE...`, `run [--steps N] [--heap WORDS] FILE...` and `names FILE...`.
 pub fn command<'a>(alloc: Global) -> Result<Command<'a>, AllocError> {
     let f3 = Command::new(alloc, "f3")
+        .version(VERSION)
         .about("Checks, compiles and runs libraries of Fortran modules")
         .subcommand_required(true);
     let f3 = with_subcommand(f3, check(alloc))?;

@@ -4,7 +4,7 @@ ghost use Rattle.std.specs.Prelude.{◌≡◌, ℕ, [], map, OnOk, OnErr};
 ghost use Rattle.f3_meaning.specs.declared.elaborated.Elaborated.{Elaborated};
 ghost use Rattle.f3_output.specs.Output.{State, state_of, Wrote, Faulted};
 ghost use Rattle.f3_run.specs.Answers.{Answers};
-ghost use Rattle.f3_command.specs.Work.{outcome_of, Checks, Shown, Shows, Runs, Works, Performs};
+ghost use Rattle.f3_command.specs.Work.{outcome_of, AreAccepted, Accepts, Checks, Shown, Shows, Runs, Works, Performs};
 
 use crate::files::{Opener, ReadFault, read_sources};
 use crate::report::{Outcome, finish};
@@ -12,7 +12,7 @@ use f3_graph::CheckFault;
 use f3_name_table::name_table;
 use f3_output::output::{Output, Refused};
 use f3_rules::source::Source;
-use f3_run::compile::{check_and_run, compile};
+use f3_run::compile::check_and_run;
 use f3_run::end::{End, Limits};
 use std::alloc::Global;
 use std::io::Write;
@@ -69,10 +69,19 @@ fn work<O: Write>(
 fn check(alloc: Global, sources: &[Source]) -> Outcome<'static>
     ensures { Checks sources.now result }
 {
-    match compile(alloc, sources) {
-        Ok(_compiled) => Outcome::Ended(End::Done),
+    match accept(alloc, sources) {
+        Ok(()) => Outcome::Ended(End::Done),
         Err(fault) => outcome(fault),
     }
+}
+
+/// Whether the sources break no rule.
+fn accept(alloc: Global, sources: &[Source]) -> Result<(), CheckFault>
+    ensures { Accepts sources.now result }
+{
+    let checked = f3_accepted::check::check(alloc, sources)?;
+    checked.release();
+    Ok(())
 }
 
 /// `f3 names`
@@ -92,6 +101,22 @@ fn run<O: Write>(
     limits: Limits,
     output: &mut Output<O>,
 ) -> Outcome<'static>
+    ensures { Runs sources.now limits.steps (state_of O.contents output.old) (state_of O.contents output.new) result }
+{
+    match accept(alloc, sources) {
+        Ok(()) => run_accepted(alloc, sources, limits, output),
+        Err(fault) => outcome(fault),
+    }
+}
+
+/// Runs sources that break no rule, where each of their statements is run.
+fn run_accepted<O: Write>(
+    alloc: Global,
+    sources: &[Source],
+    limits: Limits,
+    output: &mut Output<O>,
+) -> Outcome<'static>
+    requires { AreAccepted sources.now }
     ensures { Runs sources.now limits.steps (state_of O.contents output.old) (state_of O.contents output.new) result }
 {
     match check_and_run(alloc, sources, limits, output) {
