@@ -7,6 +7,7 @@ use Rattle.std.proofs.KnownBytes.{Appends-trans}
 use Rattle.f3_graph.specs.declared.CheckFault.{CheckFault}
 use Rattle.f3_graph.specs.declared.CheckFault.TheVariants as fault
 use Rattle.f3_name_table.specs.Answers as table
+use Rattle.f3_accepted.specs.Refusals.{Checks}
 use Rattle.f3_rules.specs.declared.source.Source.{Source}
 use Rattle.f3_meaning.specs.declared.elaborated.Elaborated.{Elaborated}
 use Rattle.f3_meaning.specs.Event.{output}
@@ -18,7 +19,7 @@ use Rattle.f3_run.specs.declared.end.End.TheVariants.{Done, Stopped, Error, Step
 use Rattle.f3_run.specs.Answers.{Answers, Refuses}
 use Rattle.f3_run.specs.Compiles.{Means}
 use Rattle.f3_command.specs.declared.report.Outcome.TheVariants.{Ended}
-use Rattle.f3_command.specs.Work.{AreAccepted, Runs, Shows, Shown, outcome_of}
+use Rattle.f3_command.specs.Work.{AreAccepted, Accepts, Runs, Shows, Shown, outcome_of}
 use Rattle.f3_command.specs.Reading.{IsOf, AreOf}
 
 pub on_ok : {T E : Type 0} {P Q : Type 0} (r : Result T E) → (P → Q) → OnOk r P → OnOk r Q
@@ -106,3 +107,8 @@ shows_so sources text a b Memory is w = absurd w
 pub fault_so : (sources : List Source) (s : State) (f : CheckFault) → table.Answers (Err f) sources → Shows sources s s (outcome_of f)
 fault_so sources s (fault.Refused refusal) is = (is, wrote_none)
 fault_so sources s fault.Memory is = wrote_none
+
+-- sources that the check refuses
+pub refused_so : (sources : List Source) (f : CheckFault) → Checks (Err f) sources → Accepts sources (Err f)
+refused_so sources (fault.Refused refusal) h = record { first = h.0; never = h.1 }
+refused_so sources fault.Memory h = tt
