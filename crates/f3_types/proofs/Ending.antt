@@ -33,7 +33,8 @@ use Rattle.f3_unit_bodies.proofs.Linking.{units_link}
 use Rattle.f3_unit_bodies.proofs.Widths.{unit_wide, units_wide}
 use Rattle.f3_types.specs.Breaks.{Means, TypeBreaks}
 use Rattle.f3_types.specs.Parts.{units_of, scene_in, declared_along, AreTypesOf}
-use Rattle.f3_types.specs.Inner.Scenes.{Knows, intrinsic_in}
+use Rattle.f3_types.specs.Inner.Rows.{part_rows, body_rows}
+use Rattle.f3_types.specs.Inner.Scenes.{Knows}
 use Rattle.f3_types.proofs.Begun.{IsBegun, begun}
 use Rattle.f3_types.proofs.One.{broken_here}
 
@@ -59,9 +60,9 @@ widths_fit t lt = let wide : unit_widths t.units ≡ length (scopes_of t) = unit
 
 -- ---- the breaks of the bodies
 
-pub bodies_noted : (t : Tree) (look : ℕ → ℕ → Lookup) (values : List (ℕ × Scalar)) (p : Place) → IsBegun (scene_in t look) values p
-    → units_rows (site_of p) 0 t.units ≡ flat_map (unit_breaks (scene_in t look) values) (units_of t)
-bodies_noted t look values p h = units_link (scene_in t look) values (site_of p) (begun (scene_in t look) values p h) (scopes_of t) unit_wide 0 t.units
+pub bodies_noted : (t : Tree) (look : ℕ → ℕ → Lookup) (order : List ℕ) (p : Place) → IsBegun (scene_in t look) (declared_along t look order).values p
+    → units_rows (site_of p) 0 t.units ≡ body_rows t look order
+bodies_noted t look order p h = units_link (scene_in t look) (declared_along t look order).values (site_of p) (begun (scene_in t look) (declared_along t look order).values p h) (scopes_of t) unit_wide 0 t.units
 
 -- ---- behind the bodies
 
@@ -99,9 +100,8 @@ unfolding noted
 all_noted bs cs first last one two = two ∙ ap (λ f. noted f cs) one ∙ noted_more None bs cs
 
 pub least_of_types : (t : Tree) (look : ℕ → ℕ → Lookup) (order : List ℕ) (first last : Option Break) → Means t look → IsOrderOf (nodes_of t) order
-    → first ≡ noted None (along (unit_rows (scene_in t look)) (unit_next (scene_in t look)) nothing_known (units_in (units_of t) order))
-    → last ≡ noted first (flat_map (unit_breaks (scene_in t look) (declared_along t look order).values) (units_of t)) → Least last (TypeBreaks t)
+    → first ≡ noted None (part_rows t look order) → last ≡ noted first (body_rows t look order) → Least last (TypeBreaks t)
 least_of_types t look order first last means ordered one two =
-    let is : last ≡ first_of (program_breaks t look order) = all_noted _ _ first last one two in
+    let is : last ≡ first_of (program_breaks t look order) = all_noted (part_rows t look order) (body_rows t look order) first last one two in
     subst (λ f. Least f (TypeBreaks t)) (sym is)
     (least_same (first_is_least (program_breaks t look order)) (λ b here. (look, order, means, ordered, here)) (broken_here t look order means ordered))

@@ -1,4 +1,4 @@
-//! What is known of a program before its declarations are checked.
+//! Where the bodies of a program begin.
 
 ghost use Rattle.std.specs.Prelude.{◌≡◌, [], Some, map, IfOk};
 

@@ -1,18 +1,15 @@
-//! What the specification parts of a program make known, and its bodies.
+//! What the specification parts of a program make known.
 
-ghost use Rattle.std.specs.Prelude.{◌≡◌, ◌++◌, ℕ, None, length, map, replicate, IfOk, OnOk};
-ghost use Rattle.std.specs.List.{flat_map};
+ghost use Rattle.std.specs.Prelude.{◌≡◌, None, length, replicate, IfOk, OnOk};
 ghost use Rattle.f3_tree.specs.Tree.{view};
 ghost use Rattle.f3_access.specs.Tables.{lookup_of};
 ghost use Rattle.f3_graph.specs.Order.{numbers_of};
 ghost use Rattle.f3_names.specs.Tables.{AreNames};
 ghost use Rattle.f3_typed_parts.specs.Noted.{noted};
-ghost use Rattle.f3_type_rules.specs.Declarations.{unit_rows, unit_next};
-ghost use Rattle.f3_type_rules.specs.Program.{nothing_known, units_in, unit_breaks};
-ghost use Rattle.f3_type_rules.specs.Walks.{along};
 ghost use Rattle.f3_declared.specs.Scenery.{scene_in as standing};
 ghost use Rattle.f3_extents.specs.Cells.{HasCells};
-ghost use Rattle.f3_types.specs.Parts.{units_of, scene_in, declared_along};
+ghost use Rattle.f3_types.specs.Parts.{scene_in, declared_along};
+ghost use Rattle.f3_types.specs.Inner.Rows.{part_rows};
 ghost use Rattle.f3_types.specs.Inner.Scenes.{Knows};
 
 use f3_declared::scenery::Scenery;
@@ -48,9 +45,9 @@ pub fn declare<'a>(
     requires names { AreNames (view program.now) names.now }
     requires scene { standing known scenery ≡ scene_in (view program.now) (lookup_of names.now.tables) }
     requires values { known.values.items ≡ replicate (length known.things.items) None }
-    ensures noted { let t = view program.now in let s = scene_in t (lookup_of names.now.tables) in OnOk result (first.new ≡ noted first.old (along (unit_rows s) (unit_next s) nothing_known (units_in (units_of t) (numbers_of order.now)))) }
+    ensures noted { OnOk result (first.new ≡ noted first.old (part_rows (view program.now) (lookup_of names.now.tables) (numbers_of order.now))) }
     ensures known { let t = view program.now in let look = lookup_of names.now.tables in IfOk result (λ d. Knows (scene_in t look) (declared_along t look (numbers_of order.now)).values d.known) }
-    ensures cells { let t = view program.now in IfOk result (λ d. HasCells d.cells.items (declared_along t (lookup_of names.now.tables) (numbers_of order.now))) }
+    ensures cells { IfOk result (λ d. HasCells d.cells.items (declared_along (view program.now) (lookup_of names.now.tables) (numbers_of order.now))) }
 {
     let firsts = firsts(alloc, names.outlines())?;
     let cells = vec![in alloc; None; known.things.len()]?;

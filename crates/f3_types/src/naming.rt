@@ -64,11 +64,7 @@ fn namings<'a>(
 }
 
 /// What each entity of a program is, and of types whether they are finalizable.
-fn things(
-    alloc: Global,
-    program: &Program,
-    namings: &Namings<'_>,
-) -> Result<Vec<Thing>, AllocError>
+fn things(alloc: Global, program: &Program, namings: &Namings<'_>) -> Result<Vec<Thing>, AllocError>
     requires scopes { length (scopes_of (view program.now)) < 2 ^ 64 }
     requires entities { length (entities_of (scopes_of (view program.now))) < 2 ^ 64 }
     requires distinct { HasDistinctParts (view program.now) }

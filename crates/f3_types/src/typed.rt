@@ -1,7 +1,6 @@
 //! What the entities of a program are.
 
 ghost use Rattle.std.specs.Prelude.{◌≡◌, ℕ, IfOk, OnOk};
-ghost use Rattle.std.specs.List.{flat_map};
 ghost use Rattle.f3_rules.specs.declared.breaks.Break.{Break};
 ghost use Rattle.f3_rules.specs.Least.{Least};
 ghost use Rattle.f3_tree.specs.Tree.{view};
@@ -10,12 +9,12 @@ ghost use Rattle.f3_graph.specs.Order.{IsOrder, numbers_of};
 ghost use Rattle.f3_names.specs.Answers.{BreaksOfNames};
 ghost use Rattle.f3_names.specs.Tables.{AreNames};
 ghost use Rattle.f3_typed_parts.specs.Noted.{noted};
-ghost use Rattle.f3_type_rules.specs.Program.{unit_breaks};
 ghost use Rattle.f3_extents.specs.Cells.{HasCells};
 ghost use Rattle.f3_types.specs.Answers.{TypesAnswer};
 ghost use Rattle.f3_types.specs.Breaks.{TypeBreaks};
-ghost use Rattle.f3_types.specs.Parts.{units_of, scene_in, declared_along};
+ghost use Rattle.f3_types.specs.Parts.{scene_in, declared_along};
 ghost use Rattle.f3_types.specs.Types.{AreTypes};
+ghost use Rattle.f3_types.specs.Inner.Rows.{body_rows};
 ghost use Rattle.f3_types.specs.Inner.Scenes.{Knows};
 
 use crate::beginning::site;
@@ -55,7 +54,7 @@ fn define(
     requires known { let t = view program.now in let look = lookup_of names.now.tables in Knows (scene_in t look) (declared_along t look (numbers_of order.now)).values declared.known }
     requires cells { HasCells declared.cells.items (declared_along (view program.now) (lookup_of names.now.tables) (numbers_of order.now)) }
     requires holders { holders.now ≡ (scene_in (view program.now) (lookup_of names.now.tables)).holders }
-    ensures noted { let t = view program.now in let look = lookup_of names.now.tables in OnOk result (first.new ≡ noted first.old (flat_map (unit_breaks (scene_in t look) (declared_along t look (numbers_of order.now)).values) (units_of t))) }
+    ensures noted { OnOk result (first.new ≡ noted first.old (body_rows (view program.now) (lookup_of names.now.tables) (numbers_of order.now))) }
     ensures types { IfOk result (λ types. AreTypes (view program.now) types) }
 {
     let Declared { known, cells } = declared;
@@ -94,9 +93,7 @@ fn examine(
     };
     let mut first = None;
     let declared = declare(alloc, program, order, names, scenery, known, &mut first)?;
-    let types = define(
-        alloc, program, order, names, &holders, declared, &mut first,
-    )?;
+    let types = define(alloc, program, order, names, &holders, declared, &mut first)?;
     Ok(Found { types, first })
 }
 

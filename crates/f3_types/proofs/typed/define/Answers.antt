@@ -37,7 +37,7 @@ returns c =
     record {
       noted = c.in_ok-bodies.ensures.noted
           ∙ ap (λ us. noted c.args.first.now (units_rows (site_of p) 0 us)) (ap (map unit_view) c.deref.ensures.value)
-          ∙ ap (noted c.args.first.now) (bodies_noted t look values p h);
+          ∙ ap (noted c.args.first.now) (bodies_noted t look order p h);
       types = typed t look order p c.bodies.new.site _ c.requires.names.tables.resolves c.requires.order h c.in_ok-bodies.ensures.site c.requires.cells;
     }
 
