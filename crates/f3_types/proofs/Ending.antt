@@ -1,30 +1,23 @@
 -- What is known behind the bodies of a program is what it was before them, and the breaks are the program's.
-use Rattle.std.proofs.Common.{◌≡◌, ℕ, zero, suc, ◌+◌, ◌<◌, ◌^◌, false, List, [], ◌∷◌, ◌++◌, Option, None, Some, IsSome, Contains, length, map, slice_get, refl, sym, ap, subst, ◌∙◌, arith, inl, inr}
-use Rattle.std.specs.Prelude.{nat_eq, option_map, ◌⊎◌, ◌≤◌}
-use Rattle.std.specs.List.{flat_map}
-use Rattle.std.specs.Map.{lookup}
-use Rattle.std.proofs.lemmas.Option.{slice_get-map, slice_get_cases}
+use Rattle.std.proofs.Common.{◌≡◌, ℕ, suc, ◌+◌, ◌<◌, ◌^◌, List, [], ◌∷◌, ◌++◌, Option, None, Some, length, map, slice_get, refl, sym, ap, subst, ◌∙◌, arith}
+use Rattle.std.proofs.lemmas.Option.{slice_get-map}
 use Rattle.f3_access.specs.declared.table.Lookup.{Lookup}
 use Rattle.f3_graph.specs.Order.{IsOrderOf}
 use Rattle.f3_graph.specs.Units.{nodes_of}
 use Rattle.f3_rules.specs.declared.breaks.Break.{Break}
-use Rattle.f3_rules.specs.Least.{earlier_of, first_of, Least}
+use Rattle.f3_rules.specs.Least.{first_of, Least}
 use Rattle.f3_rules.proofs.Firsts.{first_is_least, least_same}
-use Rattle.f3_scopes.specs.Scopes.{scopes_of, scopes_from}
-use Rattle.f3_tree.specs.Tree.{Tree, UnitTree}
+use Rattle.f3_scopes.specs.Scopes.{scopes_of}
+use Rattle.f3_tree.specs.Tree.{Tree}
 use Rattle.f3_kinds.specs.declared.types.Scalar.{Scalar}
-use Rattle.f3_kinds.specs.Things.{map_or, Nature}
 use Rattle.f3_typed_parts.specs.declared.known.Known.{Known}
 use Rattle.f3_typed_parts.specs.Known.{nature_of}
 use Rattle.f3_typed_parts.specs.Noted.{noted}
 use Rattle.f3_typed_parts.proofs.Noting.{noted_more}
 use Rattle.f3_type_rules.specs.declared.definition.Holder.{Holder}
 use Rattle.f3_type_rules.specs.Definitions.{Site}
-use Rattle.f3_type_rules.specs.Declarations.{unit_rows, unit_next}
-use Rattle.f3_type_rules.specs.Members.{units_from}
-use Rattle.f3_type_rules.specs.Program.{nothing_known, units_in, unit_breaks, program_breaks}
+use Rattle.f3_type_rules.specs.Program.{program_breaks}
 use Rattle.f3_type_rules.specs.Scene.{Scene}
-use Rattle.f3_type_rules.specs.Walks.{along}
 use Rattle.f3_sites.specs.declared.site.Site.{Site as Place}
 use Rattle.f3_sites.specs.Sites.{site_of}
 use Rattle.f3_extents.specs.Cells.{HasCells}
@@ -32,7 +25,7 @@ use Rattle.f3_unit_bodies.specs.Bodies.{anywhere, unit_widths, units_rows}
 use Rattle.f3_unit_bodies.proofs.Linking.{units_link}
 use Rattle.f3_unit_bodies.proofs.Widths.{unit_wide, units_wide}
 use Rattle.f3_types.specs.Breaks.{Means, TypeBreaks}
-use Rattle.f3_types.specs.Parts.{units_of, scene_in, declared_along, AreTypesOf}
+use Rattle.f3_types.specs.Parts.{scene_in, declared_along, AreTypesOf}
 use Rattle.f3_types.specs.Inner.Rows.{part_rows, body_rows}
 use Rattle.f3_types.specs.Inner.Scenes.{Knows}
 use Rattle.f3_types.proofs.Begun.{IsBegun, begun}

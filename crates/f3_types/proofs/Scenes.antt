@@ -1,26 +1,17 @@
 -- What is known of a program before its declarations is what its scene has.
-use Rattle.std.proofs.Common.{◌≡◌, ℕ, zero, suc, ◌<◌, ◌^◌, Bool, List, [], ◌∷◌, Option, None, length, map, slice_get, replicate, refl, sym, ap, ◌∙◌, arith}
-use Rattle.std.specs.Prelude.{codes}
+use Rattle.std.proofs.Common.{◌≡◌, ℕ, zero, suc, ◌<◌, ◌^◌, Bool, List, [], ◌∷◌, Option, None, length, slice_get, replicate, refl, ap, ◌∙◌, arith}
 use Rattle.std.specs.Global.{Vec}
-use Rattle.std.proofs.lemmas.List.{length-map, length-replicate}
 use Rattle.f3_access.specs.declared.table.Lookup.{Lookup}
-use Rattle.f3_access.specs.Access.{entities_of}
-use Rattle.f3_scopes.specs.declared.outline.EntityKind.{EntityKind}
-use Rattle.f3_scopes.specs.Outlines.{Own, Scope}
+use Rattle.f3_scopes.specs.Outlines.{Scope}
 use Rattle.f3_scopes.specs.Scopes.{scopes_of}
 use Rattle.f3_tree.specs.Tree.{Tree}
-use Rattle.f3_kinds.specs.declared.things.Intrinsic.{Intrinsic}
-use Rattle.f3_kinds.specs.declared.things.Thing.{Thing}
-use Rattle.f3_kinds.specs.declared.types.Scalar.{Scalar}
 use Rattle.f3_kinds.specs.Things.{map_or, Nature, constant, variable, derived, subroutine, function}
-use Rattle.f3_typed_parts.specs.Known.{nature_of}
 use Rattle.f3_type_rules.specs.declared.definition.Holder.{Holder}
 use Rattle.f3_type_rules.specs.Names.{Names}
 use Rattle.f3_type_rules.specs.Natures.{marked, rounds, settled}
-use Rattle.f3_type_rules.specs.Scene.{Scene, holders_from, intrinsic_of, names_of, symbol_of}
+use Rattle.f3_type_rules.specs.Scene.{Scene, holders_from, names_of}
 use Rattle.f3_natures.specs.Natures.{natures_of}
 use Rattle.f3_types.specs.Parts.{scene_in}
-use Rattle.f3_types.specs.Inner.Scenes.{intrinsic_in}
 
 -- ---- scenes
 

@@ -1,6 +1,5 @@
 -- What stands along the declarations of a program.
-use Rattle.std.proofs.Common.{◌≡◌, ◌<◌, ◌^◌, ℕ, List, [], ◌∷◌, Option, None, length, map, slice_get, replicate, refl, sym, ap, subst, ◌∙◌, arith}
-use Rattle.std.specs.Prelude.{nat_eq}
+use Rattle.std.proofs.Common.{◌≡◌, ◌<◌, ◌^◌, ℕ, List, [], Option, None, length, map, replicate, sym, ap, subst, ◌∙◌, arith}
 use Rattle.std.specs.Global.{Vec}
 use Rattle.std.specs.Vec.{vec_len}
 use Rattle.std.proofs.lemmas.List.{length-map, length-replicate}
@@ -13,7 +12,6 @@ use Rattle.f3_scopes.specs.Scopes.{scopes_of}
 use Rattle.f3_tree.specs.Tree.{UnitTree, Tree}
 use Rattle.f3_kinds.specs.declared.things.Thing.{Thing}
 use Rattle.f3_kinds.specs.declared.types.Scalar.{Scalar}
-use Rattle.f3_kinds.specs.Things.{Nature}
 use Rattle.f3_typed_parts.specs.declared.known.Known.{Known}
 use Rattle.f3_typed_parts.specs.Known.{nature_of}
 use Rattle.f3_type_rules.specs.Program.{nothing_known}

@@ -8,7 +8,6 @@ use Rattle.f3_scopes.specs.declared.outline.EntityKind.{EntityKind}
 use Rattle.f3_typed_parts.specs.declared.known.Known.{Known}
 use Rattle.f3_typed_parts.specs.Known.{nature_of}
 use Rattle.f3_type_rules.specs.declared.definition.Holder.{Holder}
-use Rattle.f3_type_rules.specs.Names.{Names}
 use Rattle.f3_type_rules.specs.Scene.{Scene}
 use Rattle.f3_entities.specs.Growth.{HasValues}
 

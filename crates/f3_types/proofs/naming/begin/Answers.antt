@@ -1,4 +1,4 @@
-use Rattle.std.proofs.Common.{◌≡◌, map, ◌∙◌}
+use Rattle.std.proofs.Common.{map, ◌∙◌}
 use Rattle.f3_access.specs.Tables.{lookup_of}
 use Rattle.f3_distinct_laws.proofs.Distinct.{parts_distinct}
 use Rattle.f3_natures.specs.Known.{names_view}

@@ -1,4 +1,4 @@
-use Rattle.std.proofs.Common.{◌≡◌, ◌+◌, ◌<◌, ◌^◌, map, sym, ap, subst, ◌∙◌}
+use Rattle.std.proofs.Common.{◌+◌, ◌<◌, ◌^◌, map, sym, ap, subst, ◌∙◌}
 use Rattle.f3_access.specs.Tables.{lookup_of}
 use Rattle.f3_graph.specs.Order.{numbers_of}
 use Rattle.f3_tree.specs.Tree.{unit_view, view}

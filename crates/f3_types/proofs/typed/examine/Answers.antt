@@ -1,4 +1,4 @@
-use Rattle.std.proofs.Common.{◌≡◌, ap, ◌∙◌}
+use Rattle.std.proofs.Common.{ap, ◌∙◌}
 use Rattle.f3_access.specs.Tables.{lookup_of}
 use Rattle.f3_graph.specs.Order.{numbers_of}
 use Rattle.f3_tree.specs.Tree.{view}
