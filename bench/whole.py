@@ -6,7 +6,8 @@ UNIT = '''module shapes_{u}
 {use}  implicit none
   private
   public :: box, area, grow, total  ! what others see
-  integer, parameter :: limit = 100, width(3) = [1, 2, {u}]
+  integer, parameter :: limit = 100
+  integer :: width(3) = [1, 2, {u}]
   integer, protected :: total = 0
   type box
     private
