@@ -4,7 +4,9 @@ use Rattle.f3_rules.specs.declared.source.Source.{Source}
 use Rattle.f3_rules.specs.declared.breaks.Break.{Break}
 use Rattle.f3_tree.specs.Tree.{Tree}
 use Rattle.f3_parse.specs.Spells.{Spells}
+use Rattle.f3_graph.specs.declared.UnitOrder.{UnitOrder}
 use Rattle.f3_graph.specs.Breaks.{UnitBreaks}
+use Rattle.f3_graph.specs.Order.{IsOrder}
 use Rattle.f3_names.specs.declared.table.Names.{Names}
 use Rattle.f3_names.specs.Answers.{BreaksOfNames}
 use Rattle.f3_names.specs.Tables.{AreNames}
@@ -23,6 +25,6 @@ pub record Accepted (sources : List Source) (t : Tree) : Type 0 where
   pub spelled : Spells t sources
   pub unbroken : (b : Break) → Breaks t b → ⊥
 
--- There are sources of which this is accepted, and these are its names and types.
-abbrev pub AreAccepted : Tree → Names → Types → Type 0
-AreAccepted t names types = (sources : List Source) × Accepted sources t × AreNames t names × AreTypes t types
+-- There are sources of which this is accepted, and these are an order of its units, its names and its types.
+abbrev pub AreAccepted : Tree → UnitOrder → Names → Types → Type 0
+AreAccepted t order names types = (sources : List Source) × Accepted sources t × IsOrder t order × AreNames t names × AreTypes t types

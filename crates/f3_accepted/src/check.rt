@@ -6,7 +6,7 @@ ghost use Rattle.f3_accepted.specs.Refusals.{Checks, fault_of_text};
 ghost use Rattle.f3_accepted.specs.Inner.Phases.{Named};
 
 use crate::checked::Checked;
-use f3_graph::{CheckFault, order};
+use f3_graph::{CheckFault, UnitOrder, order};
 use f3_names::table::Names;
 use f3_parse::parser::parse;
 use f3_rules::source::Source;
@@ -26,8 +26,9 @@ pub fn check(alloc: Global, sources: &[Source]) -> Result<Checked, CheckFault>
         Err(fault) => return Err(of_text(fault)),
     };
     match named(alloc, &program) {
-        Ok((names, types)) => Ok(Checked {
+        Ok((order, names, types)) => Ok(Checked {
             program,
+            order,
             names,
             types,
         }),
@@ -38,15 +39,15 @@ pub fn check(alloc: Global, sources: &[Source]) -> Result<Checked, CheckFault>
     }
 }
 
-/// What the names of a program mean and what its entities are, where it breaks no rule of phases 2 to 7; else the refusal
-/// of the first break.
-fn named(alloc: Global, program: &Program) -> Result<(Names, Types), CheckFault>
+/// The order of a program's units, what its names mean and what its entities are, where it breaks no rule of phases 2 to 7;
+/// else the refusal of the first break.
+fn named(alloc: Global, program: &Program) -> Result<(UnitOrder, Names, Types), CheckFault>
     ensures { Named (view program.now) result }
 {
     let order = order(alloc, program)?;
     let names = f3_names::names(alloc, program, &order)?;
     match typed(alloc, program, &order, &names) {
-        Ok(types) => Ok((names, types)),
+        Ok(types) => Ok((order, names, types)),
         Err(fault) => {
             drop(names);
             Err(fault)

@@ -4,28 +4,37 @@ ghost use Rattle.std.specs.Prelude.{◌≡◌};
 ghost use Rattle.f3_tree.specs.Tree.{view};
 ghost use Rattle.f3_accepted.specs.Accepted.{AreAccepted};
 
+use f3_graph::UnitOrder;
 use f3_names::table::Names;
 use f3_tree::program::Program;
 use f3_types::table::Types;
 
-/// Sources that break no rule: their tree, what its names mean, and what its entities are. There are sources of which it is
-/// accepted: only `check` makes one.
+/// Sources that break no rule: their tree, an order of its units, what its names mean, and what its entities are. There are
+/// sources of which it is accepted: only `check` makes one.
 #[derive(Drop)]
 pub struct Checked {
     pub(crate) program: Program,
+    pub(crate) order: UnitOrder,
     pub(crate) names: Names,
     pub(crate) types: Types,
-    pub ghost are_accepted: { ∥ AreAccepted (view program) names types ∥₁ },
+    pub ghost are_accepted: { ∥ AreAccepted (view program) order names types ∥₁ },
 }
 
 impl Checked {
-    ghost use Rattle.f3_accepted.specs.Checked.{program_of, names_of, types_of};
+    ghost use Rattle.f3_accepted.specs.Checked.{program_of, order_of, names_of, types_of};
 
     /// The tree.
     pub fn program(&self) -> &Program
         ensures { result.now ≡ program_of self.now }
     {
         &self.program
+    }
+
+    /// The units, in an order in which used modules come first.
+    pub fn order(&self) -> &UnitOrder
+        ensures { result.now ≡ order_of self.now }
+    {
+        &self.order
     }
 
     /// What the names mean.

@@ -317,7 +317,11 @@ impl BlockBuilder {
     {
         match self.constructs.pop() {
             None => None,
-            Some(construct) => Some((construct, mem::replace(&mut self.body, Vec::new(alloc)))),
+            Some(construct) => {
+                let mut block = mem::replace(&mut self.body, Vec::new(alloc));
+                block.shrink_to_fit();
+                Some((construct, block))
+            }
         }
     }
 

@@ -136,9 +136,11 @@ fn read_up_to<R: Read>(
             Err(_) => return Ok(None),
         };
         if n == 0 {
+            bytes.shrink_to_fit();
             return Ok(Some(bytes));
         }
         bytes.extend_from_slice(&buffer[..n])?;
     }
+    bytes.shrink_to_fit();
     Ok(Some(bytes))
 }

@@ -66,6 +66,7 @@ fn further(
         found.push(argument)?;
         rest = after;
     }
+    found.shrink_to_fit();
     Ok((found, rest))
 }
 

@@ -79,5 +79,6 @@ fn components(
         found.push(component)?;
         rest = after;
     }
+    found.shrink_to_fit();
     Ok((found, rest))
 }

@@ -75,6 +75,7 @@ fn operands(
         found.push((operator, operand))?;
         rest = after;
     }
+    found.shrink_to_fit();
     Ok((found, rest))
 }
 

@@ -100,5 +100,6 @@ fn elements(
         found.push(element)?;
         rest = after;
     }
+    found.shrink_to_fit();
     Ok((found, rest))
 }

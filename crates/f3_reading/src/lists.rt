@@ -29,7 +29,10 @@ pub fn list<'a, T: Drop, F: Fn(&'a [Item]) -> Result<(T, &'a [Item]), ReadError>
         found.push(one)?;
         match behind(Word::Comma, after) {
             Some(tail) => rest = tail,
-            None => return Ok((found, after)),
+            None => {
+                found.shrink_to_fit();
+                return Ok((found, after));
+            }
         }
     }
 }

@@ -1,11 +1,12 @@
--- What the phases behind the text answer: the names and types of a program that breaks none of their rules, or its first break.
+-- What the phases behind the text answer: the order, names and types of a program that breaks none of their rules, or its first break.
 use Rattle.std.specs.Prelude.{Result, Ok, Err, Some}
 use Rattle.f3_rules.specs.declared.breaks.Break.{Break}
 use Rattle.f3_rules.specs.Least.{Least}
 use Rattle.f3_tree.specs.Tree.{Tree}
 use Rattle.f3_graph.specs.declared.CheckFault.{CheckFault}
 use Rattle.f3_graph.specs.declared.CheckFault.TheVariants.{Refused, Memory}
-use Rattle.f3_graph.specs.Order.{IsRefusal}
+use Rattle.f3_graph.specs.declared.UnitOrder.{UnitOrder}
+use Rattle.f3_graph.specs.Order.{IsOrder, IsRefusal}
 use Rattle.f3_names.specs.declared.table.Names.{Names}
 use Rattle.f3_names.specs.Tables.{AreNames}
 use Rattle.f3_types.specs.declared.table.Types.{Types}
@@ -13,7 +14,7 @@ use Rattle.f3_types.specs.Types.{AreTypes}
 use Rattle.f3_accepted.specs.Accepted.{Breaks}
 
 -- phases 2 to 7
-abbrev pub Named : Tree → Result (Names × Types) CheckFault → Type 0
-Named t (Ok found) = AreNames t found.0 × AreTypes t found.1 × ((b : Break) → Breaks t b → ⊥)
+abbrev pub Named : Tree → Result (UnitOrder × Names × Types) CheckFault → Type 0
+Named t (Ok found) = IsOrder t found.0 × AreNames t found.1 × AreTypes t found.2 × ((b : Break) → Breaks t b → ⊥)
 Named t (Err (Refused refusal)) = (b : Break) × Least (Some b) (Breaks t) × IsRefusal t.names b refusal
 Named t (Err Memory) = Unit {0}

@@ -113,7 +113,7 @@ designators::components-loop-tail-preserved t c =
     rw (c.in_ok-push-2.ensures.items, map_push) more
 
 pub designators::components-returns-clause-read : goal.designators::components-returns-clause-read
-designators::components-returns-clause-read t c = listed_over is_percent (Separated IsPart) c.args.items.now c.loop-tail.rest.now _ _ c.loop-tail.invariant (starts_no_percent c.loop-tail.rest.now c.in_default.ensures)
+designators::components-returns-clause-read t c = rw c.shrink_to_fit.ensures.items (listed_over is_percent (Separated IsPart) c.args.items.now c.loop-tail.rest.now _ _ c.loop-tail.invariant (starts_no_percent c.loop-tail.rest.now c.in_default.ensures))
 
 pub designators::parts-returns-in_err-first-clause-read : goal.designators::parts-returns-in_err-first-clause-read
 designators::parts-returns-in_err-first-clause-read t c =
@@ -136,7 +136,7 @@ primaries::elements-loop-tail-preserved t c =
     rw (c.in_ok-push-2.ensures.items, map_push) more
 
 pub primaries::elements-returns-clause-read : goal.primaries::elements-returns-clause-read
-primaries::elements-returns-clause-read t c = listed_over is_comma (Separated EatsWhole) c.args.items.now c.loop-tail.rest.now _ _ c.loop-tail.invariant (starts_no_comma c.loop-tail.rest.now c.in_default.ensures)
+primaries::elements-returns-clause-read t c = rw c.shrink_to_fit.ensures.items (listed_over is_comma (Separated EatsWhole) c.args.items.now c.loop-tail.rest.now _ _ c.loop-tail.invariant (starts_no_comma c.loop-tail.rest.now c.in_default.ensures))
 
 pub arguments::further-returns-in_err-argument-clause-read : goal.arguments::further-returns-in_err-argument-clause-read
 arguments::further-returns-in_err-argument-clause-read t c =
@@ -151,7 +151,7 @@ arguments::further-loop-tail-preserved t c =
     rw (c.in_ok-push-2.ensures.items, map_push) more
 
 pub arguments::further-returns-clause-read : goal.arguments::further-returns-clause-read
-arguments::further-returns-clause-read t c = listed_over is_comma (Separated IsArgument) c.args.items.now c.loop-tail.rest.now _ _ c.loop-tail.invariant (starts_no_comma c.loop-tail.rest.now c.in_default.ensures)
+arguments::further-returns-clause-read t c = rw c.shrink_to_fit.ensures.items (listed_over is_comma (Separated IsArgument) c.args.items.now c.loop-tail.rest.now _ _ c.loop-tail.invariant (starts_no_comma c.loop-tail.rest.now c.in_default.ensures))
 
 pub primaries::group-returns-in_err-inner-clause-read : goal.primaries::group-returns-in_err-inner-clause-read
 primaries::group-returns-in_err-inner-clause-read t c =
@@ -199,7 +199,7 @@ expressions::operands-loop-operator-preserved t c =
     }
 
 pub expressions::operands-returns-clause-read : goal.expressions::operands-returns-clause-read
-expressions::operands-returns-clause-read t c = is_over (is_operator c.args.level) (IsOperand c.args.level) c.args.items.now c.loop-operator.rest.now _ c.loop-operator.invariant.so_far c.in_default.ensures
+expressions::operands-returns-clause-read t c = rw c.shrink_to_fit.ensures.items (is_over (is_operator c.args.level) (IsOperand c.args.level) c.args.items.now c.loop-operator.rest.now _ c.loop-operator.invariant.so_far c.in_default.ensures)
 
 pub expressions::operation-returns-in_err-first-clause-read : goal.expressions::operation-returns-in_err-first-clause-read
 expressions::operation-returns-in_err-first-clause-read t c =

@@ -9,19 +9,22 @@ pub invariant_of-result : goal.invariant_of-result
 invariant_of-result c = record {
   are_accepted = ∣ (
     c.args.sources.now,
-    accepted c.args.sources.now (view c.in-Ok.program) c.in-Ok.ensures.0 c.in-Ok.ensures.1 c.in-Ok-named.ensures.2,
+    accepted c.args.sources.now (view c.in-Ok.program) c.in-Ok.ensures.0 c.in-Ok.ensures.1 c.in-Ok-named.ensures.3,
     c.in-Ok-named.ensures.0,
     c.in-Ok-named.ensures.1,
+    c.in-Ok-named.ensures.2,
   ) ∣₁;
 }
 
 pub returns-in-Ok-named : goal.returns-in-Ok-named
-returns-in-Ok-named c = (
-  accepted c.args.sources.now (view c.in-Ok.program) c.in-Ok.ensures.0 c.in-Ok.ensures.1 c.in-Ok-named.ensures.2,
-  c.in-Ok-named.ensures.0,
-  c.in-Ok-named.ensures.1,
-  not_first c.args.sources.now (view c.in-Ok.program) c.in-Ok.ensures.0 c.in-Ok.ensures.1 c.in-Ok-named.ensures.2 c.in-Ok.ensures.2,
-)
+returns-in-Ok-named c = record {
+  accepted = accepted c.args.sources.now (view c.in-Ok.program) c.in-Ok.ensures.0 c.in-Ok.ensures.1 c.in-Ok-named.ensures.3;
+  only = c.in-Ok.ensures.1;
+  none_is_first = not_first c.args.sources.now (view c.in-Ok.program) c.in-Ok.ensures.0 c.in-Ok.ensures.1 c.in-Ok-named.ensures.3 c.in-Ok.ensures.2;
+  ordered = c.in-Ok-named.ensures.0;
+  named = c.in-Ok-named.ensures.1;
+  typed = c.in-Ok-named.ensures.2;
+}
 
 pub returns-in-Err-named : goal.returns-in-Err-named
 returns-in-Err-named c = program_refused c.args.sources.now (view c.in-Ok.program) c.in-Ok.ensures.0 c.in-Ok.ensures.1 c.in-Err-named.fault c.in-Err-named.ensures

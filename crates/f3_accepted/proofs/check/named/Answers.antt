@@ -15,6 +15,7 @@ returns-in_err-names c =
 
 pub returns-in-Ok : goal.returns-in-Ok
 returns-in-Ok c = (
+  c.in_ok-order.ensures.0,
   c.in_ok-names.ensures.0,
   c.in-Ok.ensures.0,
   nothing_broken (view c.args.program.now) c.in_ok-order.ensures.1 c.in_ok-names.ensures.1 c.in-Ok.ensures.1,

@@ -30,7 +30,7 @@ returns-in_err-one-clause-read g c =
 pub returns-in-None-clause-read : goal.returns-in-None-clause-read
 returns-in-None-clause-read g c =
     let said : FnReturnsAt g.F.Fn c.args.element c.elements.rest.now _ = record { shown = c.elements.rest; shows = refl; says = record { met = c.in_ok-one.ensures } } in
-    record { is = rw c.in_ok-push.ensures.items (over (FnReturnsAt g.F.Fn c.args.element) c.args.items.now c.elements.rest.now c.elements.found.items c.in_ok-one.one c.in_ok-one.after c.elements.invariant said c.in-None.ensures) }
+    record { is = rw (c.shrink_to_fit.ensures.items, c.in_ok-push.ensures.items) (over (FnReturnsAt g.F.Fn c.args.element) c.args.items.now c.elements.rest.now c.elements.found.items c.in_ok-one.one c.in_ok-one.after c.elements.invariant said c.in-None.ensures) }
 
 pub returns-in-None-clause-shorter : goal.returns-in-None-clause-shorter
 returns-in-None-clause-shorter g c =
