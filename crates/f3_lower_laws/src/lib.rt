@@ -1,0 +1,2 @@
+//! Later.
+#![tactic(auto)]
