@@ -1,3 +1,4 @@
 pub mod Runs
 pub mod Expressions
 pub mod Types
+pub mod Statements

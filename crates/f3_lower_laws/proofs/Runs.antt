@@ -6,7 +6,7 @@ use Rattle.f3_meaning_whole.specs.declared.run_error.RunError.{RunError}
 use Rattle.f3_meaning_whole.specs.Reference.{Reach, One, Many}
 use Rattle.f3_meaning_whole.specs.Ran.{Event, World, End, Gives, Fails, Stops, Beyond, Outcome, Ran, behind, go_on, after, ◌>>=◌, gives, each}
 use Rattle.f3_meaning_whole.specs.Eval.{by_reach}
-use Rattle.f3_meaning_whole.specs.Exec.{Flow, Onward, Cycled, Left, Returned, onward, unless_failed}
+use Rattle.f3_meaning_whole.specs.Exec.{Flow, Onward, Cycled, Left, Returned, onward, turns, counted, unless_failed}
 
 pub bind_same : {A B : Type 0} {m m' : Ran A} {f f' : A → Ran B} → m ≡ m' → ((x : A) → f x ≡ f' x) → (m >>= f) ≡ (m' >>= f')
 bind_same {A = A} {B = B} {m = m} {m' = m'} {f = f} {f' = f'} e h = ap (λ m. m >>= f) e ∙ ap (λ f. m' >>= f) (fun_ext h)
@@ -59,3 +59,9 @@ onward_same flow e = ap (λ r. onward flow r) e
 
 pub failed_same : (status : Option RunError) {x x' : Ran (Option RunError)} → x ≡ x' → unless_failed status x ≡ unless_failed status x'
 failed_same status e = ap (λ r. unless_failed status r) e
+
+pub turns_same : (n : ℕ) {test test' : Ran Bool} {body body' : Ran Flow} → test ≡ test' → body ≡ body' → turns n test body ≡ turns n test' body'
+turns_same n {test = test} {test' = test'} {body = body} {body' = body'} e h = ap (λ (t : Ran Bool). turns n t body) e ∙ ap (λ (b : Ran Flow). turns n test' b) h
+
+pub counted_same : (n k : ℕ) {body body' : Ran Flow} {next next' : Ran ⊤} → body ≡ body' → next ≡ next' → counted n k body next ≡ counted n k body' next'
+counted_same n k {body = body} {body' = body'} {next = next} {next' = next'} e h = ap (λ (b : Ran Flow). counted n k b next) e ∙ ap (λ (x : Ran ⊤). counted n k body' x) h
