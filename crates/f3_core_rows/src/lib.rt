@@ -1,2 +1,4 @@
-//! Later.
+//! Programs by their Core, and what they print.
 #![tactic(auto)]
+
+pub mod rows;

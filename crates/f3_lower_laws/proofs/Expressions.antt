@@ -1,5 +1,5 @@
 -- Expressions and designators mean the same where only types and variables are declared.
-use Rattle.std.proofs.Common.{◌≡◌, ℕ, Bool, true, false, List, [], ◌∷◌, Option, None, Some, refl, ap, if◌then◌else◌}
+use Rattle.std.proofs.Common.{◌≡◌, List, refl}
 use Rattle.f3_program.specs.declared.expression.Argument as a
 use Rattle.f3_program.specs.declared.expression.Designator as d
 use Rattle.f3_program.specs.declared.expression.Expression as e
@@ -10,7 +10,6 @@ use Rattle.f3_program.specs.declared.expression.Subscript as u
 use Rattle.f3_program.specs.declared.program.Program.{Program}
 use Rattle.f3_meaning_whole.specs.Value.{Span}
 use Rattle.f3_meaning_whole.specs.Reference.{Reference}
-use Rattle.f3_meaning_whole.specs.Ran.{Ran, ◌>>=◌}
 use Rattle.f3_meaning_whole.specs.Act.{Here, Calls, named}
 use Rattle.f3_meaning_whole.specs.Eval.{value, bounds, argument, arguments, locate, select, select_in_each, chosen, subscript}
 use Rattle.f3_meaning_whole.specs.Run.{setting_of}

@@ -1,12 +1,12 @@
 -- Parts of runs that are the same.
-use Rattle.std.proofs.Common.{◌≡◌, ℕ, zero, suc, Bool, true, false, List, [], ◌∷◌, ◌++◌, Option, None, Some, refl, ap, ◌∙◌, append_assoc, if◌then◌else◌}
+use Rattle.std.proofs.Common.{◌≡◌, ℕ, Bool, true, false, List, ◌++◌, Option, refl, ap, ◌∙◌, append_assoc, if◌then◌else◌}
 use Rattle.std.specs.Prelude.{⊤}
 use Rattle.std.proofs.Math.Path.{fun_ext}
 use Rattle.f3_meaning_whole.specs.declared.run_error.RunError.{RunError}
 use Rattle.f3_meaning_whole.specs.Reference.{Reach, One, Many}
 use Rattle.f3_meaning_whole.specs.Ran.{Event, World, End, Gives, Fails, Stops, Beyond, Outcome, Ran, behind, go_on, after, ◌>>=◌, gives, each}
 use Rattle.f3_meaning_whole.specs.Eval.{by_reach}
-use Rattle.f3_meaning_whole.specs.Exec.{Flow, Onward, Cycled, Left, Returned, onward, turns, counted, unless_failed}
+use Rattle.f3_meaning_whole.specs.Exec.{Flow, onward, turns, counted, unless_failed}
 
 pub bind_same : {A B : Type 0} {m m' : Ran A} {f f' : A → Ran B} → m ≡ m' → ((x : A) → f x ≡ f' x) → (m >>= f) ≡ (m' >>= f')
 bind_same {A = A} {B = B} {m = m} {m' = m'} {f = f} {f' = f'} e h = ap (λ m. m >>= f) e ∙ ap (λ f. m' >>= f) (fun_ext h)

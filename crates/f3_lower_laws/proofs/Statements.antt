@@ -1,6 +1,6 @@
 -- The Core of statements and procedures does what they mean.
-use Rattle.std.proofs.Common.{◌≡◌, ℕ, zero, suc, ◌+◌, ℤ, Bool, true, false, List, [], ◌∷◌, ◌++◌, length, Option, None, Some, refl, sym, ap, ◌∙◌, arith, append-nil, if◌then◌else◌}
-use Rattle.std.specs.Prelude.{⊤, nat_eq, slice_get, map, not, ◌||◌}
+use Rattle.std.proofs.Common.{◌≡◌, ℕ, suc, ◌+◌, ℤ, Bool, true, false, List, [], ◌∷◌, ◌++◌, length, Option, None, Some, refl, sym, ap, ◌∙◌, arith, append-nil, if◌then◌else◌}
+use Rattle.std.specs.Prelude.{nat_eq, slice_get, map, not, ◌||◌}
 use Rattle.f3_program.specs.declared.declarations.Base.{Base}
 use Rattle.f3_program.specs.declared.declarations.Declared.{Declared}
 use Rattle.f3_program.specs.declared.declarations.Kind.{Kind}
@@ -22,7 +22,7 @@ use Rattle.f3_meaning_whole.specs.Value.{Value, Number, Truth, Composite, Array,
 use Rattle.f3_meaning_whole.specs.Store.{Local, get}
 use Rattle.f3_meaning_whole.specs.Reference.{Define, Reference, spans, is_pinned}
 use Rattle.f3_meaning_whole.specs.declared.run_error.RunError.{RunError}
-use Rattle.f3_meaning_whole.specs.Ran.{Ran, ◌>>=◌, gives, fails, looks}
+use Rattle.f3_meaning_whole.specs.Ran.{◌>>=◌, gives, fails, looks}
 use Rattle.f3_meaning_whole.specs.Shape.{shape_in, shapes_of}
 use Rattle.f3_meaning_whole.specs.Act.{Here, Passed, Calls, begins, leave, at, lending, contents, to_root, type_of, whole, set, passed_at}
 use Rattle.f3_meaning_whole.specs.Run.{setting_of}
