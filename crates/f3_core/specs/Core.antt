@@ -106,7 +106,8 @@ pub record Procedure : Type 0 where
   -- the number of a function's result among the variables
   pub result : Option ℕ
 
--- A program (2.2.1): types and variables as they are declared, which expressions look up; of each type its routine, the newest type first; the values with which variables begin that live for the whole run.
+-- A program (2.2.1): types and variables as they are declared, which expressions look up; of each type its routine, the
+-- newest type first; the values with which variables begin that live for the whole run.
 pub record Program : Type 0 where
   pub types : Vec Derived Global
   pub statics : Vec Static Global

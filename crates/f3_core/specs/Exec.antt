@@ -8,9 +8,11 @@ use Rattle.f3_meaning_whole.specs.declared.run_error.RunError.{RunError}
 use Rattle.f3_meaning_whole.specs.declared.run_error.RunError.TheVariants.{NotAllocated, AlreadyAllocated, HeapHasNoRoom, ShapesDiffer, InUse, ArrayTooLarge}
 use Rattle.f3_meaning_whole.specs.Ran.{Ran, ◌>>=◌, gives, fails, stops, looks}
 use Rattle.f3_meaning_whole.specs.Arithmetic.{converted, trips}
-use Rattle.f3_meaning_whole.specs.Act.{Setting, Here, Passed, Given, Lent, Calls, set, begins, enter, leave, claim, claim_for, at, lending, selecting, associating, whole, named, contents, passed_at}
+use Rattle.f3_meaning_whole.specs.Act.{Setting, Here, Passed, Given, Lent, Calls, set, begins, enter, leave, claim, claim_for, at, lending, selecting}
+use Rattle.f3_meaning_whole.specs.Act.{associating, whole, named, contents, passed_at}
 use Rattle.f3_meaning_whole.specs.Eval.{value, locate}
-use Rattle.f3_meaning_whole.specs.Exec.{Flow, Onward, Cycled, Left, Returned, onward, turns, unless_zero, counted, vacant, request, too_many, held, dummies, Association, Holds, Means, held_by, associates, left_at, unless_failed}
+use Rattle.f3_meaning_whole.specs.Exec.{Flow, Onward, Cycled, Left, Returned, onward, turns, unless_zero, counted, vacant, request, too_many, held}
+use Rattle.f3_meaning_whole.specs.Exec.{dummies, Association, Holds, Means, held_by, associates, left_at, unless_failed}
 use Rattle.f3_meaning_whole.specs.Exec as meaning
 use Rattle.f3_core.specs.Work.{Work, work, routines_of, work_each}
 use Rattle.f3_core.specs.Core as c
@@ -48,7 +50,8 @@ module _ (g : Setting) (n : ℕ) (types : List Work) (calls : Calls) where
   -- the value goes to the variable
   abbrev pub transfer : c.Transfer → Reference → Value → Here → Ran ⊤
   transfer (c.Conforming x) r v here = if conforms (spans r.reach) v then transfer x r v here else fails ShapesDiffer here.place
-  transfer (c.By_state x y z) r v here = looks (λ store. get store r.path) >>= λ old. by_state old v (transfer x r v here) (transfer y r v here) (transfer z r v here)
+  transfer (c.By_state x y z) r v here = looks (λ store. get store r.path) >>=
+      λ old. by_state old v (transfer x r v here) (transfer y r v here) (transfer z r v here)
   transfer (c.Of_rank rank x) r v here = if nat_eq rank (length (spans_of v)) then transfer x r v here else fails NotAllocated here.place
   transfer (c.Behind x y) r v here = do
     done ← works x r here

@@ -37,7 +37,8 @@ abbrev pub final_work : List Final → w.Work
 final_work [] = w.Rest
 final_work (f ∷ fs) = w.Of_rank f.rank (w.Final f.procedure) (final_work fs)
 
--- An object is destroyed (4.5.5.1), lent throughout: the final subroutine, the routine of the type on each element, and at the end what has been allocated again beneath is freed. Only types of lower numbers have routines.
+-- An object is destroyed (4.5.5.1), lent throughout: the final subroutine, the routine of the type on each element, and at
+-- the end what has been allocated again beneath is freed. Only types of lower numbers have routines.
 abbrev pub object_work : List Derived → ℕ → Base → w.Work
 object_work types m base.Integer = w.Rest
 object_work types m base.Long = w.Rest
@@ -94,7 +95,8 @@ module _ (g : Setting) where
 
   -- an assignment, to a whole allocatable with allocation (own rule)
   abbrev pub assigning : Kind → c.Transfer
-  assigning k = if k.is_allocatable then c.By_state (c.In_contents (overwriting k)) (c.Behind (w.Of_contents (destroy_work k.of)) (filling k)) (c.Of_rank k.rank (filling k))
+  assigning k = if k.is_allocatable
+      then c.By_state (c.In_contents (overwriting k)) (c.Behind (w.Of_contents (destroy_work k.of)) (filling k)) (c.Of_rank k.rank (filling k))
       else c.Conforming (overwriting k)
 
   -- ---- statements

@@ -57,7 +57,8 @@ core_here p = record { place = p.start; unit = p.main.unit; level = 0; variables
 abbrev pub core_world : Program → (ℕ → Bool) → World
 core_world p answers = record { store = record { statics = p.initial; levels = [] }; answers = answers }
 
--- the run of a program in which at most so many procedures are active, where each execution of a loop makes at most `n` turns, and the heap answers its requests so
+-- the run of a program in which at most so many procedures are active, where each execution of a loop makes at most `n`
+-- turns, and the heap answers its requests so
 unfoldable pub core_runs : ℕ → Program → ℕ → (ℕ → Bool) → Outcome ⊤
 core_runs depth p n answers = (core_main p n (core_calls depth p n) (core_here p)).from (core_world p answers)
 

@@ -18,7 +18,8 @@ behind_twice : {A B : Type 0} (front : List Event) (r : Outcome A) (f : A → Ra
 behind_twice {A = A} {B = B} front r f = by_end r.end
   where
     by_end : (end : End A) → go_on (front ++ r.out) end f ≡ behind front (go_on r.out end f)
-    by_end (Gives x w) = let P : List Event → Outcome B = λ l. record { out = l; end = ((f x).from w).end } in ap P (append_assoc front r.out ((f x).from w).out)
+    by_end (Gives x w) = let P : List Event →
+        Outcome B = λ l. record { out = l; end = ((f x).from w).end } in ap P (append_assoc front r.out ((f x).from w).out)
     by_end (Fails error place) = refl
     by_end (Stops code) = refl
     by_end Beyond = refl
@@ -61,7 +62,9 @@ pub failed_same : (status : Option RunError) {x x' : Ran (Option RunError)} → 
 failed_same status e = ap (λ r. unless_failed status r) e
 
 pub turns_same : (n : ℕ) {test test' : Ran Bool} {body body' : Ran Flow} → test ≡ test' → body ≡ body' → turns n test body ≡ turns n test' body'
-turns_same n {test = test} {test' = test'} {body = body} {body' = body'} e h = ap (λ (t : Ran Bool). turns n t body) e ∙ ap (λ (b : Ran Flow). turns n test' b) h
+turns_same n {test = test} {test' = test'} {body = body} {body' = body'} e h = ap (λ (t : Ran Bool). turns n t body) e
+    ∙ ap (λ (b : Ran Flow). turns n test' b) h
 
 pub counted_same : (n k : ℕ) {body body' : Ran Flow} {next next' : Ran ⊤} → body ≡ body' → next ≡ next' → counted n k body next ≡ counted n k body' next'
-counted_same n k {body = body} {body' = body'} {next = next} {next' = next'} e h = ap (λ (b : Ran Flow). counted n k b next) e ∙ ap (λ (x : Ran ⊤). counted n k body' x) h
+counted_same n k {body = body} {body' = body'} {next = next} {next' = next'} e h = ap (λ (b : Ran Flow). counted n k b next) e
+    ∙ ap (λ (x : Ran ⊤). counted n k body' x) h
