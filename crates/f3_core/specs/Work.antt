@@ -33,7 +33,8 @@ pub data Work : Type 0 where
   Clear : Work
   -- the object takes a value, an array one for each element
   Set : Value → Work
-  -- what a held value has allocated is freed, without final subroutines (own rule): its level ends next, and so nothing of this shows in the store
+  -- what a held value has allocated is freed, without final subroutines (own rule): nothing of this shows in the store, since
+  -- the value ends with its level
   Discard : Work
 
 -- what the routine of a type does to an object of it

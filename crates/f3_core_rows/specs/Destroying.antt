@@ -37,12 +37,12 @@ finals_of_sections_shows h = shown (core_run_of (lowered_program (corner_finals_
     ≡ record { bytes = lines (codes " a 2 1 2" ∷ codes " 3 3 3 3 3 3" ∷ codes " s 0 F" ∷ codes " 3 3 3 9 3 3" ∷ codes " a 3 3 3 3" ∷
     codes " s 4 T" ∷ codes " a 2 6 0" ∷ codes " 2 0 6" ∷ codes " a 2 0 6" ∷ []); verdict = Finished }
 
--- an assignment of another shape reallocates
+-- an assignment of another shape to what is lent
 abbrev pub other_shape_shows : Global → Type 0
 other_shape_shows h = shown (core_run_of (lowered_program (heap_04_other_shape h)) 2000 granted)
     ≡ record { bytes = lines []; verdict = Failed 9 2 47 }
 
--- an assignment of the same shape does not
+-- an assignment of the same shape to what is lent
 abbrev pub same_shape_shows : Global → Type 0
 same_shape_shows h = shown (core_run_of (lowered_program (heap_04_same_shape h)) 2000 granted)
     ≡ record { bytes = lines (codes " 1" ∷ []); verdict = Finished }
