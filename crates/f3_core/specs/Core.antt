@@ -28,7 +28,7 @@ pub data Transfer : Type 0 where
   Behind : Work → Transfer → Transfer
   -- the variable is allocated with the bounds of the value, and each element has this value for a moment
   New : (rank : ℕ) → Value → Transfer → Transfer
-  -- the variable's contents are meant
+  -- the variable's contents are meant (6.3.1.1)
   In_contents : Transfer → Transfer
   -- the variable takes the value, converted to a type, and storage for it
   Take : Base → Transfer
@@ -52,9 +52,11 @@ pub data Selector : Type 0 where
   Bind : Designator → Selector
   Hold : Base → Expression → (at_end : Work) → Selector
 
+-- An executable statement or a construct (2.3.1).
 pub data Core : Type 0 where
-  -- an action or a construct at a place, or, where the flag is false, an ELSE IF there
+  -- an action or a construct at a place, or, where the flag is false, an ELSE IF there (2.3.1, 8.1.2)
   At : Place → Bool → Core → Core
+  -- nothing (8.3)
   Skip : Core
   -- the one, then the other (8.1.1)
   Then : Core → Core → Core
@@ -79,7 +81,7 @@ pub data Core : Type 0 where
   If : Expression → Core → Core → Core
   -- a SELECT CASE (8.1.3): its value, and its cases
   Select : Expression → Core → Core
-  -- what is done where the value of the SELECT CASE around it is in a range, and where not
+  -- what is done where the value of the SELECT CASE around it is in a range, and where not (8.1.3)
   Case : List Range → Core → Core → Core
   -- a DO WHILE (8.1.6)
   While : Expression → Core → Core
@@ -94,16 +96,16 @@ pub record Procedure : Type 0 where
   pub dummies : List Dummy
   -- the work on each dummy as the procedure begins: what INTENT(OUT) asks for (12.4.1.7)
   pub begin : List Work
-  -- what is declared of the variables, the result behind the others, and the values with which they begin
+  -- what is declared of the variables, the result behind the others, and the values with which they begin (5.1, 16.5)
   pub variables : List Declared
   pub initial : List Value
   pub body : Core
   pub end : Place
   -- the work on each variable at a RETURN or END, in order (4.5.5.2, 6.3.3.1)
   pub finish : List Work
-  -- the work at the end on each dummy whose argument is a held value
+  -- the work at the end on each dummy whose argument is a held value (own rule for 12.4.1.2)
   pub discard : List Work
-  -- the number of a function's result among the variables
+  -- the number of a function's result among the variables (12.5.2.1)
   pub result : Option ℕ
 
 -- A program (2.2.1): types and variables as they are declared, which expressions look up; of each type its routine, the

@@ -24,30 +24,32 @@ allocate rank element h ss here = do
   if already then gives (Some AlreadyAllocated) else (if too_many ss || nat_lt 16777216 (count ss) then gives (Some ArrayTooLarge)
       else (request >>= λ refused. if refused then gives (Some HeapHasNoRoom) else (set h (Allocated (vacant rank ss element)) here >>= λ done. gives None)))
 
--- by the state of an allocatable variable and the shape of a value
+-- by the state of an allocatable variable and the shape of a value (own rule for 7.4.1.3)
 abbrev pub by_state : {A : Type 0} → Value → Value → A → A → A → A
 by_state (Allocated old) v same other unallocated = if conforms (spans_of old) v then same else other
 by_state old v same other unallocated = unallocated
 
+-- whether an argument is a value that is held (12.4.1.2)
 abbrev pub is_held : Option Passed → Bool
 is_held None = false
 is_held (Some (Given k v)) = true
 is_held (Some (Lent k r)) = false
 
--- the value of a function's result, by its number on the level of the activation, and some value of a subroutine
+-- the value of a function's result, by its number on the level of the activation, and some value of a subroutine (12.5.2.1)
 abbrev pub result_at : Option ℕ → ℕ → Store → Value
 result_at None level store = Truth false
 result_at (Some i) level store = get store (whole (Local level i))
 
 module _ (g : Setting) (n : ℕ) (types : List Work) (calls : Calls) where
-  -- the work on an object, with the routines of the program's types
+  -- the work on an object, with the routines of the program's types (4.5.5.1, 6.3.3)
   abbrev pub works : Work → Reference → Here → Ran ⊤
   works x r here = work g calls (routines_of g calls types) x r here
 
+  -- so on each of a list of objects
   abbrev pub works_each : List Work → List Reference → Here → Ran ⊤
   works_each xs rs here = work_each g calls (routines_of g calls types) xs rs here
 
-  -- the value goes to the variable
+  -- the value goes to the variable (7.4.1.3)
   abbrev pub transfer : c.Transfer → Reference → Value → Here → Ran ⊤
   transfer (c.Conforming x) r v here = if conforms (spans r.reach) v then transfer x r v here else fails ShapesDiffer here.place
   transfer (c.By_state x y z) r v here = looks (λ store. get store r.path) >>=
@@ -100,6 +102,7 @@ module _ (g : Setting) (n : ℕ) (types : List Work) (calls : Calls) where
     v ← looks (λ store. get store from.path)
     meaning.take_over g n calls from to v (lending (from ∷ to ∷ []) here)
 
+  -- an object that is bound, or a value that is held (8.1.4.3)
   abbrev pub selectors : List c.Selector → Here → Ran (List Association)
   selectors [] here = gives []
   selectors (c.Bind d ∷ xs) here = do
@@ -112,7 +115,7 @@ module _ (g : Setting) (n : ℕ) (types : List Work) (calls : Calls) where
     found ← selectors xs here
     gives (Holds of v ∷ found)
 
-  -- held selectors go, in order
+  -- held selectors go, in order (own rule)
   abbrev pub discard_selectors : List c.Selector → List Reference → Here → Ran ⊤
   discard_selectors (c.Bind d ∷ xs) (r ∷ rs) here = discard_selectors xs rs here
   discard_selectors (c.Hold of e at_end ∷ xs) (r ∷ rs) here = do
@@ -120,6 +123,7 @@ module _ (g : Setting) (n : ℕ) (types : List Work) (calls : Calls) where
     discard_selectors xs rs here
   discard_selectors xs rs here = gives tt
 
+  -- what a statement does, by its form, with the clauses of Core
   abbrev pub exec : c.Core → Here → Ran Flow
   exec (c.At place true x) here = do
     done ← begins (at place here)
@@ -190,7 +194,7 @@ module _ (g : Setting) (n : ℕ) (types : List Work) (calls : Calls) where
     done ← leave level
     gives flow
 
-  -- the work on the variables of an activation, by their numbers from one on
+  -- the work on the variables of an activation, by their numbers from one on (4.5.5.2, 6.3.3.1)
   abbrev pub finish_from : ℕ → List Work → Here → Ran ⊤
   finish_from i [] here = gives tt
   finish_from i (x ∷ xs) here = do
@@ -198,7 +202,7 @@ module _ (g : Setting) (n : ℕ) (types : List Work) (calls : Calls) where
     done ← works x r here
     finish_from (suc i) xs here
 
-  -- held arguments go, in the order of the dummies from one on
+  -- held arguments go, in the order of the dummies from one on (own rule)
   abbrev pub discard_arguments : ℕ → List Work → List Reference → List Passed → Here → Ran ⊤
   discard_arguments k (x ∷ xs) (r ∷ rs) ps here = do
     done ← if is_held (passed_at k ps) then works x r here else gives tt

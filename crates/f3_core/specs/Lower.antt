@@ -32,7 +32,7 @@ abbrev pub finals_in : Option Derived → List Final
 finals_in None = []
 finals_in (Some t) = t.finals.items
 
--- the final subroutine for the object's rank
+-- the final subroutine for the object's rank (4.5.5)
 abbrev pub final_work : List Final → w.Work
 final_work [] = w.Rest
 final_work (f ∷ fs) = w.Of_rank f.rank (w.Final f.procedure) (final_work fs)
@@ -46,11 +46,11 @@ object_work types m base.Logical = w.Rest
 object_work types m (base.Derived t) =
     if nat_lt t m then w.And (w.Lending (w.And (final_work (finals_in (slice_get types t))) (w.Of_elements (w.Routine t)))) w.Clear else w.Rest
 
--- an allocatable object is deallocated where it is allocated, another destroyed
+-- an allocatable object is deallocated where it is allocated, another destroyed (6.3.3.1, 4.5.5.2)
 abbrev pub finish_work : List Derived → ℕ → Kind → w.Work
 finish_work types m k = if k.is_allocatable then w.If_allocated (w.Of_contents (object_work types m k.of)) else object_work types m k.of
 
--- the routine of a type: component by component, from one on
+-- the routine of a type: component by component, from one on (4.5.5.1)
 abbrev pub routine_of : List Derived → ℕ → ℕ → List Component → w.Work
 routine_of types m k [] = w.Rest
 routine_of types m k (x ∷ xs) = w.And (w.Of_component k (finish_work types m x.declared.kind)) (routine_of types m (suc k) xs)
@@ -64,20 +64,23 @@ routines_from types older (t ∷ ts) = routines_from types (routine_of types (le
 abbrev pub routines : List Derived → List w.Work
 routines types = routines_from types [] types
 
+-- whether a type is a derived one (4.5)
 abbrev pub is_derived : Base → Bool
 is_derived base.Integer = false
 is_derived base.Long = false
 is_derived base.Logical = false
 is_derived (base.Derived t) = true
 
--- values of array or derived type are held in storage of their own
+-- values of array or derived type are held in storage of their own (own rule)
 abbrev pub discard_work : Kind → w.Work
 discard_work k = if is_derived k.of || not (nat_eq k.rank 0) then w.Discard else w.Rest
 
 module _ (g : Setting) where
+  -- an object of a type is destroyed, with the routines of all types (4.5.5.1)
   abbrev pub destroy_work : Base → w.Work
   destroy_work of = object_work g.program.types.items (length g.program.types.items) of
 
+  -- an object goes (6.3.3.1, 4.5.5.2)
   abbrev pub end_work : Kind → w.Work
   end_work k = finish_work g.program.types.items (length g.program.types.items) k
 
@@ -89,7 +92,7 @@ module _ (g : Setting) where
   abbrev pub overwriting : Kind → c.Transfer
   overwriting k = c.Behind (destroy_work k.of) (c.Take k.of)
 
-  -- a new object with the shape of the value
+  -- a new object with the shape of the value (own rule)
   abbrev pub filling : Kind → c.Transfer
   filling k = c.New k.rank (initial k.of) (c.In_contents (c.Fill k.of))
 
@@ -101,16 +104,20 @@ module _ (g : Setting) where
 
   -- ---- statements
 
+  -- an object of an ALLOCATE (6.3.1)
   abbrev pub allocation : Request → c.Allocation
   allocation r = record { object = r.object; bounds = r.bounds.items; rank = r.kind.rank; element = initial r.kind.of }
 
+  -- an object of a DEALLOCATE (6.3.3)
   abbrev pub deallocation : Request → c.Deallocation
   deallocation r = record { object = r.object; free = w.Of_contents (destroy_work r.kind.of) }
 
+  -- a selector of an ASSOCIATE (8.1.4)
   abbrev pub selecting : Selector → c.Selector
   selecting (selector.Variable d) = c.Bind d
   selecting (selector.Value k e) = c.Hold k.of e (discard_work k)
 
+  -- the Core of a statement, by its form, with the clauses of Core
   abbrev mutual
     pub lowered : s.Statement → c.Core
     lowered (s.At' place b p x) = c.At place b (lowered x)
@@ -144,10 +151,12 @@ module _ (g : Setting) where
   out_work intent.Out k = w.And (end_work k) (if k.is_allocatable then w.Rest else w.Set (initial k.of))
   out_work intent.InOut k = w.Rest
 
+  -- the result stands behind the other variables (own rule)
   abbrev pub result_number : Option Declared → ℕ → Option ℕ
   result_number None i = None
   result_number (Some d) i = Some i
 
+  -- the Core of a procedure (2.2.3)
   abbrev pub lowered_procedure : Procedure → c.Procedure
   lowered_procedure p = record {
     unit = p.unit;
@@ -177,7 +186,7 @@ module _ (g : Setting) where
     result = None;
   }
 
--- the Core of a program
+-- the Core of a program (2.2.1)
 abbrev pub lowered_program : Program → c.Program
 lowered_program p = record {
   types = p.types;

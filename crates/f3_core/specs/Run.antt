@@ -29,10 +29,11 @@ nobody h place = record { unit = 0; dummies = empty h; locals = empty h; result 
 abbrev pub declarations : Program → program.Program
 declarations p = record { types = p.types; statics = p.statics; procedures = empty p.types.alloc; main = nobody p.types.alloc p.start; start = p.start }
 
+-- the declarations, with the types as trees
 abbrev pub core_setting : Program → Setting
 core_setting p = setting_of (declarations p)
 
--- a call of the procedure of a number
+-- a call of the procedure of a number (12.4)
 abbrev pub call_of : Setting → ℕ → List Work → Calls → Option Procedure → List Passed → Here → Ran Value
 call_of g n types calls None ps here = gives Unallocated
 call_of g n types calls (Some p) ps here = called g n types calls p ps here
@@ -42,7 +43,7 @@ unfoldable pub core_calls : ℕ → Program → ℕ → Calls
 core_calls zero p n here f ps = fails CallsTooDeep here.place
 core_calls (suc depth) p n here f ps = call_of (core_setting p) n p.routines (core_calls depth p n) (slice_get p.procedures f) ps here
 
--- the main program: its variables, its statements, its END
+-- the main program: its variables, its statements, its END (11.1)
 abbrev pub core_main : Program → ℕ → Calls → Here → Ran ⊤
 core_main p n calls here = do
   done ← claim here
@@ -54,6 +55,7 @@ core_main p n calls here = do
 abbrev pub core_here : Program → Here
 core_here p = record { place = p.start; unit = p.main.unit; level = 0; variables = p.main.variables; names = []; lent = []; selected = Unallocated }
 
+-- the run begins with the initial values of what lives for the whole run (16.5.3)
 abbrev pub core_world : Program → (ℕ → Bool) → World
 core_world p answers = record { store = record { statics = p.initial; levels = [] }; answers = answers }
 

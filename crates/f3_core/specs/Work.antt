@@ -11,9 +11,9 @@ use Rattle.f3_meaning_whole.specs.Act.{Setting, Here, Lent, Calls, set, clear, l
 pub data Work : Type 0 where
   -- nothing
   Rest : Work
-  -- the one, then the other
+  -- one after the other
   And : Work → Work → Work
-  -- the first while the object is lent
+  -- work while the object is lent (own rule)
   Lending : Work → Work
   -- the first for an object of a rank, the second for others
   Of_rank : (rank : ℕ) → Work → Work → Work
@@ -29,15 +29,15 @@ pub data Work : Type 0 where
   If_allocated : Work → Work
   -- the object is deallocated: an error where it is in use, then work on what it holds, then it is unallocated (6.3.3)
   Of_contents : Work → Work
-  -- what is allocated beneath is freed
+  -- what is allocated beneath is freed (own rule for 4.5.5.1)
   Clear : Work
-  -- the object takes a value, an array one for each element
+  -- the object takes a value, each element of an array the same (12.4.1.7, own rule)
   Set : Value → Work
   -- what a held value has allocated is freed, without final subroutines (own rule): nothing of this shows in the store, since
   -- the value ends with its level
   Discard : Work
 
--- what the routine of a type does to an object of it
+-- what the routine of a type, by its number, does to an object of it (4.5.5.1)
 abbrev pub Routines : Type 0
 Routines = ℕ → Reference → Here → Ran ⊤
 
@@ -69,12 +69,13 @@ module _ (g : Setting) (calls : Calls) where
   work routines (Set v) r here = set r v here
   work routines Discard r here = gives tt
 
-  -- The routines of types stand from the newest type to the oldest and are numbered from the oldest; a routine calls older ones.
+  -- The routines of types stand from the newest type to the oldest and are numbered from the oldest; a routine calls older
+  -- ones (no type contains itself: 4.5.3).
   abbrev pub routines_of : List Work → Routines
   routines_of [] t r here = gives tt
   routines_of (x ∷ xs) t r here = if nat_eq t (length xs) then work (routines_of xs) x r here else routines_of xs t r here
 
-  -- work on each of a list of objects
+  -- work on each of a list of objects, in order (own rule)
   abbrev pub work_each : Routines → List Work → List Reference → Here → Ran ⊤
   work_each routines (x ∷ xs) (r ∷ rs) here = do
     done ← work routines x r here
