@@ -1,7 +1,6 @@
 -- What is written out in the Core of a program.
-use Rattle.std.specs.Prelude.{◌≡◌, ℕ, [], ◌∷◌, Option, Some, map, slice_get}
+use Rattle.std.specs.Prelude.{◌≡◌, [], ◌∷◌, map}
 use Rattle.std.specs.declared.alloc.Global.{Global}
-use Rattle.f3_program.specs.declared.program.Program.{Program}
 use Rattle.f3_core.specs.Work.{Work, Rest, And, Lending, Of_rank, Final, Routine, Of_component, Of_elements, If_allocated, Of_contents, Clear}
 use Rattle.f3_core.specs.Core.{Procedure}
 use Rattle.f3_core.specs.Lower.{lowered_program}
