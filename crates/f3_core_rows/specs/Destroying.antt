@@ -34,8 +34,11 @@ parts_in_order_shows h = shown (core_run_of (lowered_program (finalizer_02_order
 -- final subroutines of both ranks, sections, deep copies, reallocation, what a final subroutine allocates again
 abbrev pub finals_of_sections_shows : Global → Type 0
 finals_of_sections_shows h = shown (core_run_of (lowered_program (corner_finals_of_sections h)) 2000 granted)
-    ≡ record { bytes = lines (codes " a 2 1 2" ∷ codes " 3 3 3 3 3 3" ∷ codes " s 0 F" ∷ codes " 3 3 3 9 3 3" ∷ codes " a 3 3 3 3" ∷
-    codes " s 4 T" ∷ codes " a 2 6 0" ∷ codes " 2 0 6" ∷ codes " a 2 0 6" ∷ []); verdict = Finished }
+    ≡ record {
+      bytes = lines (codes " a 2 1 2" ∷ codes " 3 3 3 3 3 3" ∷ codes " s 0 F" ∷ codes " 3 3 3 9 3 3" ∷ codes " a 3 3 3 3" ∷
+          codes " s 4 T" ∷ codes " a 2 6 0" ∷ codes " 2 0 6" ∷ codes " a 2 0 6" ∷ []);
+      verdict = Finished;
+    }
 
 -- an assignment of another shape to what is lent
 abbrev pub other_shape_shows : Global → Type 0
@@ -55,14 +58,20 @@ deep_copy_shows h = shown (core_run_of (lowered_program (allocatable_01_deep_cop
 -- INTENT(OUT) of an object, an allocatable, an array
 abbrev pub intent_out_shows : Global → Type 0
 intent_out_shows h = shown (core_run_of (lowered_program (corner_intent_out h)) 2000 granted)
-    ≡ record { bytes = lines (codes " f 3 T" ∷ codes " 3 F F 0 0 2" ∷ codes " 5 7 0 6 4" ∷ codes " F" ∷ codes " 1 2" ∷ codes " f 5 F" ∷
-    codes " 3 F F 0 2" ∷ []); verdict = Failed 3 3 220 }
+    ≡ record {
+      bytes = lines (codes " f 3 T" ∷ codes " 3 F F 0 0 2" ∷ codes " 5 7 0 6 4" ∷ codes " F" ∷ codes " 1 2" ∷ codes " f 5 F" ∷
+          codes " 3 F F 0 2" ∷ []);
+      verdict = Failed 3 3 220;
+    }
 
 -- MOVE_ALLOC of objects and arrays, and to a holder that is lent
 abbrev pub moves_shows : Global → Type 0
 moves_shows h = shown (core_run_of (lowered_program (corner_moves h)) 2000 granted)
-    ≡ record { bytes = lines (codes " f 2" ∷ codes " 1 F" ∷ codes " f 1" ∷ codes " F" ∷ codes " 3 4 5 6 F" ∷ codes " F" ∷
-    []); verdict = Failed 4 3 154 }
+    ≡ record {
+      bytes = lines (codes " f 2" ∷ codes " 1 F" ∷ codes " f 1" ∷ codes " F" ∷ codes " 3 4 5 6 F" ∷ codes " F" ∷
+          []);
+      verdict = Failed 4 3 154;
+    }
 
 -- MOVE_ALLOC from what is lent
 abbrev pub move_from_lent_shows : Global → Type 0

@@ -78,4 +78,4 @@ module _ (p : Program) where
       subscript_same (u.At' q x) here = bind_same (value_same x here) (λ v. refl)
       subscript_same (u.Range' b q x b' r y s z) here =
           bind_same (if_same b (bind_same (value_same x here) (λ v. refl)) refl)
-              (λ lower. bind_same (if_same b' (bind_same (value_same y here) (λ v. refl)) refl) (λ upper. bind_same (value_same z here) (λ v. refl)))
+          (λ lower. bind_same (if_same b' (bind_same (value_same y here) (λ v. refl)) refl) (λ upper. bind_same (value_same z here) (λ v. refl)))

@@ -113,7 +113,7 @@ module _ (p : Program) (n : ℕ) (calls : Calls) where
   all_allocated [] here = refl
   all_allocated (r ∷ rs) here =
       bind_same (locate_same p calls r.object here)
-          (λ h. bind_same (dimensions_same r.bounds.items here) (λ ss. then_same _ (λ status. failed_same status (all_allocated rs here))))
+      (λ h. bind_same (dimensions_same r.bounds.items here) (λ ss. then_same _ (λ status. failed_same status (all_allocated rs here))))
 
   one_deallocated : (k : Kind) (h : Reference) (here : Here) →
       core.deallocate (bare p) n (table p) calls (w.Of_contents (destroy_work (setting_of p) k.of)) h here ≡ meaning.deallocate (setting_of p) n calls k h here
@@ -210,16 +210,16 @@ module _ (p : Program) (n : ℕ) (calls : Calls) where
     exec_same (s.Select' e q x) here = bind_same (value_same p calls e here) (λ v. exec_same x _)
     exec_same (s.Case' rs q x r y) here =
         ap (λ (b : Bool). if b then core.exec (bare p) n (table p) calls (lowered (setting_of p) x) here
-            else core.exec (bare p) n (table p) calls (lowered (setting_of p) y) here) (meets_same rs.items here.selected)
+        else core.exec (bare p) n (table p) calls (lowered (setting_of p) y) here) (meets_same rs.items here.selected)
         ∙ if_same (some_meets (setting_of p) n calls rs.items here.selected) (exec_same x here) (exec_same y here)
     exec_same (s.While' e q x) here = turns_same n (bind_same (value_same p calls e here) (λ v. refl)) (exec_same x here)
     exec_same (s.Count' d k from to by q x) here =
         bind_same (value_same p calls from here)
-            (λ v. then_same _ (λ first. bind_same (value_same p calls to here)
-            (λ v. then_same _ (λ last. bind_same (value_same p calls by here)
-            (λ v. then_same _ (λ step. then_same _
-            (λ done. bind_same (locate_same p calls d here)
-            (λ r. then_same _ (λ done. counted_same n _ (exec_same x here) (incremented d k (number_of step) here))))))))))
+        (λ v. then_same _ (λ first. bind_same (value_same p calls to here)
+        (λ v. then_same _ (λ last. bind_same (value_same p calls by here)
+        (λ v. then_same _ (λ step. then_same _
+        (λ done. bind_same (locate_same p calls d here)
+        (λ r. then_same _ (λ done. counted_same n _ (exec_same x here) (incremented d k (number_of step) here))))))))))
     exec_same (s.Associate' xs q x) here =
         bind_same (selected xs.items here) (λ found. then_same _ (λ level. then_same _ (λ done. bind_same (exec_same x _) (λ flow.
         bind_same (selectors_discarded xs.items _ here) (λ done. refl) ∙ nothing_then tt (λ done. leave level >>= λ done. gives flow)))))
@@ -253,9 +253,9 @@ module _ (p : Program) (n : ℕ) (calls : Calls) where
   locals_finished [] back i here stand = refl
   locals_finished (d ∷ ds) back i here stand =
       bind_same (ap (λ o. looks (λ store. to_root (Local here.level i) (type_of o) Define here.unit (get store (whole (Local here.level i)))))
-          (ap (slice_get here.variables) (at_zero i) ∙ stand 0))
-          (λ r. bind_same (finished d.kind r here)
-          (λ done. locals_finished ds back (suc i) here (λ k. ap (slice_get here.variables) (one_on i k) ∙ stand (suc k))))
+      (ap (slice_get here.variables) (at_zero i) ∙ stand 0))
+      (λ r. bind_same (finished d.kind r here)
+      (λ done. locals_finished ds back (suc i) here (λ k. ap (slice_get here.variables) (one_on i k) ∙ stand (suc k))))
     where
       at_zero : (i : ℕ) → i ≡ i + 0
       at_zero i = omega arith
@@ -290,9 +290,9 @@ module _ (p : Program) (n : ℕ) (calls : Calls) where
       core.called (bare p) n (table p) calls (lowered_procedure (setting_of p) q) ps here ≡ meaning.called (setting_of p) n calls q ps here
   called_same q ps here =
       then_same _ (λ done. then_same _
-          (λ level. then_same _ (λ done. then_same _
-          (λ done. bind_same (begun q.dummies.items _ _)
-          (λ done. bind_same (exec_same q.body _)
-          (λ flow. then_same _ (λ place. bind_same (variables_finished q _ refl)
-          (λ done. bind_same (result_same q.result (length q.locals.items) (suc level)) (λ v.
+      (λ level. then_same _ (λ done. then_same _
+      (λ done. bind_same (begun q.dummies.items _ _)
+      (λ done. bind_same (exec_same q.body _)
+      (λ flow. then_same _ (λ place. bind_same (variables_finished q _ refl)
+      (λ done. bind_same (result_same q.result (length q.locals.items) (suc level)) (λ v.
       bind_same (arguments_discarded 0 q.dummies.items _ ps here) (λ done. refl) ∙ nothing_then tt (λ done. leave level >>= λ done. gives v))))))))))

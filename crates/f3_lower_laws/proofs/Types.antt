@@ -102,9 +102,9 @@ module _ (p : Program) (calls : Calls) where
             ≡ destroy (setting_of p) calls (slice_index_or shapes t Whole) r here
         derived true e =
             bind_assoc (work (bare p) calls (routines_of (bare p) calls older) (final_work (finals_in (slice_get p.types.items t))) r inner)
-                (λ done. each (paths r) (λ q. routines_of (bare p) calls older t (moved r q One) inner)) (λ done. clear r here)
+            (λ done. each (paths r) (λ q. routines_of (bare p) calls older t (moved r q One) inner)) (λ done. clear r here)
             ∙ bind_same (final_same _ (slice_get p.types.items t) r inner)
-                (λ done. bind_same (each_same (paths r) (λ q. follow.by t (moved r q One) inner)) (λ done. refl))
+            (λ done. bind_same (each_same (paths r) (λ q. follow.by t (moved r q One) inner)) (λ done. refl))
             ∙ ap (λ (s : Shape). destroy (setting_of p) calls s r here) (sym (follow.inside t e))
         derived false e = ap (λ (s : Shape). destroy (setting_of p) calls s r here) (sym (follow.outside t e))
 
@@ -198,11 +198,11 @@ module _ (p : Program) (calls : Calls) where
   types_more (x ∷ ts) m shapes older follow =
       subst (λ k. Follow k (shapes_from shapes (x ∷ ts)) (routines_from p.types.items older (x ∷ ts))) (counted m (length ts))
       (subst (λ k. Follow (suc m + length ts) (shapes_from (shapes ++ Record k (parts_in shapes x.components.items) ∷ []) ts)
-          (routines_from p.types.items older (x ∷ ts))) (sym follow.shapes_are)
+      (routines_from p.types.items older (x ∷ ts))) (sym follow.shapes_are)
       (subst (λ k. Follow (suc m + length ts) (shapes_from (shapes ++ Record m (parts_in shapes x.components.items) ∷ []) ts)
-          (routines_from p.types.items (routine_of p.types.items k 0 x.components.items ∷ older) ts)) (sym follow.routines_are)
+      (routines_from p.types.items (routine_of p.types.items k 0 x.components.items ∷ older) ts)) (sym follow.routines_are)
       (types_more ts (suc m) (shapes ++ Record m (parts_in shapes x.components.items) ∷ []) (routine_of p.types.items m 0 x.components.items ∷ older)
-          (one_type_more m shapes older follow x.components.items))))
+      (one_type_more m shapes older follow x.components.items))))
     where
       counted : (m k : ℕ) → suc m + k ≡ m + suc k
       counted m k = omega arith

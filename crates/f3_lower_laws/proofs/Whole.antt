@@ -26,7 +26,7 @@ unfolding core_calls calls_of
 calls_same p n zero = refl
 calls_same p n (suc depth) = fun_ext (λ here. fun_ext (λ f. fun_ext (λ ps.
     ap (λ (calls : Calls). core.call_of (bare p) n (table p) calls (slice_get (map (lowered_procedure (setting_of p)) p.procedures.items) f) ps here)
-        (calls_same p n depth)
+    (calls_same p n depth)
     ∙ procedure_same p n (calls_of depth (setting_of p) n) p.procedures.items f ps here)))
 
 main_same : (p : Program) (n : ℕ) (calls : Calls) (here : Here) → core_main (lowered_program p) n calls here ≡ main_of (setting_of p) n calls here
@@ -37,7 +37,7 @@ unfolding core_runs runs
 runs_same depth p n answers =
     let run : Ran ⊤ → Outcome ⊤ = λ r. r.from (first_world (setting_of p) answers) in
     ap run (ap (λ (calls : Calls). core_main (lowered_program p) n calls (first_here (setting_of p))) (calls_same p n depth)
-        ∙ main_same p n (calls_of depth (setting_of p) n) (first_here (setting_of p)))
+    ∙ main_same p n (calls_of depth (setting_of p) n) (first_here (setting_of p)))
 
 pub lowers : (p : Program) (n : ℕ) (answers : ℕ → Bool) → core_run_of (lowered_program p) n answers ≡ run_of p n answers
 unfolding core_run_of run_of
