@@ -1,0 +1,3 @@
+pub mod Destroying
+pub mod Control
+pub mod Shape

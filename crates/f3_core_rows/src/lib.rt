@@ -1,0 +1,4 @@
+//! Programs by their Core, and what they print.
+#![tactic(auto)]
+
+pub mod rows;

@@ -1,0 +1,5 @@
+pub mod Runs
+pub mod Expressions
+pub mod Types
+pub mod Statements
+pub mod Whole
