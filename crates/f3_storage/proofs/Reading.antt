@@ -7,6 +7,7 @@ use Rattle.f3_desc.specs.Shape.{Shape}
 use Rattle.f3_objects.specs.Tree.{times, IsBare}
 use Rattle.f3_objects.specs.Holds as h
 use Rattle.f3_objects.specs.Copies.{Copies}
+use Rattle.f3_heap_laws.specs.Answers.{Take}
 use Rattle.f3_objects.proofs.Trees.{times-append}
 use Rattle.f3_storage.specs.Values.{Step, First, Rest, Contents, Lending, path_of, Apart}
 use Rattle.f3_storage.specs.Values as v

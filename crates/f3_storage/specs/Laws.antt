@@ -183,11 +183,15 @@ ObjectsAreFreedAt = (old new : Live) (store : v.Value) (s : StandsFor old store)
     → h.Frees old new (locate old frame e).0 (locate old frame e).1 (tree_at s.0 p) true
     → StandsFor new (v.put store p (v.Absent (length bounds)))
 
+-- whatever is known of the takes of a copy
+abbrev pub Anything : List Take → Type 0
+Anything ks = Unit {0}
+
 -- An object is copied with all beneath it, to a place where nothing is allocated.
 abbrev pub ObjectsAreCopied : Type 0
-ObjectsAreCopied = (old new : Live) (w : Object) (p q : List Step) (s : Shape) (W : List Take → Type 0) → IsPart old w p
+ObjectsAreCopied = (old new : Live) (w : Object) (p q : List Step) (s : Shape) → IsPart old w p
     → OfShape s (get w q) → OfShape s (get w p) → IsBare (tree_at w p)
-    → Copies old new (block_at w p) (place_at w p) s (tree_at w q) (tree_at w p) [] W
+    → Copies old new (block_at w p) (place_at w p) s (tree_at w q) (tree_at w p) [] Anything
     → (y : Object) × Stands new (put w p y) × (plain (put w p y) ≡ v.put (plain w) p (v.get (plain w) q))
 
 -- Where a copy was refused, an object with nothing allocated stands in its place, and all else is as before.
@@ -199,11 +203,11 @@ CopiesAreRefused = (old new : Live) (w : Object) (p : List Step) (s : Shape) →
 -- An allocated object is assigned one of another shape (7.4.1.3): what it held is given back, and a copy takes its place.
 abbrev pub ObjectsAreReallocated : Type 0
 ObjectsAreReallocated = (old mid new : Live) (w : Object) (p q : List Step) (rank : ℕ) (s : Shape) (b : ℕ) (bounds : List ℤ) (x : Object)
-    (W : List Take → Type 0) → IsPart old w p → Has w q → Apart p q
+    → IsPart old w p → Has w q → Apart p q
     → get w p ≡ Present b bounds x → length bounds ≡ 2 * rank → OfShape (d.Holder rank s) (get w q)
     → v.lent_in (plain x) ≡ [] → (IsPinned (plain w) p → ⊥)
     → h.Frees old mid (block_at w p) (place_at w p) (tree_at w p) true
-    → ((z : Object) → z ≡ put w p (Absent bounds) → Copies mid new (block_at z p) (place_at z p) (d.Holder rank s) (tree_at z q) (tree_at z p) [] W)
+    → ((z : Object) → z ≡ put w p (Absent bounds) → Copies mid new (block_at z p) (place_at z p) (d.Holder rank s) (tree_at z q) (tree_at z p) [] Anything)
     → (y : Object) × Stands new (put w p y) × (plain (put w p y) ≡ v.put (plain w) p (v.get (plain w) q))
 
 -- An allocation moves (13.7.82 MOVE_ALLOC).
