@@ -5,7 +5,8 @@ use Rattle.std.specs.declared.cmp.Ordering.TheVariants.{Less, Equal, Greater}
 use Rattle.std.specs.List.{sum_by}
 use Rattle.std.specs.Ordering.{nat_cmp}
 use Rattle.std.specs.Cmp.{nat_cmp_total}
-use Rattle.std.specs.FinMap.{get, insert, remove, empty, entries, put, len, len-entries, len-empty, entries-insert, len-insert, get-empty, same_map, nat_cmp-IsAntisymmetric}
+use Rattle.std.specs.FinMap.{get, insert, remove, empty, entries, put, len, len-entries, len-empty, entries-insert, len-insert, get-empty, same_map}
+use Rattle.std.specs.FinMap.{nat_cmp-IsAntisymmetric}
 use Rattle.std.specs.FinMap.Entries.{by_order}
 use Rattle.std.proofs.lemmas.Bool.{cases_eq, eq-eqb}
 use Rattle.std.proofs.lemmas.List.Sums.{sum_by-cons}
@@ -26,10 +27,13 @@ abbrev size_of : Block → ℕ
 size_of b = r (length b.words)
 
 -- an entry more
-one_more : (k : ℕ) (v : Block) (es : List (ℕ × Block)) → length (put nat_cmp k v es) ≡ suc (length es) → sum_by size_of (map (λ e. e.1) (put nat_cmp k v es)) ≡ size_of v + sum_by size_of (map (λ e. e.1) es)
+one_more : (k : ℕ) (v : Block) (es : List (ℕ × Block)) → length (put nat_cmp k v es) ≡ suc (length es)
+    → sum_by size_of (map (λ e. e.1) (put nat_cmp k v es)) ≡ size_of v + sum_by size_of (map (λ e. e.1) es)
 one_more k v [] n = sum_by-cons size_of v []
 one_more k v (e ∷ es) n =
-    elim (nat_cmp k e.0) as (λ o. length (by_order o ((k, v) ∷ e ∷ es) ((e.0, v) ∷ es) (e ∷ put nat_cmp k v es)) ≡ suc (suc (length es)) → sum_by size_of (map (λ e. e.1) (by_order o ((k, v) ∷ e ∷ es) ((e.0, v) ∷ es) (e ∷ put nat_cmp k v es))) ≡ size_of v + sum_by size_of (e.1 ∷ map (λ e. e.1) es)) [
+    elim (nat_cmp k e.0) as (λ o. length (by_order o ((k, v) ∷ e ∷ es) ((e.0, v) ∷ es) (e ∷ put nat_cmp k v es)) ≡ suc (suc (length es))
+    → sum_by size_of (map (λ e. e.1) (by_order o ((k, v) ∷ e ∷ es) ((e.0, v) ∷ es) (e ∷ put nat_cmp k v es))) ≡ size_of v + sum_by size_of (e.1 ∷ map
+    (λ e. e.1) es)) [
       | Less ↦ λ n. sum_by-cons size_of v (e.1 ∷ map (λ e. e.1) es)
       | Equal ↦ λ n. absurd (omega arith)
       | Greater ↦ λ n.
@@ -42,7 +46,9 @@ one_more k v (e ∷ es) n =
 pub used-insert : (m : Live) (b : ℕ) (k : Block) → get m b ≡ None → used_by (insert m b k) ≡ r (length k.words) + used_by m
 used-insert m b k none =
     let size : length (put nat_cmp b k (entries m)) ≡ suc (length (entries m)) =
-    sym (ap length (entries-insert nat_cmp_total m b k)) ∙ (sym (len-entries (insert m b k)) ∙ (len-insert nat_cmp_total m b k ∙ (ap (λ t. cond (is_some t) (len m) (len m + 1)) none ∙ (let e = len-entries m in let g : len m + 1 ≡ suc (length (entries m)) = omega arith in g)))) in
+    sym (ap length (entries-insert nat_cmp_total m b k)) ∙ (sym (len-entries (insert m b k)) ∙ (len-insert nat_cmp_total m b k
+    ∙ (ap (λ t. cond (is_some t) (len m) (len m + 1)) none ∙ (let e = len-entries m in let g : len m + 1 ≡ suc (length (entries m)) = omega arith in
+    g)))) in
     ap (λ es. sum_by size_of (map (λ e. e.1) es)) (entries-insert nat_cmp_total m b k) ∙ one_more b k (entries m) size
 
 some_block : (o : Option Block) → IsTrue (is_some o) → (k : Block) × (o ≡ Some k)
@@ -92,7 +98,8 @@ rid_own m End q n = absurd (omega arith)
 rid_own m (Word w t) q n = rid_own m t q n
 rid_own m (Unallocated d t) q n = rid_own m t q n
 rid_own m (Allocated b d c t) q n = elim (cases_eq q b) [
-  | inl is ↦ rid_dead (rid (remove m b) c) t q (rid_dead (remove m b) c q (let P : ℕ → Type 0 = λ x. get (remove m b) x ≡ None in subst P (sym is) (get-remove_same m b)))
+  | inl is ↦ rid_dead (rid (remove m b) c) t q (rid_dead (remove m b) c q (let P : ℕ → Type 0 = λ x. get (remove m b) x ≡ None in
+      subst P (sym is) (get-remove_same m b)))
   | inr ne ↦ elim (zero_or_more (times q t)) [
     | inr y ↦ rid_own (rid (remove m b) c) t q y
     | inl y ↦ rid_dead (rid (remove m b) c) t q (rid_own (remove m b) c q (elim (zero_or_more (one_at q b)) [
@@ -129,7 +136,8 @@ used_tree m (Allocated b d c t) h o =
     let other : (q : ℕ) → 0 < times q c + times q t → q ≢ b = (λ q n e. let k = o q in let s : one_at q b ≡ 1 = rw (eq-eqb q b e) refl in omega arith) in
     let inner : Held (remove m b) c = held-same m (remove m b) c (λ q n. get-remove_other m b q (other q (omega arith))) h.2 in
     let second = used_tree (remove m b) c inner (λ q. let k = o q in omega arith) in
-    let rest : Held (rid (remove m b) c) t = held-same m (rid (remove m b) c) t (λ q n. rid_other (remove m b) c q (let k = o q in omega arith) ∙ get-remove_other m b q (other q (omega arith))) h.3 in
+    let rest : Held (rid (remove m b) c) t = held-same m (rid (remove m b) c) t (λ q n. rid_other (remove m b) c q (let k = o q in omega arith)
+    ∙ get-remove_other m b q (other q (omega arith))) h.3 in
     let third = used_tree (rid (remove m b) c) t rest (λ q. let k = o q in omega arith) in
     omega arith
 

@@ -44,7 +44,8 @@ take_all [] = refl
 take_all (x ∷ l) = ap (λ (m : List ℤ). x ∷ m) (take_all l)
 
 -- a block's contents
-pub contents_stand : (m : Live) (f : Tree) (b : ℕ) (d : List ℤ) (c k : Tree) → Held m (f ⊕ Allocated b d c k) → ((q : ℕ) → times q (f ⊕ Allocated b d c k) ≤ 1) → Stands m b 0 c
+pub contents_stand : (m : Live) (f : Tree) (b : ℕ) (d : List ℤ) (c k : Tree) → Held m (f ⊕ Allocated b d c k) → ((q : ℕ)
+    → times q (f ⊕ Allocated b d c k) ≤ 1) → Stands m b 0 c
 contents_stand m f b d c k h once =
     let own = held_back m f (Allocated b d c k) h in
     let same : words_of m b ≡ words c = own.1 in

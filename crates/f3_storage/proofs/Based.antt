@@ -4,7 +4,8 @@ use Rattle.std.proofs.lemmas.List.{take_at}
 use Rattle.f3_heap_laws.specs.Blocks.{Live}
 use Rattle.f3_objects.proofs.Trees.{zero_or_more}
 use Rattle.f3_storage.specs.Values.{Step, First, Rest, Contents, Lending, path_of}
-use Rattle.f3_storage.specs.Objects.{Object, Pair, Present, get, Has, lent_in, lent_before, lent_behind, holders, size, place, chain, way, own, earlier, count, pinned_by}
+use Rattle.f3_storage.specs.Objects.{Object, Pair, Present, get, Has, lent_in, lent_before, lent_behind, holders, size, place, chain, way, own, earlier}
+use Rattle.f3_storage.specs.Objects.{count, pinned_by}
 use Rattle.f3_storage.specs.StandsFor.{All, In, Chained, IsLent, Stands}
 use Rattle.f3_storage.proofs.Parts.{length-chain}
 use Rattle.f3_storage.proofs.Pins.{all_at, count_parts, own_in, earlier_in}
@@ -41,12 +42,14 @@ pub own_is : (w : Object) (l : Lending) → Has w (path_of l) → own w l ≡ ch
 own_is w l has =
     let front = has-front w l.base l.more has in
     let n : holders l.base ≡ length (chain w l.base) = sym (length-chain w l.base) in
-    ap (λ (k : ℕ). drop k (chain w (path_of l))) n ∙ (ap (drop (length (chain w l.base))) (chain-append w l.base l.more front) ∙ drop_length (chain w l.base) (chain (get w l.base) l.more))
+    ap (λ (k : ℕ). drop k (chain w (path_of l))) n ∙ (ap (drop (length (chain w l.base))) (chain-append w l.base l.more front)
+    ∙ drop_length (chain w l.base) (chain (get w l.base) l.more))
 
 pub earlier_is : (w : Object) (l : Lending) → Has w (path_of l) → earlier w l ≡ drop 1 (chain w l.base)
 earlier_is w l has =
     let front = has-front w l.base l.more has in
-    ap (λ (c : List ℕ). drop 1 (take (holders l.base) c)) (chain-append w l.base l.more front) ∙ ap (drop 1) (take_at (chain w l.base) (chain (get w l.base) l.more) (holders l.base) (length-chain w l.base))
+    ap (λ (c : List ℕ). drop 1 (take (holders l.base) c)) (chain-append w l.base l.more front)
+    ∙ ap (drop 1) (take_at (chain w l.base) (chain (get w l.base) l.more) (holders l.base) (length-chain w l.base))
 
 -- A designator that begins with a variable: nothing was pinned before.
 pub variable_base : (w : Object) (l : Lending) (q : ℕ) → holders l.base ≡ 1 → count q (earlier w l) ≡ 0
@@ -57,7 +60,8 @@ variable_base w l q e = ap (λ (n : ℕ). count q (drop 1 (take n (chain w (path
     by_chain (x ∷ c) = refl
 
 -- A designator that begins with a dummy: the reference that it is has pinned them, itself or by those before it.
-pub reference_base : (m : Live) (w : Object) (p : List Step) (k l : Lending) (q : ℕ) → Stands m w → Has w p → In k (lent_before w p) → path_of k ≡ l.base → Has w (path_of l) → 0 < count q (earlier w l) → 0 < pinned_by w (lent_before w p) q
+pub reference_base : (m : Live) (w : Object) (p : List Step) (k l : Lending) (q : ℕ) → Stands m w → Has w p → In k (lent_before w p) → path_of k ≡ l.base
+    → Has w (path_of l) → 0 < count q (earlier w l) → 0 < pinned_by w (lent_before w p) q
 reference_base m w p k l q s has i e there n =
     let before = lent_before w p in
     let after = lent_in (get w p) ++ lent_behind w p in

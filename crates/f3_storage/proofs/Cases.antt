@@ -62,15 +62,28 @@ put_value : (old : Live) (store : v.Value) (s : StandsFor old store) (p : List S
 put_value old store s p u = plain-put s.0 p u ∙ ap (λ (x : v.Value). v.put x p (plain u)) s.1
 
 -- A store instruction.
-pub store_case : (old new : Live) (store : v.Value) (s : StandsFor old store) (frame : ℕ) (e : Designator) (p : List Step) (x z : ℤ) → Leads s.0 frame e p → v.get store p ≡ v.Number x → new ≡ with_words old (locate old frame e).0 (set (words_of old (locate old frame e).0) (locate old frame e).1 z) → StandsFor new (v.put store p (v.Number z))
-store_case old new store s frame e p x z leads is wrote =
-    (put s.0 p (Number z), put_value old store s p (Number z), stored_at old new s.0 frame e p x z s.2 leads (number_of_plain (get s.0 p) x (at_value old store s p ∙ is)) wrote)
+pub store_case : (old new : Live) (store : v.Value) (s : StandsFor old store) (frame : ℕ) (e : Designator) (p : List Step) (x z : ℤ) → Leads s.0 frame e p
+    → v.get store p ≡ v.Number x → new ≡ with_words old (locate old frame e).0 (set (words_of old (locate old frame e).0) (locate old frame e).1 z)
+    → StandsFor new (v.put store p (v.Number z))
+store_case old new store s frame e p x z leads is wrote = (
+  put s.0 p (Number z),
+  put_value old store s p (Number z),
+  stored_at old new s.0 frame e p x z s.2 leads (number_of_plain (get s.0 p) x
+      (at_value old store s p ∙ is)) wrote,
+)
 
 -- A deallocation that error 9 does not end.
-pub deallocate_case : (old new : Live) (store : v.Value) (s : StandsFor old store) (frame : ℕ) (e : Designator) (p : List Step) (d : List ℤ) (x : v.Value) → Leads s.0 frame e p → v.get store p ≡ v.Present d x → v.lent_in x ≡ [] → (IsPinned store p → ⊥) → h.Frees old new (locate old frame e).0 (locate old frame e).1 (tree (spelled s.0) (get s.0 p)) true → StandsFor new (v.put store p (v.Absent (length d)))
+pub deallocate_case : (old new : Live) (store : v.Value) (s : StandsFor old store) (frame : ℕ) (e : Designator) (p : List Step) (d : List ℤ) (x : v.Value)
+    → Leads s.0 frame e p → v.get store p ≡ v.Present d x → v.lent_in x ≡ [] → (IsPinned store p → ⊥)
+    → h.Frees old new (locate old frame e).0 (locate old frame e).1 (tree (spelled s.0) (get s.0 p)) true
+    → StandsFor new (v.put store p (v.Absent (length d)))
 deallocate_case old new store s frame e p d x leads is lent not freed =
     let i = located old s.0 frame e p s.2 leads in
     let y = object_of_plain (get s.0 p) d x (at_value old store s p ∙ is) in
     let F : ℕ × ℕ → Type 0 = λ at. h.Frees old new at.0 at.1 (tree (spelled s.0) (get s.0 p)) true in
-    let N : v.Value → Type 0 = λ t. IsPinned t p → ⊥ in
-    (put s.0 p (Absent d), put_value old store s p (Absent d), stands_freed old new s.0 p y.0 d y.1 s.2 i.0 i.1 y.2 (lent-plain y.1 ∙ (ap v.lent_in y.3 ∙ lent)) (subst N (sym s.1) not) (subst F i.2 freed))
+    let N : v.Value → Type 0 = λ t. IsPinned t p → ⊥ in (
+      put s.0 p (Absent d),
+      put_value old store s p (Absent d),
+      stands_freed old new s.0 p y.0 d y.1 s.2 i.0 i.1 y.2 (lent-plain y.1 ∙ (ap v.lent_in y.3
+          ∙ lent)) (subst N (sym s.1) not) (subst F i.2 freed),
+    )

@@ -1,5 +1,6 @@
 -- What a change of one part leaves of the whole.
-use Rattle.std.proofs.Common.{◌≡◌, ◌≢◌, ℕ, ℤ, inl, inr, ◌+◌, ◌<◌, ◌≤◌, List, ◌++◌, length, take, drop, refl, ap, sym, subst, ◌∙◌, arith, append_assoc, length-append}
+use Rattle.std.proofs.Common.{◌≡◌, ◌≢◌, ℕ, ℤ, inl, inr, ◌+◌, ◌<◌, ◌≤◌, List, ◌++◌, length, take, drop, refl, ap, sym, subst, ◌∙◌, arith, append_assoc}
+use Rattle.std.proofs.Common.{length-append}
 use Rattle.std.specs.Prelude.{None}
 use Rattle.std.specs.FinMap.{get}
 use Rattle.std.proofs.lemmas.Bool.{eq-eqb, cases_eq}
@@ -58,7 +59,9 @@ module _ (old new : Live) (block at : ℕ) (t loose u : Tree) (r : Becomes old n
   beside_same f h apart = held-same old new f (λ q p. unchanged q (held-live old q f h p) ((apart q p).0) ((apart q p).1)) h
 
   -- one level: the holder's block changes, and what is beside the holder does not
-  level : (f : Tree) (b : ℕ) (d : List ℤ) (k : Tree) (a : Around) → block ≡ (spot a b 0).0 → Held old (f ⊕ Allocated b d (fill a t) k) → ((q : ℕ) → times q (f ⊕ Allocated b d (fill a t) k) + times q loose ≤ 1) → IsLive new b × (words_of new b ≡ words (fill a u)) × Held new (fill a u) → Held new (f ⊕ Allocated b d (fill a u) k)
+  level : (f : Tree) (b : ℕ) (d : List ℤ) (k : Tree) (a : Around) → block ≡ (spot a b 0).0 → Held old (f ⊕ Allocated b d (fill a t) k) → ((q : ℕ)
+      → times q (f ⊕ Allocated b d (fill a t) k) + times q loose ≤ 1) → IsLive new b × (words_of new b ≡ words (fill a u)) × Held new (fill a u)
+      → Held new (f ⊕ Allocated b d (fill a u) k)
   level f b d k a is h once inner =
       let front = held_front old f (Allocated b d (fill a t) k) h in
       let back = held_back old f (Allocated b d (fill a t) k) h in
@@ -76,30 +79,37 @@ module _ (old new : Live) (block at : ℕ) (t loose u : Tree) (r : Becomes old n
       (inner.0, inner.1, inner.2, beside_same k back.3 (λ q p. apart q (omega arith)), back.4)
 
   -- the block c holds what is around the change
-  inside : (a : Around) (c : ℕ) → block ≡ (spot a c 0).0 → at ≡ (spot a c 0).1 → IsLive old c → words_of old c ≡ words (fill a t) → Held old (fill a t) → ((q : ℕ) → times q (fill a t) + times q loose ≤ 1) → times c (fill a t) + times c loose ≡ 0 → IsLive new c × (words_of new c ≡ words (fill a u)) × Held new (fill a u)
+  inside : (a : Around) (c : ℕ) → block ≡ (spot a c 0).0 → at ≡ (spot a c 0).1 → IsLive old c → words_of old c ≡ words (fill a t) → Held old (fill a t)
+      → ((q : ℕ) → times q (fill a t) + times q loose ≤ 1) → times c (fill a t) + times c loose ≡ 0
+      → IsLive new c × (words_of new c ≡ words (fill a u)) × Held new (fill a u)
   inside (Beside f k) c is here live ws h once apart =
       let P : ℕ → Type 0 = λ x. IsLive new x in
       let Q : ℕ → Type 0 = λ x. words_of new x ≡ with_words_at (words_of old x) (length (words f)) (words u) in
       let R : ℕ → Type 0 = λ x. words_of new block ≡ with_words_at (words_of old block) x (words u) in
       let spelled : words (f ⊕ (t ⊕ k)) ≡ words f ++ (words t ++ words k) = words-append f (t ⊕ k) ∙ ap (λ (l : List ℤ). words f ++ l) (words-append t k) in
       let spelled' : words (f ⊕ (u ⊕ k)) ≡ words f ++ (words u ++ words k) = words-append f (u ⊕ k) ∙ ap (λ (l : List ℤ). words f ++ l) (words-append u k) in
-      let wrote : words_of new c ≡ with_words_at (words_of old c) (length (words f)) (words u) = subst Q is (subst R (here ∙ (let z : 0 + length (words f) ≡ length (words f) = omega arith in z)) r.written) in
+      let wrote : words_of new c ≡ with_words_at (words_of old c) (length (words f)) (words u) = subst Q is (subst R (here
+      ∙ (let z : 0 + length (words f) ≡ length (words f) = omega arith in z)) r.written) in
       let clear : (q : ℕ) → 0 < times q f + times q k → (times q t + times q loose ≡ 0) × (q ≢ block) = (λ q p.
       let o = once q in
       let e = times-append q f (t ⊕ k) in
       let g = times-append q t k in
       let ne : q ≢ block = (λ same.
-      let z : times q (f ⊕ (t ⊕ k)) + times q loose ≡ 0 = (let S : ℕ → Type 0 = λ x. times x (f ⊕ (t ⊕ k)) + times x loose ≡ 0 in subst S (sym (same ∙ is)) apart) in
+      let z : times q (f ⊕ (t ⊕ k)) + times q loose ≡ 0 = (let S : ℕ → Type 0 = λ x. times x (f ⊕ (t ⊕ k)) + times x loose ≡ 0 in subst S (sym (same
+      ∙ is)) apart) in
       omega arith) in
       (omega arith, ne)) in
       let behind = held_back old f (t ⊕ k) h in (
         subst P is r.live,
-        wrote ∙ (ap (λ (l : List ℤ). with_words_at l (length (words f)) (words u)) (ws ∙ spelled) ∙ (middle_written (words f) (words t) (words k) (words u) len ∙ sym spelled')),
-        held_both new f (u ⊕ k) (beside_same f (held_front old f (t ⊕ k) h) (λ q p. clear q (omega arith))) (held_both new u k r.held (beside_same k (held_back old t k behind) (λ q p. clear q (omega arith)))),
+        wrote ∙ (ap (λ (l : List ℤ). with_words_at l (length (words f)) (words u)) (ws ∙ spelled)
+            ∙ (middle_written (words f) (words t) (words k) (words u) len ∙ sym spelled')),
+        held_both new f (u ⊕ k) (beside_same f (held_front old f (t ⊕ k) h) (λ q p. clear q (omega arith))) (held_both new u k r.held (beside_same k
+            (held_back old t k behind) (λ q p. clear q (omega arith)))),
       )
   inside (Within f b d k a) c is here live ws h once apart =
       let back = held_back old f (Allocated b d (fill a t) k) h in
-      let below : (q : ℕ) → one_at q b + (times q (fill a t) + times q k) + times q loose ≤ 1 = (λ q. let o = once q in let e = times-append q f (Allocated b d (fill a t) k) in omega arith) in
+      let below : (q : ℕ) → one_at q b + (times q (fill a t) + times q k) + times q loose ≤ 1 = (λ q. let o = once q in
+      let e = times-append q f (Allocated b d (fill a t) k) in omega arith) in
       let own : one_at b b ≡ 1 = rw (eq-eqb b b refl) refl in
       let inner = inside a b is here back.0 back.1 back.2 (λ q. let o = below q in omega arith) (let o = below b in omega arith) in
       let e = times-append c f (Allocated b d (fill a t) k) in
@@ -110,7 +120,8 @@ module _ (old new : Live) (block at : ℕ) (t loose u : Tree) (r : Becomes old n
       let s : 0 < one_at c b + outside c a = (let P : ℕ → Type 0 = λ x. 0 < one_at x b + outside x a in subst P (sym (same ∙ is)) target) in
       omega arith) in
       let same : get new c ≡ get old c = unchanged c live none ne in
-      let spelled : words (f ⊕ Allocated b d (fill a t) k) ≡ words (f ⊕ Allocated b d (fill a u) k) = words-append f (Allocated b d (fill a t) k) ∙ sym (words-append f (Allocated b d (fill a u) k)) in
+      let spelled : words (f ⊕ Allocated b d (fill a t) k) ≡ words (f ⊕ Allocated b d (fill a u) k) = words-append f (Allocated b d (fill a t) k)
+      ∙ sym (words-append f (Allocated b d (fill a u) k)) in
       (same_live old new c same live, same_words old new c same ∙ (ws ∙ spelled), level f b d k a is h once inner)
 
   module _ (once' : (q : ℕ) → times q u ≤ 1) where
@@ -156,7 +167,8 @@ module _ (old new : Live) (block at : ℕ) (t loose u : Tree) (r : Becomes old n
         let h = held_front old whole loose o.held in
         let once : (q : ℕ) → times q whole + times q loose ≤ 1 = (λ q. let n = o.once q in let e = times-append q whole loose in omega arith) in
         let back = held_back old f (Allocated b d (fill a t) k) h in
-        let below : (q : ℕ) → one_at q b + (times q (fill a t) + times q k) + times q loose ≤ 1 = (λ q. let n = once q in let e = times-append q f (Allocated b d (fill a t) k) in omega arith) in
+        let below : (q : ℕ) → one_at q b + (times q (fill a t) + times q k) + times q loose ≤ 1 = (λ q. let n = once q in
+        let e = times-append q f (Allocated b d (fill a t) k) in omega arith) in
         let own : one_at b b ≡ 1 = rw (eq-eqb b b refl) refl in
         let inner = inside a b is here back.0 back.1 back.2 (λ q. let n = below q in omega arith) (let n = below b in omega arith) in
         let target : 0 < one_at block b + outside block a = let P : ℕ → Type 0 = λ x. 0 < one_at x b + outside x a in subst P (sym is) (counted a b 0) in
@@ -166,7 +178,8 @@ module _ (old new : Live) (block at : ℕ) (t loose u : Tree) (r : Becomes old n
           all = new_all (Within f b d k a) (omega arith) o;
         }
 
-pub owned_replaced : (old new : Live) (block at : ℕ) (t u : Tree) → Replaces old new block at t u → length (words u) ≡ length (words t) → ((q : ℕ) → times q u ≤ 1) → (a : Around) → IsWithin a → block ≡ (spot a 0 0).0 → at ≡ (spot a 0 0).1 → Owned old (fill a t) → Owned new (fill a u)
+pub owned_replaced : (old new : Live) (block at : ℕ) (t u : Tree) → Replaces old new block at t u → length (words u) ≡ length (words t) → ((q : ℕ)
+    → times q u ≤ 1) → (a : Around) → IsWithin a → block ≡ (spot a 0 0).0 → at ≡ (spot a 0 0).1 → Owned old (fill a t) → Owned new (fill a u)
 owned_replaced old new block at t u r len once a w is here o =
     let P : Tree → Type 0 = λ x. Owned old x in
     owned_becomes old new block at t End u (becomes_of old new block at t u r) len once a w is here (subst P (sym (append-End (fill a t))) o)

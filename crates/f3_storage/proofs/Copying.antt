@@ -1,10 +1,11 @@
 -- A deep copy: the tree that the call on objects made is an object of the same value.
-use Rattle.std.proofs.Common.{zero, suc, ◌≡◌, ℕ, ℤ, pos, ◌+◌, ◌<◌, ◌≤◌, true, List, [], ◌∷◌, ◌++◌, length, refl, ap, sym, subst, ◌∙◌, arith}
+use Rattle.std.proofs.Common.{zero, suc, ◌≡◌, ℕ, ℤ, pos, ◌+◌, ◌<◌, ◌≤◌, List, [], ◌∷◌, ◌++◌, length, refl, ap, sym, subst, ◌∙◌, arith}
 use Rattle.f3_heap_laws.specs.Blocks.{Live}
 use Rattle.f3_heap_laws.specs.Answers.{Take}
 use Rattle.f3_desc.specs.Shape as d
 use Rattle.f3_desc.specs.Shape.{Shape}
-use Rattle.f3_objects.specs.Tree.{Tree, End, Word, Unallocated, Allocated, ◌⊕◌, words, times, one_at, elements, Joins, Repeats, IsHolder, unallocated, allocated, Fits, IsBare}
+use Rattle.f3_objects.specs.Tree.{Tree, End, Word, Unallocated, Allocated, ◌⊕◌, words, times, one_at, elements, Joins, Repeats, IsHolder, unallocated}
+use Rattle.f3_objects.specs.Tree.{allocated, Fits, IsBare}
 use Rattle.f3_objects.specs.Tree as t
 use Rattle.f3_objects.specs.Holds as h
 use Rattle.f3_objects.specs.Copies.{Copies, Empties}
@@ -29,7 +30,8 @@ module _ (f : Lending → List ℤ) where
   fits_of d.Plain x e = (e.0, ap (tree f) e.1)
   fits_of (d.Holder rank of) x e = holding_fits rank (OfShape of) (Fits of) (fits_of of) x e
     where
-      holding_fits : (rank : ℕ) (P : Object → Type 0) (Q : Tree → Type 0) → ((x : Object) → P x → Q (tree f x)) → (x : Object) → IsHolding rank P x → IsHolder rank Q (tree f x)
+      holding_fits : (rank : ℕ) (P : Object → Type 0) (Q : Tree → Type 0) → ((x : Object) → P x → Q (tree f x)) → (x : Object) → IsHolding rank P x
+          → IsHolder rank Q (tree f x)
       holding_fits rank P Q g x (vacant ds e) = unallocated ds e
       holding_fits rank P Q g x (filled b ds y e r) = allocated b ds (tree f y) e (row_fits (elements ds) P Q g y r)
   fits_of (d.Both s r) x e = record { front = tree f e.0; back = tree f e.1; split = ap (tree f) e.2; first = fits_of s e.0 e.3; second = fits_of r e.1 e.4 }
@@ -46,9 +48,15 @@ module _ (f : Lending → List ℤ) where
   row_back (suc n) P Q g t j =
       let a = g j.front j.first in
       let b = row_back n P Q g j.back j.second in
-      record { object = Pair a.object b.object; typed = (a.object, b.object, refl, a.typed, b.typed); is = ap (λ (u : Tree). u ⊕ tree f b.object) a.is ∙ (ap (λ (u : Tree). j.front ⊕ u) b.is ∙ sym j.split) }
+      record {
+        object = Pair a.object b.object;
+        typed = (a.object, b.object, refl, a.typed, b.typed);
+        is = ap (λ (u : Tree). u ⊕ tree f b.object) a.is
+            ∙ (ap (λ (u : Tree). j.front ⊕ u) b.is ∙ sym j.split);
+      }
 
-  holder_back : (rank : ℕ) (P : Object → Type 0) (Q : Tree → Type 0) → ((t : Tree) → Q t → ReadsBack P t) → (t : Tree) → IsHolder rank Q t → ReadsBack (IsHolding rank P) t
+  holder_back : (rank : ℕ) (P : Object → Type 0) (Q : Tree → Type 0) → ((t : Tree) → Q t → ReadsBack P t) → (t : Tree) → IsHolder rank Q t
+      → ReadsBack (IsHolding rank P) t
   holder_back rank P Q g t (unallocated ds e) = record { object = Absent ds; typed = vacant ds e; is = refl }
   holder_back rank P Q g t (allocated b ds c e r) =
       let i = row_back (elements ds) P Q g c r in
@@ -61,7 +69,12 @@ module _ (f : Lending → List ℤ) where
   read_back (d.Both s r) t j =
       let a = read_back s j.front j.first in
       let b = read_back r j.back j.second in
-      record { object = Pair a.object b.object; typed = (a.object, b.object, refl, a.typed, b.typed); is = ap (λ (u : Tree). u ⊕ tree f b.object) a.is ∙ (ap (λ (u : Tree). j.front ⊕ u) b.is ∙ sym j.split) }
+      record {
+        object = Pair a.object b.object;
+        typed = (a.object, b.object, refl, a.typed, b.typed);
+        is = ap (λ (u : Tree). u ⊕ tree f b.object) a.is
+            ∙ (ap (λ (u : Tree). j.front ⊕ u) b.is ∙ sym j.split);
+      }
   read_back (d.Times n s) t e = row_back n (OfShape s) (Fits s) (read_back s) t e
 
   -- what one value and what stands behind it tell
@@ -71,9 +84,11 @@ module _ (f : Lending → List ℤ) where
   same_pair : (a b c d : v.Value) → a ≡ b → c ≡ d → v.Pair a c ≡ v.Pair b d
   same_pair a b c d e k = ap (λ (x : v.Value). v.Pair x c) e ∙ ap (v.Pair b) k
 
-  pair_alike : (P Q : Object → Type 0) → Alike P → Alike Q → (x₁ x₂ y₁ y₂ : Object) → P x₁ → P y₁ → Q x₂ → Q y₂ → (a b : Tree) → t.value (tree f (Pair x₁ x₂) ⊕ a) ≡ t.value (tree f (Pair y₁ y₂) ⊕ b) → (plain (Pair x₁ x₂) ≡ plain (Pair y₁ y₂)) × (t.value a ≡ t.value b)
+  pair_alike : (P Q : Object → Type 0) → Alike P → Alike Q → (x₁ x₂ y₁ y₂ : Object) → P x₁ → P y₁ → Q x₂ → Q y₂ → (a b : Tree)
+      → t.value (tree f (Pair x₁ x₂) ⊕ a) ≡ t.value (tree f (Pair y₁ y₂) ⊕ b) → (plain (Pair x₁ x₂) ≡ plain (Pair y₁ y₂)) × (t.value a ≡ t.value b)
   pair_alike P Q g k x₁ x₂ y₁ y₂ p₁ q₁ p₂ q₂ a b e =
-      let i = g x₁ y₁ p₁ q₁ (tree f x₂ ⊕ a) (tree f y₂ ⊕ b) (ap t.value (sym (append-append (tree f x₁) (tree f x₂) a)) ∙ (e ∙ ap t.value (append-append (tree f y₁) (tree f y₂) b))) in
+      let i = g x₁ y₁ p₁ q₁ (tree f x₂ ⊕ a) (tree f y₂ ⊕ b) (ap t.value (sym (append-append (tree f x₁) (tree f x₂) a)) ∙ (e
+      ∙ ap t.value (append-append (tree f y₁) (tree f y₂) b))) in
       let j = k x₂ y₂ p₂ q₂ a b i.1 in
       (same_pair (plain x₁) (plain y₁) (plain x₂) (plain y₂) i.0 j.0, j.1)
 
@@ -82,7 +97,8 @@ module _ (f : Lending → List ℤ) where
       let E : Object → Object → Type 0 = λ x y. t.value (tree f x ⊕ a) ≡ t.value (tree f y ⊕ b) in
       (ap plain p ∙ sym (ap plain q), ap (λ (x : Object). t.value (tree f x ⊕ a)) (sym p) ∙ (e ∙ ap (λ (y : Object). t.value (tree f y ⊕ b)) q))
   row_alike (suc n) P g x y p q a b e =
-      let is : t.value (tree f (Pair p.0 p.1) ⊕ a) ≡ t.value (tree f (Pair q.0 q.1) ⊕ b) = ap (λ (x : Object). t.value (tree f x ⊕ a)) (sym p.2) ∙ (e ∙ ap (λ (y : Object). t.value (tree f y ⊕ b)) q.2) in
+      let is : t.value (tree f (Pair p.0 p.1) ⊕ a) ≡ t.value (tree f (Pair q.0 q.1) ⊕ b) = ap (λ (x : Object). t.value (tree f x ⊕ a)) (sym p.2) ∙ (e
+      ∙ ap (λ (y : Object). t.value (tree f y ⊕ b)) q.2) in
       let i = pair_alike P (Row n P) g (row_alike n P g) p.0 p.1 q.0 q.1 p.3 q.3 p.4 q.4 a b is in
       (ap plain p.2 ∙ (i.0 ∙ sym (ap plain q.2)), i.1)
 
@@ -111,18 +127,25 @@ module _ (f : Lending → List ℤ) where
   holder_alike rank P g x y (filled c ds x' l p) (filled c' es y' k q) a b e =
       let same : ds ≡ es = ap dims_in e in
       let R : List ℤ → Type 0 = λ l. Row (elements l) P x' in
-      let inner : t.value (tree f x' ⊕ End) ≡ t.value (tree f y' ⊕ End) = ap t.value (append-End (tree f x')) ∙ (ap contents_in e ∙ sym (ap t.value (append-End (tree f y')))) in
+      let inner : t.value (tree f x' ⊕ End) ≡ t.value (tree f y' ⊕ End) = ap t.value (append-End (tree f x')) ∙ (ap contents_in e
+      ∙ sym (ap t.value (append-End (tree f y')))) in
       let i = row_alike (elements es) P g x' y' (subst R same p) q End End inner in
       (ap (λ (l : List ℤ). v.Present l (plain x')) same ∙ ap (v.Present es) i.0, ap rest_of e)
 
   pub alike : (s : Shape) → Alike (OfShape s)
-  alike d.Nothing x y p q a b e = (ap plain p ∙ sym (ap plain q), ap (λ (x : Object). t.value (tree f x ⊕ a)) (sym p) ∙ (e ∙ ap (λ (y : Object). t.value (tree f y ⊕ b)) q))
+  alike d.Nothing x y p q a b e = (
+    ap plain p ∙ sym (ap plain q),
+    ap (λ (x : Object). t.value (tree f x ⊕ a)) (sym p) ∙ (e
+        ∙ ap (λ (y : Object). t.value (tree f y ⊕ b)) q),
+  )
   alike d.Plain x y p q a b e =
-      let is : t.Number p.0 (t.value a) ≡ t.Number q.0 (t.value b) = ap (λ (x : Object). t.value (tree f x ⊕ a)) (sym p.1) ∙ (e ∙ ap (λ (y : Object). t.value (tree f y ⊕ b)) q.1) in
+      let is : t.Number p.0 (t.value a) ≡ t.Number q.0 (t.value b) = ap (λ (x : Object). t.value (tree f x ⊕ a)) (sym p.1) ∙ (e
+      ∙ ap (λ (y : Object). t.value (tree f y ⊕ b)) q.1) in
       (ap plain p.1 ∙ (ap v.Number (ap number_in is) ∙ sym (ap plain q.1)), ap rest_of is)
   alike (d.Holder rank of) x y p q a b e = holder_alike rank (OfShape of) (alike of) x y p q a b e
   alike (d.Both s r) x y p q a b e =
-      let is : t.value (tree f (Pair p.0 p.1) ⊕ a) ≡ t.value (tree f (Pair q.0 q.1) ⊕ b) = ap (λ (x : Object). t.value (tree f x ⊕ a)) (sym p.2) ∙ (e ∙ ap (λ (y : Object). t.value (tree f y ⊕ b)) q.2) in
+      let is : t.value (tree f (Pair p.0 p.1) ⊕ a) ≡ t.value (tree f (Pair q.0 q.1) ⊕ b) = ap (λ (x : Object). t.value (tree f x ⊕ a)) (sym p.2) ∙ (e
+      ∙ ap (λ (y : Object). t.value (tree f y ⊕ b)) q.2) in
       let i = pair_alike (OfShape s) (OfShape r) (alike s) (alike r) p.0 p.1 q.0 q.1 p.3 q.3 p.4 q.4 a b is in
       (ap plain p.2 ∙ (i.0 ∙ sym (ap plain q.2)), i.1)
   alike (d.Times n s) x y p q a b e = row_alike n (OfShape s) (alike s) x y p q a b e
@@ -151,13 +174,20 @@ module _ (f : Lending → List ℤ) (z : (l : Lending) → length (f l) ≡ span
   abbrev pub Formed : (Object → Type 0) → Type 0
   Formed P = (x y : Object) (r : List Step) → P x → P y → IsBare (tree f x) → Has x r → SameWay x y r
 
-  pair_formed : (a b c d : Object) → size c ≡ size a → ((r : List Step) → Has a r → SameWay a c r) → ((r : List Step) → Has b r → SameWay b d r) → (r : List Step) → Has (Pair a b) r → SameWay (Pair a b) (Pair c d) r
+  pair_formed : (a b c d : Object) → size c ≡ size a → ((r : List Step) → Has a r → SameWay a c r) → ((r : List Step) → Has b r → SameWay b d r)
+      → (r : List Step) → Has (Pair a b) r → SameWay (Pair a b) (Pair c d) r
   pair_formed a b c d e g k [] has = record { at = λ b o. refl; through = refl; there = tt }
   pair_formed a b c d e g k (First ∷ r) has = let i = g r has in record { at = i.at; through = i.through; there = i.there }
-  pair_formed a b c d e g k (Rest ∷ r) has = let i = k r has in record { at = λ m o. ap (λ (n : ℕ). place d m (o + n) r) e ∙ i.at m (o + size a); through = i.through; there = i.there }
+  pair_formed a b c d e g k (Rest ∷ r) has = let i = k r has in record {
+    at = λ m o. ap (λ (n : ℕ). place d m (o + n) r) e
+        ∙ i.at m (o + size a);
+    through = i.through;
+    there = i.there;
+  }
   pair_formed a b c d e g k (Contents ∷ r) has = absurd has
 
-  both_formed : (P Q : Object → Type 0) → Formed P → Formed Q → ((x y : Object) → P x → P y → size y ≡ size x) → (x y a b c e : Object) (r : List Step) → x ≡ Pair a b → y ≡ Pair c e → P a → P c → Q b → Q e → IsBare (tree f x) → Has x r → SameWay x y r
+  both_formed : (P Q : Object → Type 0) → Formed P → Formed Q → ((x y : Object) → P x → P y → size y ≡ size x) → (x y a b c e : Object) (r : List Step)
+      → x ≡ Pair a b → y ≡ Pair c e → P a → P c → Q b → Q e → IsBare (tree f x) → Has x r → SameWay x y r
   both_formed P Q g k n x y a b c e r is is' pa pc qb qe bare has =
       let B : Object → Type 0 = λ x. IsBare (tree f x) × Has x r in
       let h = subst B is (bare, has) in
@@ -187,11 +217,14 @@ module _ (f : Lending → List ℤ) (z : (l : Lending) → length (f l) ≡ span
   typed_formed d.Nothing x y r e e' bare has = let S : Object → Type 0 = λ y. SameWay x y r in subst S (e ∙ sym e') (same_self x r has)
   typed_formed d.Plain x y r p q bare has = number_formed x y r p q bare has
   typed_formed (d.Holder rank of) x y r p q bare has = holding_formed rank (OfShape of) x y r p q bare has
-  typed_formed (d.Both s k) x y r p q bare has = both_formed (OfShape s) (OfShape k) (typed_formed s) (typed_formed k) (λ x y a b. typed_size s y b ∙ sym (typed_size s x a)) x y p.0 p.1 q.0 q.1 r p.2 q.2 p.3 q.3 p.4 q.4 bare has
-  typed_formed (d.Times n s) x y r p q bare has = row_formed n (OfShape s) (typed_formed s) (λ x y a b. typed_size s y b ∙ sym (typed_size s x a)) x y r p q bare has
+  typed_formed (d.Both s k) x y r p q bare has = both_formed (OfShape s) (OfShape k) (typed_formed s) (typed_formed k) (λ x y a b. typed_size s y b
+      ∙ sym (typed_size s x a)) x y p.0 p.1 q.0 q.1 r p.2 q.2 p.3 q.3 p.4 q.4 bare has
+  typed_formed (d.Times n s) x y r p q bare has = row_formed n (OfShape s) (typed_formed s) (λ x y a b. typed_size s y b
+      ∙ sym (typed_size s x a)) x y r p q bare has
 
 -- An object is copied with all beneath it to a place where nothing is allocated.
-pub stands_copied : (old new : Live) (w : Object) (p q : List Step) (s : Shape) (W : List Take → Type 0) → Stands old w → Has w p → 0 < holders p → OfShape s (get w q) → OfShape s (get w p) → IsBare (tree (spelled w) (get w p))
+pub stands_copied : (old new : Live) (w : Object) (p q : List Step) (s : Shape) (W : List Take → Type 0) → Stands old w → Has w p → 0 < holders p
+    → OfShape s (get w q) → OfShape s (get w p) → IsBare (tree (spelled w) (get w p))
     → Copies old new (place w 0 0 p).0 (place w 0 0 p).1 s (tree (spelled w) (get w q)) (tree (spelled w) (get w p)) [] W
     → (y : Object) × Stands new (put w p y) × (plain (put w p y) ≡ v.put (plain w) p (v.get (plain w) q))
 stands_copied old new w p q s W st has n from to bare c =
@@ -200,10 +233,13 @@ stands_copied old new w p q s W st has n from to bare c =
     let r = read_back f s c.copy c.fits in
     let E : Tree → Type 0 = λ t. h.Replaces old new (place w 0 0 p).0 (place w 0 0 p).1 (tree f (get w p)) t in
     let O : Tree → Type 0 = λ t. (k : ℕ) → times k t ≤ 1 in
-    let same : t.value (tree f r.object ⊕ End) ≡ t.value (tree f (get w q) ⊕ End) = ap t.value (append-End (tree f r.object)) ∙ (ap t.value r.is ∙ (c.equal refl ∙ sym (ap t.value (append-End (tree f (get w q)))))) in
+    let same : t.value (tree f r.object ⊕ End) ≡ t.value (tree f (get w q) ⊕ End) = ap t.value (append-End (tree f r.object)) ∙ (ap t.value r.is
+    ∙ (c.equal refl ∙ sym (ap t.value (append-End (tree f (get w q)))))) in
     let is = (alike f s r.object (get w q) r.typed from End End same).0 in (
       r.object,
-      stands_put old new w p r.object st has n (typed_size f z s r.object r.typed ∙ sym (typed_size f z s (get w p) to)) (typed_lent s r.object r.typed ∙ sym (typed_lent s (get w p) to)) (subst E (sym r.is) c.replaced) (subst O (sym r.is) c.once) (λ k a b. absurd (let e = bare k in omega arith)) (λ l i t e g. typed_formed f z s (get w p) r.object t to r.typed bare g),
+      stands_put old new w p r.object st has n (typed_size f z s r.object r.typed ∙ sym (typed_size f z s (get w p) to)) (typed_lent s r.object r.typed
+          ∙ sym (typed_lent s (get w p) to)) (subst E (sym r.is) c.replaced) (subst O (sym r.is) c.once) (λ k a b. absurd (let e = bare k in
+          omega arith)) (λ l i t e g. typed_formed f z s (get w p) r.object t to r.typed bare g),
       plain-put w p r.object ∙ ap (v.put (plain w) p) (is ∙ plain-get w q),
     )
 
@@ -223,7 +259,7 @@ stands_emptied old new w p s st has n to bare e =
       r.object,
       r.typed,
       stands_put old new w p r.object st has n (typed_size f z s r.object r.typed ∙ sym (typed_size f z s (get w p) to))
-      (typed_lent s r.object r.typed ∙ sym (typed_lent s (get w p) to)) (subst E (sym r.is) wrote)
-      (subst O (sym r.is) (λ k. let c = e.bare k in omega arith)) (λ k a c. absurd (let d = bare k in omega arith))
-      (λ l i t k g. typed_formed f z s (get w p) r.object t to r.typed bare g),
+          (typed_lent s r.object r.typed ∙ sym (typed_lent s (get w p) to)) (subst E (sym r.is) wrote)
+          (subst O (sym r.is) (λ k. let c = e.bare k in omega arith)) (λ k a c. absurd (let d = bare k in omega arith))
+          (λ l i t k g. typed_formed f z s (get w p) r.object t to r.typed bare g),
     )

@@ -15,7 +15,8 @@ use Rattle.f3_storage.specs.Kinds.{element}
 use Rattle.f3_storage.specs.ArrayPlaces.{element_places}
 use Rattle.f3_storage.proofs.Walking.{lent_element}
 
-elements_follow : (w : Object) (p : List Step) (all : ℕ) (s : Shape) → Has w p → Row all (OfShape s) (get w p) → (n i : ℕ) → i + n ≤ all → element_places w p i n ≡ progression (pos ((place w 0 0 p).1 + i * d.width s)) (pos (d.width s)) n
+elements_follow : (w : Object) (p : List Step) (all : ℕ) (s : Shape) → Has w p → Row all (OfShape s) (get w p) → (n i : ℕ) → i + n ≤ all
+    → element_places w p i n ≡ progression (pos ((place w 0 0 p).1 + i * d.width s)) (pos (d.width s)) n
 elements_follow w p all s has r zero i l = refl
 elements_follow w p all s has r (suc n) i l =
     let o = (place w 0 0 p).1 in
@@ -29,7 +30,8 @@ elements_follow w p all s has r (suc n) i l =
     ∙ ap (λ (z : ℤ). pos (o + i * width) ∷ progression z (pos width) n) step)
 
 -- A whole array: the descriptor with its place and its elements one after another gives the places of its element paths, in array element order.
-pub array_described : (w : Object) (p : List Step) (s : Shape) (a : Descriptor) → Has w p → a.offset ≡ (place w 0 0 p).1 → IsContiguous (pos (d.width s)) a.dims.items → Row (size_of a.dims.items) (OfShape s) (get w p) → places a ≡ element_places w p 0 (size_of a.dims.items)
+pub array_described : (w : Object) (p : List Step) (s : Shape) (a : Descriptor) → Has w p → a.offset ≡ (place w 0 0 p).1
+    → IsContiguous (pos (d.width s)) a.dims.items → Row (size_of a.dims.items) (OfShape s) (get w p) → places a ≡ element_places w p 0 (size_of a.dims.items)
 array_described w p s a has at dims r =
     let n = size_of a.dims.items in
     let o : a.offset ≡ (place w 0 0 p).1 + 0 * d.width s = omega (arith, at) in

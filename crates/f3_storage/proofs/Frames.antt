@@ -25,16 +25,25 @@ one_other : (q b : ℕ) → q ≢ b → one_at q b ≡ 0
 one_other q b ne = grind arith
 
 -- a new root's block, which holds nothing allocated
-pub owned_more : (old new : Live) (f k x : Tree) (c n : ℕ) → Owned old (f ⊕ k) → found old c ≡ None → 0 < c → IsBare x → words x ≡ replicate n (pos 0) → new ≡ with_taken old c n → Owned new (f ⊕ Allocated c [] x k)
+pub owned_more : (old new : Live) (f k x : Tree) (c n : ℕ) → Owned old (f ⊕ k) → found old c ≡ None → 0 < c → IsBare x → words x ≡ replicate n (pos 0)
+    → new ≡ with_taken old c n → Owned new (f ⊕ Allocated c [] x k)
 owned_more old new f k x c n o none positive bare zeros is =
     let m : (q : ℕ) → found new q ≡ found (with_taken old c n) q = λ q. ap (λ (m : Live). found m q) is in
     let apart : (q : ℕ) → 0 < times q (f ⊕ k) → q ≢ c = (λ q p e. not_dead old q (held-live old q (f ⊕ k) o.held p) (ap (found old) e ∙ none)) in
-    let same : (q : ℕ) → 0 < times q f + times q k → found new q ≡ found old q = (λ q p. m q ∙ get-insert_other old c _ q (apart q (let e = times-append q f k in omega arith))) in
+    let same : (q : ℕ) → 0 < times q f + times q k → found new q ≡ found old q = (λ q p. m q
+    ∙ get-insert_other old c _ q (apart q (let e = times-append q f k in omega arith))) in
     let front = held-same old new f (λ q p. same q (omega arith)) (held_front old f k o.held) in
     let back = held-same old new k (λ q p. same q (omega arith)) (held_back old f k o.held) in
     let own = one_own c in
     record {
-      held = held_both new f (Allocated c [] x k) front (ap is_some (m c) ∙ live-insert_same old c _, (ap words_in (m c) ∙ words-insert_same old c _) ∙ sym zeros, held-bare new x bare, back, positive);
+      held = held_both new f (Allocated c [] x k) front (
+        ap is_some (m c) ∙ live-insert_same old c _,
+        (ap words_in (m c) ∙ words-insert_same old c _)
+            ∙ sym zeros,
+        held-bare new x bare,
+        back,
+        positive,
+      );
       once = λ q.
           let a = times-append q f k in
           let b = times-append q f (Allocated c [] x k) in
@@ -61,11 +70,14 @@ pub owned_less : (old new : Live) (f k x : Tree) (c : ℕ) → Owned old (f ⊕ 
 owned_less old new f k x c o bare is =
     let m : (q : ℕ) → found new q ≡ found (remove old c) q = λ q. ap (λ (m : Live). found m q) is in
     let own = one_own c in
-    let once : (q : ℕ) → times q f + (one_at q c + (times q x + times q k)) ≤ 1 = (λ q. let a = o.once q in let b = times-append q f (Allocated c [] x k) in omega arith) in
-    let apart : (q : ℕ) → 0 < times q f + times q k → q ≢ c = (λ q p e. let a = once q in let i : one_at q c ≡ 1 = ap (λ (y : ℕ). one_at y c) e ∙ own in omega arith) in
+    let once : (q : ℕ) → times q f + (one_at q c + (times q x + times q k)) ≤ 1 = (λ q. let a = o.once q in let b = times-append q f (Allocated c [] x k) in
+    omega arith) in
+    let apart : (q : ℕ) → 0 < times q f + times q k → q ≢ c = (λ q p e. let a = once q in let i : one_at q c ≡ 1 = ap (λ (y : ℕ). one_at y c) e ∙ own in
+    omega arith) in
     let same : (q : ℕ) → 0 < times q f + times q k → found new q ≡ found old q = (λ q p. m q ∙ get-remove_other old c q (apart q p)) in
     record {
-      held = held_both new f k (held-same old new f (λ q p. same q (omega arith)) (held_front old f (Allocated c [] x k) o.held)) (held-same old new k (λ q p. same q (omega arith)) ((held_back old f (Allocated c [] x k) o.held).3));
+      held = held_both new f k (held-same old new f (λ q p. same q (omega arith)) (held_front old f (Allocated c [] x k) o.held)) (held-same old new k
+          (λ q p. same q (omega arith)) ((held_back old f (Allocated c [] x k) o.held).3));
       once = λ q. let a = times-append q f k in let b = once q in omega arith;
       all = λ q live. elim (cases_eq q c) [
         | inl e ↦ absurd (not_dead new q live (let P : ℕ → Type 0 = λ y. found new y ≡ None in subst P (sym e) (m c ∙ get-remove_same old c)))
@@ -87,13 +99,19 @@ place_reset (Pair x y) (Rest ∷ r) b o c k has n = place_reset y r b (o + size 
 place_reset (Present d e x) (Contents ∷ r) b o c k has n = refl
 place_reset x (s ∷ r) b o c k has n = absurd has
 
-pub same_root : (x : Object) (p : List Step) (u : Object) (r : List Step) → Has x r → 0 < holders r → holders p ≡ 0 → ((s : List Step) → r ≡ p ++ s → ⊥) → SameWay x (put x p u) r
+pub same_root : (x : Object) (p : List Step) (u : Object) (r : List Step) → Has x r → 0 < holders r → holders p ≡ 0 → ((s : List Step) → r ≡ p ++ s → ⊥)
+    → SameWay x (put x p u) r
 same_root x [] u r has n z out = absurd (out r refl)
 same_root (Pair x y) (First ∷ p) u [] has n z out = absurd (omega arith)
 same_root (Pair x y) (First ∷ p) u (First ∷ r) has n z out =
     let i = same_root x p u r has n z (λ s e. out s (ap (λ (l : List Step). First ∷ l) e)) in
     record { at = i.at; through = i.through; there = i.there }
-same_root (Pair x y) (First ∷ p) u (Rest ∷ r) has n z out = record { at = λ b o. place_reset y r b (o + size (put x p u)) b (o + size x) has n; through = refl; there = has }
+same_root (Pair x y) (First ∷ p) u (Rest ∷ r) has n z out = record {
+  at = λ b o. place_reset y r b (o + size (put x p u)) b (o + size x) has n;
+  through =
+      refl;
+  there = has;
+}
 same_root (Pair x y) (First ∷ p) u (Contents ∷ r) has n z out = absurd has
 same_root (Pair x y) (Rest ∷ p) u [] has n z out = absurd (omega arith)
 same_root (Pair x y) (Rest ∷ p) u (First ∷ r) has n z out = record { at = λ b o. refl; through = refl; there = has }
@@ -116,7 +134,8 @@ append_nil [] = refl
 append_nil (x ∷ l) = ap (λ m. x ∷ m) (append_nil l)
 
 -- what holds of a store whose roots change, where no lent path leads into what changes
-module _ (w : Object) (p : List Step) (u : Object) (has : Has w p) (z : holders p ≡ 0) (same : lent_in u ≡ lent_in (get w p)) (valid : All (IsLent w) (lent_in w)) (out : (k : Lending) → In k (lent_in w) → (s : List Step) → path_of k ≡ p ++ s → ⊥) where
+module _ (w : Object) (p : List Step) (u : Object) (has : Has w p) (z : holders p ≡ 0) (same : lent_in u ≡ lent_in (get w p)) (valid : All (IsLent w)
+    (lent_in w)) (out : (k : Lending) → In k (lent_in w) → (s : List Step) → path_of k ≡ p ++ s → ⊥) where
   holders_path : (l : Lending) → 0 < holders l.base → 0 < holders (path_of l)
   holders_path l n = let e = holders_append l.base l.more in omega arith
     where
@@ -131,7 +150,8 @@ module _ (w : Object) (p : List Step) (u : Object) (has : Has w p) (z : holders 
       let v = all_at (IsLent w) (lent_in w) l valid i in
       same_root w p u (path_of l) v.there (holders_path l v.rooted) z (out l i))
 
-  pub roots_stand : (old new : Live) → Stands old w → Owned new (tree (spelled (put w p u)) (put w p u)) → ((q : ℕ) → pins_of new q ≡ pins_of old q) → Stands new (put w p u)
+  pub roots_stand : (old new : Live) → Stands old w → Owned new (tree (spelled (put w p u)) (put w p u)) → ((q : ℕ) → pins_of new q ≡ pins_of old q)
+      → Stands new (put w p u)
   roots_stand old new s owned pins =
       let ls = lent-put w p u same in
       let Q : List Lending → Type 0 = λ ls. All (IsLent (put w p u)) ls in
@@ -140,11 +160,14 @@ module _ (w : Object) (p : List Step) (u : Object) (has : Has w p) (z : holders 
         owned = owned;
         valid = subst Q (sym ls) (valid_same w (put w p u) (lent_in w) root_ways valid);
         chained = subst C (sym ls) (chained_same w (put w p u) (λ q. 0) (λ q. 0) (lent_in w) (λ q. omega arith) root_ways s.chained);
-        pins = λ q. pins q ∙ (s.pins q ∙ (sym (pinned_same w (put w p u) (lent_in w) q root_ways) ∙ ap (λ (ls : List Lending). pinned_by (put w p u) ls q) (sym ls)));
+        pins = λ q. pins q ∙ (s.pins q ∙ (sym (pinned_same w (put w p u) (lent_in w) q root_ways)
+            ∙ ap (λ (ls : List Lending). pinned_by (put w p u) ls q) (sym ls)));
       }
 
 -- A call: a frame of zeros behind the last root.
-pub stands_entered : (old new : Live) (w : Object) (p : List Step) (c n : ℕ) (x : Object) → Stands old w → Has w p → holders p ≡ 0 → get w p ≡ Empty → lent_in x ≡ [] → IsBare (tree (spelled w) x) → words (tree (spelled w) x) ≡ replicate n (pos 0) → found old c ≡ None → 0 < c → new ≡ with_taken old c n → Stands new (put w p (Pair (Present c [] x) Empty))
+pub stands_entered : (old new : Live) (w : Object) (p : List Step) (c n : ℕ) (x : Object) → Stands old w → Has w p → holders p ≡ 0 → get w p ≡ Empty
+    → lent_in x ≡ [] → IsBare (tree (spelled w) x) → words (tree (spelled w) x) ≡ replicate n (pos 0) → found old c ≡ None → 0 < c
+    → new ≡ with_taken old c n → Stands new (put w p (Pair (Present c [] x) Empty))
 stands_entered old new w p c n x s has z e lent bare zeros none positive is =
     let u = Pair (Present c [] x) Empty in
     let same : lent_in u ≡ lent_in (get w p) = append_nil (lent_in x) ∙ (lent ∙ sym (ap lent_in e)) in
@@ -157,13 +180,17 @@ stands_entered old new w p c n x s has z e lent bare zeros none positive is =
     let ways = root_ways w p u has z same s.valid out in
     let A : List Lending → Type 0 = λ ls. All (λ l. SameWay w (put w p u) (path_of l)) ls in
     let b = around-beside (spelled w) w p has z in
-    let was : tree (spelled w) w ≡ b.0 ⊕ b.1 = tree-around (spelled w) w p has ∙ (ap (λ (a : Around). fill a (tree (spelled w) (get w p))) b.2 ∙ ap (λ (y : Object). b.0 ⊕ (tree (spelled w) y ⊕ b.1)) e) in
-    let now : tree (spelled (put w p u)) (put w p u) ≡ b.0 ⊕ Allocated c [] (tree (spelled w) x) b.1 = tree_put_same w p u has (subst A (sym (lent-put w p u same)) ways) ∙ ap (λ (a : Around). fill a (tree (spelled w) u)) b.2 in
+    let was : tree (spelled w) w ≡ b.0 ⊕ b.1 = tree-around (spelled w) w p has ∙ (ap (λ (a : Around). fill a (tree (spelled w) (get w p))) b.2
+    ∙ ap (λ (y : Object). b.0 ⊕ (tree (spelled w) y ⊕ b.1)) e) in
+    let now : tree (spelled (put w p u)) (put w p u) ≡ b.0 ⊕ Allocated c [] (tree (spelled w) x) b.1 = tree_put_same w p u has (subst A (sym
+    (lent-put w p u same)) ways) ∙ ap (λ (a : Around). fill a (tree (spelled w) u)) b.2 in
     let P : Tree → Type 0 = λ t. Owned old t in
     let Q : Tree → Type 0 = λ t. Owned new t in
-    roots_stand w p u has z same s.valid out old new s (subst Q (sym now) (owned_more old new b.0 b.1 (tree (spelled w) x) c n (subst P was s.owned) none positive bare zeros is))
+    roots_stand w p u has z same s.valid out old new s (subst Q (sym now) (owned_more old new b.0 b.1 (tree (spelled w) x) c n
+    (subst P was s.owned) none positive bare zeros is))
     (λ q. elim (cases_eq q c) [
-      | inl k ↦ let R : ℕ → Type 0 = λ y. pins_of new y ≡ pins_of old y in subst R (sym k) (ap pins_in (ap (λ (m : Live). found m c) is) ∙ (pins-insert_same old c _ ∙ sym (ap pins_in none)))
+      | inl k ↦ let R : ℕ → Type 0 = λ y. pins_of new y ≡ pins_of old y in subst R (sym k) (ap pins_in (ap (λ (m : Live). found m c) is)
+          ∙ (pins-insert_same old c _ ∙ sym (ap pins_in none)))
       | inr ne ↦ ap pins_in (ap (λ (m : Live). found m q) is ∙ get-insert_other old c _ q ne)
     ])
   where
@@ -188,7 +215,8 @@ stands_entered old new w p c n x s has z e lent bare zeros none positive is =
     nothing_there (k ∷ t) h p z n = absurd h
 
 -- No lent path leads into the frame: then its block is not pinned, and the return can give it back.
-pub frame_unpinned : (m : Live) (w : Object) (p : List Step) (c : ℕ) (x : Object) → Stands m w → Has w p → get w p ≡ Pair (Present c [] x) Empty → ((k : Lending) → In k (lent_in w) → (s : List Step) → path_of k ≡ p ++ s → ⊥) → pins_of m c ≡ 0
+pub frame_unpinned : (m : Live) (w : Object) (p : List Step) (c : ℕ) (x : Object) → Stands m w → Has w p → get w p ≡ Pair (Present c [] x) Empty
+    → ((k : Lending) → In k (lent_in w) → (s : List Step) → path_of k ≡ p ++ s → ⊥) → pins_of m c ≡ 0
 frame_unpinned m w p c x s has e out = elim (zero_or_more (pins_of m c)) [
   | inl z ↦ z
   | inr n ↦
@@ -196,25 +224,31 @@ frame_unpinned m w p c x s has e out = elim (zero_or_more (pins_of m c)) [
       let there = (all_at (IsLent w) (lent_in w) l.0 s.valid l.1).there in
       let k : 0 < count c (chain w (path_of l.0)) = let a = count_drop c (chain w (path_of l.0)) in let b = l.2 in omega arith in
       let own = one_own c in
-      let t : 0 < times c (tree (spelled w) (get w p)) = (let P : Object → Type 0 = λ y. 0 < times c (tree (spelled w) y) in subst P (sym e) (let a = times-append c (Allocated c [] (tree (spelled w) x) End) End in omega arith)) in
+      let t : 0 < times c (tree (spelled w) (get w p)) = (let P : Object → Type 0 = λ y. 0 < times c (tree (spelled w) y) in
+      subst P (sym e) (let a = times-append c (Allocated c [] (tree (spelled w) x) End) End in omega arith)) in
       let i = enters (spelled w) c w p (path_of l.0) has there (s.owned.once c) t k in
       absurd (out l.0 l.1 i.0 i.1)
 ]
 
 -- A return: the last root goes, where nothing is allocated in it and no reference stands in it.
-pub stands_returned : (old new : Live) (w : Object) (p : List Step) (c : ℕ) (x : Object) → Stands old w → Has w p → holders p ≡ 0 → get w p ≡ Pair (Present c [] x) Empty → lent_in x ≡ [] → IsBare (tree (spelled w) x) → ((k : Lending) → In k (lent_in w) → (s : List Step) → path_of k ≡ p ++ s → ⊥) → new ≡ remove old c → Stands new (put w p Empty)
+pub stands_returned : (old new : Live) (w : Object) (p : List Step) (c : ℕ) (x : Object) → Stands old w → Has w p → holders p ≡ 0
+    → get w p ≡ Pair (Present c [] x) Empty → lent_in x ≡ [] → IsBare (tree (spelled w) x) → ((k : Lending) → In k (lent_in w) → (s : List Step)
+    → path_of k ≡ p ++ s → ⊥) → new ≡ remove old c → Stands new (put w p Empty)
 stands_returned old new w p c x s has z e lent bare out is =
     let same : lent_in Empty ≡ lent_in (get w p) = sym (ap lent_in e ∙ (append_nil (lent_in x) ∙ lent)) in
     let ways = root_ways w p Empty has z same s.valid out in
     let A : List Lending → Type 0 = λ ls. All (λ l. SameWay w (put w p Empty) (path_of l)) ls in
     let b = around-beside (spelled w) w p has z in
-    let was : tree (spelled w) w ≡ b.0 ⊕ Allocated c [] (tree (spelled w) x) b.1 = tree-around (spelled w) w p has ∙ (ap (λ (a : Around). fill a (tree (spelled w) (get w p))) b.2 ∙ ap (λ (y : Object). b.0 ⊕ (tree (spelled w) y ⊕ b.1)) e) in
-    let now : tree (spelled (put w p Empty)) (put w p Empty) ≡ b.0 ⊕ b.1 = tree_put_same w p Empty has (subst A (sym (lent-put w p Empty same)) ways) ∙ ap (λ (a : Around). fill a End) b.2 in
+    let was : tree (spelled w) w ≡ b.0 ⊕ Allocated c [] (tree (spelled w) x) b.1 = tree-around (spelled w) w p has
+    ∙ (ap (λ (a : Around). fill a (tree (spelled w) (get w p))) b.2 ∙ ap (λ (y : Object). b.0 ⊕ (tree (spelled w) y ⊕ b.1)) e) in
+    let now : tree (spelled (put w p Empty)) (put w p Empty) ≡ b.0 ⊕ b.1 = tree_put_same w p Empty has (subst A (sym (lent-put w p Empty same)) ways)
+    ∙ ap (λ (a : Around). fill a End) b.2 in
     let P : Tree → Type 0 = λ t. Owned old t in
     let Q : Tree → Type 0 = λ t. Owned new t in
     roots_stand w p Empty has z same s.valid out old new s (subst Q (sym now) (owned_less old new b.0 b.1 (tree (spelled w) x) c (subst P was s.owned) bare is))
     (λ q. elim (cases_eq q c) [
-      | inl k ↦ let R : ℕ → Type 0 = λ y. pins_of new y ≡ pins_of old y in subst R (sym k) (ap pins_in (ap (λ (m : Live). found m c) is ∙ get-remove_same old c) ∙ sym (frame_unpinned old w p c x s has e out))
+      | inl k ↦ let R : ℕ → Type 0 = λ y. pins_of new y ≡ pins_of old y in subst R (sym k) (ap pins_in (ap (λ (m : Live). found m c) is
+          ∙ get-remove_same old c) ∙ sym (frame_unpinned old w p c x s has e out))
       | inr ne ↦ ap pins_in (ap (λ (m : Live). found m q) is ∙ get-remove_other old c q ne)
     ])
 

@@ -22,7 +22,8 @@ same_place : (a b c e : ℕ) → a ≡ c → b ≡ e → ◌≡◌ {A = ℕ × �
 same_place a b c e i j = let f : ℕ → ℕ × ℕ = λ x. (x, b) in let g : ℕ → ℕ × ℕ = λ y. (c, y) in ap f i ∙ ap g j
 
 -- The place that a machine computes is that of the path.
-pub located : (m : Live) (w : Object) (frame : ℕ) (e : Designator) (p : List Step) → Stands m w → Leads w frame e p → Has w p × (0 < holders p) × (locate m frame e ≡ place w 0 0 p)
+pub located : (m : Live) (w : Object) (frame : ℕ) (e : Designator) (p : List Step) → Stands m w → Leads w frame e p
+    → Has w p × (0 < holders p) × (locate m frame e ≡ place w 0 0 p)
 located m w frame (Local n) p s h = (h.0, h.1, sym h.2)
 located m w frame (Through e) p s h =
     let i = located m w frame e h.0 s h.2 in
@@ -53,14 +54,17 @@ located m w frame (Part e n) p s h =
     (h.4, deep, ap f i.2 ∙ sym h.5)
 
 -- A scalar is written at a designator.
-pub stored_at : (old new : Live) (w : Object) (frame : ℕ) (e : Designator) (p : List Step) (x z : ℤ) → Stands old w → Leads w frame e p → get w p ≡ Number x → new ≡ with_words old (locate old frame e).0 (set (words_of old (locate old frame e).0) (locate old frame e).1 z) → Stands new (put w p (Number z))
+pub stored_at : (old new : Live) (w : Object) (frame : ℕ) (e : Designator) (p : List Step) (x z : ℤ) → Stands old w → Leads w frame e p
+    → get w p ≡ Number x → new ≡ with_words old (locate old frame e).0 (set (words_of old (locate old frame e).0) (locate old frame e).1 z)
+    → Stands new (put w p (Number z))
 stored_at old new w frame e p x z s h is wrote =
     let i = located old w frame e p s h in
     let f : ℕ × ℕ → Live = λ at. with_words old at.0 (set (words_of old at.0) at.1 z) in
     stands_written old new w p x z s i.0 i.1 is (wrote ∙ ap f i.2)
 
 -- The place of a component of a record, whose shapes are these.
-pub component_place : (f : Lending → List ℤ) (z : IsSized f) (k : ℕ) (ss : List Shape) (x : Object) (b o : ℕ) → k < length ss → OfShape (row ss) x → place x b o (element k) ≡ (b, o + width (row (take k ss)))
+pub component_place : (f : Lending → List ℤ) (z : IsSized f) (k : ℕ) (ss : List Shape) (x : Object) (b o : ℕ) → k < length ss → OfShape (row ss) x
+    → place x b o (element k) ≡ (b, o + width (row (take k ss)))
 component_place f z k [] x b o l r = absurd (omega arith)
 component_place f z zero (s ∷ ss) x b o l r =
     let P : Object → Type 0 = λ y. place y b o (element zero) ≡ (b, o + 0) in

@@ -16,7 +16,8 @@ use Rattle.f3_storage.specs.Objects.{Object, Pair, Absent, Present, plain, get, 
 use Rattle.f3_storage.specs.StandsFor.{Owned, All, In, IsPinned, Chained, IsLent, Stands}
 use Rattle.f3_storage.proofs.Around.{Around, Beside, Within, fill, spot, outside, times-fill, counted, IsWithin, owned_stands}
 use Rattle.f3_storage.proofs.Changing.{Becomes, owned_becomes, owned_replaced}
-use Rattle.f3_storage.proofs.Parts.{SameWay, same_way, spelled_sized, tree_same, around, tree-put, tree-around, spot-around, around-within, lent-put, lent-plain}
+use Rattle.f3_storage.proofs.Parts.{SameWay, same_way, spelled_sized, tree_same, around, tree-put, tree-around, spot-around, around-within, lent-put}
+use Rattle.f3_storage.proofs.Parts.{lent-plain}
 use Rattle.f3_storage.proofs.Pins.{all_at, all_by, has_behind}
 use Rattle.f3_storage.proofs.State.{spelled_same, all_map, pinned_same, chained_same, valid_same}
 use Rattle.f3_storage.proofs.Writing.{wrote_replaces, absent_way}
@@ -24,7 +25,8 @@ use Rattle.f3_storage.proofs.Lending.{row_cells, lent_cells, size_cells, bare_ro
 
 words_fill : (a : Around) (t u : Tree) → words t ≡ words u → words (fill a t) ≡ words (fill a u)
 words_fill (Beside f k) t u e =
-    words-append f (t ⊕ k) ∙ (ap (λ (l : List ℤ). words f ++ l) (words-append t k ∙ (ap (λ (l : List ℤ). l ++ words k) e ∙ sym (words-append u k))) ∙ sym (words-append f (u ⊕ k)))
+    words-append f (t ⊕ k) ∙ (ap (λ (l : List ℤ). words f ++ l) (words-append t k ∙ (ap (λ (l : List ℤ). l ++ words k) e ∙ sym (words-append u k)))
+    ∙ sym (words-append f (u ⊕ k)))
 words_fill (Within f b d k a) t u e = words-append f (Allocated b d (fill a t) k) ∙ sym (words-append f (Allocated b d (fill a u) k))
 
 held_seen : (m : Live) (a : Around) (t u : Tree) → words t ≡ words u → (Held m t → Held m u) → Held m (fill a t) → Held m (fill a u)
@@ -33,7 +35,14 @@ held_seen m (Beside f k) t u e g h =
     held_both m f (u ⊕ k) (held_front m f (t ⊕ k) h) (held_both m u k (g (held_front m t k b)) (held_back m t k b))
 held_seen m (Within f b d k a) t u e g h =
     let r = held_back m f (Allocated b d (fill a t) k) h in
-    held_both m f (Allocated b d (fill a u) k) (held_front m f (Allocated b d (fill a t) k) h) (r.0, r.1 ∙ words_fill a t u e, held_seen m a t u e g r.2, r.3, r.4)
+    held_both m f (Allocated b d (fill a u) k) (held_front m f (Allocated b d (fill a t) k) h) (
+      r.0,
+      r.1
+          ∙ words_fill a t u e,
+      held_seen m a t u e g r.2,
+      r.3,
+      r.4,
+    )
 
 part_held : (m : Live) (a : Around) (t : Tree) → Held m (fill a t) → Held m t
 part_held m (Beside f k) t h = held_front m t k (held_back m f (t ⊕ k) h)
@@ -44,7 +53,8 @@ pub owned_loosened : (m : Live) (a : Around) (t u : Tree) → words t ≡ words 
 owned_loosened m a t u e bare o = record {
   held = held_both m (fill a u) t (held_seen m a t u e (λ k. held-bare m u bare) o.held) (part_held m a t o.held);
   once = λ q. let x = times-append q (fill a u) t in let y = times-fill q a u in let z = times-fill q a t in let n = o.once q in let b = bare q in omega arith;
-  all = λ q live. let x = times-append q (fill a u) t in let y = times-fill q a u in let z = times-fill q a t in let n = o.all q live in let b = bare q in omega arith;
+  all = λ q live. let x = times-append q (fill a u) t in let y = times-fill q a u in let z = times-fill q a t in let n = o.all q live in let b = bare q in
+      omega arith;
 }
 
 pub target_outside : (a : Around) → IsWithin a → 0 < outside (spot a 0 0).0 a
@@ -52,7 +62,8 @@ target_outside (Beside f k) w = absurd w
 target_outside (Within f b d k a) w = let e = counted a b 0 in omega arith
 
 -- what is loose is linked to a place where nothing is allocated
-pub linked : (old new : Live) (b at : ℕ) (t loose : Tree) → IsBare t → Held old loose → times b loose ≡ 0 → new ≡ with_words old b (with_words_at (words_of old b) at (words loose)) → Becomes old new b at t loose loose
+pub linked : (old new : Live) (b at : ℕ) (t loose : Tree) → IsBare t → Held old loose → times b loose ≡ 0
+    → new ≡ with_words old b (with_words_at (words_of old b) at (words loose)) → Becomes old new b at t loose loose
 linked old new b at t loose bare held apart is =
     let k : (q : ℕ) → found new q ≡ found (with_words old b (with_words_at (words_of old b) at (words loose))) q = λ q. ap (λ (m : Live). found m q) is in
     let other : (q : ℕ) → 0 < times q loose → q ≢ b = (λ q n e. let z : times q loose ≡ 0 = ap (λ (x : ℕ). times x loose) e ∙ apart in omega arith) in
@@ -162,7 +173,8 @@ pins_words m b ws q = elim (cases_eq q b) [
 ]
 
 -- an unpinned object's path goes no further
-ends_there : (w : Object) (p : List Step) (c : ℕ) (ds : List ℤ) (x : Object) (l : Lending) → get w p ≡ Present c ds x → (IsPinned (plain w) p → ⊥) → In l (lent_in w) → Has w (path_of l) → (s : List Step) → path_of l ≡ p ++ s → s ≡ []
+ends_there : (w : Object) (p : List Step) (c : ℕ) (ds : List ℤ) (x : Object) (l : Lending) → get w p ≡ Present c ds x → (IsPinned (plain w) p → ⊥)
+    → In l (lent_in w) → Has w (path_of l) → (s : List Step) → path_of l ≡ p ++ s → s ≡ []
 ends_there w p c ds x l e not i has s k =
     let P : List Step → Type 0 = λ r. Has w r in
     let Q : Object → Type 0 = λ y. Has y s in
@@ -175,7 +187,9 @@ ends_there w p c ds x l e not i has s k =
     by_steps (First ∷ r) has out = absurd has
     by_steps (Rest ∷ r) has out = absurd has
 
-module _ (old new : Live) (w : Object) (p q : List Step) (c : ℕ) (ds d0 : List ℤ) (x : Object) (s : Stands old w) (hp : Has w p) (np : 0 < holders p) (hq : Has w q) (nq : 0 < holders q) (from : get w p ≡ Present c ds x) (to : get w q ≡ Absent d0) (len : length ds ≡ length d0) (apart : Apart p q) (none : lent_in x ≡ []) (not : IsPinned (plain w) p → ⊥) where
+module _ (old new : Live) (w : Object) (p q : List Step) (c : ℕ) (ds d0 : List ℤ) (x : Object) (s : Stands old w) (hp : Has w p) (np : 0 < holders p)
+    (hq : Has w q) (nq : 0 < holders q) (from : get w p ≡ Present c ds x) (to : get w q ≡ Absent d0) (len : length ds ≡ length d0) (apart : Apart p q)
+    (none : lent_in x ≡ []) (not : IsPinned (plain w) p → ⊥) where
   abbrev f : Lending → List ℤ
   f = spelled w
 
@@ -234,7 +248,8 @@ module _ (old new : Live) (w : Object) (p q : List Step) (c : ℕ) (ds d0 : List
       let has = (all_at (IsLent w) (lent_in w) l s.valid i).there in
       let ends = ends_there w p c ds x l from not i has in
       let a : SameWay w w1 (path_of l) = same_way w p junk (path_of l) has s1 (λ t e g. nowhere (get w p) junk t (ends t e)) in
-      let b : SameWay w1 w2 (path_of l) = same_way w1 q (Present c ds x) (path_of l) a.there s2 (λ t e g. let H : Object → Type 0 = λ y. Has y t → SameWay y (Present c ds x) t in subst H (sym q1.1) (absent_way d0 ds c x t) g) in
+      let b : SameWay w1 w2 (path_of l) = same_way w1 q (Present c ds x) (path_of l) a.there s2 (λ t e g. let H : Object → Type 0 = λ y. Has y t
+      → SameWay y (Present c ds x) t in subst H (sym q1.1) (absent_way d0 ds c x t) g) in
       let k : SameWay w2 w3 (path_of l) = same_way w2 p (Absent ds) (path_of l) b.there s3 (λ t e g. nowhere (get w2 p) (Absent ds) t (ends t e)) in
       way_then w w1 w3 (path_of l) a (way_then w1 w2 w3 (path_of l) b k)
 
@@ -270,21 +285,26 @@ module _ (old new : Live) (w : Object) (p q : List Step) (c : ℕ) (ds d0 : List
   p_spot : place w 0 0 p ≡ spot (around f w2 p) 0 0
   p_spot = sym (spot-around f (spelled_sized w) w2 p 0 0 p2.0 ∙ p_way.at 0 0)
 
-  linked_owned : (mid : Live) → mid ≡ with_words old (place w 0 0 q).0 (with_words_at (words_of old (place w 0 0 q).0) (place w 0 0 q).1 (words loose)) → Owned mid (tree f w2)
+  linked_owned : (mid : Live) → mid ≡ with_words old (place w 0 0 q).0 (with_words_at (words_of old (place w 0 0 q).0) (place w 0 0 q).1 (words loose))
+      → Owned mid (tree f w2)
   linked_owned mid is =
       let Q : Tree → Type 0 = λ t. Owned old (t ⊕ loose) in
       let R : Tree → Type 0 = λ t. Owned mid t in
       let o : Owned old (fill (around f w1 q) (Unallocated d0 End) ⊕ loose) = subst Q tree_q seen in
       let within = around-within f w1 q q1.0 nq in
       let b = (place w 0 0 q).0 in
-      let target : 0 < outside b (around f w1 q) = let P : ℕ → Type 0 = λ y. 0 < outside y (around f w1 q) in subst P (sym (ap (λ (y : ℕ × ℕ). y.0) q_spot)) (target_outside (around f w1 q) within) in
-      let free : times b loose ≡ 0 = let n = o.once b in let y = times-append b (fill (around f w1 q) (Unallocated d0 End)) loose in let z = times-fill b (around f w1 q) (Unallocated d0 End) in omega arith in
+      let target : 0 < outside b (around f w1 q) = let P : ℕ → Type 0 = λ y. 0 < outside y (around f w1 q) in
+      subst P (sym (ap (λ (y : ℕ × ℕ). y.0) q_spot)) (target_outside (around f w1 q) within) in
+      let free : times b loose ≡ 0 = let n = o.once b in let y = times-append b (fill (around f w1 q) (Unallocated d0 End)) loose in
+      let z = times-fill b (around f w1 q) (Unallocated d0 End) in omega arith in
       let held = held_back old (fill (around f w1 q) (Unallocated d0 End)) loose o.held in
       let r = linked old mid b (place w 0 0 q).1 (Unallocated d0 End) loose (λ q. refl) held free is in
       let l : length (words loose) ≡ length (words (Unallocated d0 End)) =
       ap (λ (l : List ℤ). suc (length l)) (append_nil ds) ∙ (ap suc len ∙ sym (ap (λ (l : List ℤ). suc (length l)) (append_nil d0))) in
       subst R (sym (tree-put f w1 q (Present c ds x) q1.0))
-      (owned_becomes old mid b (place w 0 0 q).1 (Unallocated d0 End) loose loose r l (λ k. let n = o.once k in let y = times-append k (fill (around f w1 q) (Unallocated d0 End)) loose in omega arith) (around f w1 q) within (ap (λ (y : ℕ × ℕ). y.0) q_spot) (ap (λ (y : ℕ × ℕ). y.1) q_spot) o)
+      (owned_becomes old mid b (place w 0 0 q).1 (Unallocated d0 End) loose loose r l (λ k. let n = o.once k in
+      let y = times-append k (fill (around f w1 q) (Unallocated d0 End)) loose in
+      omega arith) (around f w1 q) within (ap (λ (y : ℕ × ℕ). y.0) q_spot) (ap (λ (y : ℕ × ℕ). y.1) q_spot) o)
 
   moved_owned : new ≡ with_moved old (place w 0 0 p).0 (place w 0 0 p).1 (place w 0 0 q).0 (place w 0 0 q).1 (words loose) → Owned new (tree f w3)
   moved_owned is =
@@ -293,23 +313,29 @@ module _ (old new : Live) (w : Object) (p q : List Step) (c : ℕ) (ds d0 : List
       let at = (place w 0 0 p).1 in
       let P : Tree → Type 0 = λ t. Owned mid t in
       let N : Tree → Type 0 = λ t. Owned new t in
-      let is2 : tree f w2 ≡ fill (around f w2 p) (row (pos c ∷ ds)) = tree-around f w2 p p2.0 ∙ (ap (λ (y : Object). fill (around f w2 p) (tree f y)) p2.1 ∙ ap (fill (around f w2 p)) (row_cells f (pos c ∷ ds))) in
+      let is2 : tree f w2 ≡ fill (around f w2 p) (row (pos c ∷ ds)) = tree-around f w2 p p2.0 ∙ (ap (λ (y : Object). fill (around f w2 p) (tree f y)) p2.1
+      ∙ ap (fill (around f w2 p)) (row_cells f (pos c ∷ ds))) in
       let o : Owned mid (fill (around f w2 p) (row (pos c ∷ ds))) = subst P is2 (linked_owned mid refl) in
       let within = around-within f w2 p p2.0 np in
       let S : ℕ × ℕ → Type 0 = λ y. h.Stands mid y.0 y.1 (row (pos c ∷ ds)) in
       let here : h.Stands mid b at (row (pos c ∷ ds)) = subst S (sym p_spot) (owned_stands mid (around f w2 p) (row (pos c ∷ ds)) within o) in
-      let word : set (words_of mid b) at (pos 0) ≡ with_words_at (words_of mid b) at (pos 0 ∷ words (row ds)) = written_first (words_of mid b) at (pos c) (pos 0) (words (row ds)) (let k = here.within in omega arith) here.there in
+      let word : set (words_of mid b) at (pos 0) ≡ with_words_at (words_of mid b) at (pos 0 ∷ words (row ds)) = written_first (words_of mid b) at (pos c)
+      (pos 0) (words (row ds)) (let k = here.within in omega arith) here.there in
       let ws : pos 0 ∷ words (row ds) ≡ words (Unallocated ds End) = ap (λ (l : List ℤ). pos 0 ∷ l) (row_words ds ∙ sym (append_nil ds)) in
-      let r : h.Replaces mid new b at (row (pos c ∷ ds)) (Unallocated ds End) = wrote_replaces mid new b at (row (pos c ∷ ds)) (Unallocated ds End) here.live (bare_row (pos c ∷ ds)) (λ k. refl) (is ∙ ap (with_words mid b) (word ∙ ap (with_words_at (words_of mid b) at) ws)) in
+      let r : h.Replaces mid new b at (row (pos c ∷ ds)) (Unallocated ds End) = wrote_replaces mid new b at (row (pos c ∷ ds))
+      (Unallocated ds End) here.live (bare_row (pos c ∷ ds)) (λ k. refl) (is ∙ ap (with_words mid b) (word
+      ∙ ap (with_words_at (words_of mid b) at) ws)) in
       let l : length (words (Unallocated ds End)) ≡ length (words (row (pos c ∷ ds))) = ap suc (ap length (append_nil ds ∙ sym (row_words ds))) in
-      subst N (sym (tree-put f w2 p (Absent ds) p2.0)) (owned_replaced mid new b at (row (pos c ∷ ds)) (Unallocated ds End) r l (λ k. omega arith) (around f w2 p) within (ap (λ (y : ℕ × ℕ). y.0) p_spot) (ap (λ (y : ℕ × ℕ). y.1) p_spot) o)
+      subst N (sym (tree-put f w2 p (Absent ds) p2.0)) (owned_replaced mid new b at (row (pos c ∷ ds)) (Unallocated ds End) r l (λ k. omega arith)
+      (around f w2 p) within (ap (λ (y : ℕ × ℕ). y.0) p_spot) (ap (λ (y : ℕ × ℕ). y.1) p_spot) o)
     where
       row_words : (zs : List ℤ) → words (row zs) ≡ zs
       row_words [] = refl
       row_words (z ∷ zs) = ap (λ (l : List ℤ). z ∷ l) (row_words zs)
 
   -- An allocation moves: the machine copies the holder's words and clears the first of them in the old holder.
-  pub stands_moved : new ≡ with_moved old (place w 0 0 p).0 (place w 0 0 p).1 (place w 0 0 q).0 (place w 0 0 q).1 (words loose) → Stands new (put (put w q (Present c ds x)) p (Absent ds))
+  pub stands_moved : new ≡ with_moved old (place w 0 0 p).0 (place w 0 0 p).1 (place w 0 0 q).0 (place w 0 0 q).1 (words loose)
+      → Stands new (put (put w q (Present c ds x)) p (Absent ds))
   stands_moved is =
       let W : Object → Type 0 = λ y. Stands new y in
       let SW : Lending → Type 0 = λ l. SameWay w w3 (path_of l) in
@@ -317,12 +343,14 @@ module _ (old new : Live) (w : Object) (p q : List Step) (c : ℕ) (ds d0 : List
       let A : List Lending → Type 0 = λ ls. All SW ls in
       let Q : List Lending → Type 0 = λ ls. All (IsLent w3) ls in
       let C : List Lending → Type 0 = λ ls. Chained w3 (λ q. 0) ls in
-      let spelt : tree (spelled w3) w3 ≡ tree f w3 = tree_same (spelled w3) f w3 (all_map SW (λ l. spelled w3 l ≡ f l) (lent_in w3) (spelled_same w w3) (subst A (sym same_lent) ways)) in
+      let spelt : tree (spelled w3) w3 ≡ tree f w3 = tree_same (spelled w3) f w3 (all_map SW (λ l. spelled w3 l ≡ f l) (lent_in w3) (spelled_same w w3)
+      (subst A (sym same_lent) ways)) in
       let N : Tree → Type 0 = λ t. Owned new t in
       let stands : Stands new w3 = record {
         owned = subst N (sym spelt) (moved_owned is);
         valid = subst Q (sym same_lent) (valid_same w w3 (lent_in w) ways s.valid);
         chained = subst C (sym same_lent) (chained_same w w3 (λ q. 0) (λ q. 0) (lent_in w) (λ q. omega arith) ways s.chained);
-        pins = λ k. ap (λ (m : Live). pins_of m k) is ∙ (pins_words _ (place w 0 0 p).0 _ k ∙ (pins_words old (place w 0 0 q).0 _ k ∙ (s.pins k ∙ (sym (pinned_same w w3 (lent_in w) k ways) ∙ ap (λ (ls : List Lending). pinned_by w3 ls k) (sym same_lent)))));
+        pins = λ k. ap (λ (m : Live). pins_of m k) is ∙ (pins_words _ (place w 0 0 p).0 _ k ∙ (pins_words old (place w 0 0 q).0 _ k ∙ (s.pins k
+            ∙ (sym (pinned_same w w3 (lent_in w) k ways) ∙ ap (λ (ls : List Lending). pinned_by w3 ls k) (sym same_lent)))));
       } in
       subst W (put_over w p q junk (Present c ds x) (Absent ds) apart) stands

@@ -4,7 +4,8 @@ use Rattle.f3_objects.specs.Tree.{Tree, End, Allocated, ◌⊕◌, words}
 use Rattle.f3_objects.proofs.Trees.{append-End, append-append, size-append}
 use Rattle.f3_storage.specs.Values.{Step, First, Rest, Contents, Lending, path_of}
 use Rattle.f3_storage.specs.Values as v
-use Rattle.f3_storage.specs.Objects.{Object, Empty, Number, Pair, Absent, Present, Refers, plain, get, put, Has, lent_in, holders, span, size, place, chain, row, tree, own, spelled}
+use Rattle.f3_storage.specs.Objects.{Object, Empty, Number, Pair, Absent, Present, Refers, plain, get, put, Has, lent_in, holders, span, size, place, chain}
+use Rattle.f3_storage.specs.Objects.{row, tree, own, spelled}
 use Rattle.f3_storage.specs.StandsFor.{All}
 use Rattle.f3_storage.proofs.Around.{Around, Beside, Within, fill, spot, IsWithin}
 
@@ -85,7 +86,8 @@ words-row (z ∷ zs) = ap (λ (l : List ℤ). z ∷ l) (words-row zs)
 pub tree_same : (f g : Lending → List ℤ) (x : Object) → All (λ l. f l ≡ g l) (lent_in x) → tree f x ≡ tree g x
 tree_same f g Empty a = refl
 tree_same f g (Number z) a = refl
-tree_same f g (Pair x y) a = let h = all_both (λ l. f l ≡ g l) (lent_in x) (lent_in y) a in ap (λ (t : Tree). t ⊕ tree f y) (tree_same f g x h.0) ∙ ap (λ (t : Tree). tree g x ⊕ t) (tree_same f g y h.1)
+tree_same f g (Pair x y) a = let h = all_both (λ l. f l ≡ g l) (lent_in x) (lent_in y) a in ap (λ (t : Tree). t ⊕ tree f y) (tree_same f g x h.0)
+    ∙ ap (λ (t : Tree). tree g x ⊕ t) (tree_same f g y h.1)
   where
     all_both : (P : Lending → Type 0) (ls ks : List Lending) → All P (ls ++ ks) → All P ls × All P ks
     all_both P [] ks a = (tt, a)
@@ -111,7 +113,8 @@ fill-behind u (Beside f k) t = sym (append-append f (t ⊕ k) u ∙ ap (λ (x : 
 fill-behind u (Within f b d k a) t = sym (append-append f (Allocated b d (fill a t) k) u)
 
 spot-before : (u : Tree) (a : Around) (b o : ℕ) → spot (before u a) b o ≡ spot a b (o + length (words u))
-spot-before u (Beside f k) b o = let e = size-append u f in let n : o + length (words (u ⊕ f)) ≡ (o + length (words u)) + length (words f) = omega arith in ap (λ (n : ℕ). (b, n)) n
+spot-before u (Beside f k) b o = let e = size-append u f in let n : o + length (words (u ⊕ f)) ≡ (o + length (words u)) + length (words f) = omega arith in
+    ap (λ (n : ℕ). (b, n)) n
 spot-before u (Within f c d k a) b o = refl
 
 spot-behind : (u : Tree) (a : Around) (b o : ℕ) → spot (behind u a) b o ≡ spot a b o
@@ -163,7 +166,8 @@ module _ (spell : Lending → List ℤ) where
   pub spot-around : IsSized spell → (x : Object) (p : List Step) (b o : ℕ) → Has x p → spot (around x p) b o ≡ place x b o p
   spot-around z x [] b o h = let n : o + 0 ≡ o = omega arith in ap (λ (n : ℕ). (b, n)) n
   spot-around z (Pair x y) (First ∷ p) b o h = spot-behind (tree spell y) (around x p) b o ∙ spot-around z x p b o h
-  spot-around z (Pair x y) (Rest ∷ p) b o h = spot-before (tree spell x) (around y p) b o ∙ (spot-around z y p b (o + length (words (tree spell x))) h ∙ ap (λ (n : ℕ). place y b (o + n) p) (size-tree z x))
+  spot-around z (Pair x y) (Rest ∷ p) b o h = spot-before (tree spell x) (around y p) b o ∙ (spot-around z y p b (o + length (words (tree spell x))) h
+      ∙ ap (λ (n : ℕ). place y b (o + n) p) (size-tree z x))
   spot-around z (Present c d x) (Contents ∷ p) b o h = spot-around z x p c 0 h
   spot-around z x (s ∷ p) b o h = absurd h
 
@@ -184,7 +188,8 @@ pub same_self : (x : Object) (r : List Step) → Has x r → SameWay x x r
 same_self x r h = record { at = λ b o. refl; through = refl; there = h }
 
 -- A change of one part changes no other part's way.
-pub same_way : (x : Object) (p : List Step) (u : Object) (r : List Step) → Has x r → size u ≡ size (get x p) → ((s : List Step) → r ≡ p ++ s → Has (get x p) s → SameWay (get x p) u s) → SameWay x (put x p u) r
+pub same_way : (x : Object) (p : List Step) (u : Object) (r : List Step) → Has x r → size u ≡ size (get x p) → ((s : List Step) → r ≡ p ++ s
+    → Has (get x p) s → SameWay (get x p) u s) → SameWay x (put x p u) r
 same_way x [] u r h e f = f r refl h
 same_way (Pair x y) (First ∷ p) u [] h e f = record { at = λ b o. refl; through = refl; there = tt }
 same_way (Pair x y) (First ∷ p) u (First ∷ r) h e f =

@@ -38,7 +38,8 @@ own_in w q [] l i = absurd i
 own_in w q (k ∷ ks) l (inl e) = let s : count q (own w l) ≡ count q (own w k) = ap (λ (l : Lending). count q (own w l)) e in omega arith
 own_in w q (k ∷ ks) l (inr i) = let h = own_in w q ks l i in omega arith
 
-pub earlier_in : (w : Object) (q : ℕ) (before : ℕ → ℕ) (ls : List Lending) (l : Lending) → Chained w before ls → In l ls → 0 < count q (earlier w l) → 0 < before q + pinned_by w ls q
+pub earlier_in : (w : Object) (q : ℕ) (before : ℕ → ℕ) (ls : List Lending) (l : Lending) → Chained w before ls → In l ls → 0 < count q (earlier w l)
+    → 0 < before q + pinned_by w ls q
 earlier_in w q before [] l c i p = absurd i
 earlier_in w q before (k ∷ ks) l c (inl e) p =
     let s : 0 < count q (earlier w k) = (let P : Lending → Type 0 = λ x. 0 < count q (earlier w x) in subst P e p) in
@@ -88,7 +89,8 @@ module _ (spell : Lending → List ℤ) where
   count-chain q x (s ∷ r) h = absurd h
 
   -- a path that goes through a block beneath a part goes through that part
-  pub enters : (q : ℕ) (x : Object) (p r : List Step) → Has x p → Has x r → times q (tree spell x) ≤ 1 → 0 < times q (tree spell (get x p)) → 0 < count q (chain x r) → (s : List Step) × (r ≡ p ++ s) × (0 < count q (chain (get x p) s))
+  pub enters : (q : ℕ) (x : Object) (p r : List Step) → Has x p → Has x r → times q (tree spell x) ≤ 1 → 0 < times q (tree spell (get x p))
+      → 0 < count q (chain x r) → (s : List Step) × (r ≡ p ++ s) × (0 < count q (chain (get x p) s))
   enters q x [] r hp hr o t c = (r, refl, c)
   enters q x (s ∷ p) [] hp hr o t c = absurd (omega arith)
   enters q (Pair x y) (First ∷ p) (First ∷ r) hp hr o t c =
@@ -123,7 +125,8 @@ one_same : (b : ℕ) → one_at b b ≡ 1
 one_same b = rw (eq-eqb b b refl) refl
 
 -- the first step of a way through an allocated object
-first_step : (q b : ℕ) (d : List ℤ) (x : Object) (s : List Step) → Has (Present b d x) s → 0 < count q (chain (Present b d x) s) → (r : List Step) × (s ≡ Contents ∷ r)
+first_step : (q b : ℕ) (d : List ℤ) (x : Object) (s : List Step) → Has (Present b d x) s → 0 < count q (chain (Present b d x) s)
+    → (r : List Step) × (s ≡ Contents ∷ r)
 first_step q b d x [] h c = absurd (omega arith)
 first_step q b d x (Contents ∷ r) h c = (r, refl)
 first_step q b d x (First ∷ r) h c = absurd h
@@ -147,15 +150,18 @@ passes (Pair x z) (Rest ∷ p) s b d y e h = passes z p s b d y e h
 passes (Present c k x) (Contents ∷ p) s b d y e h = let i = passes x p s b d y e h in omega arith
 passes x (t ∷ p) s b d y e h = absurd h
 
-passes_within : (x : Object) (p s : List Step) (b : ℕ) (d : List ℤ) (y : Object) → get x p ≡ Present b d y → Has x p → 0 < holders p → 0 < count b (drop 1 (chain x (p ++ Contents ∷ s)))
+passes_within : (x : Object) (p s : List Step) (b : ℕ) (d : List ℤ) (y : Object) → get x p ≡ Present b d y → Has x p → 0 < holders p
+    → 0 < count b (drop 1 (chain x (p ++ Contents ∷ s)))
 passes_within x [] s b d y e h n = absurd (omega arith)
 passes_within (Pair x z) (First ∷ p) s b d y e h n = passes_within x p s b d y e h n
 passes_within (Pair x z) (Rest ∷ p) s b d y e h n = passes_within z p s b d y e h n
 passes_within (Present c k x) (Contents ∷ p) s b d y e h n = passes x p s b d y e h
 passes_within x (t ∷ p) s b d y e h n = absurd h
 
--- Error 9 agrees: where a block beneath an allocated object is pinned, a lent path goes through that object's contents; where one does, its own block is pinned.
-pub pinned_beneath : (m : Live) (w : Object) (p : List Step) (b : ℕ) (d : List ℤ) (x : Object) (q : ℕ) → Stands m w → Has w p → get w p ≡ Present b d x → 0 < times q (tree (spelled w) (get w p)) → 0 < pins_of m q → IsPinned (plain w) p
+-- Error 9 agrees: where a block beneath an allocated object is pinned, a lent path goes through that object's contents; where one does, its own block is
+-- pinned.
+pub pinned_beneath : (m : Live) (w : Object) (p : List Step) (b : ℕ) (d : List ℤ) (x : Object) (q : ℕ) → Stands m w → Has w p → get w p ≡ Present b d x
+    → 0 < times q (tree (spelled w) (get w p)) → 0 < pins_of m q → IsPinned (plain w) p
 pinned_beneath m w p b d x q s h e t n =
     let l = pinned_where m w q s n in
     let there = (all_at (IsLent w) (lent_in w) l.0 s.valid l.1).there in
@@ -169,7 +175,8 @@ pinned_beneath m w p b d x q s h e t n =
     let R : List Lending → Type 0 = λ ls. In l.0 ls in
     (l.0, subst R (lent-plain w) l.1, f.0, i.1 ∙ ap (λ (k : List Step). p ++ k) f.1)
 
-pub pinned_object : (m : Live) (w : Object) (p : List Step) (b : ℕ) (d : List ℤ) (x : Object) → Stands m w → Has w p → 0 < holders p → get w p ≡ Present b d x → IsPinned (plain w) p → 0 < pins_of m b
+pub pinned_object : (m : Live) (w : Object) (p : List Step) (b : ℕ) (d : List ℤ) (x : Object) → Stands m w → Has w p → 0 < holders p
+    → get w p ≡ Present b d x → IsPinned (plain w) p → 0 < pins_of m b
 pinned_object m w p b d x s h n e g =
     let R : List Lending → Type 0 = λ ls. In g.0 ls in
     let P : List Step → Type 0 = λ r. 0 < count b (drop 1 (chain w r)) in

@@ -19,7 +19,8 @@ use Rattle.f3_storage.proofs.Pins.{all_at, all_by}
 pub spelled_same : (w z : Object) (l : Lending) → SameWay w z (path_of l) → spelled z l ≡ spelled w l
 spelled_same w z l k =
     let f : ℕ × ℕ → List ℤ = λ at. pos at.0 ∷ pos at.1 ∷ (l.dims ++ map (λ (b : ℕ). pos b) (own z l)) in
-    let g : List ℕ → List ℤ = λ c. pos (place w 0 0 (path_of l)).0 ∷ pos (place w 0 0 (path_of l)).1 ∷ (l.dims ++ map (λ (b : ℕ). pos b) (drop (holders l.base) c)) in
+    let g : List ℕ → List ℤ = λ c. pos (place w 0 0 (path_of l)).0 ∷ pos (place w 0 0 (path_of l)).1 ∷ (l.dims ++ map (λ (b : ℕ). pos b) (drop
+    (holders l.base) c)) in
     ap f (k.at 0 0) ∙ ap g k.through
 
 pub all_map : (P Q : Lending → Type 0) (ls : List Lending) → ((l : Lending) → P l → Q l) → All P ls → All Q ls
@@ -33,7 +34,8 @@ pinned_same w z (l ∷ ls) q a =
     let k : count q (own z l) ≡ count q (own w l) = ap (λ (c : List ℕ). count q (drop (holders l.base) c)) a.0.through in
     omega arith
 
-pub chained_same : (w z : Object) (f g : ℕ → ℕ) (ls : List Lending) → ((q : ℕ) → f q ≤ g q) → All (λ l. SameWay w z (path_of l)) ls → Chained w f ls → Chained z g ls
+pub chained_same : (w z : Object) (f g : ℕ → ℕ) (ls : List Lending) → ((q : ℕ) → f q ≤ g q) → All (λ l. SameWay w z (path_of l)) ls → Chained w f ls
+    → Chained z g ls
 chained_same w z f g [] e a c = tt
 chained_same w z f g (l ∷ ls) e a c = (
   (λ q n.
@@ -56,7 +58,8 @@ dead_pins : (m : Live) (q : ℕ) → found m q ≡ None → pins_of m q ≡ 0
 dead_pins m q e = ap pins_in e
 
 -- the pins of a heap in which a tree took another's place, where what was given back had none
-pub replaced_pins : (old new : Live) (block at : ℕ) (t u : Tree) → h.Replaces old new block at t u → ((q : ℕ) → 0 < times q t → times q u ≡ 0 → pins_of old q ≡ 0) → (q : ℕ) → pins_of new q ≡ pins_of old q
+pub replaced_pins : (old new : Live) (block at : ℕ) (t u : Tree) → h.Replaces old new block at t u → ((q : ℕ) → 0 < times q t → times q u ≡ 0
+    → pins_of old q ≡ 0) → (q : ℕ) → pins_of new q ≡ pins_of old q
 replaced_pins old new block at t u r free q = elim (cases_eq q block) [
   | inl e ↦ let P : ℕ → Type 0 = λ x. pins_of new x ≡ pins_of old x in subst P (sym e) r.pinned
   | inr ne ↦ elim (zero_or_more (times q u)) [
@@ -72,13 +75,18 @@ replaced_pins old new block at t u r free q = elim (cases_eq q block) [
 ]
 
 -- the tree of a store in which one part is another, where no reference's words change
-pub tree_put_same : (w : Object) (p : List Step) (u : Object) → Has w p → All (λ l. SameWay w (put w p u) (path_of l)) (lent_in (put w p u)) → tree (spelled (put w p u)) (put w p u) ≡ fill (around (spelled w) w p) (tree (spelled w) u)
+pub tree_put_same : (w : Object) (p : List Step) (u : Object) → Has w p → All (λ l. SameWay w (put w p u) (path_of l)) (lent_in (put w p u))
+    → tree (spelled (put w p u)) (put w p u) ≡ fill (around (spelled w) w p) (tree (spelled w) u)
 tree_put_same w p u h a =
-    tree_same (spelled (put w p u)) (spelled w) (put w p u) (all_map (λ l. SameWay w (put w p u) (path_of l)) (λ l. spelled (put w p u) l ≡ spelled w l) (lent_in (put w p u)) (spelled_same w (put w p u)) a)
+    tree_same (spelled (put w p u)) (spelled w) (put w p u) (all_map (λ l. SameWay w (put w p u) (path_of l)) (λ l. spelled (put w p u) l ≡ spelled w l)
+    (lent_in (put w p u)) (spelled_same w (put w p u)) a)
     ∙ tree-put (spelled w) w p u h
 
 -- the blocks of a store in which one part, which a block holds, was replaced
-pub owned_put : (old new : Live) (w : Object) (p : List Step) (u : Object) → Owned old (tree (spelled w) w) → Has w p → 0 < holders p → size u ≡ size (get w p) → h.Replaces old new (place w 0 0 p).0 (place w 0 0 p).1 (tree (spelled w) (get w p)) (tree (spelled w) u) → ((q : ℕ) → times q (tree (spelled w) u) ≤ 1) → All (λ l. SameWay w (put w p u) (path_of l)) (lent_in (put w p u)) → Owned new (tree (spelled (put w p u)) (put w p u))
+pub owned_put : (old new : Live) (w : Object) (p : List Step) (u : Object) → Owned old (tree (spelled w) w) → Has w p → 0 < holders p
+    → size u ≡ size (get w p) → h.Replaces old new (place w 0 0 p).0 (place w 0 0 p).1 (tree (spelled w) (get w p)) (tree (spelled w) u) → ((q : ℕ)
+    → times q (tree (spelled w) u) ≤ 1) → All (λ l. SameWay w (put w p u) (path_of l)) (lent_in (put w p u))
+    → Owned new (tree (spelled (put w p u)) (put w p u))
 owned_put old new w p u o h n e r once a =
     let spell = spelled w in
     let z = spelled_sized w in
@@ -87,11 +95,13 @@ owned_put old new w p u o h n e r once a =
     let P : Tree → Type 0 = λ t. Owned old t in
     let Q : Tree → Type 0 = λ t. Owned new t in
     subst Q (sym (tree_put_same w p u h a))
-    (owned_replaced old new (place w 0 0 p).0 (place w 0 0 p).1 (tree spell (get w p)) (tree spell u) r len once (around spell w p) (around-within spell w p h n)
+    (owned_replaced old new (place w 0 0 p).0 (place w 0 0 p).1 (tree spell (get w p)) (tree spell u) r len once (around spell w p)
+    (around-within spell w p h n)
     (ap (λ (x : ℕ × ℕ). x.0) is) (ap (λ (x : ℕ × ℕ). x.1) is) (subst P (tree-around spell w p h) o))
 
 -- One part is replaced by one that has the same references, and no lent reference's way changes.
-pub stands_put : (old new : Live) (w : Object) (p : List Step) (u : Object) → Stands old w → Has w p → 0 < holders p → size u ≡ size (get w p) → lent_in u ≡ lent_in (get w p)
+pub stands_put : (old new : Live) (w : Object) (p : List Step) (u : Object) → Stands old w → Has w p → 0 < holders p → size u ≡ size (get w p)
+    → lent_in u ≡ lent_in (get w p)
     → h.Replaces old new (place w 0 0 p).0 (place w 0 0 p).1 (tree (spelled w) (get w p)) (tree (spelled w) u)
     → ((q : ℕ) → times q (tree (spelled w) u) ≤ 1)
     → ((q : ℕ) → 0 < times q (tree (spelled w) (get w p)) → times q (tree (spelled w) u) ≡ 0 → pins_of old q ≡ 0)
@@ -100,7 +110,8 @@ pub stands_put : (old new : Live) (w : Object) (p : List Step) (u : Object) → 
 stands_put old new w p u s h n e same r once free still =
     let ls = lent-put w p u same in
     let ways : All (λ l. SameWay w (put w p u) (path_of l)) (lent_in w) =
-    all_by (λ l. SameWay w (put w p u) (path_of l)) (lent_in w) (λ l i. same_way w p u (path_of l) ((all_at (IsLent w) (lent_in w) l s.valid i).there) e (still l i)) in
+    all_by (λ l. SameWay w (put w p u) (path_of l)) (lent_in w) (λ l i. same_way w p u (path_of l) ((all_at (IsLent w) (lent_in w) l s.valid i).there) e
+    (still l i)) in
     let P : List Lending → Type 0 = λ ls. All (λ l. SameWay w (put w p u) (path_of l)) ls in
     let Q : List Lending → Type 0 = λ ls. All (IsLent (put w p u)) ls in
     let C : List Lending → Type 0 = λ ls. Chained (put w p u) (λ q. 0) ls in
@@ -108,5 +119,6 @@ stands_put old new w p u s h n e same r once free still =
       owned = owned_put old new w p u s.owned h n e r once (subst P (sym ls) ways);
       valid = subst Q (sym ls) (valid_same w (put w p u) (lent_in w) ways s.valid);
       chained = subst C (sym ls) (chained_same w (put w p u) (λ q. 0) (λ q. 0) (lent_in w) (λ q. omega arith) ways s.chained);
-      pins = λ q. replaced_pins old new (place w 0 0 p).0 (place w 0 0 p).1 (tree (spelled w) (get w p)) (tree (spelled w) u) r free q ∙ (s.pins q ∙ (sym (pinned_same w (put w p u) (lent_in w) q ways) ∙ ap (λ (ls : List Lending). pinned_by (put w p u) ls q) (sym ls)));
+      pins = λ q. replaced_pins old new (place w 0 0 p).0 (place w 0 0 p).1 (tree (spelled w) (get w p)) (tree (spelled w) u) r free q ∙ (s.pins q
+          ∙ (sym (pinned_same w (put w p u) (lent_in w) q ways) ∙ ap (λ (ls : List Lending). pinned_by (put w p u) ls q) (sym ls)));
     }

@@ -1,5 +1,6 @@
 -- Writing through a reference, and where references of older frames cannot lead.
-use Rattle.std.proofs.Common.{zero, suc, ◌≡◌, ℕ, ℤ, pos, inl, inr, ◌⊎◌, ◌+◌, ◌<◌, ◌≤◌, List, [], ◌∷◌, ◌++◌, length, take, drop, set, get_or, ap, sym, subst, ◌∙◌, arith}
+use Rattle.std.proofs.Common.{zero, suc, ◌≡◌, ℕ, ℤ, pos, inl, inr, ◌⊎◌, ◌+◌, ◌<◌, ◌≤◌, List, [], ◌∷◌, ◌++◌, length, take, drop, set, get_or, ap, sym, subst}
+use Rattle.std.proofs.Common.{◌∙◌, arith}
 use Rattle.std.proofs.lemmas.List.{get_or-take, get_or-drop}
 use Rattle.f3_heap_laws.specs.Blocks.{Live, words_of, with_words}
 use Rattle.f3_objects.specs.Tree.{count_of}
@@ -15,7 +16,8 @@ use Rattle.f3_storage.proofs.Reading.{reference_read}
 
 -- a word of what stands at a place
 pub word_read : (ws : List ℤ) (at i : ℕ) (zs : List ℤ) → i < length zs → take (length zs) (drop at ws) ≡ zs → get_or ws (at + i) (pos 0) ≡ get_or zs i (pos 0)
-word_read ws at i zs n e = sym (get_or-drop at ws i (pos 0)) ∙ (sym (get_or-take (length zs) (drop at ws) i (pos 0) n) ∙ ap (λ (l : List ℤ). get_or l i (pos 0)) e)
+word_read ws at i zs n e = sym (get_or-drop at ws i (pos 0)) ∙ (sym (get_or-take (length zs) (drop at ws) i (pos 0) n)
+    ∙ ap (λ (l : List ℤ). get_or l i (pos 0)) e)
 
 pub reference_valid : (w : Object) (p : List Step) (l : Lending) → Has w p → get w p ≡ Refers l → All (IsLent w) (lent_in w) → IsLent w l
 reference_valid w p l has e valid =
@@ -24,8 +26,10 @@ reference_valid w p l has e valid =
     (subst Q (ap lent_in e) (all_back (IsLent w) (lent_before w p) (lent_in (get w p) ++ lent_behind w p) (subst P (lent-here w p has) valid))).0
 
 -- A scalar is written through a reference: the machine reads the block and the place in the reference's slot, and writes there.
-pub stands_written_through : (old new : Live) (w : Object) (p : List Step) (l : Lending) (x z : ℤ) (b at : ℕ) → Stands old w → Has w p → 0 < holders p → get w p ≡ Refers l → get w (path_of l) ≡ Number x
-    → pos b ≡ get_or (words_of old (place w 0 0 p).0) ((place w 0 0 p).1 + 0) (pos 0) → pos at ≡ get_or (words_of old (place w 0 0 p).0) ((place w 0 0 p).1 + 1) (pos 0)
+pub stands_written_through : (old new : Live) (w : Object) (p : List Step) (l : Lending) (x z : ℤ) (b at : ℕ) → Stands old w → Has w p → 0 < holders p
+    → get w p ≡ Refers l → get w (path_of l) ≡ Number x
+    → pos b ≡ get_or (words_of old (place w 0 0 p).0) ((place w 0 0 p).1 + 0) (pos 0)
+    → pos at ≡ get_or (words_of old (place w 0 0 p).0) ((place w 0 0 p).1 + 1) (pos 0)
     → new ≡ with_words old b (set (words_of old b) at z) → Stands new (put w (path_of l) (Number z))
 stands_written_through old new w p l x z b at s has n e is read_block read_place wrote =
     let there = reference_read old w p l s has n e in
@@ -50,7 +54,8 @@ deep_behind zero s = omega arith
 deep_behind (suc n) s = let i = deep_behind n s in omega arith
 
 -- Where each reference leads to its own root or an older one, none leads behind the last root that has references.
-pub none_behind : (k n : ℕ) (w : Object) → Downward k w → lent_in (get w (behind_roots n)) ≡ [] → Has w (behind_roots n) → (l : Lending) → In l (lent_in w) → (s : List Step) → path_of l ≡ behind_roots (k + n) ++ s → ⊥
+pub none_behind : (k n : ℕ) (w : Object) → Downward k w → lent_in (get w (behind_roots n)) ≡ [] → Has w (behind_roots n) → (l : Lending) → In l (lent_in w)
+    → (s : List Step) → path_of l ≡ behind_roots (k + n) ++ s → ⊥
 none_behind k zero w d none has l i s e = absurd (let P : List Lending → Type 0 = λ ls. In l ls in let no : ⊥ = subst P none i in no)
 none_behind k (suc n) (Pair x y) d none has l i s e = elim (in_either l (lent_in x) (lent_in y) i) [
   | inl a ↦

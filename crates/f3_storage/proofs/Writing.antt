@@ -1,5 +1,6 @@
 -- The steps that write words: a scalar is written, an allocatable gets a block, an object is given back.
-use Rattle.std.proofs.Common.{◌≡◌, ◌≢◌, ℕ, ℤ, pos, inl, inr, ◌+◌, ◌<◌, ◌≤◌, Bool, true, false, ◌&&◌, cond, nat_eq, List, [], ◌∷◌, ◌++◌, length, set, replicate, refl, ap, sym, subst, ◌∙◌, arith, is_some}
+use Rattle.std.proofs.Common.{◌≡◌, ◌≢◌, ℕ, ℤ, pos, inl, inr, ◌+◌, ◌<◌, ◌≤◌, Bool, true, false, ◌&&◌, cond, nat_eq, List, [], ◌∷◌, ◌++◌, length, set}
+use Rattle.std.proofs.Common.{replicate, refl, ap, sym, subst, ◌∙◌, arith, is_some}
 use Rattle.std.specs.Prelude.{None}
 use Rattle.std.specs.FinMap.{get as found}
 use Rattle.std.proofs.lemmas.Bool.{eqb-true, eq-eqb}
@@ -21,15 +22,18 @@ use Rattle.f3_storage.proofs.Pins.{pinned_object, pinned_beneath}
 use Rattle.f3_storage.proofs.State.{stands_put}
 
 -- the words of a part stand at its place
-pub part_at : (m : Live) (w : Object) (p : List Step) → Stands m w → Has w p → 0 < holders p → h.Stands m (place w 0 0 p).0 (place w 0 0 p).1 (tree (spelled w) (get w p))
+pub part_at : (m : Live) (w : Object) (p : List Step) → Stands m w → Has w p → 0 < holders p
+    → h.Stands m (place w 0 0 p).0 (place w 0 0 p).1 (tree (spelled w) (get w p))
 part_at m w p s has n =
     let spell = spelled w in
     let P : Tree → Type 0 = λ t. Owned m t in
     let Q : ℕ × ℕ → Type 0 = λ at. h.Stands m at.0 at.1 (tree spell (get w p)) in
-    subst Q (spot-around spell (spelled_sized w) w p 0 0 has) (owned_stands m (around spell w p) (tree spell (get w p)) (around-within spell w p has n) (subst P (tree-around spell w p has) s.owned))
+    subst Q (spot-around spell (spelled_sized w) w p 0 0 has) (owned_stands m (around spell w p) (tree spell (get w p)) (around-within spell w p has n)
+    (subst P (tree-around spell w p has) s.owned))
 
 -- a tree of words alone in the place of another
-pub wrote_replaces : (old new : Live) (b at : ℕ) (t u : Tree) → IsLive old b → IsBare t → IsBare u → new ≡ with_words old b (with_words_at (words_of old b) at (words u)) → h.Replaces old new b at t u
+pub wrote_replaces : (old new : Live) (b at : ℕ) (t u : Tree) → IsLive old b → IsBare t → IsBare u
+    → new ≡ with_words old b (with_words_at (words_of old b) at (words u)) → h.Replaces old new b at t u
 wrote_replaces old new b at t u live bare rest is =
     let k : (q : ℕ) → found new q ≡ found (with_words old b (with_words_at (words_of old b) at (words u))) q = λ q. ap (λ (m : Live). found m q) is in
     record {
@@ -49,7 +53,8 @@ number_way x z [] has = record { at = λ b o. refl; through = refl; there = tt }
 number_way x z (k ∷ s) has = absurd has
 
 -- A scalar is written: the machine writes one word.
-pub stands_written : (old new : Live) (w : Object) (p : List Step) (x z : ℤ) → Stands old w → Has w p → 0 < holders p → get w p ≡ Number x → new ≡ with_words old (place w 0 0 p).0 (set (words_of old (place w 0 0 p).0) (place w 0 0 p).1 z) → Stands new (put w p (Number z))
+pub stands_written : (old new : Live) (w : Object) (p : List Step) (x z : ℤ) → Stands old w → Has w p → 0 < holders p → get w p ≡ Number x
+    → new ≡ with_words old (place w 0 0 p).0 (set (words_of old (place w 0 0 p).0) (place w 0 0 p).1 z) → Stands new (put w p (Number z))
 stands_written old new w p x z s has n e is =
     let b = (place w 0 0 p).0 in
     let at = (place w 0 0 p).1 in
@@ -58,10 +63,12 @@ stands_written old new w p x z s has n e is =
     let word = subst P e here in
     let within = word.within in
     let same : set (words_of old b) at z ≡ with_words_at (words_of old b) at (z ∷ []) = written_first (words_of old b) at x z [] (omega arith) word.there in
-    let r : h.Replaces old new b at (Word x End) (Word z End) = wrote_replaces old new b at (Word x End) (Word z End) word.live (λ q. refl) (λ q. refl) (is ∙ ap (with_words old b) same) in
+    let r : h.Replaces old new b at (Word x End) (Word z End) = wrote_replaces old new b at (Word x End) (Word z End) word.live (λ q. refl) (λ q. refl) (is
+    ∙ ap (with_words old b) same) in
     let R : Object → Type 0 = λ y. h.Replaces old new b at (tree (spelled w) y) (Word z End) in
     let W : List Step → Type 0 = λ t. Has (get w p) t → SameWay (get w p) (Number z) t in
-    stands_put old new w p (Number z) s has n (sym (ap size e)) (sym (ap lent_in e)) (subst R (sym e) r) (λ q. omega arith) (λ q a c. absurd (let k : times q (tree (spelled w) (get w p)) ≡ 0 = ap (λ (y : Object). times q (tree (spelled w) y)) e in omega arith))
+    stands_put old new w p (Number z) s has n (sym (ap size e)) (sym (ap lent_in e)) (subst R (sym e) r) (λ q. omega arith) (λ q a c. absurd
+    (let k : times q (tree (spelled w) (get w p)) ≡ 0 = ap (λ (y : Object). times q (tree (spelled w) y)) e in omega arith))
     (λ l i t k g. let Q : Object → Type 0 = λ y. Has y t → SameWay y (Number z) t in subst Q (sym e) (number_way x z t) g)
 
 one_same : (b : ℕ) → one_at b b ≡ 1
@@ -74,7 +81,9 @@ one_is q b p = elim (nat_eq q b) as (λ k. nat_eq q b ≡ k → 0 < cond k 1 0 �
 ] refl p
 
 -- a new block of zeros, and then its name and bounds in the holder
-pub taken_replaces : (old mid new : Live) (b at c n : ℕ) (d0 d : List ℤ) (x : Tree) → IsLive old b → found old c ≡ None → mid ≡ with_taken old c n → new ≡ with_words mid b (with_words_at (words_of mid b) at (pos c ∷ d)) → IsBare x → words x ≡ replicate n (pos 0) → 0 < c → h.Replaces old new b at (Unallocated d0 End) (Allocated c d x End)
+pub taken_replaces : (old mid new : Live) (b at c n : ℕ) (d0 d : List ℤ) (x : Tree) → IsLive old b → found old c ≡ None → mid ≡ with_taken old c n
+    → new ≡ with_words mid b (with_words_at (words_of mid b) at (pos c ∷ d)) → IsBare x → words x ≡ replicate n (pos 0) → 0 < c
+    → h.Replaces old new b at (Unallocated d0 End) (Allocated c d x End)
 taken_replaces old mid new b at c n d0 d x live none take_it link bare zeros positive =
     let ne : b ≢ c = λ same. not_dead old b live (ap (found old) same ∙ none) in
     let m : (q : ℕ) → found mid q ≡ found (with_taken old c n) q = λ q. ap (λ (m : Live). found m q) take_it in
@@ -84,16 +93,25 @@ taken_replaces old mid new b at c n d0 d x live none take_it link bare zeros pos
     let spelled' : words (Allocated c d x End) ≡ pos c ∷ d = ap (λ (l : List ℤ). pos c ∷ l) (append_nil d) in
     record {
       live = ap is_some (k b) ∙ live-insert_same mid b _;
-      written = (ap words_in (k b) ∙ words-insert_same mid b _) ∙ (ap (λ (l : List ℤ). with_words_at l at (pos c ∷ d)) (same_words old mid b same) ∙ ap (with_words_at (words_of old b) at) (sym spelled'));
+      written = (ap words_in (k b) ∙ words-insert_same mid b _) ∙ (ap (λ (l : List ℤ). with_words_at l at (pos c ∷ d)) (same_words old mid b same)
+          ∙ ap (with_words_at (words_of old b) at) (sym spelled'));
       pinned = (ap pins_in (k b) ∙ pins-insert_same mid b _) ∙ same_pins old mid b same;
-      held = (same_live mid new c own (ap is_some (m c) ∙ live-insert_same old c _), same_words mid new c own ∙ ((ap words_in (m c) ∙ words-insert_same old c _) ∙ sym zeros), held-bare new x bare, tt, positive);
+      held = (
+        same_live mid new c own (ap is_some (m c) ∙ live-insert_same old c _),
+        same_words mid new c own ∙ ((ap words_in (m c)
+            ∙ words-insert_same old c _) ∙ sym zeros),
+        held-bare new x bare,
+        tt,
+        positive,
+      );
       taken = λ q p z. let e = bare q in let is = one_is q c (omega arith) in
           let P : ℕ → Type 0 = λ y. (found old y ≡ None) × (pins_of new y ≡ 0) in
           subst P (sym is) (none, same_pins mid new c own ∙ (ap pins_in (m c) ∙ pins-insert_same old c _));
       kept = λ q p z. absurd (omega arith);
       given = λ q z p. absurd (omega arith);
       others = λ q nb z y.
-          let nc : q ≢ c = (λ is. let o = one_same c in let zz : one_at c c + (times c x + 0) ≡ 0 = (let P : ℕ → Type 0 = λ y. one_at y c + (times y x + 0) ≡ 0 in subst P is z) in omega arith) in
+          let nc : q ≢ c = (λ is. let o = one_same c in let zz : one_at c c + (times c x + 0) ≡ 0 = (let P : ℕ
+          → Type 0 = λ y. one_at y c + (times y x + 0) ≡ 0 in subst P is z) in omega arith) in
           k q ∙ (get-insert_other mid b _ q nb ∙ (m q ∙ get-insert_other old c _ q nc));
     }
   where
@@ -106,13 +124,16 @@ absent_way d0 d c x [] has = record { at = λ b o. refl; through = refl; there =
 absent_way d0 d c x (k ∷ s) has = absurd has
 
 -- An object is allocated: the machine takes a block as long as the contents, and writes its name and the bounds.
-pub stands_allocated : (old mid new : Live) (w : Object) (p : List Step) (c n : ℕ) (d0 d : List ℤ) (x : Object) → Stands old w → Has w p → 0 < holders p → get w p ≡ Absent d0 → length d ≡ length d0 → lent_in x ≡ [] → IsBare (tree (spelled w) x) → words (tree (spelled w) x) ≡ replicate n (pos 0)
-    → found old c ≡ None → 0 < c → mid ≡ with_taken old c n → new ≡ with_words mid (place w 0 0 p).0 (with_words_at (words_of mid (place w 0 0 p).0) (place w 0 0 p).1 (pos c ∷ d)) → Stands new (put w p (Present c d x))
+pub stands_allocated : (old mid new : Live) (w : Object) (p : List Step) (c n : ℕ) (d0 d : List ℤ) (x : Object) → Stands old w → Has w p → 0 < holders p
+    → get w p ≡ Absent d0 → length d ≡ length d0 → lent_in x ≡ [] → IsBare (tree (spelled w) x) → words (tree (spelled w) x) ≡ replicate n (pos 0)
+    → found old c ≡ None → 0 < c → mid ≡ with_taken old c n → new ≡ with_words mid (place w 0 0 p).0 (with_words_at (words_of mid (place w 0 0 p).0)
+    (place w 0 0 p).1 (pos c ∷ d)) → Stands new (put w p (Present c d x))
 stands_allocated old mid new w p c n d0 d x s has h0 e len lent bare zeros none positive take_it link =
     let here = part_at old w p s has h0 in
     let r = taken_replaces old mid new (place w 0 0 p).0 (place w 0 0 p).1 c n d0 d (tree (spelled w) x) here.live none take_it link bare zeros positive in
     let R : Object → Type 0 = λ y. h.Replaces old new (place w 0 0 p).0 (place w 0 0 p).1 (tree (spelled w) y) (tree (spelled w) (Present c d x)) in
-    stands_put old new w p (Present c d x) s has h0 (let k : size (get w p) ≡ 1 + length d0 = ap size e in omega arith) (lent ∙ sym (ap lent_in e)) (subst R (sym e) r)
+    stands_put old new w p (Present c d x) s has h0 (let k : size (get w p) ≡ 1 + length d0 = ap size e in omega arith) (lent
+    ∙ sym (ap lent_in e)) (subst R (sym e) r)
     (λ q. let b = bare q in elim (nat_eq q c) as (λ k. cond k 1 0 + (times q (tree (spelled w) x) + 0) ≤ 1) [ true ↦ omega arith | false ↦ omega arith ])
     (λ q a z. absurd (let k : times q (tree (spelled w) (get w p)) ≡ 0 = ap (λ (y : Object). times q (tree (spelled w) y)) e in omega arith))
     (λ l i t k g. let Q : Object → Type 0 = λ y. Has y t → SameWay y (Present c d x) t in subst Q (sym e) (absent_way d0 d c x t) g)
@@ -160,25 +181,30 @@ left_holder p b d c e =
     rw (f, g) refl
 
 -- Deallocation answers error 9 exactly where a lent path goes through the object's contents.
-pub freed_answer : (m : Live) (w : Object) (p : List Step) (b : ℕ) (d : List ℤ) (x : Object) → Stands m w → Has w p → 0 < holders p → get w p ≡ Present b d x → (IsPinned (plain w) p → ⊥) → is_free (pins_of m) (tree (spelled w) (get w p)) ≡ true
+pub freed_answer : (m : Live) (w : Object) (p : List Step) (b : ℕ) (d : List ℤ) (x : Object) → Stands m w → Has w p → 0 < holders p
+    → get w p ≡ Present b d x → (IsPinned (plain w) p → ⊥) → is_free (pins_of m) (tree (spelled w) (get w p)) ≡ true
 freed_answer m w p b d x s has n e not = pins_free (pins_of m) (tree (spelled w) (get w p)) (λ q t. elim (zero_or_more (pins_of m q)) [
   | inl z ↦ z
   | inr y ↦ absurd (not (pinned_beneath m w p b d x q s has e t y))
 ])
 
-pub refused_answer : (m : Live) (w : Object) (p : List Step) (b : ℕ) (d : List ℤ) (x : Object) → Stands m w → Has w p → 0 < holders p → get w p ≡ Present b d x → IsPinned (plain w) p → is_free (pins_of m) (tree (spelled w) (get w p)) ≡ false
+pub refused_answer : (m : Live) (w : Object) (p : List Step) (b : ℕ) (d : List ℤ) (x : Object) → Stands m w → Has w p → 0 < holders p
+    → get w p ≡ Present b d x → IsPinned (plain w) p → is_free (pins_of m) (tree (spelled w) (get w p)) ≡ false
 refused_answer m w p b d x s has n e pinned =
     let y = pinned_object m w p b d x s has n e pinned in
     let T : Object → Type 0 = λ z. is_free (pins_of m) (tree (spelled w) z) ≡ true → pins_of m b ≡ 0 in
     let o = one_same b in
-    let f : is_free (pins_of m) (tree (spelled w) (get w p)) ≡ true → pins_of m b ≡ 0 = subst T (sym e) (λ k. free_pins (pins_of m) (tree (spelled w) (Present b d x)) b k (omega arith)) in
+    let f : is_free (pins_of m) (tree (spelled w) (get w p)) ≡ true → pins_of m b ≡ 0 = subst T (sym e) (λ k. free_pins (pins_of m) (tree (spelled w)
+    (Present b d x)) b k (omega arith)) in
     elim (is_free (pins_of m) (tree (spelled w) (get w p))) as (λ k. is_free (pins_of m) (tree (spelled w) (get w p)) ≡ k → k ≡ false) [
       | true ↦ λ k. absurd (let z = f k in omega arith)
       | false ↦ λ k. refl
     ] refl
 
 -- An object is given back with all beneath it, where no lent path goes through its contents.
-pub stands_freed : (old new : Live) (w : Object) (p : List Step) (b : ℕ) (d : List ℤ) (x : Object) → Stands old w → Has w p → 0 < holders p → get w p ≡ Present b d x → lent_in x ≡ [] → (IsPinned (plain w) p → ⊥) → h.Frees old new (place w 0 0 p).0 (place w 0 0 p).1 (tree (spelled w) (get w p)) true → Stands new (put w p (Absent d))
+pub stands_freed : (old new : Live) (w : Object) (p : List Step) (b : ℕ) (d : List ℤ) (x : Object) → Stands old w → Has w p → 0 < holders p
+    → get w p ≡ Present b d x → lent_in x ≡ [] → (IsPinned (plain w) p → ⊥)
+    → h.Frees old new (place w 0 0 p).0 (place w 0 0 p).1 (tree (spelled w) (get w p)) true → Stands new (put w p (Absent d))
 stands_freed old new w p b d x s has n e lent not r =
     let spell = spelled w in
     let free = freed_answer old w p b d x s has n e not in
@@ -186,13 +212,15 @@ stands_freed old new w p b d x s has n e lent not r =
     let rest : left (pins_of old) (tree spell (get w p)) ≡ Unallocated d End = subst F (sym e) (left_holder (pins_of old) b d (tree spell x)) free in
     let R : Tree → Type 0 = λ t. h.Replaces old new (place w 0 0 p).0 (place w 0 0 p).1 (tree spell (get w p)) t in
     let names : lent_in (get w p) ≡ lent_in x = ap lent_in e in
-    stands_put old new w p (Absent d) s has n (sym (ap size e)) (sym (names ∙ lent)) (subst R rest r.replaced) (λ q. omega arith) (λ q t z. free_pins (pins_of old) (tree spell (get w p)) q free t)
+    stands_put old new w p (Absent d) s has n (sym (ap size e)) (sym (names
+    ∙ lent)) (subst R rest r.replaced) (λ q. omega arith) (λ q t z. free_pins (pins_of old) (tree spell (get w p)) q free t)
     (λ l i t k g.
     let Q : Object → Type 0 = λ y. Has y t → ((r : List Step) → t ≡ Contents ∷ r → ⊥) → SameWay y (Absent d) t in
     let P : List Lending → Type 0 = λ ls. In l ls in
     subst Q (sym e) (present_way b d x t) g (λ r is. not (l, subst P (lent-plain w) i, r, k ∙ ap (λ (s : List Step). p ++ s) is)))
   where
-    present_way : (b : ℕ) (d : List ℤ) (x : Object) (s : List Step) → Has (Present b d x) s → ((r : List Step) → s ≡ Contents ∷ r → ⊥) → SameWay (Present b d x) (Absent d) s
+    present_way : (b : ℕ) (d : List ℤ) (x : Object) (s : List Step) → Has (Present b d x) s → ((r : List Step) → s ≡ Contents ∷ r → ⊥)
+        → SameWay (Present b d x) (Absent d) s
     present_way b d x [] has out = record { at = λ b o. refl; through = refl; there = tt }
     present_way b d x (Contents ∷ r) has out = absurd (out r refl)
     present_way b d x (First ∷ r) has out = absurd has

@@ -27,4 +27,7 @@ abbrev pub Leads : Object → ℕ → Designator → List Step → Type 0
 Leads w frame (Local n) p = Has w p × (0 < holders p) × (place w 0 0 p ≡ (frame, n))
 Leads w frame (Through e) p = (q : List Step) × (l : Lending) × Leads w frame e q × (get w q ≡ Refers l) × (p ≡ path_of l)
 Leads w frame (Into e) p = (q : List Step) × (c : ℕ) × (d : List ℤ) × (x : Object) × Leads w frame e q × (get w q ≡ Present c d x) × (p ≡ q ++ Contents ∷ [])
-Leads w frame (Part e n) p = (q : List Step) × (s : List Step) × Leads w frame e q × (p ≡ q ++ s) × Has w p × (place w 0 0 p ≡ ((place w 0 0 q).0, (place w 0 0 q).1 + n))
+Leads w frame (Part e n) p = (q : List Step) × (s : List Step) × Leads w frame e q × (p ≡ q ++ s) × Has w p × (place w 0 0 p ≡ (
+  (place w 0 0 q).0,
+  (place w 0 0 q).1 + n,
+))

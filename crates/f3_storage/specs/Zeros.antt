@@ -1,6 +1,6 @@
 -- Objects of zeros, with nothing allocated: what an object is before it has a value (own rule).
 use Rattle.std.proofs.Common.{zero, suc}
-use Rattle.std.specs.Prelude.{ℕ, ℤ, pos, ◌*◌, replicate}
+use Rattle.std.specs.Prelude.{ℕ, pos, ◌*◌, replicate}
 use Rattle.f3_desc.specs.Shape as d
 use Rattle.f3_desc.specs.Shape.{Shape}
 use Rattle.f3_storage.specs.Objects.{Object, Empty, Number, Pair, Absent}
