@@ -1,0 +1,7 @@
+pub mod Layout
+pub mod Shows
+pub mod Ways
+pub mod Homes
+pub mod Stands
+pub mod Lent
+pub mod Laws
