@@ -1,1 +1,4 @@
 pub mod Seeing
+pub mod Roots
+pub mod Raw
+pub mod Standing
