@@ -35,7 +35,7 @@ use Rattle.f3_stands.proofs.Words.{part_stored}
 pub part_typed : (h : Homes) (store : Store) (w : Object) (p : Path) (k : SeenAt h store (plain w) p) → OfShape k.of (o.get w (path_in h store p))
 part_typed h store w p k = typed k.of (get store p) (raw.get (plain w) (path_in h store p)) (o.get w (path_in h store p)) k.shown (plain-get w (path_in h store p))
 
-rank_in : Shape → ℕ
+abbrev rank_in : Shape → ℕ
 rank_in (d.Holder rank of) = rank
 rank_in x = 0
 

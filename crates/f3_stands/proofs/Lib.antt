@@ -6,3 +6,5 @@ pub mod Typing
 pub mod Words
 pub mod Heap
 pub mod Levels
+pub mod Ways
+pub mod Zeros
