@@ -8,3 +8,7 @@ pub mod Heap
 pub mod Levels
 pub mod Ways
 pub mod Zeros
+pub mod Pins
+pub mod Places
+pub mod Moving
+pub mod Ending

@@ -208,19 +208,12 @@ begins_split (s ∷ a) (t ∷ b) e =
     let k = begins_split a b (and_right (same_step s t) (begins_with a b) e) in
     (k.0, ap (λ (u : Step). u ∷ a) (same_step_is s t (and_left (same_step s t) (begins_with a b) e)) ∙ ap (λ (l : List Step). t ∷ l) k.1)
 
-tail_of : List raw.Step → List raw.Step
-tail_of [] = []
-tail_of (s ∷ l) = l
-
 cut : (s : raw.Step) (a b : List raw.Step) → ◌≡◌ {A = List raw.Step} (s ∷ a) (s ∷ b) → a ≡ b
 cut s a b e = cc
 
 cut_inner : (b : Bool) (p q : List raw.Step) → inner b ++ p ≡ inner b ++ q → p ≡ q
 cut_inner true p q e = e
 cut_inner false p q e = cut raw.First p q e
-
-same_self : (k : ℕ) (b : Bool) → b ≡ true → (nat_eq k k && b) ≡ true
-same_self k b e = and_first (nat_eq k k) b (eq-eqb k k refl) ∙ e
 
 mutual
   -- A way that goes on into an object's contents is that of steps that do.
@@ -236,11 +229,15 @@ mutual
       at_once (Component i ∷ b) k e = absurd k
       at_once (Element i ∷ b) k e = absurd k
   way_into (Composite vs) (Component i ∷ a) [] u t h k is e = absurd (way_at_some vs i a (raw.Contents ∷ t) h (sym e))
-  way_into (Composite vs) (Component i ∷ a) (Component j ∷ b) u t h k is e = way_at_into vs i j a b u t h k is e
+  way_into (Composite vs) (Component i ∷ a) (Component j ∷ b) u t h k is e =
+      let r = way_at_into vs i j a b u t h k is e in
+      and_first (nat_eq j i) (begins_with b (a ++ Contents ∷ [])) (eq-eqb j i r.0) ∙ r.1
   way_into (Composite vs) (Component i ∷ a) (Element j ∷ b) u t h k is e = absurd k
   way_into (Composite vs) (Component i ∷ a) (Contents ∷ b) u t h k is e = absurd k
   way_into (Array ss vs) (Element i ∷ a) [] u t h k is e = absurd (way_at_some vs i a (raw.Contents ∷ t) h (sym e))
-  way_into (Array ss vs) (Element i ∷ a) (Element j ∷ b) u t h k is e = way_at_into vs i j a b u t h k is e
+  way_into (Array ss vs) (Element i ∷ a) (Element j ∷ b) u t h k is e =
+      let r = way_at_into vs i j a b u t h k is e in
+      and_first (nat_eq j i) (begins_with b (a ++ Contents ∷ [])) (eq-eqb j i r.0) ∙ r.1
   way_into (Array ss vs) (Element i ∷ a) (Component j ∷ b) u t h k is e = absurd k
   way_into (Array ss vs) (Element i ∷ a) (Contents ∷ b) u t h k is e = absurd k
   way_into (Allocated v) (Contents ∷ a) [] u t h k is e = cc
@@ -259,13 +256,14 @@ mutual
   way_at_some (more v vs) (suc i) a t h e = cc
 
   way_at_into : (vs : Values) (i j : ℕ) (a b : List Step) (u : Value) (t : List raw.Step) → IsThereAt vs i a → IsThereAt vs j b → part_at vs i a ≡ Allocated u
-      → way_at vs j b ≡ way_at vs i a ++ raw.Contents ∷ t → (nat_eq j i && begins_with b (a ++ Contents ∷ [])) ≡ true
+      → way_at vs j b ≡ way_at vs i a ++ raw.Contents ∷ t → (j ≡ i) × (begins_with b (a ++ Contents ∷ []) ≡ true)
   way_at_into none i j a b u t h k is e = absurd h
-  way_at_into (more v vs) zero zero a b u t h k is e = way_into v a b u t h k is (cut raw.First (way v b) (way v a ++ raw.Contents ∷ t) e)
+  way_at_into (more v vs) zero zero a b u t h k is e = (refl, way_into v a b u t h k is (cut raw.First (way v b) (way v a ++ raw.Contents ∷ t) e))
   way_at_into (more v vs) zero (suc j) a b u t h k is e = cc
   way_at_into (more v vs) (suc i) zero a b u t h k is e = cc
   way_at_into (more v vs) (suc i) (suc j) a b u t h k is e =
-      way_at_into vs i j a b u t h k is (cut raw.Rest (way_at vs j b) (way_at vs i a ++ raw.Contents ∷ t) e)
+      let r = way_at_into vs i j a b u t h k is (cut raw.Rest (way_at vs j b) (way_at vs i a ++ raw.Contents ∷ t) e) in
+      (ap suc r.0, r.1)
 
 -- ---- paths with something behind them
 
