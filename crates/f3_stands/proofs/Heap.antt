@@ -33,13 +33,15 @@ use Rattle.f3_stands.proofs.Words.{part_stored}
 
 -- the object of a part has the layout that it is seen in
 pub part_typed : (h : Homes) (store : Store) (w : Object) (p : Path) (k : SeenAt h store (plain w) p) → OfShape k.of (o.get w (path_in h store p))
-part_typed h store w p k = typed k.of (get store p) (raw.get (plain w) (path_in h store p)) (o.get w (path_in h store p)) k.shown (plain-get w (path_in h store p))
+part_typed h store w p k = typed k.of (get store p) (raw.get (plain w) (path_in h store p)) (o.get w (path_in h store p)) k.shown (plain-get w
+    (path_in h store p))
 
 abbrev rank_in : Shape → ℕ
 rank_in (d.Holder rank of) = rank
 rank_in x = 0
 
-module _ (old new : Live) (h : Homes) (store : Store) (w : Object) (p : Path) (s : Stands old h store w) (i : IsPath store p) (k : SeenAt h store (plain w) p) where
+module _ (old new : Live) (h : Homes) (store : Store) (w : Object) (p : Path) (s : Stands old h store w) (i : IsPath store p) (k : SeenAt h store
+    (plain w) p) where
   abbrev q : List raw.Step
   q = path_in h store p
 
@@ -82,6 +84,7 @@ module _ (old new : Live) (h : Homes) (store : Store) (w : Object) (p : Path) (s
       let from = path_in h store r in
       let L : Shape → Type 0 = λ of. OfShape of (o.get w from) in
       let S : Shape → Type 0 = λ of. Shows of (get store r) (raw.get (plain w) from) in
-      let c = stands_copied old new w q from k.of W part.stands part.has part.within (subst L layout (part_typed h store w r j)) (part_typed h store w p k) bare copies in
+      let c = stands_copied old new w q from k.of W part.stands part.has part.within (subst L layout (part_typed h store w r j))
+      (part_typed h store w p k) bare copies in
       let P : raw.Value → Type 0 = λ x. IsShown h (put store p (get store r)) x in
       (c.0, record { storage = c.1; shown = subst P (sym c.2) (k.back (get store r) (raw.get (plain w) from) form (subst S layout j.shown)) })

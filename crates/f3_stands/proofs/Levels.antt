@@ -59,7 +59,8 @@ length_more (y ∷ xs) x = ap suc (length_more xs x)
 
 -- ---- a level begins
 
-module _ (h : Homes) (store : Store) (x y : raw.Value) (hs : List Home) (vs : List Value) (s : IsShown h store x) (kept : Keeps h store x y) (new : IsLevel h store hs vs y) where
+module _ (h : Homes) (store : Store) (x y : raw.Value) (hs : List Home) (vs : List Value) (s : IsShown h store x) (kept : Keeps h store x y)
+    (new : IsLevel h store hs vs y) where
   abbrev g : Homes
   g = with_level h hs
 
@@ -76,16 +77,16 @@ module _ (h : Homes) (store : Store) (x y : raw.Value) (hs : List Home) (vs : Li
   which_root (Static i) n = Old (Static i) n refl refl
   which_root (Local l i) n = elim (which store.levels vs l i n) [
     | inl lt ↦
-    (let e = grown store.levels (vs ∷ []) l [] lt in
-    let P : List Value → Type 0 = λ xs. i < length xs in
-    Old (Local l i) (subst P e n)
-    (ap (λ (xs : List Home). slice_index_or xs i no_home) (grown h.levels (hs ∷ []) l [] (let k = s.levels in omega arith)))
-    (ap (λ (xs : List Value). slice_index_or xs i Unallocated) e))
+        (let e = grown store.levels (vs ∷ []) l [] lt in
+        let P : List Value → Type 0 = λ xs. i < length xs in
+        Old (Local l i) (subst P e n)
+        (ap (λ (xs : List Home). slice_index_or xs i no_home) (grown h.levels (hs ∷ []) l [] (let k = s.levels in omega arith)))
+        (ap (λ (xs : List Value). slice_index_or xs i Unallocated) e))
     | inr at ↦
-    (let e = last_is store.levels vs [] l at in
-    let P : List Value → Type 0 = λ xs. i < length xs in
-    New l i (subst P e n) at (ap (λ (xs : List Home). slice_index_or xs i no_home) (last_is h.levels hs [] l (at ∙ sym s.levels)))
-    (ap (λ (xs : List Value). slice_index_or xs i Unallocated) e))
+        (let e = last_is store.levels vs [] l at in
+        let P : List Value → Type 0 = λ xs. i < length xs in
+        New l i (subst P e n) at (ap (λ (xs : List Home). slice_index_or xs i no_home) (last_is h.levels hs [] l (at ∙ sym s.levels)))
+        (ap (λ (xs : List Value). slice_index_or xs i Unallocated) e))
   ]
 
   shown_by : (r : Root) → Which r → Shows (home g r).layout (at_root now r) (raw.get y (home g r).path)

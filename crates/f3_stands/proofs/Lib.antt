@@ -12,3 +12,4 @@ pub mod Pins
 pub mod Places
 pub mod Moving
 pub mod Ending
+pub mod Widths

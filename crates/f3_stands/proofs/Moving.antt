@@ -50,31 +50,32 @@ pub path_stays : (h : Homes) (store : Store) (p q : Path) (u : Value) → IsPath
     → Stays h store (put store p u) q
 path_stays h store p q u i j e f = elim (same_or_not p.root q.root) [
   | inr other ↦
-  (let same = root_other store p.root q.root (with_part (at_root store p.root) p.steps u) other in
-  let T : Value → Type 0 = λ v. IsThere v q.steps in
-  record {
-    there = record { root = root_after store p.root q.root (with_part (at_root store p.root) p.steps u) j.root; steps = subst T (sym same) j.steps };
-    path = ap (λ (v : Value). (home h q.root).path ++ way v q.steps) same;
-    value = ap (λ (v : Value). part v q.steps) same;
-  })
+      (let same = root_other store p.root q.root (with_part (at_root store p.root) p.steps u) other in
+      let T : Value → Type 0 = λ v. IsThere v q.steps in
+      record {
+        there = record { root = root_after store p.root q.root (with_part (at_root store p.root) p.steps u) j.root; steps = subst T (sym same) j.steps };
+        path = ap (λ (v : Value). (home h q.root).path ++ way v q.steps) same;
+        value = ap (λ (v : Value). part v q.steps) same;
+      })
   | inl is ↦
-  (let v = at_root store p.root in
-  let x = with_part v p.steps u in
-  let same : at_root (put store p u) q.root ≡ x = (let R : Root → Type 0 = λ r. at_root (put store p u) r ≡ x in subst R is (root_same store p.root x i.root)) in
-  let before : at_root store q.root ≡ v = ap (at_root store) (sym is) in
-  let T : Value → Type 0 = λ v. IsThere v q.steps in
-  let out : begins_with q.steps p.steps ≡ false = steps_then q p (sym is) f in
-  record {
-    there = record {
-      root = root_after store p.root q.root x j.root;
-      steps = subst T (sym same) (there_stays v p.steps q.steps u out (subst T before j.steps));
-    };
-    path = ap (λ (v : Value). (home h q.root).path ++ way v q.steps) same
-        ∙ (ap (λ (l : List raw.Step). (home h q.root).path ++ l) (way_stays v p.steps q.steps u out)
-        ∙ ap (λ (v : Value). (home h q.root).path ++ way v q.steps) (sym before));
-    value = ap (λ (v : Value). part v q.steps) same
-        ∙ (part_same v p.steps q.steps u out (steps_then p q is e) ∙ ap (λ (v : Value). part v q.steps) (sym before));
-  })
+      (let v = at_root store p.root in
+      let x = with_part v p.steps u in
+      let same : at_root (put store p u) q.root ≡ x = (let R : Root → Type 0 = λ r. at_root (put store p u) r ≡ x in
+      subst R is (root_same store p.root x i.root)) in
+      let before : at_root store q.root ≡ v = ap (at_root store) (sym is) in
+      let T : Value → Type 0 = λ v. IsThere v q.steps in
+      let out : begins_with q.steps p.steps ≡ false = steps_then q p (sym is) f in
+      record {
+        there = record {
+          root = root_after store p.root q.root x j.root;
+          steps = subst T (sym same) (there_stays v p.steps q.steps u out (subst T before j.steps));
+        };
+        path = ap (λ (v : Value). (home h q.root).path ++ way v q.steps) same
+            ∙ (ap (λ (l : List raw.Step). (home h q.root).path ++ l) (way_stays v p.steps q.steps u out)
+            ∙ ap (λ (v : Value). (home h q.root).path ++ way v q.steps) (sym before));
+        value = ap (λ (v : Value). part v q.steps) same
+            ∙ (part_same v p.steps q.steps u out (steps_then p q is e) ∙ ap (λ (v : Value). part v q.steps) (sym before));
+      })
 ]
 
 rank_of : (n m : ℕ) (a b : Shape) → d.Holder n a ≡ d.Holder m b → n ≡ m

@@ -40,15 +40,16 @@ module _ (h : Homes) (store : Store) (x : raw.Value) (s : IsShown h store x) whe
       → raw.Apart (path_in h store p) (path_in h store q)
   paths_apart p q i j e f = elim (same_or_not p.root q.root) [
     | inr other ↦
-    apart_more (home h p.root).path (home h q.root).path (way (at_root store p.root) p.steps) (way (at_root store q.root) q.steps)
-    (s.apart p.root q.root i.root j.root other)
+        apart_more (home h p.root).path (home h q.root).path (way (at_root store p.root) p.steps) (way (at_root store q.root) q.steps)
+        (s.apart p.root q.root i.root j.root other)
     | inl same ↦
-    (let P : Root → Type 0 = λ r. IsPath store (record { root = r; steps = q.steps }) → begins_with p.steps q.steps ≡ false → begins_with q.steps p.steps ≡ false
+        (let P : Root → Type 0 = λ r. IsPath store (record { root = r; steps = q.steps }) → begins_with p.steps q.steps ≡ false
+        → begins_with q.steps p.steps ≡ false
         → raw.Apart (path_in h store p) ((home h r).path ++ way (at_root store r) q.steps) in
-    subst P same
-    (λ j e f. apart_behind (home h p.root).path (way (at_root store p.root) p.steps) (way (at_root store p.root) q.steps)
-    (ways_apart (at_root store p.root) p.steps q.steps i.steps j.steps e f))
-    j (steps_then p q same e) (steps_then q p (sym same) f))
+        subst P same
+        (λ j e f. apart_behind (home h p.root).path (way (at_root store p.root) p.steps) (way (at_root store p.root) q.steps)
+        (ways_apart (at_root store p.root) p.steps q.steps i.steps j.steps e f))
+        j (steps_then p q same e) (steps_then q p (sym same) f))
   ]
     where
       first : (a b : Bool) → a ≡ true → (a && b) ≡ b
@@ -73,13 +74,14 @@ module _ (h : Homes) (store : Store) (x : raw.Value) (s : IsShown h store x) whe
         let t = inner (is_array u) ++ way u k.0 in (
           t,
           ap (λ (r : Root). (home h r).path ++ way (at_root store r) q.steps) same
-          ∙ (ap (λ (l : List raw.Step). (home h p.root).path ++ l) on ∙ sym (assoc (home h p.root).path (way v p.steps) (raw.Contents ∷ t))),
+              ∙ (ap (λ (l : List raw.Step). (home h p.root).path ++ l) on ∙ sym (assoc (home h p.root).path (way v p.steps) (raw.Contents ∷ t))),
         )
 
-    back : (q : Path) → IsPath store q → (t : List raw.Step) → path_in h store q ≡ path_in h store p ++ raw.Contents ∷ t → goes_through q (within p Contents) ≡ true
+    back : (q : Path) → IsPath store q → (t : List raw.Step) → path_in h store q ≡ path_in h store p ++ raw.Contents ∷ t
+        → goes_through q (within p Contents) ≡ true
     back q j t e = elim (same_or_not q.root p.root) [
       | inr other ↦ absurd (apart_never (home h q.root).path (home h p.root).path (way (at_root store q.root) q.steps) (way v p.steps ++ raw.Contents ∷ t)
-      (s.apart q.root p.root j.root i.root other) (e ∙ assoc (home h p.root).path (way v p.steps) (raw.Contents ∷ t)))
+          (s.apart q.root p.root j.root i.root other) (e ∙ assoc (home h p.root).path (way v p.steps) (raw.Contents ∷ t)))
       | inl same ↦ at_root_too q.root same j.steps (e ∙ assoc (home h p.root).path (way v p.steps) (raw.Contents ∷ t))
     ]
       where
@@ -95,8 +97,8 @@ module _ (h : Homes) (store : Store) (x : raw.Value) (s : IsShown h store x) whe
             → (same_root r p.root && begins_with q.steps (p.steps ++ Contents ∷ [])) ≡ true
         at_root_too r same there e =
             let P : Root → Type 0 = λ r. Rattle.f3_stands.specs.Ways.IsThere (at_root store r) q.steps
-                → (home h r).path ++ way (at_root store r) q.steps ≡ (home h p.root).path ++ (way (at_root store p.root) p.steps ++ raw.Contents ∷ t)
-                → (same_root r p.root && begins_with q.steps (p.steps ++ Contents ∷ [])) ≡ true in
+            → (home h r).path ++ way (at_root store r) q.steps ≡ (home h p.root).path ++ (way (at_root store p.root) p.steps ++ raw.Contents ∷ t)
+            → (same_root r p.root && begins_with q.steps (p.steps ++ Contents ∷ [])) ≡ true in
             subst P (sym same)
             (λ there e. both (same_root p.root p.root) (begins_with q.steps (p.steps ++ Contents ∷ [])) (root_itself p.root)
             (way_into (at_root store p.root) p.steps q.steps u t i.steps there is

@@ -77,9 +77,10 @@ module _ (h : Homes) (store : Store) (w : Object) (p : Path) (i : IsPath store p
         a.1,
         a.2,
         ap (place w 0 0) (path_more h store p Contents (Allocated v) i e)
-        ∙ (place-append w q (raw.Contents ∷ (inner (is_array v) ++ [])) 0 0 (has_object w q k.has) ∙ (ap f a.2 ∙ inside (is_array v) a.1 t.1 a.0 a.3)),
+            ∙ (place-append w q (raw.Contents ∷ (inner (is_array v) ++ [])) 0 0 (has_object w q k.has) ∙ (ap f a.2 ∙ inside (is_array v) a.1 t.1 a.0 a.3)),
       )
     where
       inside : (b : Bool) (y : Object) (z : raw.Value) (c : ℕ) → plain y ≡ boxed b z → place y c 0 (inner b ++ []) ≡ (c, 0)
       inside true y z c e = refl
-      inside false y z c e = let k = pair_of_plain y z raw.Empty e in let P : Object → Type 0 = λ y. place y c 0 (raw.First ∷ []) ≡ (c, 0) in subst P (sym k.2) refl
+      inside false y z c e = let k = pair_of_plain y z raw.Empty e in let P : Object → Type 0 = λ y. place y c 0 (raw.First ∷ []) ≡ (c, 0) in
+          subst P (sym k.2) refl

@@ -52,11 +52,14 @@ root_other s (Local l i) (Local m k) x ne = elim (cases_eq m l) [
     level : List Value
     level = slice_index_or s.levels l []
 
-    by : (m : ℕ) → m ≡ l → (k ≡ i → ⊥) → slice_index_or (slice_index_or (slice_set s.levels l (slice_set level i x)) m []) k Unallocated ≡ slice_index_or (slice_index_or s.levels m []) k Unallocated
+    by : (m : ℕ) → m ≡ l → (k ≡ i → ⊥) → slice_index_or (slice_index_or (slice_set s.levels l (slice_set level i x)) m []) k Unallocated ≡ slice_index_or
+        (slice_index_or s.levels m []) k Unallocated
     by m is other =
-        let P : ℕ → Type 0 = λ m. slice_index_or (slice_index_or (slice_set s.levels l (slice_set level i x)) m []) k Unallocated ≡ slice_index_or (slice_index_or s.levels m []) k Unallocated in
+        let P : ℕ → Type 0 = λ m. slice_index_or (slice_index_or (slice_set s.levels l (slice_set level i x)) m []) k Unallocated ≡ slice_index_or
+        (slice_index_or s.levels m []) k Unallocated in
         subst P (sym is) (elim (l_is (slice_index_or s.levels l [])) [
-          | inl there ↦ ap (λ (ys : List Value). slice_index_or ys k Unallocated) (get_set s.levels l (slice_set level i x) [] there) ∙ get_set_other level i k x Unallocated other
+          | inl there ↦ ap (λ (ys : List Value). slice_index_or ys k Unallocated) (get_set s.levels l (slice_set level i x) [] there)
+              ∙ get_set_other level i k x Unallocated other
           | inr out ↦ ap (λ (ys : List (List Value)). slice_index_or (slice_index_or ys l []) k Unallocated) (set_out s.levels l (slice_set level i x) out)
         ])
       where

@@ -41,7 +41,7 @@ allocated_shows of v u y f h =
       y,
       ap (λ (ss : List Span). d.Holder (length ss) of) (sym f.same),
       ap (λ (ss : List Span). raw.Present (bounds ss) (boxed (is_array v) y)) (sym f.same)
-      ∙ ap (λ (b : Bool). raw.Present (bounds (spans_of u)) (boxed b y)) (sym f.arrays),
+          ∙ ap (λ (b : Bool). raw.Present (bounds (spans_of u)) (boxed b y)) (sym f.arrays),
       subst R (sym f.same) (subst B (sym f.arrays) h),
     )
 

@@ -28,14 +28,15 @@ shown_changed h store x r u z s is k =
     record {
       shown = λ q i. elim (same_or_not r q) [
         | inl same ↦
-        (let P : Root → Type 0 = λ t. Shows (home h t).layout (at_root (with_root store r u) t) (raw.get (raw.put x a z) (home h t).path) in
-        let V : Value → Type 0 = λ y. Shows (home h r).layout y (raw.get (raw.put x a z) a) in
-        let X : raw.Value → Type 0 = λ y. Shows (home h r).layout u y in
-        subst P same (subst V (sym (root_same store r u is)) (subst X (sym (part_written x a z (s.has r is))) k)))
+            (let P : Root → Type 0 = λ t. Shows (home h t).layout (at_root (with_root store r u) t) (raw.get (raw.put x a z) (home h t).path) in
+            let V : Value → Type 0 = λ y. Shows (home h r).layout y (raw.get (raw.put x a z) a) in
+            let X : raw.Value → Type 0 = λ y. Shows (home h r).layout u y in
+            subst P same (subst V (sym (root_same store r u is)) (subst X (sym (part_written x a z (s.has r is))) k)))
         | inr other ↦
-        (let V : Value → Type 0 = λ y. Shows (home h q).layout y (raw.get (raw.put x a z) (home h q).path) in
-        let X : raw.Value → Type 0 = λ y. Shows (home h q).layout (at_root store q) y in
-        subst V (sym (root_other store r q u other)) (subst X (sym (part_stays x a (home h q).path z (s.apart r q is (before q i) other))) (s.shown q (before q i))))
+            (let V : Value → Type 0 = λ y. Shows (home h q).layout y (raw.get (raw.put x a z) (home h q).path) in
+            let X : raw.Value → Type 0 = λ y. Shows (home h q).layout (at_root store q) y in
+            subst V (sym (root_other store r q u other)) (subst X (sym (part_stays x a (home h q).path z (s.apart r q is (before q i) other))) (s.shown q
+            (before q i))))
       ];
       has = λ q i. elim (same_or_not r q) [
         | inl same ↦ (let P : Root → Type 0 = λ t. raw.Has (raw.put x a z) (home h t).path in subst P same (has_written x a z (s.has r is)))

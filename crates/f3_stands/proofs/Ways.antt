@@ -3,7 +3,8 @@ use Rattle.std.proofs.Common.{zero, suc, ◌≡◌, ℕ, ◌+◌, ◌<◌, Bool,
 use Rattle.std.specs.Prelude.{◌&&◌, nat_eq}
 use Rattle.std.proofs.lemmas.Bool.{eqb-true, eq-eqb}
 use Rattle.f3_meaning_whole.specs.Value.{Value, Number, Truth, Composite, Array, Unallocated, Allocated, Values, none, more}
-use Rattle.f3_meaning_whole.specs.Store.{Root, Store, Path, Step, Component, Element, Contents, at_root, with_root, part, part_at, with_part, with_part_at, get, put, same_step, same_root, begins_with, goes_through}
+use Rattle.f3_meaning_whole.specs.Store.{Root, Store, Path, Step, Component, Element, Contents, at_root, with_root, part, part_at, with_part, with_part_at}
+use Rattle.f3_meaning_whole.specs.Store.{get, put, same_step, same_root, begins_with, goes_through}
 use Rattle.f3_meaning_whole.proofs.Frame.{same_roots, root_itself}
 use Rattle.f3_storage.specs.Values as raw
 use Rattle.f3_stands.specs.Shows.{is_array}
@@ -112,7 +113,8 @@ mutual
   there_stays (Allocated v) (Element i ∷ a) (t ∷ b) x e h = h
   there_stays v (s ∷ a) (t ∷ b) x e h = absurd h
 
-  there_at_stays : (vs : Values) (i k : ℕ) (a b : List Step) (x : Value) → (k ≡ i → begins_with b a ≡ false) → IsThereAt vs k b → IsThereAt (with_part_at vs i a x) k b
+  there_at_stays : (vs : Values) (i k : ℕ) (a b : List Step) (x : Value) → (k ≡ i → begins_with b a ≡ false) → IsThereAt vs k b
+      → IsThereAt (with_part_at vs i a x) k b
   there_at_stays none i k a b x e h = h
   there_at_stays (more v vs) zero zero a b x e h = there_stays v a b x (e refl) h
   there_at_stays (more v vs) zero (suc k) a b x e h = h
@@ -130,8 +132,10 @@ mutual
   pub ways_apart : (v : Value) (a b : List Step) → IsThere v a → IsThere v b → begins_with a b ≡ false → begins_with b a ≡ false → raw.Apart (way v a) (way v b)
   ways_apart v a [] h k e f = no e
   ways_apart v [] (t ∷ b) h k e f = no f
-  ways_apart (Composite vs) (Component i ∷ a) (Component j ∷ b) h k e f = ways_at_apart vs i j a b h k (same_then i j (begins_with a b) e) (same_then j i (begins_with b a) f)
-  ways_apart (Array ss vs) (Element i ∷ a) (Element j ∷ b) h k e f = ways_at_apart vs i j a b h k (same_then i j (begins_with a b) e) (same_then j i (begins_with b a) f)
+  ways_apart (Composite vs) (Component i ∷ a) (Component j ∷ b) h k e f = ways_at_apart vs i j a b h k (same_then i j (begins_with a b) e) (same_then j i
+      (begins_with b a) f)
+  ways_apart (Array ss vs) (Element i ∷ a) (Element j ∷ b) h k e f = ways_at_apart vs i j a b h k (same_then i j (begins_with a b) e) (same_then j i
+      (begins_with b a) f)
   ways_apart (Allocated v) (Contents ∷ a) (Contents ∷ b) h k e f = apart_inner (is_array v) (way v a) (way v b) (ways_apart v a b h k e f)
   ways_apart (Composite vs) (Component i ∷ a) (Element j ∷ b) h k e f = absurd k
   ways_apart (Composite vs) (Component i ∷ a) (Contents ∷ b) h k e f = absurd k
@@ -141,7 +145,8 @@ mutual
   ways_apart (Allocated v) (Contents ∷ a) (Element j ∷ b) h k e f = absurd k
   ways_apart v (s ∷ a) (t ∷ b) h k e f = absurd h
 
-  ways_at_apart : (vs : Values) (i j : ℕ) (a b : List Step) → IsThereAt vs i a → IsThereAt vs j b → (i ≡ j → begins_with a b ≡ false) → (j ≡ i → begins_with b a ≡ false)
+  ways_at_apart : (vs : Values) (i j : ℕ) (a b : List Step) → IsThereAt vs i a → IsThereAt vs j b → (i ≡ j → begins_with a b ≡ false) → (j ≡ i
+      → begins_with b a ≡ false)
       → raw.Apart (way_at vs i a) (way_at vs j b)
   ways_at_apart none i j a b h k e f = absurd h
   ways_at_apart (more v vs) zero zero a b h k e f = ways_apart v a b h k (e refl) (f refl)
@@ -154,12 +159,14 @@ mutual
   pub part_same : (v : Value) (a b : List Step) (x : Value) → begins_with b a ≡ false → begins_with a b ≡ false → part (with_part v a x) b ≡ part v b
   part_same v [] b x e f = no e
   part_same v (s ∷ a) [] x e f = no f
-  part_same (Composite vs) (Component i ∷ a) (Component k ∷ b) x e f = part_at_same vs i k a b x (same_then k i (begins_with b a) e) (λ g. same_then i k (begins_with a b) f (sym g))
+  part_same (Composite vs) (Component i ∷ a) (Component k ∷ b) x e f = part_at_same vs i k a b x (same_then k i (begins_with b a) e) (λ g. same_then i k
+      (begins_with a b) f (sym g))
   part_same (Composite vs) (Component i ∷ a) (Element k ∷ b) x e f = refl
   part_same (Composite vs) (Component i ∷ a) (Contents ∷ b) x e f = refl
   part_same (Composite vs) (Element i ∷ a) (t ∷ b) x e f = refl
   part_same (Composite vs) (Contents ∷ a) (t ∷ b) x e f = refl
-  part_same (Array ss vs) (Element i ∷ a) (Element k ∷ b) x e f = part_at_same vs i k a b x (same_then k i (begins_with b a) e) (λ g. same_then i k (begins_with a b) f (sym g))
+  part_same (Array ss vs) (Element i ∷ a) (Element k ∷ b) x e f = part_at_same vs i k a b x (same_then k i (begins_with b a) e) (λ g. same_then i k
+      (begins_with a b) f (sym g))
   part_same (Array ss vs) (Element i ∷ a) (Component k ∷ b) x e f = refl
   part_same (Array ss vs) (Element i ∷ a) (Contents ∷ b) x e f = refl
   part_same (Array ss vs) (Component i ∷ a) (t ∷ b) x e f = refl
@@ -173,7 +180,8 @@ mutual
   part_same (Truth z) (s ∷ a) (t ∷ b) x e f = refl
   part_same Unallocated (s ∷ a) (t ∷ b) x e f = refl
 
-  part_at_same : (vs : Values) (i k : ℕ) (a b : List Step) (x : Value) → (k ≡ i → begins_with b a ≡ false) → (k ≡ i → begins_with a b ≡ false) → part_at (with_part_at vs i a x) k b ≡ part_at vs k b
+  part_at_same : (vs : Values) (i k : ℕ) (a b : List Step) (x : Value) → (k ≡ i → begins_with b a ≡ false) → (k ≡ i → begins_with a b ≡ false)
+      → part_at (with_part_at vs i a x) k b ≡ part_at vs k b
   part_at_same none i k a b x e f = refl
   part_at_same (more v vs) zero zero a b x e f = part_same v a b x (e refl) (f refl)
   part_at_same (more v vs) zero (suc k) a b x e f = refl

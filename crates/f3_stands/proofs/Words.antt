@@ -1,5 +1,6 @@
 -- What the words of a store's parts are, and what a write of some leaves.
-use Rattle.std.proofs.Common.{◌≡◌, ◌⊎◌, inl, inr, ℕ, ℤ, pos, ◌+◌, ◌*◌, ◌<◌, Bool, true, false, List, [], ◌∷◌, ◌++◌, length, set, get_or, refl, ap, sym, subst, ◌∙◌, arith}
+use Rattle.std.proofs.Common.{◌≡◌, ◌⊎◌, inl, inr, ℕ, ℤ, pos, ◌+◌, ◌*◌, ◌<◌, Bool, true, false, List, [], ◌∷◌, ◌++◌, length, set, get_or, refl, ap, sym, subst}
+use Rattle.std.proofs.Common.{◌∙◌, arith}
 use Rattle.f3_heap_laws.specs.Blocks.{Live, words_of, with_words}
 use Rattle.f3_desc.specs.Shape as d
 use Rattle.f3_desc.specs.Shape.{Shape}
@@ -48,7 +49,8 @@ module _ (m : Live) (h : Homes) (store : Store) (w : Object) (p : Path) (s : Sta
   pub truth_word : (b : Bool) → get store p ≡ Truth b → get_or (words_of m (block_at w q)) (place_at w q) (pos 0) ≡ bit b
   truth_word b e = number_read m w q (bit b) part.stands part.has part.within ((truth_there b e).1)
 
-  pub absence_there : get store p ≡ Unallocated → (rank : ℕ) × (of : Shape) × (ds : List ℤ) × (k.of ≡ d.Holder rank of) × (o.get w q ≡ o.Absent ds) × (length ds ≡ 2 * rank)
+  pub absence_there : get store p ≡ Unallocated → (rank : ℕ) × (of : Shape) × (ds : List ℤ) × (k.of ≡ d.Holder rank of) × (o.get w q ≡ o.Absent ds) ×
+      (length ds ≡ 2 * rank)
   absence_there e =
       let t = shown_as Unallocated e in
       let a = absent_of_plain (o.get w q) (2 * t.0) (plain-get w q ∙ t.3) in

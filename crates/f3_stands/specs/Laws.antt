@@ -1,6 +1,7 @@
 -- Laws of the relation: what blocks of words tell of a store, and what each change of the blocks leaves of it.
 use Rattle.std.specs.Prelude.{⊤, ℕ, ℤ, pos, ◌≡◌, ◌+◌, ◌*◌, ◌<◌, Bool, true, false, List, [], ◌∷◌, ◌++◌, map, length, take, drop, set}
 use Rattle.std.specs.Prelude.{replicate, get_or, None}
+use Rattle.std.specs.List.{sum_by}
 use Rattle.std.specs.FinMap.{get as found}
 use Rattle.f3_heap_laws.specs.Blocks.{Live, words_of, with_taken, with_words}
 use Rattle.f3_desc.specs.Shape as d
@@ -9,9 +10,9 @@ use Rattle.f3_objects.specs.Tree as n
 use Rattle.f3_objects.specs.Tree.{End, words, IsBare}
 use Rattle.f3_objects.specs.Holds.{Frees, with_moved}
 use Rattle.f3_objects.specs.Copies.{Copies}
-use Rattle.f3_meaning_whole.specs.Value.{Span, Value, Number, Truth, Composite, Array, Unallocated, Allocated, Values, spans_of}
+use Rattle.f3_meaning_whole.specs.Value.{Span, Value, Number, Truth, Composite, Array, Unallocated, Allocated, Values, count, spans_of}
 use Rattle.f3_meaning_whole.specs.Shape as t
-use Rattle.f3_meaning_whole.specs.Shape.{Whole, Logical, Record, Parts, nothing, and, initial_of, initial_declared}
+use Rattle.f3_meaning_whole.specs.Shape.{Whole, Logical, Record, Parts, nothing, and, spans_declared, initial_of, initial_declared}
 use Rattle.f3_meaning_whole.specs.Store.{Store, Path, Step, Component, Element, Contents, get, put, within, goes_through}
 use Rattle.f3_meaning_whole.specs.Reference.{Reference, is_pinned}
 use Rattle.f3_program.specs.declared.declarations.Declared.{Declared}
@@ -25,7 +26,7 @@ use Rattle.f3_storage.specs.Typed.{OfShape}
 use Rattle.f3_storage.specs.Zeros.{zeros}
 use Rattle.f3_storage.specs.IsPart.{IsPart, block_at, place_at, tree_at, rewritten}
 use Rattle.f3_storage.specs.Laws.{Anything}
-use Rattle.f3_stands.specs.Layout.{declared_layout, layout}
+use Rattle.f3_stands.specs.Layout.{declared_layout, layout, layouts}
 use Rattle.f3_stands.specs.Shows.{bit, bounds, is_array, held_layout, boxed, Shows}
 use Rattle.f3_stands.specs.Ways.{IsThere, IsThereAt, SameForm, Seen}
 use Rattle.f3_stands.specs.Homes.{Home, Homes, IsPath, path_in}
@@ -224,3 +225,15 @@ abbrev pub PinnedIsUse : Type 0
 PinnedIsUse = (h : Homes) (store : Store) (w : Object) (p : Path) (u : Value) (rs : List Reference) → IsShown h store (plain w)
     → IsPath store p → get store p ≡ Allocated u → AreLent h store w rs (o.lent_in w)
     → IsPinned (plain w) (path_in h store p) → is_pinned p rs ≡ true
+
+-- ---- words of types
+
+-- An integer or a logical has one word, an allocatable one and two for each dimension, a type the words of its components,
+-- and an array those of its elements.
+abbrev pub TypesHaveWords : Type 0
+TypesHaveWords = (d.width (layout Whole) ≡ 1) × (d.width (layout Logical) ≡ 1)
+    × ((type : ℕ) (parts : Parts) → d.width (layout (Record type parts)) ≡ sum_by d.width (layouts parts))
+    × ((x : Declared) (of : Shape) → x.kind.is_allocatable ≡ true → d.width (declared_layout x of) ≡ 1 + 2 * x.kind.rank)
+    × ((x : Declared) (of : Shape) → x.kind.is_allocatable ≡ false → x.kind.rank ≡ 0 → d.width (declared_layout x of) ≡ d.width of)
+    × ((x : Declared) (of : Shape) → x.kind.is_allocatable ≡ false → 0 < x.kind.rank
+    → d.width (declared_layout x of) ≡ count (spans_declared x.dimensions.items) * d.width of)

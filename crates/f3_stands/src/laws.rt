@@ -1,31 +1,32 @@
 //! Laws of the relation: each is the contract of a function that does nothing.
 
 ghost use Rattle.f3_stands.specs.Laws.{
-    AbsencesStand,
-    AllocationsMove,
-    AllocationsStand,
-    ApartPathsAreApart,
-    ApartPathsStay,
-    ComponentsHavePlaces,
-    ContentsHavePlaces,
-    ElementsHavePlaces,
-    LevelsBegin,
-    LevelsEnd,
-    NumbersAreStored,
-    NumbersStand,
-    ObjectsAreAllocated,
-    ObjectsAreFreed,
-    ObjectsHaveShapes,
-    PartsAreSeen,
-    PartsAreStored,
-    PathsAreSeen,
-    PinnedIsUse,
-    ReferencesStand,
-    TruthsAreStored,
-    TruthsStand,
-    UseIsPinned,
-    ValuesAreCopied,
-    ZerosAreInitial,
+  AbsencesStand,
+  AllocationsMove,
+  AllocationsStand,
+  ApartPathsAreApart,
+  ApartPathsStay,
+  ComponentsHavePlaces,
+  ContentsHavePlaces,
+  ElementsHavePlaces,
+  LevelsBegin,
+  LevelsEnd,
+  NumbersAreStored,
+  NumbersStand,
+  ObjectsAreAllocated,
+  ObjectsAreFreed,
+  ObjectsHaveShapes,
+  PartsAreSeen,
+  PartsAreStored,
+  PathsAreSeen,
+  PinnedIsUse,
+  ReferencesStand,
+  TruthsAreStored,
+  TruthsStand,
+  TypesHaveWords,
+  UseIsPinned,
+  ValuesAreCopied,
+  ZerosAreInitial,
 };
 
 /// An object that shows a value of a layout is one of that shape: it has so many words, which the
@@ -156,4 +157,10 @@ pub fn use_is_pinned()
 /// And what has one is in use.
 pub fn pinned_is_use()
     ensures { PinnedIsUse }
+{}
+
+/// An integer or a logical has one word, an allocatable one and two for each dimension, a type the
+/// words of its components, and an array those of its elements.
+pub fn types_have_words()
+    ensures { TypesHaveWords }
 {}
