@@ -1,5 +1,5 @@
 -- What allocating, deallocating and copying leave of a store in blocks.
-use Rattle.std.proofs.Common.{◌≡◌, ℕ, ℤ, pos, ◌+◌, ◌*◌, ◌<◌, true, false, List, [], ◌∷◌, ◌++◌, length, replicate, refl, ap, sym, subst, ◌∙◌, arith}
+use Rattle.std.proofs.Common.{◌≡◌, ℕ, pos, ◌*◌, ◌<◌, true, List, [], ◌∷◌, length, replicate, ap, sym, subst, ◌∙◌}
 use Rattle.std.specs.Prelude.{None}
 use Rattle.std.specs.FinMap.{get as found}
 use Rattle.f3_heap_laws.specs.Blocks.{Live, with_taken}
@@ -9,13 +9,12 @@ use Rattle.f3_desc.specs.Shape.{Shape}
 use Rattle.f3_objects.specs.Tree.{words, IsBare}
 use Rattle.f3_objects.specs.Holds as t
 use Rattle.f3_objects.specs.Copies.{Copies}
-use Rattle.f3_meaning_whole.specs.Value.{Span, Value, Unallocated, Allocated, spans_of}
+use Rattle.f3_meaning_whole.specs.Value.{Value, Unallocated, Allocated, spans_of}
 use Rattle.f3_meaning_whole.specs.Store.{Store, Path, get, put}
 use Rattle.f3_storage.specs.Values as raw
 use Rattle.f3_storage.specs.Values.{Lending}
 use Rattle.f3_storage.specs.Objects as o
 use Rattle.f3_storage.specs.Objects.{Object, plain, tree, spelled}
-use Rattle.f3_storage.specs.StandsFor as s
 use Rattle.f3_storage.specs.StandsFor.{IsPinned}
 use Rattle.f3_storage.specs.Typed.{OfShape}
 use Rattle.f3_storage.specs.IsPart.{block_at, place_at, tree_at, rewritten}

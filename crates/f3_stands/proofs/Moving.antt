@@ -1,14 +1,14 @@
 -- An allocation moves from one allocatable to another.
 use Rattle.std.specs.Prelude.{Bool, ◌&&◌}
-use Rattle.std.proofs.Common.{◌≡◌, ◌⊎◌, inl, inr, ℕ, ℤ, pos, ◌+◌, ◌*◌, ◌<◌, true, false, List, [], ◌∷◌, ◌++◌, length, refl, ap, sym, subst, ◌∙◌, arith}
+use Rattle.std.proofs.Common.{◌≡◌, inl, inr, ℕ, ◌*◌, true, false, List, [], ◌++◌, length, refl, ap, sym, subst, ◌∙◌}
 use Rattle.f3_heap_laws.specs.Blocks.{Live}
 use Rattle.f3_desc.specs.Shape as d
 use Rattle.f3_desc.specs.Shape.{Shape}
 use Rattle.f3_objects.specs.Tree.{End, words}
 use Rattle.f3_objects.specs.Tree as t
 use Rattle.f3_objects.specs.Holds.{with_moved}
-use Rattle.f3_meaning_whole.specs.Value.{Span, Value, Unallocated, Allocated, spans_of}
-use Rattle.f3_meaning_whole.specs.Store.{Root, Store, Path, at_root, with_root, get, put, part, with_part, begins_with, same_root, goes_through}
+use Rattle.f3_meaning_whole.specs.Value.{Value, Unallocated, Allocated, spans_of}
+use Rattle.f3_meaning_whole.specs.Store.{Root, Store, Path, at_root, get, put, part, with_part, begins_with, same_root, goes_through}
 use Rattle.f3_meaning_whole.proofs.Frame.{root_itself}
 use Rattle.f3_storage.specs.Values as raw
 use Rattle.f3_storage.specs.Objects as o
@@ -16,12 +16,11 @@ use Rattle.f3_storage.specs.Objects.{Object, plain, tree, spelled}
 use Rattle.f3_storage.specs.StandsFor.{IsPinned}
 use Rattle.f3_storage.specs.IsPart.{block_at, place_at}
 use Rattle.f3_storage.proofs.Parts.{plain-get, plain-put}
-use Rattle.f3_storage.proofs.Cases.{object_of_plain}
 use Rattle.f3_storage.proofs.Copying.{typed_lent}
 use Rattle.f3_storage.proofs.Moving.{stands_moved}
-use Rattle.f3_stands.specs.Shows.{bounds, is_array, boxed, Shows}
-use Rattle.f3_stands.specs.Ways.{SameForm, way, IsThere}
-use Rattle.f3_stands.specs.Homes.{Homes, home, IsRoot, IsPath, path_in}
+use Rattle.f3_stands.specs.Shows.{bounds, is_array, Shows}
+use Rattle.f3_stands.specs.Ways.{way, IsThere}
+use Rattle.f3_stands.specs.Homes.{Homes, home, IsPath, path_in}
 use Rattle.f3_stands.specs.Stands.{IsShown, Stands, SeenAt}
 use Rattle.f3_stands.specs.Laws.{Stays}
 use Rattle.f3_stands.proofs.Roots.{root_same, root_other, root_after, same_or_not}

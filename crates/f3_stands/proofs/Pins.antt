@@ -1,9 +1,8 @@
 -- What is in use in the meaning is what is pinned in storage.
-use Rattle.std.proofs.Common.{◌≡◌, ◌⊎◌, inl, inr, ℕ, Bool, true, false, List, [], ◌∷◌, ◌++◌, refl, ap, sym, subst, ◌∙◌}
+use Rattle.std.proofs.Common.{◌≡◌, ◌⊎◌, inl, inr, Bool, true, false, List, [], ◌∷◌, ◌++◌, refl, ap, sym, subst, ◌∙◌}
 use Rattle.std.specs.Prelude.{◌&&◌, ◌||◌}
-use Rattle.std.specs.List.{AllZip}
 use Rattle.f3_meaning_whole.specs.Value.{Value, Allocated}
-use Rattle.f3_meaning_whole.specs.Store.{Root, Store, Path, Step, Contents, at_root, get, part, within, same_root, begins_with, goes_through}
+use Rattle.f3_meaning_whole.specs.Store.{Root, Store, Path, Step, Contents, at_root, get, within, same_root, begins_with, goes_through}
 use Rattle.f3_meaning_whole.specs.Reference.{Reference, is_pinned}
 use Rattle.f3_meaning_whole.proofs.Frame.{same_roots, root_itself}
 use Rattle.f3_storage.specs.Values as raw
@@ -16,7 +15,7 @@ use Rattle.f3_stands.specs.Shows.{is_array}
 use Rattle.f3_stands.specs.Ways.{inner, way}
 use Rattle.f3_stands.specs.Homes.{Homes, home, IsPath, path_in}
 use Rattle.f3_stands.specs.Stands.{IsShown}
-use Rattle.f3_stands.specs.Lent.{Denotes, AreLent}
+use Rattle.f3_stands.specs.Lent.{AreLent}
 use Rattle.f3_stands.proofs.Roots.{same_or_not}
 use Rattle.f3_stands.proofs.Ways.{way-append, way_into, begins_split, and_left, and_right, apart_never, apart_more, apart_behind, ways_apart, cut_front}
 

@@ -1,11 +1,9 @@
 -- Where parts of a store have their words.
-use Rattle.std.proofs.Common.{zero, suc, ◌≡◌, ℕ, ℤ, pos, ◌+◌, ◌*◌, ◌<◌, Bool, true, false, List, [], ◌∷◌, ◌++◌, length, take, drop, refl, ap, sym, subst, ◌∙◌}
-use Rattle.std.proofs.lemmas.Bool.{eqb-true}
-use Rattle.f3_heap_laws.specs.Blocks.{Live, words_of}
+use Rattle.std.proofs.Common.{zero, suc, ◌≡◌, ℕ, ◌+◌, ◌*◌, ◌<◌, Bool, true, false, List, [], ◌∷◌, ◌++◌, length, take, refl, ap, sym, subst, ◌∙◌}
 use Rattle.f3_desc.specs.Shape as d
 use Rattle.f3_desc.specs.Shape.{Shape}
-use Rattle.f3_meaning_whole.specs.Value.{Span, Value, Composite, Array, Allocated, Values, none, more, count, spans_of}
-use Rattle.f3_meaning_whole.specs.Store.{Store, Path, Step, Component, Element, Contents, at_root, get, within, part}
+use Rattle.f3_meaning_whole.specs.Value.{Span, Value, Composite, Array, Allocated, Values, none, more, spans_of}
+use Rattle.f3_meaning_whole.specs.Store.{Store, Path, Step, Component, Element, Contents, at_root, get, within}
 use Rattle.f3_storage.specs.Values as raw
 use Rattle.f3_storage.specs.Objects as o
 use Rattle.f3_storage.specs.Objects.{Object, plain, place}
@@ -20,7 +18,7 @@ use Rattle.f3_storage.proofs.Walking.{lent_element}
 use Rattle.f3_stands.specs.Shows.{bounds, is_array, boxed, Shows}
 use Rattle.f3_stands.specs.Ways.{inner, way, way_at, IsThereAt}
 use Rattle.f3_stands.specs.Homes.{Homes, home, IsPath, path_in}
-use Rattle.f3_stands.specs.Stands.{Stands, SeenAt}
+use Rattle.f3_stands.specs.Stands.{SeenAt}
 use Rattle.f3_stands.proofs.Raw.{has_object}
 use Rattle.f3_stands.proofs.Typing.{pair_of_plain}
 use Rattle.f3_stands.proofs.Heap.{part_typed}

@@ -1,5 +1,5 @@
 -- Paths in storage, one behind another.
-use Rattle.std.proofs.Common.{◌≡◌, ℕ, List, [], ◌∷◌, ◌++◌, refl, ap}
+use Rattle.std.proofs.Common.{◌≡◌, List, [], ◌∷◌, ◌++◌, refl, ap}
 use Rattle.f3_storage.specs.Values.{Step, First, Rest, Contents, Value, Pair, Present, get, put, Has, Apart}
 use Rattle.f3_storage.specs.Objects as o
 use Rattle.f3_storage.specs.Objects.{Object, plain}

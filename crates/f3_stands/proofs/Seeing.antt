@@ -1,8 +1,8 @@
 -- Parts of values, where objects show them.
-use Rattle.std.proofs.Common.{zero, suc, ◌≡◌, ℕ, ℤ, Bool, true, false, List, [], ◌∷◌, ◌++◌, length, refl, ap, sym, subst, ◌∙◌}
+use Rattle.std.proofs.Common.{zero, suc, ◌≡◌, ℕ, Bool, true, false, List, [], ◌∷◌, ◌++◌, length, refl, ap, sym, subst, ◌∙◌}
 use Rattle.f3_desc.specs.Shape as d
 use Rattle.f3_desc.specs.Shape.{Shape}
-use Rattle.f3_meaning_whole.specs.Value.{Span, Value, Number, Truth, Composite, Array, Unallocated, Allocated, Values, none, more, count, spans_of}
+use Rattle.f3_meaning_whole.specs.Value.{Span, Value, Composite, Array, Allocated, Values, none, more, count, spans_of}
 use Rattle.f3_meaning_whole.specs.Store.{Step, Component, Element, Contents, part, part_at, with_part, with_part_at}
 use Rattle.f3_storage.specs.Values as raw
 use Rattle.f3_stands.specs.Shows.{bounds, is_array, held_layout, boxed, Shows, ShowComponents, ShowElements}

@@ -1,18 +1,15 @@
 -- Parts of a store, where storage shows it.
-use Rattle.std.proofs.Common.{◌≡◌, ◌⊎◌, inl, inr, ℕ, ◌+◌, ◌<◌, List, ◌++◌, length, refl, ap, sym, subst, ◌∙◌, arith}
-use Rattle.f3_desc.specs.Shape.{Shape}
+use Rattle.std.proofs.Common.{inl, inr, sym, subst, ◌∙◌, arith}
 use Rattle.f3_heap_laws.specs.Blocks.{Live}
 use Rattle.f3_meaning_whole.specs.Value.{Value}
-use Rattle.f3_meaning_whole.specs.Store.{Root, Store, Path, at_root, with_root, get, put, part, with_part}
+use Rattle.f3_meaning_whole.specs.Store.{Root, Store, Path, at_root, with_root, get, put, with_part}
 use Rattle.f3_storage.specs.Values as raw
-use Rattle.f3_storage.specs.Objects as o
-use Rattle.f3_storage.specs.Objects.{Object, plain, holders}
-use Rattle.f3_storage.specs.StandsFor as s
+use Rattle.f3_storage.specs.Objects.{Object, plain}
 use Rattle.f3_storage.specs.IsPart.{IsPart}
 use Rattle.f3_storage.proofs.Parts.{holders-append}
 use Rattle.f3_storage.proofs.Putting.{part_written, part_stays}
 use Rattle.f3_stands.specs.Shows.{Shows}
-use Rattle.f3_stands.specs.Ways.{SameForm, way}
+use Rattle.f3_stands.specs.Ways.{way}
 use Rattle.f3_stands.specs.Homes.{Homes, home, IsRoot, IsPath, path_in}
 use Rattle.f3_stands.specs.Stands.{IsShown, Stands, SeenAt}
 use Rattle.f3_stands.proofs.Seeing.{seen}

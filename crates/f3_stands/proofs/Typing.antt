@@ -1,5 +1,5 @@
 -- Objects that show values of a layout are objects of that shape.
-use Rattle.std.proofs.Common.{zero, suc, ◌≡◌, ℕ, ℤ, pos, ◌+◌, ◌*◌, Bool, true, false, List, [], ◌∷◌, length, refl, ap, sym, subst, ◌∙◌, arith}
+use Rattle.std.proofs.Common.{◌≡◌, ℕ, ℤ, ◌*◌, List, [], ◌∷◌, length, refl, ap, sym, subst, ◌∙◌, arith}
 use Rattle.f3_desc.specs.Shape as d
 use Rattle.f3_desc.specs.Shape.{Shape}
 use Rattle.f3_objects.specs.Tree.{elements}

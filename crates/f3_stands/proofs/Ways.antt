@@ -1,11 +1,10 @@
 -- Ways in storage: one behind another, apart, and after a change elsewhere.
-use Rattle.std.proofs.Common.{zero, suc, ◌≡◌, ℕ, ◌+◌, ◌<◌, Bool, true, false, List, [], ◌∷◌, ◌++◌, refl, ap, sym, subst, ◌∙◌, arith}
+use Rattle.std.proofs.Common.{zero, suc, ◌≡◌, ℕ, Bool, true, false, List, [], ◌∷◌, ◌++◌, refl, ap, sym, subst, ◌∙◌}
 use Rattle.std.specs.Prelude.{◌&&◌, nat_eq}
 use Rattle.std.proofs.lemmas.Bool.{eqb-true, eq-eqb}
 use Rattle.f3_meaning_whole.specs.Value.{Value, Number, Truth, Composite, Array, Unallocated, Allocated, Values, none, more}
-use Rattle.f3_meaning_whole.specs.Store.{Root, Store, Path, Step, Component, Element, Contents, at_root, with_root, part, part_at, with_part, with_part_at}
-use Rattle.f3_meaning_whole.specs.Store.{get, put, same_step, same_root, begins_with, goes_through}
-use Rattle.f3_meaning_whole.proofs.Frame.{same_roots, root_itself}
+use Rattle.f3_meaning_whole.specs.Store.{Step, Component, Element, Contents, part, part_at, with_part, with_part_at}
+use Rattle.f3_meaning_whole.specs.Store.{same_step, begins_with}
 use Rattle.f3_storage.specs.Values as raw
 use Rattle.f3_stands.specs.Shows.{is_array}
 use Rattle.f3_stands.specs.Ways.{inner, way, way_at, IsThere, IsThereAt}

@@ -1,10 +1,10 @@
 -- What the words of a store's parts are, and what a write of some leaves.
-use Rattle.std.proofs.Common.{◌≡◌, ◌⊎◌, inl, inr, ℕ, ℤ, pos, ◌+◌, ◌*◌, ◌<◌, Bool, true, false, List, [], ◌∷◌, ◌++◌, length, set, get_or, refl, ap, sym, subst}
-use Rattle.std.proofs.Common.{◌∙◌, arith}
+use Rattle.std.proofs.Common.{◌≡◌, ℕ, ℤ, pos, ◌+◌, ◌*◌, ◌<◌, Bool, List, ◌∷◌, length, set, get_or, refl, ap, sym, subst}
+use Rattle.std.proofs.Common.{◌∙◌}
 use Rattle.f3_heap_laws.specs.Blocks.{Live, words_of, with_words}
 use Rattle.f3_desc.specs.Shape as d
 use Rattle.f3_desc.specs.Shape.{Shape}
-use Rattle.f3_meaning_whole.specs.Value.{Span, Value, Number, Truth, Unallocated, Allocated, spans_of}
+use Rattle.f3_meaning_whole.specs.Value.{Value, Number, Truth, Unallocated, Allocated, spans_of}
 use Rattle.f3_meaning_whole.specs.Store.{Store, Path, get, put}
 use Rattle.f3_storage.specs.Values as raw
 use Rattle.f3_storage.specs.Objects as o
@@ -16,7 +16,7 @@ use Rattle.f3_storage.proofs.Cases.{number_of_plain, object_of_plain}
 use Rattle.f3_storage.proofs.Reading.{number_read}
 use Rattle.f3_storage.proofs.Walking.{holder_read, vacant_read}
 use Rattle.f3_storage.proofs.Writing.{part_at, stands_written}
-use Rattle.f3_stands.specs.Shows.{bit, bounds, is_array, held_layout, boxed, Shows}
+use Rattle.f3_stands.specs.Shows.{bit, bounds, is_array, boxed, Shows}
 use Rattle.f3_stands.specs.Ways.{SameForm}
 use Rattle.f3_stands.specs.Homes.{Homes, IsPath, path_in}
 use Rattle.f3_stands.specs.Stands.{IsShown, Stands, SeenAt}

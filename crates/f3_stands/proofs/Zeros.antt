@@ -1,5 +1,5 @@
 -- Zeros show initial values where nothing is initialized.
-use Rattle.std.proofs.Common.{zero, suc, ◌≡◌, ℕ, ℤ, pos, ◌*◌, Bool, true, false, List, [], ◌∷◌, length, replicate, refl, ap, sym, subst, ◌∙◌}
+use Rattle.std.proofs.Common.{zero, suc, ◌≡◌, ℕ, pos, ◌*◌, Bool, true, false, List, [], ◌∷◌, replicate, refl, ap}
 use Rattle.std.proofs.lemmas.List.{length-replicate}
 use Rattle.f3_desc.specs.Shape as d
 use Rattle.f3_desc.specs.Shape.{Shape}

@@ -1,5 +1,5 @@
 -- Where the variables of a store are in storage.
-use Rattle.std.specs.Prelude.{ℕ, ◌<◌, List, [], length, ◌++◌, slice_index_or}
+use Rattle.std.specs.Prelude.{◌<◌, List, [], length, ◌++◌, slice_index_or}
 use Rattle.f3_desc.specs.Shape.{Shape, Nothing}
 use Rattle.f3_meaning_whole.specs.Store.{Root, Static, Local, Store, Path, at_root}
 use Rattle.f3_storage.specs.Values as raw

@@ -1,5 +1,5 @@
 -- What is lent, in the meaning and in storage.
-use Rattle.std.specs.Prelude.{⊤, ℕ, suc, ◌≡◌, ◌+ℤ◌, ℤ, pos, List, [], ◌∷◌, map}
+use Rattle.std.specs.Prelude.{◌≡◌, ◌+ℤ◌, ℤ, pos, List, [], ◌∷◌, map}
 use Rattle.std.specs.List.{AllZip}
 use Rattle.f3_desc.specs.declared.descriptor.Descriptor.{Descriptor}
 use Rattle.f3_desc.specs.declared.descriptor.Dim.{Dim}

@@ -1,5 +1,5 @@
 -- Blocks of words stand for a store of the meaning.
-use Rattle.std.specs.Prelude.{ℕ, ◌≡◌, ◌<◌, length}
+use Rattle.std.specs.Prelude.{◌≡◌, ◌<◌, length}
 use Rattle.f3_desc.specs.Shape.{Shape}
 use Rattle.f3_meaning_whole.specs.Value.{Value}
 use Rattle.f3_heap_laws.specs.Blocks.{Live}
