@@ -13,3 +13,4 @@ pub mod Places
 pub mod Moving
 pub mod Ending
 pub mod Widths
+pub mod Initial

@@ -1,10 +1,14 @@
 -- Laws of the relation: what blocks of words tell of a store, and what each change of the blocks leaves of it.
 use Rattle.std.specs.Prelude.{⊤, ℕ, ℤ, pos, ◌≡◌, ◌+◌, ◌*◌, ◌<◌, Bool, true, false, List, [], ◌∷◌, ◌++◌, map, length, take, drop, set}
-use Rattle.std.specs.Prelude.{replicate, get_or, None}
+use Rattle.std.specs.Prelude.{zero, suc, ◌⊎◌, replicate, get_or, None}
+use Rattle.f3_program.specs.declared.declarations.Constant.{Constant}
 use Rattle.std.specs.List.{sum_by}
 use Rattle.std.specs.FinMap.{get as found}
 use Rattle.f3_heap_laws.specs.Blocks.{Live, words_of, with_taken, with_words}
 use Rattle.f3_desc.specs.Shape as d
+use Rattle.f3_desc.specs.declared.descriptor.Descriptor.{Descriptor}
+use Rattle.f3_desc.specs.Descriptor.{places}
+use Rattle.f3_desc.specs.Laws.{IsContiguous, size_of}
 use Rattle.f3_desc.specs.Shape.{Shape}
 use Rattle.f3_objects.specs.Tree as n
 use Rattle.f3_objects.specs.Tree.{End, words, IsBare}
@@ -14,7 +18,7 @@ use Rattle.f3_meaning_whole.specs.Value.{Span, Value, Number, Truth, Composite, 
 use Rattle.f3_meaning_whole.specs.Shape as t
 use Rattle.f3_meaning_whole.specs.Shape.{Whole, Logical, Record, Parts, nothing, and, spans_declared, initial_of, initial_declared}
 use Rattle.f3_meaning_whole.specs.Store.{Store, Path, Step, Component, Element, Contents, get, put, within, goes_through}
-use Rattle.f3_meaning_whole.specs.Reference.{Reference, is_pinned}
+use Rattle.f3_meaning_whole.specs.Reference.{Reference, elements_from, is_pinned}
 use Rattle.f3_program.specs.declared.declarations.Declared.{Declared}
 use Rattle.f3_storage.specs.Values as raw
 use Rattle.f3_storage.specs.Values.{Lending}
@@ -59,6 +63,31 @@ abbrev mutual
 abbrev pub ZerosAreInitial : Type 0
 ZerosAreInitial = (x : Declared) (s : t.Shape) → x.initial.items ≡ [] → Uninitialized s
     → Shows (declared_layout x (layout s)) (initial_declared x (initial_of s)) (plain (zeros (declared_layout x (layout s))))
+
+-- a scalar's initializer is one value, an array's one for all elements or one for each
+abbrev pub IsEnough : ℕ → ℕ → List Constant → Type 0
+IsEnough zero n cs = ⊤
+IsEnough (suc rank) n cs = (length cs ≡ 1) ⊎ (length cs ≡ n)
+
+-- nothing is initialized, or a number or truth value, or an array of such
+abbrev pub FitsInitial : Declared → Shape → Type 0
+FitsInitial x of = (x.initial.items ≡ []) ⊎ ((of ≡ d.Plain) × IsEnough x.kind.rank (count (spans_declared x.dimensions.items)) x.initial.items)
+
+-- so of all components beneath
+abbrev mutual
+  pub Initializes : t.Shape → Type 0
+  Initializes Whole = ⊤
+  Initializes Logical = ⊤
+  Initializes (Record type parts) = AllInitialize parts
+
+  pub AllInitialize : Parts → Type 0
+  AllInitialize nothing = ⊤
+  AllInitialize (and c s rest) = FitsInitial c.declared (layout s) × Initializes s × AllInitialize rest
+
+-- Some object of its layout shows what a declared object holds first.
+abbrev pub InitialValuesAreShown : Type 0
+InitialValuesAreShown = (x : Declared) (s : t.Shape) → FitsInitial x (layout s) → Initializes s
+    → (y : raw.Value) × Shows (declared_layout x (layout s)) (initial_declared x (initial_of s)) y
 
 -- ---- stores
 
@@ -113,6 +142,14 @@ ContentsHavePlaces = (h : Homes) (store : Store) (w : Object) (p : Path) → IsP
     → (v : Value) → get store p ≡ Allocated v
     → (c : ℕ) × (y : Object) × (o.get w (path_in h store p) ≡ o.Present c (bounds (spans_of v)) y)
     × (place w 0 0 (path_in h store (within p Contents)) ≡ (c, 0))
+
+-- A descriptor that begins where an array does, with elements one after another, gives the places of its elements in array
+-- element order (6.2.2.2).
+abbrev pub ArraysHavePlaces : Type 0
+ArraysHavePlaces = (h : Homes) (store : Store) (w : Object) (p : Path) → IsPath store p → (k : SeenAt h store (plain w) p)
+    → (ss : List Span) (vs : Values) (of : Shape) (a : Descriptor) → get store p ≡ Array ss vs → k.of ≡ d.Times (count ss) of
+    → a.offset ≡ place_at w (path_in h store p) → IsContiguous (pos (d.width of)) a.dims.items → size_of a.dims.items ≡ count ss
+    → places a ≡ map (λ (e : Path). pos (place_at w (path_in h store e))) (elements_from 0 p vs)
 
 -- Paths of which none goes through the other are apart in storage.
 abbrev pub ApartPathsAreApart : Type 0

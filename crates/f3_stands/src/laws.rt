@@ -1,32 +1,34 @@
 //! Laws of the relation: each is the contract of a function that does nothing.
 
 ghost use Rattle.f3_stands.specs.Laws.{
-  AbsencesStand,
-  AllocationsMove,
-  AllocationsStand,
-  ApartPathsAreApart,
-  ApartPathsStay,
-  ComponentsHavePlaces,
-  ContentsHavePlaces,
-  ElementsHavePlaces,
-  LevelsBegin,
-  LevelsEnd,
-  NumbersAreStored,
-  NumbersStand,
-  ObjectsAreAllocated,
-  ObjectsAreFreed,
-  ObjectsHaveShapes,
-  PartsAreSeen,
-  PartsAreStored,
-  PathsAreSeen,
-  PinnedIsUse,
-  ReferencesStand,
-  TruthsAreStored,
-  TruthsStand,
-  TypesHaveWords,
-  UseIsPinned,
-  ValuesAreCopied,
-  ZerosAreInitial,
+    AbsencesStand,
+    AllocationsMove,
+    AllocationsStand,
+    ApartPathsAreApart,
+    ApartPathsStay,
+    ArraysHavePlaces,
+    ComponentsHavePlaces,
+    ContentsHavePlaces,
+    ElementsHavePlaces,
+    InitialValuesAreShown,
+    LevelsBegin,
+    LevelsEnd,
+    NumbersAreStored,
+    NumbersStand,
+    ObjectsAreAllocated,
+    ObjectsAreFreed,
+    ObjectsHaveShapes,
+    PartsAreSeen,
+    PartsAreStored,
+    PathsAreSeen,
+    PinnedIsUse,
+    ReferencesStand,
+    TruthsAreStored,
+    TruthsStand,
+    TypesHaveWords,
+    UseIsPinned,
+    ValuesAreCopied,
+    ZerosAreInitial,
 };
 
 /// An object that shows a value of a layout is one of that shape: it has so many words, which the
@@ -163,4 +165,15 @@ pub fn pinned_is_use()
 /// words of its components, and an array those of its elements.
 pub fn types_have_words()
     ensures { TypesHaveWords }
+{}
+
+/// A descriptor that begins where an array does, with elements one after another, gives the places
+/// of its elements in array element order (6.2.2.2).
+pub fn arrays_have_places()
+    ensures { ArraysHavePlaces }
+{}
+
+/// Some object of its layout shows what a declared object holds first.
+pub fn initial_values_are_shown()
+    ensures { InitialValuesAreShown }
 {}
