@@ -1,5 +1,6 @@
 -- Where parts of a store have their words.
-use Rattle.std.proofs.Common.{zero, suc, ◌≡◌, ℕ, ◌+◌, ◌*◌, ◌<◌, Bool, true, false, List, [], ◌∷◌, ◌++◌, length, take, refl, ap, sym, subst, ◌∙◌, map, arith, pos, ℤ}
+use Rattle.std.proofs.Common.{zero, suc, ◌≡◌, ℕ, ◌+◌, ◌*◌, ◌<◌, Bool, true, false, List, [], ◌∷◌, ◌++◌, length, take, refl, ap, sym, subst, ◌∙◌, map, arith}
+use Rattle.std.proofs.Common.{pos, ℤ}
 use Rattle.f3_desc.specs.declared.descriptor.Descriptor.{Descriptor}
 use Rattle.f3_desc.specs.Descriptor.{places}
 use Rattle.f3_desc.specs.Laws.{IsContiguous, size_of}
