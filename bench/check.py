@@ -4,7 +4,7 @@ read alone, how time and memory grow, and gfortran's check of the same text in t
 
 usage: check.py [MEGABYTES..]      (1 and 16 where none is named; after bin/f3 has built the program)
 f3 is crates/f3/out/f3, or what the variable F3 names. Seconds are of user time, the least of three runs. gfortran reads the
-first size alone, and instructions are counted by valgrind, where it is there, on a tenth of a megabyte."""
+first size alone. Instructions are counted by valgrind, where it is there, on a tenth of a megabyte and on a whole one."""
 import math
 import os
 import re
@@ -35,9 +35,7 @@ def least(words, folder, status, times=3):
 
 
 def instructions(words, folder):
-    """Millions of instructions, those of the programs that it starts among them; None without valgrind."""
-    if not shutil.which("valgrind"):
-        return None
+    """Millions of instructions, those of the programs that it starts among them."""
     counting = ["valgrind", "--tool=cachegrind", "--cache-sim=no", "--cachegrind-out-file=/dev/null", "--trace-children=yes"]
     said = subprocess.run([*counting, *words], cwd=folder, stdin=subprocess.DEVNULL, stdout=subprocess.DEVNULL, stderr=subprocess.PIPE)
     return sum(int(it.replace(b",", b"")) for it in re.findall(rb"I\s+refs:\s+([\d,]+)", said.stderr)) / 1e6
@@ -79,16 +77,25 @@ def table_of_phases(folder, sizes):
 
 def table_beside(folder, size, own):
     """f3 beside gfortran on the same text."""
-    other = least([*GFORTRAN, "a.f90"], folder, 0, times=1)
-    row(["", f"f3, {size:g} MB", "gfortran", "ratio"])
+    other = least([*GFORTRAN, "a.f90"], folder, ACCEPTED, times=1)
+    row([f"{size:g} MB", "f3", "gfortran", "ratio"])
     row(["---"] * 4)
     row(["seconds", f"{own[0]:.2f}", f"{other[0]:.2f}", f"{other[0] / own[0]:.1f}"])
     row(["peak memory", f"{own[1]:.0f} MB", f"{other[1]:.0f} MB", f"{other[1] / own[1]:.1f}"])
+
+
+def table_of_instructions(folder):
+    """Millions of instructions of f3 at two sizes, and of gfortran at the smaller."""
     write(folder, 0.1)
-    counts = [instructions(words, folder) for words in ([F3, "check", "a.f90"], [*GFORTRAN, "a.f90"], [F3, "check", "open.f90"])]
-    if None not in counts:
-        row(["millions of instructions, 0.1 MB", f"{counts[0]:,.0f}", f"{counts[1]:,.0f}", f"{counts[1] / counts[0]:.1f}"])
-        row(["the same, phase 1 alone", f"{counts[2]:,.0f}", "", f"{counts[2] / counts[0]:.2f} of f3"])
+    small = [instructions([F3, "check", name], folder) for name in ("open.f90", "a.f90")]
+    other = instructions([*GFORTRAN, "a.f90"], folder) if shutil.which(GFORTRAN[0]) else math.nan
+    write(folder, 1)
+    large = [instructions([F3, "check", name], folder) for name in ("open.f90", "a.f90")]
+    row(["millions of instructions", "0.1 MB", "1 MB", "grows by a power of", "gfortran, 0.1 MB", "ratio"])
+    row(["---"] * 6)
+    for name, few, many, beside in (("phase 1", small[0], large[0], math.nan), ("all phases", small[1], large[1], other)):
+        cells = ["", ""] if math.isnan(beside) else [f"{beside:,.0f}", f"{beside / few:.1f}"]
+        row([name, f"{few:,.0f}", f"{many:,.0f}", f"{math.log10(many / few):.2f}", *cells])
 
 
 def main(words):
@@ -99,6 +106,9 @@ def main(words):
             print()
             write(folder, sizes[0])
             table_beside(folder, sizes[0], own)
+        if shutil.which("valgrind"):
+            print()
+            table_of_instructions(folder)
 
 
 if __name__ == "__main__":
