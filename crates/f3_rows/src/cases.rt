@@ -4,7 +4,9 @@
 //! the program's name; `source NAME`, `output` and `errors` begin a text, whose lines follow, each behind a `|`, or
 //! behind a `:` where no line feed ends it; `errors some` wants a text, whatever it is; `status N`. A text that is not
 //! told of is empty, and a status is 0. `prefixes N` asks for more: each front of the first source of fewer than N bytes is
-//! refused. An empty line, or one that begins with `#`, says nothing.
+//! refused. `times N` writes the line of a text behind it N times, with the number of the time for each `#` and that of the
+//! time before for each `@`. `growths` is for bench/growths.py, which refuses each growth of the host's memory in turn. An empty
+//! line, or one that begins with `#`, says nothing.
 
 use std::alloc::{AllocError, Global};
 
@@ -42,12 +44,16 @@ enum Part {
 pub fn read(alloc: Global, bytes: &[u8]) -> Result<Vec<Case>, AllocError> {
     let mut cases: Vec<Case> = Vec::new(alloc);
     let mut part = Part::Nothing;
+    let mut times = 1usize;
     for line in bytes.split(|byte| *byte == b'\n') {
         if let Some(name) = line.strip_prefix(b"case ") {
             cases.push(begun(alloc, name)?)?;
             part = Part::Nothing;
+        } else if let Some(number) = line.strip_prefix(b"times ") {
+            times = number_of(alloc, number)?;
         } else if let Some(case) = cases.last_mut() {
-            part = more(alloc, case, part, line)?;
+            part = more(alloc, case, part, line, times)?;
+            times = 1;
         }
     }
     Ok(cases)
@@ -73,17 +79,34 @@ fn text_of(alloc: Global, bytes: &[u8]) -> Result<String, AllocError> {
     }
 }
 
-/// Takes one more line of a case; answers to what the next line of text belongs.
-fn more(alloc: Global, case: &mut Case, part: Part, line: &[u8]) -> Result<Part, AllocError> {
+/// A number, or 0 where there is none.
+fn number_of(alloc: Global, bytes: &[u8]) -> Result<usize, AllocError> {
+    Ok(text_of(alloc, bytes)?.as_str().parse().unwrap_or(0))
+}
+
+/// Takes one more line of a case, or so many; answers to what the next line of text belongs.
+fn more(
+    alloc: Global,
+    case: &mut Case,
+    part: Part,
+    line: &[u8],
+    times: usize,
+) -> Result<Part, AllocError> {
     if let Some(text) = line.strip_prefix(b"|") {
-        add(case, part, text)?;
-        add(case, part, b"\n")?;
+        let mut text = Vec::from_slice(alloc, text)?;
+        text.push(b'\n')?;
+        add(alloc, case, part, text.as_slice(), times)?;
         return Ok(part);
     }
     if let Some(text) = line.strip_prefix(b":") {
-        add(case, part, text)?;
+        add(alloc, case, part, text, times)?;
         return Ok(part);
     }
+    told(alloc, case, line)
+}
+
+/// Takes a line that is no text; answers to what the next line of text belongs.
+fn told(alloc: Global, case: &mut Case, line: &[u8]) -> Result<Part, AllocError> {
     if let Some(word) = line.strip_prefix(b"word ") {
         case.words.push(text_of(alloc, word)?)?;
     } else if let Some(name) = line.strip_prefix(b"source ") {
@@ -92,7 +115,7 @@ fn more(alloc: Global, case: &mut Case, part: Part, line: &[u8]) -> Result<Part,
     } else if let Some(status) = line.strip_prefix(b"status ") {
         case.status = text_of(alloc, status)?.as_str().parse().unwrap_or(255);
     } else if let Some(bytes) = line.strip_prefix(b"prefixes ") {
-        case.prefixes = text_of(alloc, bytes)?.as_str().parse().unwrap_or(0);
+        case.prefixes = number_of(alloc, bytes)?;
     } else if line == b"errors some".as_slice() {
         case.errors = Text::Some;
     } else if line == b"output some".as_slice() {
@@ -105,8 +128,43 @@ fn more(alloc: Global, case: &mut Case, part: Part, line: &[u8]) -> Result<Part,
     Ok(Part::Nothing)
 }
 
+/// Adds a text to a part of a case: as it is, or so many times and numbered.
+fn add(
+    alloc: Global,
+    case: &mut Case,
+    part: Part,
+    text: &[u8],
+    times: usize,
+) -> Result<(), AllocError> {
+    if times == 1 {
+        return add_bytes(case, part, text);
+    }
+    for before in 0..times {
+        add_bytes(case, part, numbered(alloc, text, before)?.as_slice())?;
+    }
+    Ok(())
+}
+
+/// A text with this number for each `@`, and the next for each `#`.
+fn numbered(alloc: Global, text: &[u8], before: usize) -> Result<Vec<u8>, AllocError> {
+    let mut found = Vec::new(alloc);
+    for byte in text {
+        match *byte {
+            b'@' => add_number(alloc, &mut found, before)?,
+            b'#' => add_number(alloc, &mut found, before.saturating_add(1))?,
+            other => found.push(other)?,
+        }
+    }
+    Ok(found)
+}
+
+fn add_number(alloc: Global, text: &mut Vec<u8>, number: usize) -> Result<(), AllocError> {
+    let digits = format!(in alloc; "{number}")?;
+    text.extend_from_slice(digits.as_str().as_bytes())
+}
+
 /// Adds bytes to a part of a case.
-fn add(case: &mut Case, part: Part, bytes: &[u8]) -> Result<(), AllocError> {
+fn add_bytes(case: &mut Case, part: Part, bytes: &[u8]) -> Result<(), AllocError> {
     match part {
         Part::Nothing => Ok(()),
         Part::Source => match case.sources.last_mut() {
