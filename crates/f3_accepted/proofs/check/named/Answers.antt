@@ -21,5 +21,5 @@ returns-in-Ok c = (
   nothing_broken (view c.args.program.now) c.in_ok-order.ensures.1 c.in_ok-names.ensures.1 c.in-Ok.ensures.1,
 )
 
-pub returns : goal.returns
-returns c = types_refused (view c.args.program.now) c.in_ok-order.ensures.1 c.in_ok-names.ensures.1 c.in-Err.fault c.in-Err.ensures
+pub returns-in-Err : goal.returns-in-Err
+returns-in-Err c = types_refused (view c.args.program.now) c.in_ok-order.ensures.1 c.in_ok-names.ensures.1 c.in-Err.fault c.in-Err.ensures
