@@ -8,17 +8,27 @@ use std::env;
 use std::io::{self, BufWriter, Write};
 use std::process::ExitCode;
 
-fn main(rt: HostRuntime) -> io::Result<ExitCode> {
+/// The status with which the program ends; an error where memory for its words or for its output was refused.
+fn status(rt: &HostRuntime) -> io::Result<u8> {
     let alloc = rt.alloc();
-    let words: Vec<String> = env::args(&rt)?.collect(alloc)?;
-    let mut output = Output::new(BufWriter::new(alloc, io::writer(&rt))?);
+    let words: Vec<String> = env::args(rt)?.collect(alloc)?;
+    let mut output = Output::new(BufWriter::new(alloc, io::writer(rt))?);
     let mut errors = Output::new(rt.stderr());
-    let status = program::f3(
+    Ok(program::f3(
         alloc,
         words.as_slice(),
-        &Disk { rt: &rt },
+        &Disk { rt },
         &mut output,
         &mut errors,
-    );
-    Ok(ExitCode::from(status))
+    ))
+}
+
+fn main(rt: HostRuntime) -> ExitCode {
+    match status(&rt) {
+        Ok(status) => ExitCode::from(status),
+        Err(_) => {
+            let _ = rt.stderr().write_all(b"want of memory\n");
+            ExitCode::from(5)
+        }
+    }
 }
