@@ -1,9 +1,9 @@
 -- What is declared of variables, components and results, and types (ISO/IEC 1539-1:2004, 4.5, 5.1).
-use Rattle.std.specs.Prelude.{ℕ, ℤ, pos, List, [], ◌∷◌, Option, None, Some, map, slice_get}
+use Rattle.std.specs.Prelude.{ℕ, ℤ, pos, Bool, false, List, [], ◌∷◌, Option, None, Some, map, slice_get}
 use Rattle.std.specs.List.{flat_map}
 use Rattle.f3_tree.specs.declared.expression.Name.{Name}
 use Rattle.f3_tree.specs.Expressions.{Tree, array, Trees, no_trees, trees}
-use Rattle.f3_tree.specs.Declarations.{Bounds, ShapeTree, explicit, deferred, EntityTree, DeclarationTree}
+use Rattle.f3_tree.specs.Declarations.{Bounds, ShapeTree, explicit, EntityTree, DeclarationTree}
 use Rattle.f3_program.specs.declared.declarations.Constant.{Constant}
 use Rattle.f3_program.specs.declared.declarations.Constant.TheVariants as constant
 use Rattle.f3_program.specs.declared.declarations.Dimension.{Dimension}

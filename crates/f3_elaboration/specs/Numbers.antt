@@ -1,5 +1,5 @@
 -- The numbers of variables, procedures and types. A list of entities numbers them: each has the number of its place in the list.
-use Rattle.std.specs.Prelude.{ℕ, ◌+◌, Bool, true, false, not, ◌&&◌, ◌||◌, nat_eq, List, [], ◌∷◌, ◌++◌, Option, None, Some}
+use Rattle.std.specs.Prelude.{ℕ, ◌+◌, Bool, not, ◌&&◌, ◌||◌, nat_eq, List, [], ◌∷◌, ◌++◌, Option, None, Some}
 use Rattle.std.specs.Prelude.{map, length, filter, position}
 use Rattle.std.specs.List.{flat_map}
 use Rattle.f3_access.specs.declared.table.Lookup.{Lookup}
@@ -24,7 +24,7 @@ use Rattle.f3_type_rules.specs.Declarations.{within_member}
 use Rattle.f3_type_rules.specs.Members.{Member, Numbered}
 use Rattle.f3_type_rules.specs.Names.{is_given, Declared}
 use Rattle.f3_type_rules.specs.Program.{nothing_known}
-use Rattle.f3_type_rules.specs.Walks.{Known, is_among}
+use Rattle.f3_type_rules.specs.Walks.{is_among}
 
 abbrev pub number_in : List ℕ → (entity : ℕ) → ℕ
 number_in es e = map_or 0 (λ n. n) (position (nat_eq e) es)
