@@ -24,11 +24,13 @@ use Rattle.f3_type_rules.specs.Shapes.{bounds_extent}
 use Rattle.f3_elaboration.specs.Nodes.{DeclaredNode, ComponentNode, DerivedNode, StaticNode}
 use Rattle.f3_elaboration.specs.Numbers.{Numbers, number_in, entity_of, kind_of, Variable, Definition}
 
--- What is known of a whole program: what its names mean and its entities are, the values of its named constants, and its numbers.
+-- What is known of a whole program: what its names mean and its entities are, the values of its named constants, its numbers, and its
+-- character constants.
 pub record Whole : Type 0 where
   pub scene : Scene
   pub values : List (ℕ × Scalar)
   pub numbers : Numbers
+  pub texts : List (List ℕ)
 
 abbrev pub context : Whole → (unit scope : ℕ) → Context
 context w u s = context_in w.scene u s 6 w.values

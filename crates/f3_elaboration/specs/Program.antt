@@ -31,8 +31,13 @@ abbrev pub nothing_done : Place → ProcedureNode
 nothing_done p = record { unit = 0; dummies = []; locals = []; result = None; body = block no_statements; end = p }
 
 -- the units along an order in which used modules come first
-abbrev pub whole_along : Scene → List Numbered → (ordered : List Numbered) → Whole
-whole_along s units ordered = record { scene = s; values = (after (unit_next s) nothing_known ordered).values; numbers = numbers_of units ordered }
+abbrev pub whole_along : Scene → (texts : List (List ℕ)) → List Numbered → (ordered : List Numbered) → Whole
+whole_along s texts units ordered = record {
+  scene = s;
+  values = (after (unit_next s) nothing_known ordered).values;
+  numbers = numbers_of units ordered;
+  texts = texts;
+}
 
 abbrev pub program_along : Whole → List Numbered → (ordered : List Numbered) → Place → ProgramNode
 program_along w units ordered p = record {
@@ -44,7 +49,8 @@ program_along w units ordered p = record {
 }
 
 abbrev pub elaborated_in : Tree → (look : ℕ → ℕ → Lookup) → List Numbered → (ordered : List Numbered) → ProgramNode
-elaborated_in t look units ordered = program_along (whole_along (scene_of (names_of t look) (scopes_of t) units) units ordered) units ordered t.end
+elaborated_in t look units ordered =
+    program_along (whole_along (scene_of (names_of t look) (scopes_of t) units) t.texts units ordered) units ordered t.end
 
 -- With the entities that a name has in each scope, and an order of the units in which used modules come first: it numbers the types.
 abbrev pub elaborated : Tree → (look : ℕ → ℕ → Lookup) → (order : List ℕ) → ProgramNode

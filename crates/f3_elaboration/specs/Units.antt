@@ -17,7 +17,8 @@ use Rattle.f3_type_rules.specs.Members.{Member, Numbered}
 use Rattle.f3_type_rules.specs.Names.{Declared, entries, shape_of, undeclared}
 use Rattle.f3_type_rules.specs.Natures.{dummy as dummy_nature, typed_object}
 use Rattle.f3_elaboration.specs.Nodes.{block, no_statements, DeclaredNode, DummyNode, ProcedureNode}
-use Rattle.f3_elaboration.specs.Numbers.{kind_of, main_locals, member_locals}
+use Rattle.f3_elaboration.specs.Numbers.{Inner, numbers_in_member, numbers_in_main, kind_of, main_locals, member_locals}
+use Rattle.f3_elaboration.specs.Context.{Surroundings}
 use Rattle.f3_elaboration.specs.Declarations.{Whole, context, lower_bound, declared, variable}
 
 -- the declarations in a procedure, by their names
@@ -59,6 +60,15 @@ result_of w u m (Function None outcome) =
     Some (map_or (plain w undeclared) (declared w u m.scope) (declaration_of m (name_or outcome ((m.tree).header).name)))
 
 -- ---- procedures and the main program
+
+abbrev pub surroundings : Whole → (unit scope : ℕ) → Inner → Surroundings
+surroundings w u s inner = record { context = context w u s; numbers = w.numbers; inner = inner; texts = w.texts }
+
+abbrev pub in_member : Whole → (unit : ℕ) → Member → Surroundings
+in_member w u m = surroundings w u m.scope (numbers_in_member ((w.scene).names).look u m)
+
+abbrev pub in_main : Whole → Numbered → Surroundings
+in_main w u = surroundings w u.scope u.scope (numbers_in_main u)
 
 abbrev pub procedure : Whole → (unit : ℕ) → Member → ProcedureNode
 procedure w u m = record {

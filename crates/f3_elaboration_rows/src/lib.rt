@@ -1,0 +1,4 @@
+//! Programs whose elaborated programs are computed.
+#![tactic(auto)]
+
+pub mod rows {}
