@@ -1,5 +1,5 @@
 -- What actions mean in the elaborated program (ISO/IEC 1539-1:2004, 6.3, 7.4.1, 8.1.6, 8.4, 9.5, 12.4).
-use Rattle.std.specs.Prelude.{ℕ, ℤ, pos, Bool, true, false, ◌==◌, List, [], ◌∷◌, Option, None, Some, map, slice_index_or}
+use Rattle.std.specs.Prelude.{ℕ, pos, Bool, true, false, ◌==◌, List, [], ◌∷◌, Option, None, Some, map, slice_index_or}
 use Rattle.std.specs.Option.{option_map}
 use Rattle.f3_tree.specs.declared.expression.Name.{Name}
 use Rattle.f3_tree.specs.Expressions as t
@@ -9,7 +9,7 @@ use Rattle.f3_program.specs.declared.declarations.Kind.{Kind}
 use Rattle.f3_program.specs.declared.expression.Name.TheVariants.{Local}
 use Rattle.f3_kinds.specs.declared.said.Has.{Has}
 use Rattle.f3_kinds.specs.declared.things.Intrinsic.TheVariants.{MoveAlloc}
-use Rattle.f3_kinds.specs.Things.{map_or, Context, subroutine, Meaning, entity, intrinsic, meaning_of}
+use Rattle.f3_kinds.specs.Things.{map_or, subroutine, Meaning, entity, intrinsic, meaning_of}
 use Rattle.f3_kinds.specs.Typing.{said}
 use Rattle.f3_type_rules.specs.Shapes.{natural}
 use Rattle.f3_elaboration.specs.Nodes as n

@@ -3,7 +3,6 @@
 use Rattle.std.specs.Prelude.{ℕ, ◌+◌, ℤ, pos, Bool, true, false, ◌&&◌, List, [], ◌∷◌, Option, None, Some, map, if◌then◌else◌}
 use Rattle.f3_tree.specs.declared.expression.Name.{Name}
 use Rattle.f3_tree.specs.declared.expression.IntegerKind.{IntegerKind}
-use Rattle.f3_tree.specs.declared.expression.IntegerLiteral.{IntegerLiteral}
 use Rattle.f3_tree.specs.declared.expression.Sign.{Sign}
 use Rattle.f3_tree.specs.declared.expression.Sign.TheVariants.{Plus, Minus}
 use Rattle.f3_tree.specs.declared.expression.Relation.{Relation}
@@ -13,25 +12,21 @@ use Rattle.f3_tree.specs.declared.expression.Operator.TheVariants as operator
 use Rattle.f3_tree.specs.Expressions as t
 use Rattle.f3_program.specs.declared.declarations.Base.{Base}
 use Rattle.f3_program.specs.declared.declarations.Base.TheVariants.{Logical}
-use Rattle.f3_program.specs.declared.declarations.Constant.{Constant}
 use Rattle.f3_program.specs.declared.declarations.Constant.TheVariants.{Number, Truth}
 use Rattle.f3_program.specs.declared.expression.BinaryOperator.{BinaryOperator}
 use Rattle.f3_program.specs.declared.expression.BinaryOperator.TheVariants as o
-use Rattle.f3_program.specs.declared.expression.Query.{Query}
 use Rattle.f3_program.specs.declared.expression.Query.TheVariants.{Extent, Lower, Upper}
 use Rattle.f3_program.specs.declared.expression.UnaryOperator.TheVariants.{Negate, Absolute, Not}
 use Rattle.f3_kinds.specs.declared.types.DataType.{DataType}
 use Rattle.f3_kinds.specs.declared.types.DataType.TheVariants.{Derived}
 use Rattle.f3_kinds.specs.declared.types.Object.{Object}
-use Rattle.f3_kinds.specs.declared.types.Scalar.{Scalar}
 use Rattle.f3_kinds.specs.declared.things.Component.{Component}
 use Rattle.f3_kinds.specs.declared.things.Dummy.{Dummy}
 use Rattle.f3_kinds.specs.declared.things.Intrinsic.{Intrinsic}
 use Rattle.f3_kinds.specs.declared.things.Intrinsic.TheVariants as intrinsic
-use Rattle.f3_kinds.specs.declared.said.Has.{Has}
 use Rattle.f3_kinds.specs.Things.{map_or, Nature, constant, variable, derived, subroutine, function, Context, Meaning, nothing, several, entity}
 use Rattle.f3_kinds.specs.Things.{intrinsic as intrinsic_procedure, meaning_of, place_of, at_place_of, component_of}
-use Rattle.f3_kinds.specs.Rows.{wider, literal_kind}
+use Rattle.f3_kinds.specs.Rows.{wider}
 use Rattle.f3_kinds.specs.Operands.{kind_of, type_in, wanted_by, result_of}
 use Rattle.f3_kinds.specs.Typing.{said}
 use Rattle.f3_kinds.specs.Values.{literal_value}

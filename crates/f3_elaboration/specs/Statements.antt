@@ -1,16 +1,12 @@
 -- What statements and constructs mean in the elaborated program (ISO/IEC 1539-1:2004, 8.1). An ASSOCIATE construct is a scope of its
 -- own: the number of the next one goes along.
 use Rattle.std.specs.Prelude.{ℕ, ◌+◌, ℤ, pos, Bool, true, false, map, length}
-use Rattle.std.specs.List.{flat_map}
-use Rattle.f3_rules.specs.declared.source.Place.{Place}
 use Rattle.f3_tree.specs.Expressions as e
 use Rattle.f3_tree.specs.Statements as t
 use Rattle.f3_tree.specs.Statements.{CaseTree, one, from, up_to, range, AssociationTree}
 use Rattle.f3_program.specs.declared.statement.Range.{Range}
 use Rattle.f3_program.specs.declared.statement.Range.TheVariants.{One, From, To, Between}
 use Rattle.f3_program.specs.declared.declarations.Kind.{Kind}
-use Rattle.f3_kinds.specs.declared.types.Scalar.{Scalar}
-use Rattle.f3_kinds.specs.declared.types.Scalar.TheVariants.{Truth}
 use Rattle.f3_kinds.specs.Things.{map_or, Context}
 use Rattle.f3_kinds.specs.Values.{value_of}
 use Rattle.f3_type_rules.specs.Associates.{constructs_of, constructs_of_branches, constructs_of_block}
