@@ -1,5 +1,5 @@
 -- Procedures and the main program (ISO/IEC 1539-1:2004, 11.1, 12.5.2).
-use Rattle.std.specs.Prelude.{ℕ, ℤ, nat_eq, List, [], Option, None, Some, map, if◌then◌else◌}
+use Rattle.std.specs.Prelude.{ℕ, ◌+◌, ℤ, nat_eq, List, [], Option, None, Some, map, if◌then◌else◌}
 use Rattle.std.specs.Map.{lookup}
 use Rattle.f3_scopes.specs.Scopes.{name_or}
 use Rattle.f3_tree.specs.declared.expression.Name.{Name}
@@ -8,6 +8,7 @@ use Rattle.f3_tree.specs.declared.declaration.Intent.TheVariants as given
 use Rattle.f3_tree.specs.declared.program.ProcedureKind.{ProcedureKind}
 use Rattle.f3_tree.specs.declared.program.ProcedureKind.TheVariants.{Subroutine, Function}
 use Rattle.f3_tree.specs.Declarations.{ShapeTree, deferred}
+use Rattle.f3_tree.specs.Statements.{Block}
 use Rattle.f3_program.specs.declared.program.Intent.{Intent}
 use Rattle.f3_program.specs.declared.program.Intent.TheVariants.{In, Out, InOut}
 use Rattle.f3_kinds.specs.declared.things.Dummy.{Dummy}
@@ -16,8 +17,10 @@ use Rattle.f3_kinds.specs.Things.{map_or, Context}
 use Rattle.f3_type_rules.specs.Members.{Member, Numbered}
 use Rattle.f3_type_rules.specs.Names.{Declared, entries, shape_of, undeclared}
 use Rattle.f3_type_rules.specs.Natures.{dummy as dummy_nature, typed_object}
-use Rattle.f3_elaboration.specs.Nodes.{block, no_statements, DeclaredNode, DummyNode, ProcedureNode}
+use Rattle.f3_elaboration.specs.Nodes as n
+use Rattle.f3_elaboration.specs.Nodes.{StatementNode, DeclaredNode, DummyNode, ProcedureNode}
 use Rattle.f3_elaboration.specs.Numbers.{Inner, numbers_in_member, numbers_in_main, kind_of, main_locals, member_locals}
+use Rattle.f3_elaboration.specs.Statements.{block}
 use Rattle.f3_elaboration.specs.Context.{Surroundings}
 use Rattle.f3_elaboration.specs.Declarations.{Whole, context, lower_bound, declared, variable}
 
@@ -70,13 +73,17 @@ in_member w u m = surroundings w u m.scope (numbers_in_member ((w.scene).names).
 abbrev pub in_main : Whole → Numbered → Surroundings
 in_main w u = surroundings w u.scope u.scope (numbers_in_main u)
 
+-- the scopes of the constructs in a body come right behind its own
+abbrev pub body : Surroundings → (scope : ℕ) → Block → StatementNode
+body s scope b = n.block (block s (scope + 1) b)
+
 abbrev pub procedure : Whole → (unit : ℕ) → Member → ProcedureNode
 procedure w u m = record {
   unit = u;
   dummies = map (dummy w u m) ((m.tree).header).dummies;
   locals = map (variable w) (member_locals u m);
   result = result_of w u m ((m.tree).header).kind;
-  body = block no_statements;
+  body = body (in_member w u m) m.scope (m.tree).body;
   end = (m.tree).end;
 }
 
@@ -86,6 +93,6 @@ main w u = record {
   dummies = [];
   locals = map (variable w) (main_locals u);
   result = None;
-  body = block no_statements;
+  body = body (in_main w u) u.scope (u.tree).body;
   end = (u.tree).end;
 }
