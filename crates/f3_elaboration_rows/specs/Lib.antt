@@ -1,1 +1,4 @@
 pub mod Built
+pub mod Trees
+pub mod Rows
+pub mod Programs

@@ -1,4 +1,4 @@
-//! Programs whose elaborated programs are computed.
+//! Trees of programs, and what the runs of their elaborated programs show.
 #![tactic(auto)]
 
-pub mod rows {}
+pub mod rows;
