@@ -17,7 +17,7 @@ use Rattle.f3_tree.specs.Statements.{assign, call, allocate, deallocate, print, 
 use Rattle.f3_tree.specs.Tree.{Tree}
 use Rattle.f3_meaning_rows.specs.Shown.{Finished, Failed, Stopped}
 use Rattle.f3_elaboration_rows.specs.Trees.{at, name, four, eight, bounds, entity, declaration, type_definition, procedure, unit, association, program, looks}
-use Rattle.f3_elaboration_rows.specs.Rows.{Shows}
+use Rattle.f3_elaboration_rows.specs.Rows.{Shows, Lawful}
 
 --     program p; integer, allocatable :: a(:), b(:), c(:), d(:)
 --     allocate(a(3:5)); a = 0; b = a; c = a(3:5); allocate(d(0:2)); d = a
@@ -47,6 +47,9 @@ bounds_look =
 
 abbrev pub bounds_order : List ℕ
 bounds_order = 0 ∷ []
+
+abbrev pub bounds_lawful : Global → Type 0
+bounds_lawful h = Lawful h bounds_tree bounds_look bounds_order
 
 abbrev pub bounds_shows : Global → Type 0
 bounds_shows h = Shows h bounds_tree bounds_look bounds_order (codes " 3 1 0" ∷ []) Finished
@@ -79,6 +82,9 @@ finals_look =
 abbrev pub finals_order : List ℕ
 finals_order = 0 ∷ 1 ∷ []
 
+abbrev pub finals_lawful : Global → Type 0
+finals_lawful h = Lawful h finals_tree finals_look finals_order
+
 abbrev pub finals_shows : Global → Type 0
 finals_shows h = Shows h finals_tree finals_look finals_order (codes " f 1" ∷ codes " g" ∷ codes " f 2" ∷ codes " f 2" ∷ []) Finished
 
@@ -105,6 +111,9 @@ protected_look =
 
 abbrev pub protected_order : List ℕ
 protected_order = 1 ∷ 0 ∷ 2 ∷ []
+
+abbrev pub protected_lawful : Global → Type 0
+protected_lawful h = Lawful h protected_tree protected_look protected_order
 
 abbrev pub protected_shows : Global → Type 0
 protected_shows h = Shows h protected_tree protected_look protected_order (codes " 4" ∷ []) Finished
@@ -141,6 +150,9 @@ private_look =
 abbrev pub private_order : List ℕ
 private_order = 0 ∷ 1 ∷ []
 
+abbrev pub private_lawful : Global → Type 0
+private_lawful h = Lawful h private_tree private_look private_order
+
 abbrev pub private_shows : Global → Type 0
 private_shows h = Shows h private_tree private_look private_order (codes " 5" ∷ []) Finished
 
@@ -170,6 +182,9 @@ lent_look =
 abbrev pub lent_order : List ℕ
 lent_order = 0 ∷ 1 ∷ []
 
+abbrev pub lent_lawful : Global → Type 0
+lent_lawful h = Lawful h lent_tree lent_look lent_order
+
 abbrev pub lent_shows : Global → Type 0
 lent_shows h = Shows h lent_tree lent_look lent_order [] (Failed 9 2 47)
 
@@ -197,6 +212,9 @@ moved_look =
 
 abbrev pub moved_order : List ℕ
 moved_order = 0 ∷ []
+
+abbrev pub moved_lawful : Global → Type 0
+moved_lawful h = Lawful h moved_tree moved_look moved_order
 
 abbrev pub moved_shows : Global → Type 0
 moved_shows h = Shows h moved_tree moved_look moved_order (codes " F" ∷ codes " 5" ∷ []) Finished
@@ -387,9 +405,16 @@ loops_look =
 abbrev pub loops_order : List ℕ
 loops_order = 0 ∷ []
 
+abbrev pub loops_lawful : Global → Type 0
+loops_lawful h = Lawful h loops_tree loops_look loops_order
+
 abbrev pub loops_shows : Global → Type 0
 loops_shows h = Shows h loops_tree loops_look loops_order (codes " 4 21" ∷ []) Finished
 
 -- all of them
 abbrev pub ProgramsShow : Type 0
 ProgramsShow = (h : Global) → bounds_shows h × finals_shows h × protected_shows h × private_shows h × lent_shows h × moved_shows h × saved_shows h × controls_shows h × types_shows h × loops_shows h
+
+-- so are those that are small enough to be searched
+abbrev pub ProgramsLawful : Type 0
+ProgramsLawful = (h : Global) → bounds_lawful h × finals_lawful h × protected_lawful h × private_lawful h × lent_lawful h × moved_lawful h × loops_lawful h
