@@ -2,3 +2,4 @@ pub mod Built
 pub mod Trees
 pub mod Rows
 pub mod Programs
+pub mod Plain
