@@ -11,3 +11,4 @@ pub mod Meant8
 pub mod Meant9
 pub mod Meant10
 pub mod Meant11
+pub mod Plain

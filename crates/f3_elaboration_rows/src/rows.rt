@@ -1,5 +1,5 @@
-//! Trees of programs, and what the runs of their elaborated programs show, computed from the definitions: nothing here is called by
-//! f3. The expected answers were worked out by hand from the language's rules.
+//! Trees of programs, their elaborated programs, and what the runs of these show, computed from the definitions: nothing here is
+//! called by f3. The expected answers were worked out by hand from the language's rules.
 
 ghost use Rattle.f3_elaboration_rows.specs.Meant0.{Meant0Show};
 ghost use Rattle.f3_elaboration_rows.specs.Meant1.{Meant1Show};
@@ -13,6 +13,7 @@ ghost use Rattle.f3_elaboration_rows.specs.Meant8.{Meant8Show};
 ghost use Rattle.f3_elaboration_rows.specs.Meant9.{Meant9Show};
 ghost use Rattle.f3_elaboration_rows.specs.Meant10.{Meant10Show};
 ghost use Rattle.f3_elaboration_rows.specs.Meant11.{Meant11Show};
+ghost use Rattle.f3_elaboration_rows.specs.Plain.{PlainsStand};
 ghost use Rattle.f3_elaboration_rows.specs.Programs.{ProgramsLawful, ProgramsShow};
 
 /// The elaborated programs of these trees print this and end so.
@@ -83,4 +84,8 @@ pub fn meant10_show()
 /// The elaborated programs of these trees make sense, print this and end so.
 pub fn meant11_show()
     ensures { Meant11Show }
+
+/// These are the elaborated programs of trees, node by node.
+pub fn plains_stand()
+    ensures { PlainsStand }
 {}
