@@ -84,6 +84,7 @@ pub fn meant10_show()
 /// The elaborated programs of these trees make sense, print this and end so.
 pub fn meant11_show()
     ensures { Meant11Show }
+{}
 
 /// These are the elaborated programs of trees, node by node.
 pub fn plains_stand()
