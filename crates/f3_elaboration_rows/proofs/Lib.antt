@@ -12,3 +12,4 @@ pub mod Meant9
 pub mod Meant10
 pub mod Meant11
 pub mod Plain
+pub mod Forms

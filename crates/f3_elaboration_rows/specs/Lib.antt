@@ -15,3 +15,4 @@ pub mod Meant9
 pub mod Meant10
 pub mod Meant11
 pub mod Plain
+pub mod Forms

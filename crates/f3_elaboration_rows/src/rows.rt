@@ -1,6 +1,7 @@
 //! Trees of programs, their elaborated programs, and what the runs of these show, computed from the definitions: nothing here is
 //! called by f3. The expected answers were worked out by hand from the language's rules.
 
+ghost use Rattle.f3_elaboration_rows.specs.Forms.{FormsShow};
 ghost use Rattle.f3_elaboration_rows.specs.Meant0.{Meant0Show};
 ghost use Rattle.f3_elaboration_rows.specs.Meant1.{Meant1Show};
 ghost use Rattle.f3_elaboration_rows.specs.Meant2.{Meant2Show};
@@ -89,4 +90,9 @@ pub fn meant11_show()
 /// These are the elaborated programs of trees, node by node.
 pub fn plains_stand()
     ensures { PlainsStand }
+{}
+
+/// The elaborated programs of these trees make sense, print this and end so.
+pub fn forms_show()
+    ensures { FormsShow }
 {}
