@@ -94,7 +94,7 @@ pub data Given : Type 0 where
 abbrev pub Part : Type 0
 Part = Name × Option (List Given)
 
--- the value that is given; what is meant by a triplet is no value
+-- the value that is given: a triplet is none
 abbrev pub given_value : Given → ExpressionNode
 given_value (value keyword x) = x
 given_value (triplet first last stride) = no_value
@@ -116,7 +116,7 @@ abbrev pub subscripts : List Given → SubscriptNodes
 subscripts [] = n.no_subscripts
 subscripts (g ∷ gs) = n.subscripts (subscript g) (subscripts gs)
 
--- of a part without subscripts, what it holds
+-- of a part without subscripts: of an allocatable what it holds
 abbrev pub held : Bool → SelectionNode
 held is_allocatable = if is_allocatable then n.contents else n.whole
 
@@ -163,12 +163,11 @@ abbrev pub number_for : {X : Type 0} → List (ℕ × X) → (position : ℕ) �
 number_for xs position (value (Some keyword) x) = number_of xs keyword.symbol
 number_for xs position _ = position
 
--- a variable is passed itself, anything else by its value
+-- a variable is passed itself, what an allocatable holds for a dummy that is not allocatable; anything else by its value (12.4.1.2)
 abbrev pub passed : (is_allocatable : Bool) → ℕ → ExpressionNode → ArgumentNode
 passed is_allocatable k (n.variable d) = n.object k (if is_allocatable then itself d else d)
 passed is_allocatable k x = n.value k x
 
--- a value, or a whole allocatable itself for an allocatable component (4.5.9)
 abbrev pub is_held : SelectionNode → Bool
 is_held n.contents = true
 is_held how = false
@@ -177,18 +176,19 @@ abbrev pub is_whole_allocatable : DesignatorNode → Bool
 is_whole_allocatable (n.name x how) = is_held how
 is_whole_allocatable (n.component d k how) = is_held how
 
+-- of a component its value, or for an allocatable one a whole allocatable itself (4.5.9, own rule)
 abbrev pub stored : (is_allocatable : Bool) → ℕ → ExpressionNode → ArgumentNode
 stored is_allocatable k (n.variable d) =
     if is_allocatable && is_whole_allocatable d then n.object k (itself d) else n.value k (n.variable d)
 stored is_allocatable k x = n.value k x
 
--- arguments from a position on, in the order written
 abbrev pub allocatable_dummy : Option Dummy → Bool
 allocatable_dummy d = map_or false (λ (d : Dummy). (d.object).is_allocatable) d
 
 abbrev pub passed_for : List (ℕ × Dummy) → ℕ → ExpressionNode → ArgumentNode
 passed_for ds k x = passed (allocatable_dummy (at_place_of ds k)) k x
 
+-- arguments from a position on, in the order written
 abbrev pub arguments_for : List (ℕ × Dummy) → (position : ℕ) → List Given → ArgumentNodes
 arguments_for ds i [] = n.no_arguments
 arguments_for ds i (g ∷ gs) = n.arguments (passed_for ds (number_for ds i g) (given_value g)) (arguments_for ds (i + 1) gs)
@@ -199,6 +199,7 @@ allocatable_component k = map_or false (λ (k : Component). (k.object).is_alloca
 abbrev pub stored_for : List (ℕ × Component) → ℕ → ExpressionNode → ArgumentNode
 stored_for ks k x = stored (allocatable_component (at_place_of ks k)) k x
 
+-- values of components from a position on, in the order written
 abbrev pub components_for : List (ℕ × Component) → (position : ℕ) → List Given → ArgumentNodes
 components_for ks i [] = n.no_arguments
 components_for ks i (g ∷ gs) = n.arguments (stored_for ks (number_for ks i g) (given_value g)) (components_for ks (i + 1) gs)

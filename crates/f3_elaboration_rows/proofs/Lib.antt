@@ -13,3 +13,4 @@ pub mod Meant10
 pub mod Meant11
 pub mod Plain
 pub mod Forms
+pub mod Written

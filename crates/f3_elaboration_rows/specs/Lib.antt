@@ -16,3 +16,5 @@ pub mod Meant10
 pub mod Meant11
 pub mod Plain
 pub mod Forms
+pub mod ByCases
+pub mod Written

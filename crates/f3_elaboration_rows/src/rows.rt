@@ -16,6 +16,7 @@ ghost use Rattle.f3_elaboration_rows.specs.Meant10.{Meant10Show};
 ghost use Rattle.f3_elaboration_rows.specs.Meant11.{Meant11Show};
 ghost use Rattle.f3_elaboration_rows.specs.Plain.{PlainsStand};
 ghost use Rattle.f3_elaboration_rows.specs.Programs.{ProgramsLawful, ProgramsShow};
+ghost use Rattle.f3_elaboration_rows.specs.Written.{AreWritten};
 
 /// The elaborated programs of these trees print this and end so.
 pub fn programs_show()
@@ -95,4 +96,9 @@ pub fn plains_stand()
 /// The elaborated programs of these trees make sense, print this and end so.
 pub fn forms_show()
     ensures { FormsShow }
+{}
+
+/// These elaborated programs, written apart, are those of the trees of their sources, but for the numbers of units.
+pub fn are_written()
+    ensures { AreWritten }
 {}
