@@ -63,19 +63,29 @@ subscript_step (Subscript-F.At b) = n.subscript b.value
 subscript_step (Subscript-F.Range has_lower a has_upper b c) = n.triplet has_lower a.value has_upper b.value c.value
 
 abbrev pub argument_view : Argument → ArgumentNode
-argument_view = fold-Argument ArgumentNode DesignatorNode ExpressionNode SelectionNode SubscriptNode argument_step designator_step expression_step selection_step subscript_step
+argument_view =
+    fold-Argument ArgumentNode DesignatorNode ExpressionNode SelectionNode SubscriptNode
+    argument_step designator_step expression_step selection_step subscript_step
 
 abbrev pub designator_view : Designator → DesignatorNode
-designator_view = fold-Designator ArgumentNode DesignatorNode ExpressionNode SelectionNode SubscriptNode argument_step designator_step expression_step selection_step subscript_step
+designator_view =
+    fold-Designator ArgumentNode DesignatorNode ExpressionNode SelectionNode SubscriptNode
+    argument_step designator_step expression_step selection_step subscript_step
 
 abbrev pub expression_view : Expression → ExpressionNode
-expression_view = fold-Expression ArgumentNode DesignatorNode ExpressionNode SelectionNode SubscriptNode argument_step designator_step expression_step selection_step subscript_step
+expression_view =
+    fold-Expression ArgumentNode DesignatorNode ExpressionNode SelectionNode SubscriptNode
+    argument_step designator_step expression_step selection_step subscript_step
 
 abbrev pub selection_view : Selection → SelectionNode
-selection_view = fold-Selection ArgumentNode DesignatorNode ExpressionNode SelectionNode SubscriptNode argument_step designator_step expression_step selection_step subscript_step
+selection_view =
+    fold-Selection ArgumentNode DesignatorNode ExpressionNode SelectionNode SubscriptNode
+    argument_step designator_step expression_step selection_step subscript_step
 
 abbrev pub subscript_view : Subscript → SubscriptNode
-subscript_view = fold-Subscript ArgumentNode DesignatorNode ExpressionNode SelectionNode SubscriptNode argument_step designator_step expression_step selection_step subscript_step
+subscript_view =
+    fold-Subscript ArgumentNode DesignatorNode ExpressionNode SelectionNode SubscriptNode
+    argument_step designator_step expression_step selection_step subscript_step
 
 abbrev pub bounds_view : Bounds → BoundsNode
 bounds_view b = record { lower = expression_view b.lower; upper = expression_view b.upper }

@@ -76,8 +76,11 @@ finals_tree =
 
 abbrev pub finals_look : ℕ → ℕ → Lookup
 finals_look =
-    (looks (((3, One 0) ∷ (8, One 1) ∷ (15, One 2) ∷ []) ∷ ((3, One 0) ∷ (8, One 1) ∷ (11, One 3) ∷ (15, One 2) ∷ []) ∷ ((3, One 0) ∷ (8, One 1) ∷ (11, One
-    4) ∷ (15, One 2) ∷ (16, One 5) ∷ []) ∷ ((3, One 0) ∷ (8, One 1) ∷ (15, One 2) ∷ []) ∷ []))
+    (looks (((3, One 0) ∷ (8, One 1) ∷ (15, One 2) ∷ []) ∷ ((3, One 0) ∷ (8, One 1) ∷ (11, One 3) ∷ (15, One 2) ∷ []) ∷ ((3, One 0) ∷ (8, One 1) ∷ (
+      11,
+      One
+          4,
+    ) ∷ (15, One 2) ∷ (16, One 5) ∷ []) ∷ ((3, One 0) ∷ (8, One 1) ∷ (15, One 2) ∷ []) ∷ []))
 
 abbrev pub finals_order : List ℕ
 finals_order = 0 ∷ 1 ∷ []
@@ -144,8 +147,10 @@ private_tree =
 
 abbrev pub private_look : ℕ → ℕ → Lookup
 private_look =
-    (looks (((3, One 0) ∷ (10, One 1) ∷ (15, One 2) ∷ []) ∷ ((3, One 0) ∷ (10, One 1) ∷ (11, One 3) ∷ (15, One 2) ∷ []) ∷ ((3, One 0) ∷ (10, One 1) ∷ (11,
-    One 4) ∷ (15, One 2) ∷ (16, One 5) ∷ []) ∷ ((3, One 0) ∷ (10, One 1) ∷ (11, One 7) ∷ (15, One 2) ∷ (21, One 6) ∷ []) ∷ []))
+    (looks (((3, One 0) ∷ (10, One 1) ∷ (15, One 2) ∷ []) ∷ ((3, One 0) ∷ (10, One 1) ∷ (11, One 3) ∷ (15, One 2) ∷ []) ∷ ((3, One 0) ∷ (10, One 1) ∷ (
+      11,
+      One 4,
+    ) ∷ (15, One 2) ∷ (16, One 5) ∷ []) ∷ ((3, One 0) ∷ (10, One 1) ∷ (11, One 7) ∷ (15, One 2) ∷ (21, One 6) ∷ []) ∷ []))
 
 abbrev pub private_order : List ℕ
 private_order = 0 ∷ 1 ∷ []
@@ -259,8 +264,11 @@ saved_tree =
 
 abbrev pub saved_look : ℕ → ℕ → Lookup
 saved_look =
-    (looks (((4, One 0) ∷ (7, One 1) ∷ (18, One 2) ∷ []) ∷ ((4, One 0) ∷ (7, One 1) ∷ (8, One 4) ∷ (10, One 3) ∷ (18, One 2) ∷ []) ∷ ((4, One 0) ∷ (7, One
-    1) ∷ (18, One 2) ∷ (19, One 5) ∷ []) ∷ ((7, One 1) ∷ (18, One 2) ∷ (25, One 0) ∷ (26, One 6) ∷ (27, One 7) ∷ []) ∷ []))
+    (looks (((4, One 0) ∷ (7, One 1) ∷ (18, One 2) ∷ []) ∷ ((4, One 0) ∷ (7, One 1) ∷ (8, One 4) ∷ (10, One 3) ∷ (18, One 2) ∷ []) ∷ ((4, One 0) ∷ (
+      7,
+      One
+          1,
+    ) ∷ (18, One 2) ∷ (19, One 5) ∷ []) ∷ ((7, One 1) ∷ (18, One 2) ∷ (25, One 0) ∷ (26, One 6) ∷ (27, One 7) ∷ []) ∷ []))
 
 abbrev pub saved_order : List ℕ
 saved_order = 0 ∷ 1 ∷ []

@@ -6,11 +6,12 @@ use Rattle.f3_access.specs.declared.table.Lookup.TheVariants.{Nothing}
 use Rattle.f3_rules.specs.declared.source.Place.{Place}
 use Rattle.f3_tree.specs.declared.expression.Name.{Name}
 use Rattle.f3_tree.specs.declared.expression.IntegerLiteral.TheVariants.{Four, Eight}
+use Rattle.f3_tree.specs.declared.declaration.Accessibility.{Accessibility}
 use Rattle.f3_tree.specs.declared.declaration.TypeSpecifier.{TypeSpecifier}
 use Rattle.f3_tree.specs.declared.program.ProcedureKind.{ProcedureKind}
 use Rattle.f3_tree.specs.declared.program.UnitKind.{UnitKind}
 use Rattle.f3_tree.specs.Expressions as e
-use Rattle.f3_tree.specs.Declarations.{Bounds, ShapeTree, AttributeTree, Placed, EntityTree, DeclarationTree, SpecificationTree, defines, PartTree}
+use Rattle.f3_tree.specs.Declarations.{Bounds, ShapeTree, AttributeTree, Placed, EntityTree, DeclarationTree, SpecificationTree, accesses, defines, PartTree}
 use Rattle.f3_tree.specs.Statements.{AssociationTree, Block}
 use Rattle.f3_tree.specs.Tree.{ProcedureTree, UnitTree, Tree}
 
@@ -38,6 +39,9 @@ placed a = record { place = at 0 0; attribute = a }
 
 abbrev pub declaration : TypeSpecifier → List AttributeTree → List EntityTree → DeclarationTree
 declaration t ats es = record { place = at 0 0; specifier = t; attributes = map placed ats; entities = es }
+
+abbrev pub access_statement : Accessibility → List Name → SpecificationTree
+access_statement a ns = accesses record { place = at 0 0; accessibility = a; names = ns }
 
 abbrev pub type_definition : Name → Option Place → List DeclarationTree → List Name → SpecificationTree
 type_definition n p ds finals =
