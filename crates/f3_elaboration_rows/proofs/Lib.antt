@@ -1,5 +1,4 @@
 pub mod Programs
-pub mod Plain
 pub mod Meant0
 pub mod Meant1
 pub mod Meant2
@@ -12,3 +11,4 @@ pub mod Meant8
 pub mod Meant9
 pub mod Meant10
 pub mod Meant11
+pub mod Plain

@@ -2,7 +2,6 @@ pub mod Built
 pub mod Trees
 pub mod Rows
 pub mod Programs
-pub mod Plain
 pub mod Meant0
 pub mod Meant1
 pub mod Meant2
@@ -15,3 +14,4 @@ pub mod Meant8
 pub mod Meant9
 pub mod Meant10
 pub mod Meant11
+pub mod Plain

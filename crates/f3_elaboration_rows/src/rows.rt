@@ -26,11 +26,6 @@ pub fn programs_lawful()
     ensures { ProgramsLawful }
 {}
 
-/// These are the elaborated programs of trees, node by node.
-pub fn plains_stand()
-    ensures { PlainsStand }
-{}
-
 /// The elaborated programs of these trees make sense, print this and end so.
 pub fn meant0_show()
     ensures { Meant0Show }
@@ -89,4 +84,9 @@ pub fn meant10_show()
 /// The elaborated programs of these trees make sense, print this and end so.
 pub fn meant11_show()
     ensures { Meant11Show }
+{}
+
+/// These are the elaborated programs of trees, node by node.
+pub fn plains_stand()
+    ensures { PlainsStand }
 {}
