@@ -1,0 +1,16 @@
+pub mod Seeing
+pub mod Roots
+pub mod Raw
+pub mod Standing
+pub mod Typing
+pub mod Words
+pub mod Heap
+pub mod Levels
+pub mod Ways
+pub mod Zeros
+pub mod Pins
+pub mod Places
+pub mod Moving
+pub mod Ending
+pub mod Widths
+pub mod Initial

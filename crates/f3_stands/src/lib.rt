@@ -1,0 +1,4 @@
+//! How blocks of words stand for a store of the meaning.
+#![tactic(auto)]
+
+pub mod laws;

@@ -1,0 +1,11 @@
+pub mod Values
+pub mod Objects
+pub mod StandsFor
+pub mod Lends
+pub mod Typed
+pub mod Kinds
+pub mod Designators
+pub mod ArrayPlaces
+pub mod IsPart
+pub mod Zeros
+pub mod Laws
