@@ -1,0 +1,4 @@
+//! The elaborated program of a tree: definitions alone.
+#![tactic(auto)]
+
+pub mod nodes {}

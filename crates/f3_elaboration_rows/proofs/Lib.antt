@@ -1,0 +1,16 @@
+pub mod Programs
+pub mod Meant0
+pub mod Meant1
+pub mod Meant2
+pub mod Meant3
+pub mod Meant4
+pub mod Meant5
+pub mod Meant6
+pub mod Meant7
+pub mod Meant8
+pub mod Meant9
+pub mod Meant10
+pub mod Meant11
+pub mod Plain
+pub mod Forms
+pub mod Written
