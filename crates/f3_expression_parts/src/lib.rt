@@ -1,5 +1,7 @@
-//! What operators, variables, arguments and intrinsic functions mean, by what their parts mean.
+//! What operators, variables and arguments mean, by what their parts mean.
 #![tactic(auto)]
 
+pub mod arguments;
 pub mod operators;
+pub mod selections;
 pub mod surroundings;
