@@ -5,7 +5,9 @@ use Rattle.f3_meaning_whole.specs.Ran.{◌>>=◌, gives, fails, stops, beyond, l
 use Rattle.f3_meaning_whole.specs.Arithmetic.{converted, divided}
 use Rattle.f3_meaning_whole.specs.Act.{fitted}
 use Rattle.f3_meaning_whole.specs.Run.{calls_of, runs, run_of}
-use Rattle.f3_elaboration_rows.specs.Programs.{ProgramsShow, ProgramsLawful, bounds_shows, bounds_lawful, finals_shows, finals_lawful, protected_shows, protected_lawful, private_shows, private_lawful, lent_shows, lent_lawful, moved_shows, moved_lawful, saved_shows, controls_shows, types_shows, loops_shows, loops_lawful}
+use Rattle.f3_elaboration_rows.specs.Programs.{ProgramsShow, ProgramsLawful, bounds_shows, bounds_lawful, finals_shows, finals_lawful}
+use Rattle.f3_elaboration_rows.specs.Programs.{protected_shows, protected_lawful, private_shows, private_lawful, lent_shows, lent_lawful, moved_shows}
+use Rattle.f3_elaboration_rows.specs.Programs.{moved_lawful, saved_shows, controls_shows, types_shows, loops_shows, loops_lawful}
 
 bounds_run : (h : Global) → bounds_shows h
 unfolding digits converted divided prints_bytes fitted run_of runs calls_of ◌>>=◌ gives fails stops beyond looks does asks

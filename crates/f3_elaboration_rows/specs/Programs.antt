@@ -11,9 +11,12 @@ use Rattle.f3_tree.specs.declared.declaration.Intent.TheVariants.{In, Out, InOut
 use Rattle.f3_tree.specs.declared.declaration.TypeSpecifier.TheVariants.{Integer, Logical, Derived}
 use Rattle.f3_tree.specs.declared.program.ProcedureKind.TheVariants.{Subroutine, Function}
 use Rattle.f3_tree.specs.declared.program.UnitKind.TheVariants as u
-use Rattle.f3_tree.specs.Expressions.{truth, text, designator, group, array, signed, negation, comparison, chain, no_more, more, no_trees, trees, no_parts, parts, bare, within, no_arguments, arguments, value, triplet, absent, present}
+use Rattle.f3_tree.specs.Expressions.{truth, text, designator, group, array, signed, negation, comparison, chain, no_more, more, no_trees, trees}
+use Rattle.f3_tree.specs.Expressions.{no_parts, parts, bare, within, no_arguments, arguments, value, triplet, absent, present}
 use Rattle.f3_tree.specs.Declarations.{explicit, deferred, protected, parameter, allocatable, intent, declares}
-use Rattle.f3_tree.specs.Statements.{assign, call, allocate, deallocate, print, stop, cycle, exit, one, up_to, range, values, default, forever, counted, while, acts, acts_if, branches, selects, repeats, associates, no_statements, statements, no_branches, branch, alternative, no_cases, case_block}
+use Rattle.f3_tree.specs.Statements.{assign, call, allocate, deallocate, print, stop, cycle, exit, one, up_to, range, values, default, forever}
+use Rattle.f3_tree.specs.Statements.{counted, while, acts, acts_if, branches, selects, repeats, associates, no_statements, statements, no_branches}
+use Rattle.f3_tree.specs.Statements.{branch, alternative, no_cases, case_block}
 use Rattle.f3_tree.specs.Tree.{Tree}
 use Rattle.f3_meaning_rows.specs.Shown.{Finished, Failed, Stopped}
 use Rattle.f3_elaboration_rows.specs.Trees.{at, name, four, eight, bounds, entity, declaration, type_definition, procedure, unit, association, program, looks}
@@ -322,7 +325,9 @@ abbrev pub controls_order : List ℕ
 controls_order = 0 ∷ []
 
 abbrev pub controls_shows : Global → Type 0
-controls_shows h = Shows h controls_tree controls_look controls_order (codes " one" ∷ codes " other" ∷ codes " 12 4 12" ∷ codes " 3000000000 T -3 -1 0 12" ∷ []) (Stopped (Some 7))
+controls_shows h =
+    Shows h controls_tree controls_look controls_order
+    (codes " one" ∷ codes " other" ∷ codes " 12 4 12" ∷ codes " 3000000000 T -3 -1 0 12" ∷ []) (Stopped (Some 7))
 
 --     module b; use a; type outer; type(inner) :: x(0:1); integer, allocatable :: v(:); integer :: k = 5; end type
 --     contains
@@ -421,7 +426,8 @@ loops_shows h = Shows h loops_tree loops_look loops_order (codes " 4 21" ∷ [])
 
 -- all of them
 abbrev pub ProgramsShow : Type 0
-ProgramsShow = (h : Global) → bounds_shows h × finals_shows h × protected_shows h × private_shows h × lent_shows h × moved_shows h × saved_shows h × controls_shows h × types_shows h × loops_shows h
+ProgramsShow = (h : Global) → bounds_shows h × finals_shows h × protected_shows h
+    × private_shows h × lent_shows h × moved_shows h × saved_shows h × controls_shows h × types_shows h × loops_shows h
 
 -- so are those that are small enough to be searched
 abbrev pub ProgramsLawful : Type 0
