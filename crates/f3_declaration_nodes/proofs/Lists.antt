@@ -1,0 +1,18 @@
+-- Lists that are read one by one.
+use Rattle.std.proofs.Common.{◌≡◌, List, [], ◌∷◌, map, refl, ap}
+use Rattle.f3_tree.specs.declared.expression.Expression.{Expression}
+use Rattle.f3_tree.specs.Expressions.{expression_view, trees_of}
+use Rattle.f3_program.specs.declared.declarations.Constant.{Constant}
+use Rattle.f3_kinds.specs.declared.types.DataType.{DataType}
+use Rattle.f3_kinds.specs.Things.{Context}
+use Rattle.f3_kinds.specs.Values.{converted, value_of}
+use Rattle.f3_elaboration.specs.Declarations.{constant_of, constants}
+
+pub map_map : {X Y Z : Type 0} (f : Y → Z) (g : X → Y) (xs : List X) → map (λ x. f (g x)) xs ≡ map f (map g xs)
+map_map f g [] = refl
+map_map f g (x ∷ xs) = ap (λ ys. f (g x) ∷ ys) (map_map f g xs)
+
+pub all_constants : (c : Context) (t : DataType) (xs : List Expression)
+    → map (λ (e : Expression). constant_of (converted t (value_of c (expression_view e)))) xs ≡ constants c t (trees_of (map expression_view xs))
+all_constants c t [] = refl
+all_constants c t (x ∷ xs) = ap (λ (cs : List Constant). constant_of (converted t (value_of c (expression_view x))) ∷ cs) (all_constants c t xs)

@@ -1,0 +1,5 @@
+//! Declared objects of the elaborated program: shapes, initial values, components (ISO/IEC 1539-1:2004, 4.5, 5.1).
+#![tactic(auto)]
+
+pub mod initial;
+pub mod shapes;
