@@ -1,1 +1,4 @@
 pub mod Lists
+pub mod Small
+pub mod Contexts
+pub mod Standing
