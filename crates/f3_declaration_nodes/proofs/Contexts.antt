@@ -19,7 +19,7 @@ use Rattle.f3_declaration_nodes.specs.declared.whole.Whole.{Whole as Tables}
 use Rattle.f3_declaration_nodes.specs.Stands.{Stands}
 use Rattle.f3_declaration_nodes.specs.Tables.{known_at}
 
-with_natures : Tables → (unit scope : ℕ) → (ℕ → Option Nature) → (ℕ → Option Scalar) → Context
+abbrev with_natures : Tables → (unit scope : ℕ) → (ℕ → Option Nature) → (ℕ → Option Scalar) → Context
 with_natures t u s nature value = record (known_at t u s) { nature = nature; value = value }
 
 pub context_stands : (t : Tables) (w : Whole) (inner : Inner) (u s : ℕ) → Stands t w inner → context w u s ≡ known_at t u s

@@ -25,7 +25,7 @@ pub and_right : (a b : Bool) → (a && b) ≡ true → b ≡ true
 and_right true b h = h
 and_right false b h = cc
 
-with_extent : ℤ → ℕ → Dimension
+abbrev with_extent : ℤ → ℕ → Dimension
 with_extent z n = record { lower = z; extent = n }
 
 dimension_small : (c : Context) (b : Bounds) → at_most 9223372036854775807 (bounds_extent c b) ≡ true → dimension_within c b ≡ dimension c b

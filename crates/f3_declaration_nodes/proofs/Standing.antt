@@ -36,13 +36,13 @@ base_agrees t whole inner (Some (Integer Eight)) h = refl
 base_agrees t whole inner (Some Logical) h = refl
 base_agrees t whole inner (Some (Derived e)) h = ap (λ (n : Option ℕ). base.Derived (map_or 0 (λ (k : ℕ). k) n)) (h.types e)
 
-with_base : Object → Base → Kind
+abbrev with_base : Object → Base → Kind
 with_base o b = record { of = b; rank = o.rank; is_allocatable = o.is_allocatable }
 
 pub kind_agrees : (t : Table) (whole : Numbers) (inner : Inner) (o : Object) → Agrees t whole inner → kind_at t o ≡ kind_of whole o
 kind_agrees t whole inner o h = ap (with_base o) (base_agrees t whole inner o.data_type h)
 
-node : Kind → List Dimension → List Constant → DeclaredNode
+abbrev node : Kind → List Dimension → List Constant → DeclaredNode
 node k ds cs = record { kind = k; dimensions = ds; initial = cs }
 
 pub declared_stands : (t : Tables) (w : Whole) (inner : Inner) (u s : ℕ) (x : Declared) → Stands t w inner → is_small w u s x ≡ true
@@ -61,7 +61,7 @@ declared_stands t w inner u s x h small =
     ∙ ap (λ (z : List Dimension). node (kind_of w.numbers there) z (initial (known_at t u s) here.data_type (x.1).initial)) d
     ∙ ap (λ (z : List Constant). node (kind_of w.numbers there) (dimensions (context w u s) (shape_of x)) z) i
 
-with_access : Bool → DeclaredNode → ComponentNode
+abbrev with_access : Bool → DeclaredNode → ComponentNode
 with_access private x = record { declared = x; is_private = private }
 
 component_stands : (t : Tables) (w : Whole) (inner : Inner) (s : ℕ) (private : Bool) (d : DeclarationTree) (x : EntityTree) → Stands t w inner

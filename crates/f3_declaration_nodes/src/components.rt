@@ -11,7 +11,7 @@ ghost use Rattle.f3_elaboration.specs.Numbers.{Definition, Inner};
 ghost use Rattle.f3_declaration_nodes.specs.Stands.{Stands, are_components_small};
 ghost use Rattle.f3_declaration_nodes.specs.Tables.{component_by, components_by, declared_by, is_private_with};
 
-use crate::declared::declared;
+use crate::declared::make_declared;
 use crate::whole::Whole;
 use f3_declared::attributes::{Reading, read};
 use f3_program::declarations::Component;
@@ -54,7 +54,7 @@ fn component(
     ensures { IfOk result (λ c. component_view c ≡ record { declared = declared_by whole.entry scope scope (tree_of reading.now, entity_view entity.now); is_private = is_private }) }
 {
     Ok(Component {
-        declared: declared(alloc, whole, scope, scope, reading, entity)?,
+        declared: make_declared(alloc, whole, scope, scope, reading, entity)?,
         is_private,
     })
 }
@@ -78,6 +78,22 @@ fn add_components(
     Ok(())
 }
 
+fn make_components(
+    alloc: Global,
+    whole: Whole<'_>,
+    scope: usize,
+    definition: &TypeDefinition,
+) -> Result<Vec<Component>, AllocError>
+    ensures { IfOk result (λ v. map component_view v.items ≡ components_by whole.entry scope (type_view definition.now)) }
+{
+    let mut found = Vec::new(alloc);
+    let default = definition.private.is_some();
+    for declaration in &definition.components {
+        add_components(alloc, whole, scope, default, &mut found, declaration)?;
+    }
+    Ok(found)
+}
+
 /// The components of a type that is defined in a scope, in order (4.5.3).
 ///
 /// # Errors
@@ -89,13 +105,8 @@ pub fn components(
     scope: usize,
     definition: &TypeDefinition,
 ) -> Result<Vec<Component>, AllocError>
-    ensures tables { IfOk result (λ v. map component_view v.items ≡ components_by whole.entry scope (type_view definition.now)) }
-    ensures elaborated { IfOk result (λ v. (w : elaborated.Whole) (inner : Inner) (t : Definition) → t.unit.scope ≡ scope → t.tree ≡ type_view definition.now → Stands whole.entry w inner → are_components_small w t ≡ true → map component_view v.items ≡ elaborated.components w t) }
+    ensures { IfOk result (λ v. (w : elaborated.Whole) (inner : Inner) (t : Definition) → t.unit.scope ≡ scope → t.tree ≡ type_view definition.now → Stands whole.entry w inner → are_components_small w t ≡ true → map component_view v.items ≡ elaborated.components w t) }
 {
-    let mut found = Vec::new(alloc);
-    let default = definition.private.is_some();
-    for declaration in &definition.components {
-        add_components(alloc, whole, scope, default, &mut found, declaration)?;
-    }
+    let found = make_components(alloc, whole, scope, definition)?;
     Ok(found)
 }

@@ -71,7 +71,10 @@ fn initial_values(
     ensures { IfOk result (λ v. v.items ≡ initial_values (context_of known.now at) data_type (expression_view e.now)) }
 {
     match e {
-        Expression::Array(_, items) => constants(alloc, known, at, data_type, items),
+        Expression::Array(_, items) => {
+            let found = constants(alloc, known, at, data_type, items)?;
+            Ok(found)
+        }
         Expression::Integer(_, _) => one(alloc, known, at, data_type, e),
         Expression::Truth(_, _) => one(alloc, known, at, data_type, e),
         Expression::Text(_, _) => one(alloc, known, at, data_type, e),

@@ -4,7 +4,7 @@ use Rattle.f3_tree.specs.Declarations.{DeclarationTree, declaration_view, type_v
 use Rattle.f3_type_rules.specs.Names.{is_given}
 use Rattle.f3_elaboration.specs.DeclaredViews.{component_view}
 use Rattle.f3_declaration_nodes.specs.Tables.{component_by, components_by}
-use Rattle.f3_declaration_nodes.proofs.components.components.Given as goal
+use Rattle.f3_declaration_nodes.proofs.components.make_components.Given as goal
 
 abbrev pub invariant-loop-declaration : goal.invariant-loop-declaration
 invariant-loop-declaration l =
