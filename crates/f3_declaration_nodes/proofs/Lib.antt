@@ -2,3 +2,4 @@ pub mod Lists
 pub mod Small
 pub mod Contexts
 pub mod Standing
+pub mod Varying

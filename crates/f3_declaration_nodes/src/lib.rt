@@ -5,4 +5,5 @@ pub mod components;
 pub mod declared;
 pub mod initial;
 pub mod shapes;
+pub mod variables;
 pub mod whole;
