@@ -27,4 +27,4 @@ context_stands t w inner u s h =
     ap (λ (x : Scene). context_in x u s 6 w.values) h.scene
     ∙ ap (λ (v : ℕ → Option Scalar). with_natures t u s (λ e. slice_get (map nature_of t.known.now.things.items) e) v) (fun_ext h.values)
     ∙ ap (λ (n : ℕ → Option Nature). with_natures t u s n (λ e. map_or None (λ (v : Option Scalar). v) (slice_get t.known.now.values.items e)))
-      (fun_ext (λ e. slice_get-map nature_of t.known.now.things.items e))
+    (fun_ext (λ e. slice_get-map nature_of t.known.now.things.items e))

@@ -54,9 +54,9 @@ declared_stands t w inner u s x h small =
     let o : here ≡ there = ap (λ (z : Scene). object_of z.names s x) (sym h.scene) in
     let k : kind_at t.numbers.now here ≡ kind_of w.numbers there = kind_agrees t.numbers.now w.numbers inner here h.numbers ∙ ap (kind_of w.numbers) o in
     let d : dimensions_within (known_at t u s) (shape_of x) ≡ dimensions (context w u s) (shape_of x) =
-        ap (λ (z : Context). dimensions_within z (shape_of x)) (sym c) ∙ dimensions_small (context w u s) (shape_of x) small in
+    ap (λ (z : Context). dimensions_within z (shape_of x)) (sym c) ∙ dimensions_small (context w u s) (shape_of x) small in
     let i : initial (known_at t u s) here.data_type (x.1).initial ≡ initial (context w u s) there.data_type (x.1).initial =
-        ap (λ (z : Context). initial z here.data_type (x.1).initial) (sym c) ∙ ap (λ (z : Object). initial (context w u s) z.data_type (x.1).initial) o in
+    ap (λ (z : Context). initial z here.data_type (x.1).initial) (sym c) ∙ ap (λ (z : Object). initial (context w u s) z.data_type (x.1).initial) o in
     ap (λ (z : Kind). node z (dimensions_within (known_at t u s) (shape_of x)) (initial (known_at t u s) here.data_type (x.1).initial)) k
     ∙ ap (λ (z : List Dimension). node (kind_of w.numbers there) z (initial (known_at t u s) here.data_type (x.1).initial)) d
     ∙ ap (λ (z : List Constant). node (kind_of w.numbers there) (dimensions (context w u s) (shape_of x)) z) i
@@ -82,7 +82,7 @@ declarations_stand : (t : Tables) (w : Whole) (inner : Inner) (s : ℕ) (private
 declarations_stand t w inner s private [] h small = refl
 declarations_stand t w inner s private (d ∷ ds) h small =
     ap (λ (zs : List ComponentNode). zs ++ flat_map (λ (d : DeclarationTree). map (component_by t s private d) d.entities) ds)
-       (entities_stand t w inner s private d d.entities h (and_left _ _ small))
+    (entities_stand t w inner s private d d.entities h (and_left _ _ small))
     ∙ ap (λ (zs : List ComponentNode). map (component w s private d) d.entities ++ zs) (declarations_stand t w inner s private ds h (and_right _ _ small))
 
 pub components_stand : (t : Tables) (w : Whole) (inner : Inner) (x : Definition) → Stands t w inner → are_components_small w x ≡ true

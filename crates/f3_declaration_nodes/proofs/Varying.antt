@@ -30,7 +30,7 @@ static_with u d b = record { declared = d; home = u; is_protected = b }
 pub static_stands : (t : Tables) (w : Whole) (inner : Inner) (v : Variable) → Stands t w inner → is_small w v.unit v.scope v.tree ≡ true → static_by t v ≡ static w v
 static_stands t w inner v h small =
     ap (λ (d : DeclaredNode). static_with v.unit d (map_or false (λ (h : Holder). h.is_protected) (slice_get t.scenery.holders.now v.entity)))
-       (declared_stands t w inner v.unit v.scope v.tree h small)
+    (declared_stands t w inner v.unit v.scope v.tree h small)
     ∙ ap (λ (z : Scene). static_with v.unit (declared w v.unit v.scope v.tree) (map_or false (λ (h : Holder). h.is_protected) (slice_get z.holders v.entity))) (sym h.scene)
 
 abbrev plain_with : Kind → DeclaredNode

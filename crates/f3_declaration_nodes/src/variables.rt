@@ -193,12 +193,7 @@ pub fn dummy(
     Ok(found)
 }
 
-fn make_result(
-    alloc: Global,
-    whole: Whole<'_>,
-    scope: usize,
-    specifier: TypeSpecifier,
-) -> Declared
+fn make_result(alloc: Global, whole: Whole<'_>, scope: usize, specifier: TypeSpecifier) -> Declared
     ensures { declared_view result ≡ plain_by whole.entry scope specifier }
 {
     let object = Object {

@@ -10,5 +10,5 @@ abbrev pub invariant-loop-declaration : goal.invariant-loop-declaration
 invariant-loop-declaration l =
     map component_view l.found.items
     ++ flat_map (λ (d : DeclarationTree). map (component_by l.fn.whole l.fn.scope (is_given (type_view l.fn.definition).private) d) d.entities)
-       (map declaration_view (drop l.declaration-index l.declaration-items))
+    (map declaration_view (drop l.declaration-index l.declaration-items))
     ≡ components_by l.fn.whole l.fn.scope (type_view l.fn.definition)
