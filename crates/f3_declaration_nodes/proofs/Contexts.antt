@@ -1,18 +1,12 @@
 -- What is known where a declaration stands.
-use Rattle.std.proofs.Common.{◌≡◌, ℕ, nat_eq, List, map, Option, None, ap, sym, ◌∙◌}
+use Rattle.std.proofs.Common.{◌≡◌, ℕ, map, Option, None, ap, ◌∙◌}
 use Rattle.std.proofs.Math.Path.{fun_ext}
 use Rattle.std.specs.Prelude.{slice_get}
-use Rattle.std.specs.Option.{option_map}
-use Rattle.std.specs.Map.{lookup}
 use Rattle.std.proofs.lemmas.Option.{slice_get-map}
 use Rattle.f3_kinds.specs.declared.types.Scalar.{Scalar}
-use Rattle.f3_kinds.specs.declared.things.Thing.{Thing}
 use Rattle.f3_kinds.specs.Things.{map_or, Nature, Context}
-use Rattle.f3_typed_parts.specs.declared.known.Known.{Known}
 use Rattle.f3_typed_parts.specs.Known.{nature_of}
 use Rattle.f3_type_rules.specs.Scene.{Scene, context_in}
-use Rattle.f3_declared.specs.declared.scenery.Scenery.{Scenery}
-use Rattle.f3_declared.specs.Scenery.{scene_in}
 use Rattle.f3_elaboration.specs.Declarations.{Whole, context}
 use Rattle.f3_elaboration.specs.Numbers.{Inner}
 use Rattle.f3_declaration_nodes.specs.declared.whole.Whole.{Whole as Tables}

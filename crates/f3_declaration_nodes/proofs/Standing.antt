@@ -1,5 +1,5 @@
 -- What tables in memory say of what is declared is what is declared.
-use Rattle.std.proofs.Common.{◌≡◌, ℕ, Bool, true, ◌&&◌, List, [], ◌∷◌, ◌++◌, map, Option, None, Some, refl, ap, sym, ◌∙◌}
+use Rattle.std.proofs.Common.{◌≡◌, ℕ, Bool, true, List, [], ◌∷◌, ◌++◌, map, Option, None, Some, refl, ap, sym, ◌∙◌}
 use Rattle.std.specs.List.{flat_map, list_all}
 use Rattle.f3_scopes.specs.Given.{accesses_of}
 use Rattle.f3_tree.specs.Declarations.{EntityTree, DeclarationTree}
@@ -78,7 +78,8 @@ entities_stand t w inner s private d (x ∷ xs) h small =
 
 declarations_stand : (t : Tables) (w : Whole) (inner : Inner) (s : ℕ) (private : Bool) (ds : List DeclarationTree) → Stands t w inner
     → list_all (λ (d : DeclarationTree). list_all (λ (x : EntityTree). is_small w s s (d, x)) d.entities) ds ≡ true
-    → flat_map (λ (d : DeclarationTree). map (component_by t s private d) d.entities) ds ≡ flat_map (λ (d : DeclarationTree). map (component w s private d) d.entities) ds
+    → flat_map (λ (d : DeclarationTree). map (component_by t s private d) d.entities) ds
+    ≡ flat_map (λ (d : DeclarationTree). map (component w s private d) d.entities) ds
 declarations_stand t w inner s private [] h small = refl
 declarations_stand t w inner s private (d ∷ ds) h small =
     ap (λ (zs : List ComponentNode). zs ++ flat_map (λ (d : DeclarationTree). map (component_by t s private d) d.entities) ds)

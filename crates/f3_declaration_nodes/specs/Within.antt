@@ -1,5 +1,5 @@
 -- Dimensions with extents up to the limit of counts.
-use Rattle.std.specs.Prelude.{List, [], map, Option, None, Some}
+use Rattle.std.specs.Prelude.{List, [], map, Option, Some}
 use Rattle.f3_tree.specs.Declarations.{Bounds, ShapeTree, explicit}
 use Rattle.f3_program.specs.declared.declarations.Dimension.{Dimension}
 use Rattle.f3_kinds.specs.Things.{map_or, Context}

@@ -8,4 +8,5 @@ abbrev pub invariant-loop-entity : goal.invariant-loop-entity
 invariant-loop-entity l =
     map component_view l.found.items
     ++ map (component_by l.fn.whole l.fn.scope l.fn.default (declaration_view l.fn.declaration)) (map entity_view (drop l.entity-index l.entity-items))
-    ≡ map component_view l.fn.found.items ++ map (component_by l.fn.whole l.fn.scope l.fn.default (declaration_view l.fn.declaration)) (declaration_view l.fn.declaration).entities
+    ≡ map component_view l.fn.found.items
+    ++ map (component_by l.fn.whole l.fn.scope l.fn.default (declaration_view l.fn.declaration)) (declaration_view l.fn.declaration).entities

@@ -1,4 +1,4 @@
-use Rattle.std.proofs.Common.{map, refl, rules, ap, ◌∙◌, ◌∷◌, [], ◌++◌}
+use Rattle.std.proofs.Common.{map, refl, ap, ◌∙◌, ◌∷◌, [], ◌++◌}
 use Rattle.f3_tree.specs.declared.expression.Expression.{Expression}
 use Rattle.f3_tree.specs.Expressions.{expression_view}
 use Rattle.f3_program.specs.declared.declarations.Constant.{Constant}

@@ -8,5 +8,6 @@ use Rattle.f3_declaration_nodes.proofs.initial.constants.Given as goal
 
 abbrev pub invariant-loop-e : goal.invariant-loop-e
 invariant-loop-e l =
-    l.found.items ++ map (λ (e : Expression). constant_of (converted l.data_type (value_of (context_of l.known l.at) (expression_view e)))) (drop l.e-index l.items)
+    l.found.items
+    ++ map (λ (e : Expression). constant_of (converted l.data_type (value_of (context_of l.known l.at) (expression_view e)))) (drop l.e-index l.items)
     ≡ map (λ (e : Expression). constant_of (converted l.data_type (value_of (context_of l.known l.at) (expression_view e)))) l.items

@@ -13,4 +13,5 @@ loop-bounds-preserved c =
     grown_more (λ (b : Option Expression × Expression). dimension_within known (bounds_view b) ∷ [])
     (map (λ (b : Option Expression × Expression). dimension_within known (bounds_view b))) (λ b bs. refl)
     c.args.list.now c.loop-bounds.bounds-index c.bounds-item.result c.loop-bounds.found.items c.push.new.self.items _
-    c.loop-bounds-test.true c.bounds-item.is (c.in_ok-push.ensures.items ∙ ap (λ (x : Dimension). c.loop-bounds.found.items ++ x ∷ []) c.dimension.ensures) c.loop-bounds.invariant
+    c.loop-bounds-test.true c.bounds-item.is
+    (c.in_ok-push.ensures.items ∙ ap (λ (x : Dimension). c.loop-bounds.found.items ++ x ∷ []) c.dimension.ensures) c.loop-bounds.invariant

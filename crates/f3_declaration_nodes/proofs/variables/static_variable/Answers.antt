@@ -8,4 +8,5 @@ use Rattle.f3_declaration_nodes.proofs.variables.static_variable.Goals as goal
 pub returns : goal.returns
 returns c = λ w inner h small.
     c.in_ok-found.ensures
-    ∙ static_stands c.args.whole w inner (variable_at c.args.number c.args.unit c.args.scope (tree_of c.args.reading.now, entity_view c.args.entity.now)) h small
+    ∙ static_stands c.args.whole w inner
+    (variable_at c.args.number c.args.unit c.args.scope (tree_of c.args.reading.now, entity_view c.args.entity.now)) h small
