@@ -1,0 +1,5 @@
+pub mod Lists
+pub mod Small
+pub mod Contexts
+pub mod Standing
+pub mod Varying

@@ -1,0 +1,4 @@
+pub mod Within
+pub mod Tables
+pub mod Stands
+pub mod Variables

@@ -1,0 +1,4 @@
+//! The numbers of variables, procedures and types of a program, by their entities.
+#![tactic(auto)]
+
+pub mod numbers;
