@@ -1,0 +1,2 @@
+//! The law that code does what its Core program means.
+#![tactic(auto)]
