@@ -1,2 +1,4 @@
 pub mod Places
 pub mod Reaching
+pub mod Ending
+pub mod FollowValue
