@@ -128,22 +128,22 @@ module _ (limit : ℕ) (g : Setting) (code : Code) (n : ℕ) (frames : List Fram
           then_code (value_code o x) (value_code o y ++ line o (i.Binary c t) ∷ []) pc has (value_follows x o pc stack here w) (λ v w h.
           then_code (value_code o y) (line o (i.Binary c t) ∷ []) _ h (value_follows y o _ (Datum v ∷ stack) here w) (λ z w h. at_line (apply c t v z (placed o here).place) _ _ here w (line o (i.Binary c t)) (apply_ends c t v z _) h.0 refl))
       value_follows (e.Array' k xs) o pc stack here w has =
-          let built_of : List Passed → Ran Value = λ ps. built (Array (record { lower = pos 1; extent = length (given ps) } ∷ []) (joined (given ps))) (placed o here) in
-          then_where_code (λ ps. length ps ≡ argument_count xs) (arguments_count g calls xs (placed o here)) (arguments_code o xs) (line o (i.Array (argument_count xs)) ∷ []) pc has (arguments_follow xs o pc stack here w) (λ ps w e h. at_line (built_of ps) _ _ here w (line o (i.Array (argument_count xs))) (built_ends _ _) h.0 (popped argument_of Argument (λ p. refl) ps stack (argument_count xs) _ e))
+          let array_of : List Passed → Value = λ ps. Array (record { lower = pos 1; extent = length (given ps) } ∷ []) (joined (given ps)) in
+          then_where_code (λ ps. length ps ≡ argument_count xs) (arguments_count g calls xs (placed o here)) (arguments_code o xs) (line o (i.Array (argument_count xs)) ∷ []) pc has (arguments_follow xs o pc stack here w) (λ ps w e h. at_line (built (array_of ps) (placed o here)) _ _ here w (line o (i.Array (argument_count xs))) (built_ends (array_of ps) (placed o here)) h.0 (popped argument_of Argument (λ p. refl) ps stack (argument_count xs) _ e))
       value_follows (e.Structure' t k xs) o pc stack here w has =
           then_where_code (λ ps. length ps ≡ argument_count xs) (arguments_count g calls xs (placed o here)) (arguments_code o xs) (line o (i.Structure t (argument_count xs)) ∷ []) pc has (arguments_follow xs o pc stack here w) (λ ps w e h.
-          then_on limit g code (at_line (structure (components_of (slice_index_or g.shapes t Whole)) 0 ps (placed o here)) _ _ here w (line o (i.Structure t (argument_count xs))) (structure_ends _ 0 ps _) h.0 (popped argument_of Argument (λ p. refl) ps stack (argument_count xs) _ e)) (λ vs w. stays limit g code n _ w _))
+          then_on limit g code (at_line (structure (components_of (slice_index_or g.shapes t Whole)) 0 ps (placed o here)) _ _ here w (line o (i.Structure t (argument_count xs))) (structure_ends _ 0 ps (placed o here)) h.0 (popped argument_of Argument (λ p. refl) ps stack (argument_count xs) _ e)) (λ vs w. stays limit g code n _ w _))
       value_follows (e.Call' f k xs) o pc stack here w has =
           then_where_code (λ ps. length ps ≡ argument_count xs) (arguments_count g calls xs (placed o here)) (arguments_code o xs) (line o (i.Call f (argument_count xs)) ∷ line o i.Result ∷ []) pc has (arguments_follow xs o pc stack here w) (λ ps w e h.
           then_code (line o (i.Call f (argument_count xs)) ∷ []) (line o i.Result ∷ []) _ h (λ h. follow.by f (placed o here) ps _ stack here w (is_at _ _ here w (line o (i.Call f (argument_count xs))) h.0 ∙ ap (λ k. called limit code f k (placed o here) (state (pc + length (arguments_code o xs)) (onto Argument ps stack) here frames w)) (sym e)))
-            (λ v w h. at_line (result v (placed o here) >>= λ v. built v (placed o here)) _ _ here w (line o i.Result) (bind_ends (result_ends v _) (λ v. built_ends v _)) h.0 refl))
+            (λ v w h. at_line (result v (placed o here) >>= λ v. built v (placed o here)) _ _ here w (line o i.Result) (bind_ends (result_ends v (placed o here)) (λ v. built_ends v (placed o here))) h.0 refl))
       value_follows (e.Allocated' p x) o pc stack here w has =
           then_code (locate_code o x) (line o i.IsAllocated ∷ []) pc has (locate_follows x o pc stack here w) (λ r w h. at_line _ _ _ here w (line o i.IsAllocated) (looks_end _) h.0 refl)
       value_follows (e.Size' p x) o pc stack here w has =
           then_code (bounds_code o x) (line o i.Size ∷ []) pc has (bounds_follow x o pc stack here w) (λ ss w h. at_line (converted base.Integer (Number (pos (count ss))) (placed o here).place) _ _ here w (line o i.Size) (converted_ends _ _ _) h.0 refl)
       value_follows (e.Bound' q p x r y) o pc stack here w has =
           then_code (bounds_code o x) (value_code o y ++ line o (i.Bound q) ∷ []) pc has (bounds_follow x o pc stack here w) (λ ss w h.
-          then_code (value_code o y) (line o (i.Bound q) ∷ []) _ h (value_follows y o _ (Bounds ss ∷ stack) here w) (λ v w h. at_line (asked q ss (number_of v) (placed o here)) _ _ here w (line o (i.Bound q)) (asked_ends q ss _ _) h.0 refl))
+          then_code (value_code o y) (line o (i.Bound q) ∷ []) _ h (value_follows y o _ (Bounds ss ∷ stack) here w) (λ v w h. at_line (asked q ss (number_of v) (placed o here)) _ _ here w (line o (i.Bound q)) (asked_ends q ss _ (placed o here)) h.0 refl))
 
       pub bounds_follow : (x : a.Argument) (o : Option Place) (pc : ℕ) (stack : List Cell) (here : Here) (w : World) → HasAt code.lines pc (bounds_code o x) → Reaches limit g code n (state pc stack here frames w) (bounds g calls x (placed o here)) w (λ ss w. state (pc + length (bounds_code o x)) (Bounds ss ∷ stack) here frames w)
       bounds_follow (a.Value' k p x) o pc stack here w has =
@@ -153,7 +153,7 @@ module _ (limit : ℕ) (g : Setting) (code : Code) (n : ℕ) (frames : List Fram
 
       pub argument_follows : (x : a.Argument) (o : Option Place) (pc : ℕ) (stack : List Cell) (here : Here) (w : World) → HasAt code.lines pc (argument_code o x) → Reaches limit g code n (state pc stack here frames w) (argument g calls x (placed o here)) w (λ p w. state (pc + length (argument_code o x)) (Argument p ∷ stack) here frames w)
       argument_follows (a.Value' k p x) o pc stack here w has =
-          then_code (value_code o x) (line o (i.PassValue k) ∷ []) pc has (value_follows x o pc stack here w) (λ v w h. then_on limit g code (at_line (claim_for v (placed o here)) _ _ here w (line o (i.PassValue k)) (claim_for_ends v _) h.0 refl) (λ done w. stays limit g code n _ w _))
+          then_code (value_code o x) (line o (i.PassValue k) ∷ []) pc has (value_follows x o pc stack here w) (λ v w h. then_on limit g code (at_line (claim_for v (placed o here)) _ _ here w (line o (i.PassValue k)) (claim_for_ends v (placed o here)) h.0 refl) (λ done w. stays limit g code n _ w _))
       argument_follows (a.Variable' k p x) o pc stack here w has =
           then_code (locate_code o x) (line o (i.PassVariable k) ∷ []) pc has (locate_follows x o pc stack here w) (λ r w h. one_step limit g code n _ w _ (is_at _ _ here w (line o (i.PassVariable k)) h.0))
 
@@ -164,29 +164,29 @@ module _ (limit : ℕ) (g : Setting) (code : Code) (n : ℕ) (frames : List Fram
 
       pub locate_follows : (x : d.Designator) (o : Option Place) (pc : ℕ) (stack : List Cell) (here : Here) (w : World) → HasAt code.lines pc (locate_code o x) → Reaches limit g code n (state pc stack here frames w) (locate g calls x (placed o here)) w (λ r w. state (pc + length (locate_code o x)) (Object r ∷ stack) here frames w)
       locate_follows (d.Name x how) o pc stack here w has =
-          then_code (line o (i.Refer x) ∷ []) (select_code o how) pc has (λ h. at_line (named g x (placed o here)) _ _ here w (line o (i.Refer x)) (named_ends g x _) h.0 refl) (λ r w h. select_follows how r o _ stack here w h)
+          then_code (line o (i.Refer x) ∷ []) (select_code o how) pc has (λ h. at_line (named g x (placed o here)) _ _ here w (line o (i.Refer x)) (named_ends g x (placed o here)) h.0 refl) (λ r w h. select_follows how r o _ stack here w h)
       locate_follows (d.Component' p x k how) o pc stack here w has =
           then_code (locate_code o x) (select_of_code o k how) pc has (locate_follows x o pc stack here w) (λ r w h. select_of_follows how k r o _ stack here w h)
 
       select_follows : (how : l.Selection) (r : Reference) (o : Option Place) (pc : ℕ) (stack : List Cell) (here : Here) (w : World) → HasAt code.lines pc (select_code o how) → Reaches limit g code n (state pc (Object r ∷ stack) here frames w) (select g calls how r (placed o here)) w (λ q w. state (pc + length (select_code o how)) (Object q ∷ stack) here frames w)
       select_follows l.Whole r o pc stack here w has = no_code r pc (λ q. Object q ∷ stack) here w
-      select_follows l.Contents r o pc stack here w has = at_line (contents r (placed o here)) _ _ here w (line o i.Contents) (contents_end r _) has.0 refl
+      select_follows l.Contents r o pc stack here w has = at_line (contents r (placed o here)) _ _ here w (line o i.Contents) (contents_end r (placed o here)) has.0 refl
       select_follows (l.Elements' is_opened k xs) r o pc stack here w has =
-          then_where_code (λ cs. length cs ≡ subscript_count xs) (chosen_count g calls xs (placed o here)) (chosen_code o xs) (line o (i.Select is_opened (subscript_count xs)) ∷ []) pc has (chosen_follow xs o pc (Object r ∷ stack) here w) (λ cs w e h. at_line (selects is_opened cs r (placed o here)) _ _ here w (line o (i.Select is_opened (subscript_count xs))) (selects_end is_opened cs r _) h.0 (popped choice_of Choice (λ c. refl) cs (Object r ∷ stack) (subscript_count xs) _ e))
+          then_where_code (λ cs. length cs ≡ subscript_count xs) (chosen_count g calls xs (placed o here)) (chosen_code o xs) (line o (i.Select is_opened (subscript_count xs)) ∷ []) pc has (chosen_follow xs o pc (Object r ∷ stack) here w) (λ cs w e h. at_line (selects is_opened cs r (placed o here)) _ _ here w (line o (i.Select is_opened (subscript_count xs))) (selects_end is_opened cs r (placed o here)) h.0 (popped choice_of Choice (λ c. refl) cs (Object r ∷ stack) (subscript_count xs) _ e))
 
       select_of_follows : (how : l.Selection) (k : ℕ) (r : Reference) (o : Option Place) (pc : ℕ) (stack : List Cell) (here : Here) (w : World) → HasAt code.lines pc (select_of_code o k how) → Reaches limit g code n (state pc (Object r ∷ stack) here frames w) (component g k (Selected here.unit) r >>= λ q. by_reach r.reach (select g calls how q (placed o here)) (select_in_each g calls how (spans_of_component (component_of g.program.types.items r.of k)) q (placed o here))) w (λ q w. state (pc + length (select_of_code o k how)) (Object q ∷ stack) here frames w)
       select_of_follows l.Whole k r o pc stack here w has =
           then_on limit g code (at_line (component g k (Selected here.unit) r) _ _ here w (line o (i.Component k)) (component_ends g k _ r) has.0 refl) (λ q w. reach_case r.reach (stays limit g code n q w _) (stays limit g code n q w _))
       select_of_follows l.Contents k r o pc stack here w has =
           then_code (line o (i.Component k) ∷ []) (line o i.Contents ∷ []) pc has (λ h. at_line (component g k (Selected here.unit) r) _ _ here w (line o (i.Component k)) (component_ends g k _ r) h.0 refl) (λ q w h.
-          let opened = at_line (contents q (placed o here)) _ _ here w (line o i.Contents) (contents_end q _) h.0 refl in reach_case r.reach opened opened)
+          let opened = at_line (contents q (placed o here)) _ _ here w (line o i.Contents) (contents_end q (placed o here)) h.0 refl in reach_case r.reach opened opened)
       select_of_follows (l.Elements' is_opened m xs) k r o pc stack here w has =
           let ss = spans_of_component (component_of g.program.types.items r.of k) in
           let last = line o (i.SelectOf is_opened k (subscript_count xs)) in
           then_code (line o (i.ComponentOf k) ∷ []) (chosen_code o xs ++ last ∷ []) pc has (λ h. at_line (component g k (Selected here.unit) r) _ _ here w (line o (i.ComponentOf k)) (component_ends g k _ r) h.0 refl) (λ q w h.
           as_well limit g code (reach_bind r.reach (chosen g calls xs (placed o here)) (λ cs. selects is_opened cs q (placed o here)) (λ cs. picks_in_each ss q cs (placed o here)))
           (then_where_code (λ cs. length cs ≡ subscript_count xs) (chosen_count g calls xs (placed o here)) (chosen_code o xs) (last ∷ []) _ h (chosen_follow xs o _ (Object q ∷ Object r ∷ stack) here w) (λ cs w e h.
-          at_line (by_reach r.reach (selects is_opened cs q (placed o here)) (picks_in_each ss q cs (placed o here))) _ _ here w last (reach_ends r.reach (selects_end is_opened cs q _) (in_each_ends ss q cs _)) h.0 (popped choice_of Choice (λ c. refl) cs (Object q ∷ Object r ∷ stack) (subscript_count xs) _ e))))
+          at_line (by_reach r.reach (selects is_opened cs q (placed o here)) (picks_in_each ss q cs (placed o here))) _ _ here w last (reach_ends r.reach (selects_end is_opened cs q (placed o here)) (in_each_ends ss q cs (placed o here))) h.0 (popped choice_of Choice (λ c. refl) cs (Object q ∷ Object r ∷ stack) (subscript_count xs) _ e))))
 
       chosen_follow : {m : _} (xs : l.Row_of-Subscript m) (o : Option Place) (pc : ℕ) (stack : List Cell) (here : Here) (w : World) → HasAt code.lines pc (chosen_code o xs) → Reaches limit g code n (state pc stack here frames w) (chosen g calls xs (placed o here)) w (λ cs w. state (pc + length (chosen_code o xs)) (onto Choice cs stack) here frames w)
       chosen_follow l.end_of-Subscript o pc stack here w has = no_code [] pc (λ cs. onto Choice cs stack) here w

@@ -2,3 +2,4 @@ pub mod Places
 pub mod Reaching
 pub mod Ending
 pub mod FollowValue
+pub mod FollowWork

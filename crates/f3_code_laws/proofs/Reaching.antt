@@ -257,3 +257,8 @@ module _ (limit : ℕ) (g : Setting) (code : Code) where
   -- a part within another
   pub joined : {A B C : Type 0} {n : ℕ} {s : State} {w : World} (m : Ran A) (f : A → Ran B) (k : B → Ran C) {next : C → World → State} → Reaches n s (m >>= λ x. f x >>= k) w next → Reaches n s ((m >>= f) >>= k) w next
   joined m f k h = as_well (sym (bind_assoc m f k)) h
+
+  -- what the store shows, and then something
+  pub looked : {A B : Type 0} {n : ℕ} {s : State} {w : World} {next : B → World → State} (f : Store → A) (k : A → Ran B) → Reaches n s (k (f w.store)) w next → Reaches n s (looks f >>= k) w next
+  unfolding ◌>>=◌ looks
+  looked f k h = record { as_said = h.as_said }
