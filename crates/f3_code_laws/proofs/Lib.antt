@@ -3,3 +3,4 @@ pub mod Reaching
 pub mod Ending
 pub mod FollowValue
 pub mod FollowWork
+pub mod FollowParts
