@@ -33,7 +33,7 @@ use Rattle.f3_code_laws.proofs.FollowValue.{state, onto, popped, CallsFollow, is
 use Rattle.f3_code_laws.proofs.FollowWork.{RoutinesFollow, if_then, test_case, work_follows}
 
 -- what a test asks for, and then more
-tested_then : {A : Type 0} (b : Bool) (error : RunError) (here : Here) (x : Ran A) → (tested b error here >>= λ done. x) ≡ (if b then x else fails error here.place)
+pub tested_then : {A : Type 0} (b : Bool) (error : RunError) (here : Here) (x : Ran A) → (tested b error here >>= λ done. x) ≡ (if b then x else fails error here.place)
 tested_then true error here x = nothing_then tt (λ done. x)
 tested_then false error here x = fails_then error here.place (λ done. x)
 
@@ -74,7 +74,7 @@ module _ (limit : ℕ) (g : Setting) (code : Code) (n : ℕ) (frames : List Fram
       then_code limit g code n frames (locate_code o d) (line o i.StoreStatus ∷ []) pc has (locates d o pc (Status (Some error) ∷ stack) here w) (λ r w h. at_line limit g code n frames (set r (Number (pos (status_number (Some error)))) (placed o here)) _ _ here w (line o i.StoreStatus) (set_ends r (Number (pos (status_number (Some error)))) (placed o here)) h.0 refl)
 
   -- the rest, unless there was an error
-  failed_follows : (x : Option RunError) (rest : Ran (Option RunError)) (cx : List Line) (o : Option Place) (pc : ℕ) (stack : List Cell) (here : Here) (w : World) → HasAt code.lines pc (line o (i.SkipIfFailed (length cx)) ∷ cx) → (HasAt code.lines (pc + 1) cx → Reaches limit g code n (state (pc + 1) stack here frames w) rest w (λ x w. state (pc + 1 + length cx) (Status x ∷ stack) here frames w)) → Reaches limit g code n (state pc (Status x ∷ stack) here frames w) (unless_failed x rest) w (λ x w. state (pc + length (line o (i.SkipIfFailed (length cx)) ∷ cx)) (Status x ∷ stack) here frames w)
+  pub failed_follows : (x : Option RunError) (rest : Ran (Option RunError)) (cx : List Line) (o : Option Place) (pc : ℕ) (stack : List Cell) (here : Here) (w : World) → HasAt code.lines pc (line o (i.SkipIfFailed (length cx)) ∷ cx) → (HasAt code.lines (pc + 1) cx → Reaches limit g code n (state (pc + 1) stack here frames w) rest w (λ x w. state (pc + 1 + length cx) (Status x ∷ stack) here frames w)) → Reaches limit g code n (state pc (Status x ∷ stack) here frames w) (unless_failed x rest) w (λ x w. state (pc + length (line o (i.SkipIfFailed (length cx)) ∷ cx)) (Status x ∷ stack) here frames w)
   failed_follows x rest cx o pc stack here w has follows =
       let len : pc + 1 + length cx ≡ pc + length (line o (i.SkipIfFailed (length cx)) ∷ cx) = omega arith in
       ending limit g code n frames _ _ (λ x. Status x ∷ stack) here len (by_case x)

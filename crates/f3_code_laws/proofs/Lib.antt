@@ -4,3 +4,4 @@ pub mod Ending
 pub mod FollowValue
 pub mod FollowWork
 pub mod FollowParts
+pub mod FollowTransfer
