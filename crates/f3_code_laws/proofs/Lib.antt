@@ -5,3 +5,4 @@ pub mod FollowValue
 pub mod FollowWork
 pub mod FollowParts
 pub mod FollowTransfer
+pub mod FollowStatement
