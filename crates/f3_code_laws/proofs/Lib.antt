@@ -6,3 +6,4 @@ pub mod FollowWork
 pub mod FollowParts
 pub mod FollowTransfer
 pub mod FollowStatement
+pub mod FollowCore
