@@ -7,3 +7,6 @@ pub mod FollowParts
 pub mod FollowTransfer
 pub mod FollowStatement
 pub mod FollowCore
+pub mod FollowScopes
+pub mod FollowCount
+pub mod FollowDo
