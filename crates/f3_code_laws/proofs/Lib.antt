@@ -10,3 +10,4 @@ pub mod FollowCore
 pub mod FollowScopes
 pub mod FollowCount
 pub mod FollowDo
+pub mod FollowAssociate
