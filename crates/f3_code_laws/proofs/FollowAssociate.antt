@@ -103,7 +103,7 @@ module _ (limit : ℕ) (g : Setting) (code : Code) (n : ℕ) (frames : List Fram
       comes_then limit g code (leaves limit g code n frames o p2 under inner here flow w (has_front code.lines p2 cl r2 h2)) (step_then limit g code (at_it p3 (Going flow ∷ under) here w (line o i.Associated) h3.0)
       (then_on limit g code (discards_follow xs rs o (p3 + 1) p4 (Going flow ∷ under) here w (has_front code.lines (p3 + 1) cd _ h3.1) refl) (λ done w.
       then_on limit g code (at_line limit g code n frames {next = λ done w. state (p4 + 1) (Going flow ∷ base) here frames w} (leave level) p4 (Objects (left_over xs rs) ∷ Going flow ∷ under) here w (line o i.EndAssociate) (leave_ends level) h4.0 refl) (λ done w.
-      comes_then limit g code (departs_so limit g code n frames o ws (p4 + 1) on cyc left back base here flow w h4.1 len cyc_is left_is back_is) (stays limit g code n flow w (leads on cyc left back ws.cells base here frames)))))))))
+      comes_then limit g code (departs_so limit g code n frames o ws (p4 + 1) on cyc left back base here flow w h4.1 len cyc_is left_is back_is) (stays limit g code n flow w (leads on cyc left back ws.cells base here frames))))))))))
 
   -- the code of each statement does what the statement does
   pub exec_follows : (x : c.Core) → Does x
