@@ -11,3 +11,4 @@ pub mod FollowScopes
 pub mod FollowCount
 pub mod FollowDo
 pub mod FollowAssociate
+pub mod FollowRoutines
