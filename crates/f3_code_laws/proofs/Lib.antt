@@ -12,3 +12,4 @@ pub mod FollowCount
 pub mod FollowDo
 pub mod FollowAssociate
 pub mod FollowRoutines
+pub mod FollowProcedure
