@@ -13,3 +13,4 @@ pub mod FollowDo
 pub mod FollowAssociate
 pub mod FollowRoutines
 pub mod FollowProcedure
+pub mod Steady
