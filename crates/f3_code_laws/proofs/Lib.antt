@@ -14,3 +14,4 @@ pub mod FollowAssociate
 pub mod FollowRoutines
 pub mod FollowProcedure
 pub mod Steady
+pub mod FollowCalls
