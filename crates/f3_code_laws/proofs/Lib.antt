@@ -15,3 +15,4 @@ pub mod FollowRoutines
 pub mod FollowProcedure
 pub mod Steady
 pub mod FollowCalls
+pub mod Whole
