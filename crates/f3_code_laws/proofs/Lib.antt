@@ -16,3 +16,4 @@ pub mod FollowProcedure
 pub mod Steady
 pub mod FollowCalls
 pub mod Whole
+pub mod Source
