@@ -1,5 +1,5 @@
 -- Parts of runs that need no turns of a loop.
-use Rattle.std.proofs.Common.{ℕ, zero, suc, ℤ, pos, negsuc, Bool, true, false, List, [], ◌∷◌, Option, None, Some}
+use Rattle.std.proofs.Common.{ℕ, zero, suc, ℤ, pos, negsuc, Bool, List, [], ◌∷◌, Option, None, Some}
 use Rattle.std.specs.Prelude.{⊤, int_le, ◌-ℤ◌, nat_lt, ◌||◌}
 use Rattle.f3_rules.specs.declared.source.Place.{Place}
 use Rattle.f3_program.specs.declared.declarations.Base.{Base}
@@ -11,10 +11,9 @@ use Rattle.f3_program.specs.declared.expression.UnaryOperator.TheVariants.{Negat
 use Rattle.f3_program.specs.declared.expression.Name.{Name}
 use Rattle.f3_program.specs.declared.expression.Name.TheVariants as name
 use Rattle.f3_program.specs.declared.expression.Query.{Query}
-use Rattle.f3_meaning_whole.specs.Value.{Span, Value, Number, Truth, Composite, Array, Unallocated, Allocated, number_of, listed, conforms, shown, is_allocated, count}
-use Rattle.f3_meaning_whole.specs.Store.{get}
+use Rattle.f3_meaning_whole.specs.Value.{Span, Value, Number, Truth, Composite, Array, Unallocated, Allocated, number_of, listed, conforms, shown, count}
 use Rattle.f3_meaning_whole.specs.Reference.{Maker, Reach, One, Many, Reference, is_pinned}
-use Rattle.f3_meaning_whole.specs.Ran.{Ran, gives, prints_bytes, each}
+use Rattle.f3_meaning_whole.specs.Ran.{Ran, prints_bytes, each}
 use Rattle.f3_meaning_whole.specs.declared.run_error.RunError.{RunError}
 use Rattle.f3_meaning_whole.specs.Arithmetic.{converted, value_fits, divided, is_zero, power, apply, change_of}
 use Rattle.f3_meaning_whole.specs.Shape.{Parts, nothing, and, spans_declared}

@@ -1,23 +1,23 @@
 -- The code of an ASSOCIATE follows it, where that of the statements in it does; and so the code of each statement.
-use Rattle.std.proofs.Common.{◌≡◌, ℕ, zero, suc, ◌+◌, Bool, true, false, List, [], ◌∷◌, ◌++◌, length, Option, Some, refl, sym, ap, ◌∙◌, arith, length-append}
+use Rattle.std.proofs.Common.{◌≡◌, ℕ, ◌+◌, List, [], ◌∷◌, ◌++◌, length, Option, Some, refl, ap, ◌∙◌, arith, length-append}
 use Rattle.std.specs.Prelude.{⊤, slice_get}
 use Rattle.f3_rules.specs.declared.source.Place.{Place}
 use Rattle.f3_meaning_whole.specs.Store.{Store}
 use Rattle.f3_meaning_whole.specs.Reference.{Reference}
 use Rattle.f3_meaning_whole.specs.Ran.{World, Ran, ◌>>=◌, gives, looks}
 use Rattle.f3_meaning_whole.specs.Act.{Setting, Here, Calls, enter, leave, associating}
-use Rattle.f3_meaning_whole.specs.Exec.{Flow, Association, held_by, associates}
+use Rattle.f3_meaning_whole.specs.Exec.{held_by, associates}
 use Rattle.f3_core.specs.Work.{Work, routines_of}
 use Rattle.f3_core.specs.Core as c
-use Rattle.f3_core.specs.Exec.{exec, selectors, discard_selectors}
+use Rattle.f3_core.specs.Exec.{exec, discard_selectors}
 use Rattle.f3_code.specs.declared.instruction.Instruction.TheVariants as i
-use Rattle.f3_code.specs.State.{Line, line, placed, Code, Cell, Object, Objects, Selector, Level, Outside, Going, Frame, State, Goes}
+use Rattle.f3_code.specs.State.{Line, line, placed, Code, Cell, Object, Objects, Selector, Level, Outside, Going, Frame, Goes}
 use Rattle.f3_code.specs.Machine.{act, step, selector_of}
-use Rattle.f3_code.specs.Code.{work_code, selectors_code, discards_code, Ways, scoped, leaving_code, departing_code, code_of}
+use Rattle.f3_code.specs.Code.{work_code, selectors_code, discards_code, scoped, leaving_code, departing_code, code_of}
 use Rattle.f3_code_laws.proofs.Places.{HasAt, has_front, has_back}
 use Rattle.f3_code_laws.proofs.Reaching.{Comes, Reaches, step_then, stays, then_where, then_on, comes_here, comes_by, comes_on, comes_then, as_well, bind_assoc, then_same, nothing_then, bind_ends, gives_end, looks_end}
 use Rattle.f3_code_laws.proofs.Ending.{enter_ends, leave_ends}
-use Rattle.f3_code_laws.proofs.FollowValue.{state, onto, popped, CallsFollow, is_at, ending, at_line, no_code}
+use Rattle.f3_code_laws.proofs.FollowValue.{state, onto, popped, CallsFollow, is_at, ending, at_line}
 use Rattle.f3_code_laws.proofs.FollowWork.{RoutinesFollow, work_follows}
 use Rattle.f3_code_laws.proofs.FollowTransfer.{selectors_count, selectors_follow}
 use Rattle.f3_code_laws.proofs.FollowStatement.{leads}

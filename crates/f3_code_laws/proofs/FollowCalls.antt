@@ -1,11 +1,11 @@
 -- The code of procedures follows them; and so does each call.
-use Rattle.std.proofs.Common.{◌≡◌, ℕ, zero, suc, ◌+◌, Bool, true, false, List, [], ◌∷◌, ◌++◌, length, Option, None, Some, refl, sym, ap, ◌∙◌, arith, length-append, if◌then◌else◌}
-use Rattle.std.specs.Prelude.{⊤, slice_get, nat_lt}
+use Rattle.std.proofs.Common.{◌≡◌, ℕ, zero, suc, ◌+◌, true, false, List, [], ◌∷◌, ◌++◌, length, None, Some, refl, ap, ◌∙◌, arith, if◌then◌else◌}
+use Rattle.std.specs.Prelude.{slice_get, nat_lt}
 use Rattle.f3_rules.specs.declared.source.Place.{Place}
 use Rattle.f3_meaning_whole.specs.Value.{Value, Unallocated}
 use Rattle.f3_meaning_whole.specs.Reference.{Reference}
 use Rattle.f3_meaning_whole.specs.declared.run_error.RunError.TheVariants.{CallsTooDeep}
-use Rattle.f3_meaning_whole.specs.Ran.{World, Ran, ◌>>=◌, gives, fails, looks}
+use Rattle.f3_meaning_whole.specs.Ran.{World, Ran, ◌>>=◌, gives, looks}
 use Rattle.f3_meaning_whole.specs.Act.{Setting, Here, Passed, Calls, at, begins, claim, enter, leave}
 use Rattle.f3_meaning_whole.specs.Exec.{Flow, Onward, Cycled, Left, Returned, held, dummies, left_at}
 use Rattle.f3_core.specs.Work.{Work, routines_of}
@@ -13,10 +13,10 @@ use Rattle.f3_core.specs.Core as c
 use Rattle.f3_core.specs.Exec.{works_each, exec, finish_from, result_at, discard_arguments, called}
 use Rattle.f3_core.specs.Run.{core_setting, call_of, core_calls}
 use Rattle.f3_code.specs.declared.instruction.Instruction.TheVariants as i
-use Rattle.f3_code.specs.State.{Line, line, placed, Entry, Code, Cell, Datum, Object, Objects, Argument, Frame, State, Failed, Next, Goes, Stays}
+use Rattle.f3_code.specs.State.{Line, line, placed, Entry, Code, Cell, Datum, Objects, Argument, Frame, Failed, Next, Stays}
 use Rattle.f3_code.specs.Machine.{act, step, argument_of, begun, entered, called_at}
 use Rattle.f3_code.specs.Machine as machine
-use Rattle.f3_code.specs.Code.{work_code, code_of, begin_code, finish_code, discard_code, body_ways, last_code, body_code, procedures_code, entries, places_of}
+use Rattle.f3_code.specs.Code.{code_of, begin_code, finish_code, discard_code, body_ways, last_code, body_code, procedures_code, entries, places_of}
 use Rattle.f3_code_laws.proofs.Places.{HasAt, has_front, has_back}
 use Rattle.f3_code_laws.proofs.Reaching.{Reaches, step_then, stays, one_step, does_it, fails_at, then_on, as_well, bind_assoc, then_same, nothing_then, looks_end}
 use Rattle.f3_code_laws.proofs.Ending.{begins_ends, leave_ends, begun_ends}

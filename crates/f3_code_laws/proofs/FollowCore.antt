@@ -1,13 +1,13 @@
 -- The code of each form of statement follows it, where that of the statements in it does.
-use Rattle.std.proofs.Common.{◌≡◌, ℕ, zero, suc, ◌+◌, ◌-◌, ◌≤◌, Bool, true, false, List, [], ◌∷◌, ◌++◌, length, Option, None, Some, refl, sym, ap, ◌∙◌, arith, length-append, if◌then◌else◌}
-use Rattle.std.specs.Prelude.{⊤, slice_get, drop}
+use Rattle.std.proofs.Common.{◌≡◌, ℕ, suc, ◌+◌, ◌-◌, Bool, true, false, List, [], ◌∷◌, ◌++◌, length, Option, Some, refl, sym, ap, ◌∙◌, arith, length-append, if◌then◌else◌}
+use Rattle.std.specs.Prelude.{slice_get, drop}
 use Rattle.f3_rules.specs.declared.source.Place.{Place}
 use Rattle.f3_program.specs.declared.expression.Designator.{Designator}
 use Rattle.f3_program.specs.declared.expression.Expression.{Expression}
 use Rattle.f3_program.specs.declared.statement.Item.{Item}
 use Rattle.f3_program.specs.declared.statement.Range.{Range}
-use Rattle.f3_meaning_whole.specs.Value.{Value, truth_of}
-use Rattle.f3_meaning_whole.specs.Ran.{World, Ran, ◌>>=◌, gives}
+use Rattle.f3_meaning_whole.specs.Value.{truth_of}
+use Rattle.f3_meaning_whole.specs.Ran.{World, Ran, gives}
 use Rattle.f3_meaning_whole.specs.Act.{Setting, Here, Calls, begins, at}
 use Rattle.f3_meaning_whole.specs.Eval.{value, locate}
 use Rattle.f3_meaning_whole.specs.Exec.{Flow, Onward, Cycled, Left, Returned}
@@ -16,11 +16,11 @@ use Rattle.f3_core.specs.Work.{Work, routines_of}
 use Rattle.f3_core.specs.Core as c
 use Rattle.f3_core.specs.Exec.{exec}
 use Rattle.f3_code.specs.declared.instruction.Instruction.TheVariants as i
-use Rattle.f3_code.specs.State.{Line, line, placed, Code, Cell, Datum, Object, Status, Frame, State, Goes}
+use Rattle.f3_code.specs.State.{Line, line, placed, Code, Cell, Datum, Object, Frame, State, Goes}
 use Rattle.f3_code.specs.Machine.{act, step}
 use Rattle.f3_code.specs.Code.{value_code, locate_code, transfer_code, allocate_code, deallocate_code, status_code, items_code, ranges_code, Ways, farther, looped, code_of}
 use Rattle.f3_code_laws.proofs.Places.{HasAt, has_front, has_back}
-use Rattle.f3_code_laws.proofs.Reaching.{Reaches, fewer, step_then, stays, one_step, stops_at, then_on, ends_with, comes_by, comes_then}
+use Rattle.f3_code_laws.proofs.Reaching.{Reaches, fewer, step_then, one_step, stops_at, then_on, ends_with, comes_then}
 use Rattle.f3_code_laws.proofs.Ending.{begins_ends}
 use Rattle.f3_code_laws.proofs.FollowValue.{state, CallsFollow, is_at, starting, at_line, value_follows, locate_follows}
 use Rattle.f3_code_laws.proofs.FollowWork.{RoutinesFollow}
@@ -142,8 +142,8 @@ module _ (limit : ℕ) (g : Setting) (code : Code) (n : ℕ) (frames : List Fram
       let left_x : left ≡ end + (1 + length cy + ws.exit) = omega (arith, left_is, jumps_on) in
       let back_x : back ≡ end + (1 + length cy + ws.ret) = omega (arith, back_is, jumps_on) in
       then_on limit g code (values e o pc base here w (has_front code.lines pc ce _ has)) (λ v w. fewer limit g code n (suc n) (omega arith) (chosen limit g code n frames n (truth_of v) _ (state (mid + 1) base here frames w) (state (mid + 1 + (length cx + 1)) base here frames w) (exec g n types calls x (placed o here)) (exec g n types calls y (placed o here)) w _ (at_it mid (Datum v ∷ base) here w skip h.0)
-        (ends_with limit g code (first o ws' (mid + 1) end cyc left back base here w (has_front code.lines (mid + 1) cx _ h.1) refl cyc_x left_x back_x) (λ flow w. jumped limit g code n frames o (length cy) on end cyc left back ws.cells base here flow w hy.0 jumps_on))
-        (starting limit g code n frames n _ _ base here w to_y (second o ws (end + 1) on cyc left back base here w hy.1 (sym jumps_on) cyc_is left_is back_is))))
+      (ends_with limit g code (first o ws' (mid + 1) end cyc left back base here w (has_front code.lines (mid + 1) cx _ h.1) refl cyc_x left_x back_x) (λ flow w. jumped limit g code n frames o (length cy) on end cyc left back ws.cells base here flow w hy.0 jumps_on))
+      (starting limit g code n frames n _ _ base here w to_y (second o ws (end + 1) on cyc left back base here w hy.1 (sym jumps_on) cyc_is left_is back_is))))
 
   pub case_follows : (rs : List Range) (x y : c.Core) → Follows x → Follows y → Follows (c.Case rs x y)
   case_follows rs x y first second o ws pc on cyc left back base here w has on_is cyc_is left_is back_is =

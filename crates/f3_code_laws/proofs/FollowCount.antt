@@ -1,12 +1,12 @@
 -- The turns of a DO.
-use Rattle.std.proofs.Common.{◌≡◌, ℕ, zero, suc, ◌+◌, ◌-◌, ◌≤◌, ℤ, List, [], ◌∷◌, Option, Some, refl, ap, ◌∙◌, arith}
+use Rattle.std.proofs.Common.{◌≡◌, ℕ, zero, suc, ◌+◌, ◌-◌, ◌≤◌, ℤ, List, [], ◌∷◌, Option, Some, ap, ◌∙◌, arith}
 use Rattle.std.specs.Prelude.{⊤, slice_get}
 use Rattle.f3_rules.specs.declared.source.Place.{Place}
 use Rattle.f3_meaning_whole.specs.Ran.{World, Ran, ◌>>=◌, gives}
 use Rattle.f3_meaning_whole.specs.Act.{Setting, Here}
 use Rattle.f3_meaning_whole.specs.Exec.{Flow, Onward, Cycled, Left, Returned, next_turn, counted}
 use Rattle.f3_code.specs.declared.instruction.Instruction.TheVariants as i
-use Rattle.f3_code.specs.State.{Line, line, placed, Code, Cell, Turns, Frame, State, Goes}
+use Rattle.f3_code.specs.State.{Line, line, placed, Code, Cell, Turns, Frame, Goes}
 use Rattle.f3_code.specs.Machine.{act, step}
 use Rattle.f3_code_laws.proofs.Reaching.{Reaches, step_first, fewer, step_then, stays, one_step, then_on}
 use Rattle.f3_code_laws.proofs.FollowValue.{state, is_at}

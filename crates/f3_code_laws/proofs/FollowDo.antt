@@ -1,13 +1,12 @@
 -- The code of a DO follows it, where that of its body does.
-use Rattle.std.proofs.Common.{◌≡◌, ℕ, zero, suc, ◌+◌, ◌-◌, ◌≤◌, ℤ, Bool, true, false, List, [], ◌∷◌, ◌++◌, length, Option, Some, refl, sym, ap, ◌∙◌, arith, length-append, ◌+ℤ◌}
-use Rattle.std.specs.Prelude.{⊤, slice_get}
+use Rattle.std.proofs.Common.{◌≡◌, ℕ, ◌+◌, ◌-◌, ℤ, List, [], ◌∷◌, ◌++◌, length, Option, refl, arith, length-append, ◌+ℤ◌}
 use Rattle.f3_rules.specs.declared.source.Place.{Place}
 use Rattle.f3_program.specs.declared.declarations.Kind.{Kind}
 use Rattle.f3_program.specs.declared.expression.Designator.{Designator}
 use Rattle.f3_program.specs.declared.expression.Expression.{Expression}
-use Rattle.f3_meaning_whole.specs.Value.{Value, Number, number_of}
+use Rattle.f3_meaning_whole.specs.Value.{Number, number_of}
 use Rattle.f3_meaning_whole.specs.Store.{get}
-use Rattle.f3_meaning_whole.specs.Ran.{World, Ran, ◌>>=◌, gives, looks}
+use Rattle.f3_meaning_whole.specs.Ran.{World, ◌>>=◌, looks}
 use Rattle.f3_meaning_whole.specs.Arithmetic.{converted, trips}
 use Rattle.f3_meaning_whole.specs.Act.{Setting, Here, Calls, set}
 use Rattle.f3_meaning_whole.specs.Exec.{Flow, unless_zero}
@@ -16,12 +15,12 @@ use Rattle.f3_core.specs.Work.{Work, routines_of}
 use Rattle.f3_core.specs.Core as c
 use Rattle.f3_core.specs.Exec.{exec}
 use Rattle.f3_code.specs.declared.instruction.Instruction.TheVariants as i
-use Rattle.f3_code.specs.State.{Line, line, placed, Code, Cell, Datum, Object, Turns, Frame, State}
-use Rattle.f3_code.specs.Code.{value_code, locate_code, Ways, counting, up_code, turns_code, limits_code, code_of}
+use Rattle.f3_code.specs.State.{line, placed, Code, Cell, Datum, Object, Turns, Frame}
+use Rattle.f3_code.specs.Code.{value_code, locate_code, counting, up_code, turns_code, code_of}
 use Rattle.f3_code_laws.proofs.Places.{HasAt, has_front, has_back}
 use Rattle.f3_code_laws.proofs.Reaching.{Reaches, then_on, bind_ends, looks_end}
 use Rattle.f3_code_laws.proofs.Ending.{converted_ends, unless_ends, set_ends}
-use Rattle.f3_code_laws.proofs.FollowValue.{state, CallsFollow, is_at, ending, at_line, then_code, value_follows, locate_follows}
+use Rattle.f3_code_laws.proofs.FollowValue.{state, CallsFollow, at_line, then_code, value_follows, locate_follows}
 use Rattle.f3_code_laws.proofs.FollowWork.{RoutinesFollow}
 use Rattle.f3_code_laws.proofs.FollowCount.{count_follows}
 use Rattle.f3_code_laws.proofs.FollowCore.{Follows}
@@ -79,5 +78,5 @@ module _ (limit : ℕ) (g : Setting) (code : Code) (n : ℕ) (frames : List Fram
       then_on limit g code (locate_follows limit g code n frames calls follow d o (p3 + 1) stack here w (has_front code.lines (p3 + 1) cd _ h3.1.1)) (λ r w.
       then_on limit g code (at_line limit g code n frames {next = λ done w. state p5 (Turns (trips (number_of first) (number_of last) (number_of step)) (number_of step) ∷ base) here frames w} (set r first there) p4 (Object r ∷ stack) here w (line o i.CountBegin) (set_ends r first there) h4.0 refl) (λ done w.
       count_follows limit g code n frames o (exec g n types calls x there) (meaning.increment g n calls d k (number_of step) there) (number_of step) base here p5 p6 p7 on cyc left back ws.cells (length cx + length cu + 1) b h4.1.0 skips h7.0 returns h7.1.0 lasts
-        (λ w t. follows o (counting (length cu) ws) (p5 + 1) p6 p6 (p7 + 1) back (Turns t (number_of step) ∷ base) here w (has_front code.lines (p5 + 1) cx _ h4.1.1) refl cyc_x left_x back_x)
-        (λ w t. up_follows d k (number_of step) o t p6 base here w (has_front code.lines p6 cu _ h6)) n (trips (number_of first) (number_of last) (number_of step)) (omega arith) w)))))))))
+      (λ w t. follows o (counting (length cu) ws) (p5 + 1) p6 p6 (p7 + 1) back (Turns t (number_of step) ∷ base) here w (has_front code.lines (p5 + 1) cx _ h4.1.1) refl cyc_x left_x back_x)
+      (λ w t. up_follows d k (number_of step) o t p6 base here w (has_front code.lines p6 cu _ h6)) n (trips (number_of first) (number_of last) (number_of step)) (omega arith) w)))))))))

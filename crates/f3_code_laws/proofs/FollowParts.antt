@@ -1,36 +1,29 @@
 -- The code of parts of statements follows them.
-use Rattle.std.proofs.Common.{◌≡◌, ℕ, zero, suc, ◌+◌, Bool, true, false, List, [], ◌∷◌, ◌++◌, length, Option, None, Some, refl, sym, ap, ◌∙◌, subst, arith, length-append, if◌then◌else◌}
-use Rattle.std.specs.Prelude.{⊤, slice_get, nat_eq, pos, map}
+use Rattle.std.proofs.Common.{◌≡◌, ℕ, suc, ◌+◌, Bool, true, false, List, [], ◌∷◌, ◌++◌, length, Option, None, Some, refl, ap, arith, if◌then◌else◌}
+use Rattle.std.specs.Prelude.{slice_get, pos}
 use Rattle.f3_rules.specs.declared.source.Place.{Place}
 use Rattle.f3_program.specs.declared.expression.Designator.{Designator}
 use Rattle.f3_program.specs.declared.expression.Expression.{Expression}
 use Rattle.f3_program.specs.declared.statement.Bounds.{Bounds}
-use Rattle.f3_program.specs.declared.statement.Item.{Item}
-use Rattle.f3_program.specs.declared.statement.Item.TheVariants as item
-use Rattle.f3_program.specs.declared.statement.Range.{Range}
-use Rattle.f3_meaning_whole.specs.Value.{Span, Value, Number, Truth, Composite, Array, Unallocated, Allocated, is_allocated, conforms, spans_of, number_of}
-use Rattle.f3_meaning_whole.specs.Store.{get}
-use Rattle.f3_meaning_whole.specs.Reference.{Reference, spans, is_pinned}
+use Rattle.f3_meaning_whole.specs.Value.{Span, Number, number_of}
 use Rattle.f3_meaning_whole.specs.declared.run_error.RunError.{RunError}
-use Rattle.f3_meaning_whole.specs.declared.run_error.RunError.TheVariants.{NotAllocated, ShapesDiffer, InUse}
-use Rattle.f3_meaning_whole.specs.Ran.{Event, Printed, World, Ran, ◌>>=◌, gives, fails, looks, prints_bytes}
-use Rattle.f3_meaning_whole.specs.Arithmetic.{converted, meets, trips}
-use Rattle.f3_meaning_whole.specs.Act.{Setting, Here, Calls, claim, claim_for, contents, set}
+use Rattle.f3_meaning_whole.specs.Ran.{World, Ran, ◌>>=◌, fails}
+use Rattle.f3_meaning_whole.specs.Arithmetic.{trips}
+use Rattle.f3_meaning_whole.specs.Act.{Setting, Here, Calls, set}
 use Rattle.f3_meaning_whole.specs.Eval.{value, locate}
 use Rattle.f3_meaning_whole.specs.Exec.{print_value, status_number, unless_failed, vacant}
 use Rattle.f3_meaning_whole.specs.Exec as meaning
-use Rattle.f3_core.specs.Work.{Work, Routines, work, routines_of}
+use Rattle.f3_core.specs.Work.{Work}
 use Rattle.f3_core.specs.Core as c
-use Rattle.f3_core.specs.Exec.{by_state, transfer, allocate, allocate_all, deallocate, deallocate_all}
+use Rattle.f3_core.specs.Exec.{allocate, allocate_all}
 use Rattle.f3_code.specs.declared.instruction.Instruction.TheVariants as i
-use Rattle.f3_code.specs.State.{Line, line, line_with, placed, Code, Cell, Datum, Object, Extent, Status, Frame, State, Next, Goes, Stays}
-use Rattle.f3_code.specs.Machine.{tested, checked, performs, act, step, extent_of, branches}
-use Rattle.f3_code.specs.Code.{value_code, locate_code, work_code, transfer_code, dimensions_code, allocate_code, free_code, deallocate_code, status_code, bytes_code, items_code, ranges_code}
-use Rattle.f3_code_laws.proofs.Places.{HasAt, has_front, has_back}
-use Rattle.f3_code_laws.proofs.Reaching.{AllGive, give_all, gives_as, give_any, Comes, Reaches, step_then, stays, one_step, then_where, then_on, ends_with, comes_by, comes_on, comes_then, as_well, looked, nothing_then, fails_then, bind_ends}
-use Rattle.f3_code_laws.proofs.Ending.{converted_ends, claim_ends, claim_for_ends, contents_end, set_ends, tested_ends, checked_ends, allocate_ends, print_ends, printed_ends}
-use Rattle.f3_code_laws.proofs.FollowValue.{state, onto, popped, CallsFollow, is_at, ending, starting, at_line, then_where_code, then_code, no_code, value_follows, locate_follows}
-use Rattle.f3_code_laws.proofs.FollowWork.{RoutinesFollow, if_then, test_case, work_follows}
+use Rattle.f3_code.specs.State.{Line, line, line_with, placed, Code, Cell, Datum, Object, Extent, Status, Frame}
+use Rattle.f3_code.specs.Machine.{tested, checked, act, step, extent_of}
+use Rattle.f3_code.specs.Code.{value_code, locate_code, dimensions_code, allocate_code, status_code}
+use Rattle.f3_code_laws.proofs.Places.{HasAt}
+use Rattle.f3_code_laws.proofs.Reaching.{AllGive, give_all, gives_as, give_any, Reaches, step_then, stays, one_step, then_on, nothing_then, fails_then}
+use Rattle.f3_code_laws.proofs.Ending.{set_ends, checked_ends, allocate_ends}
+use Rattle.f3_code_laws.proofs.FollowValue.{state, onto, popped, CallsFollow, is_at, ending, at_line, then_where_code, then_code, no_code, value_follows, locate_follows}
 
 -- what a test asks for, and then more
 pub tested_then : {A : Type 0} (b : Bool) (error : RunError) (here : Here) (x : Ran A) → (tested b error here >>= λ done. x) ≡ (if b then x else fails error here.place)

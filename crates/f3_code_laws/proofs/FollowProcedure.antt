@@ -1,14 +1,14 @@
 -- The code with which procedures begin and end follows it.
-use Rattle.std.proofs.Common.{◌≡◌, ℕ, suc, ◌+◌, Bool, true, false, List, [], ◌∷◌, ◌++◌, length, Option, None, Some, refl, ap, ◌∙◌, arith, length-append, if◌then◌else◌}
-use Rattle.std.specs.Prelude.{⊤, slice_get}
+use Rattle.std.proofs.Common.{◌≡◌, ℕ, suc, ◌+◌, Bool, true, false, List, [], ◌∷◌, ◌++◌, length, None, Some, refl, ap, ◌∙◌, arith, length-append, if◌then◌else◌}
+use Rattle.std.specs.Prelude.{slice_get}
 use Rattle.f3_program.specs.declared.expression.Name.TheVariants as name
 use Rattle.f3_meaning_whole.specs.Reference.{Reference}
-use Rattle.f3_meaning_whole.specs.Ran.{World, Ran, ◌>>=◌, gives}
+use Rattle.f3_meaning_whole.specs.Ran.{World, gives}
 use Rattle.f3_meaning_whole.specs.Act.{Setting, Here, Calls, named, passed_at}
 use Rattle.f3_core.specs.Work.{Work, routines_of}
 use Rattle.f3_core.specs.Exec.{finish_from, works, works_each, is_held, discard_arguments}
 use Rattle.f3_code.specs.declared.instruction.Instruction.TheVariants as i
-use Rattle.f3_code.specs.State.{Line, line, placed, Code, Cell, Object, Objects, Frame, State, Goes}
+use Rattle.f3_code.specs.State.{Line, line, placed, Code, Cell, Object, Objects, Frame, Goes}
 use Rattle.f3_code.specs.Machine.{act, step, passed_in, next_argument}
 use Rattle.f3_code.specs.Code.{work_code, begin_code, finish_code, discard_code}
 use Rattle.f3_code_laws.proofs.Places.{HasAt, has_front, has_back}

@@ -1,12 +1,12 @@
 -- The code of the routines of types follows them.
-use Rattle.std.proofs.Common.{◌≡◌, ℕ, zero, suc, ◌+◌, Bool, true, false, List, [], ◌∷◌, ◌++◌, length, Option, None, Some, refl, sym, ap, ◌∙◌, subst, arith, if◌then◌else◌}
-use Rattle.std.specs.Prelude.{⊤, slice_get, nat_lt, nat_eq}
+use Rattle.std.proofs.Common.{◌≡◌, ℕ, suc, ◌+◌, Bool, true, false, List, [], ◌∷◌, length, None, Some, refl, sym, ap, ◌∙◌, subst, arith, if◌then◌else◌}
+use Rattle.std.specs.Prelude.{slice_get, nat_lt, nat_eq}
 use Rattle.f3_meaning_whole.specs.Reference.{Reference}
-use Rattle.f3_meaning_whole.specs.Ran.{World, Ran, gives}
+use Rattle.f3_meaning_whole.specs.Ran.{World}
 use Rattle.f3_meaning_whole.specs.Act.{Setting, Here, Calls, at}
 use Rattle.f3_core.specs.Work.{Work, work, routines_of}
 use Rattle.f3_code.specs.declared.instruction.Instruction.TheVariants as i
-use Rattle.f3_code.specs.State.{Line, line, placed, Code, Cell, Object, To, Frame, State, Next, Goes}
+use Rattle.f3_code.specs.State.{Line, line, placed, Code, Cell, Object, To, Frame, Next, Goes}
 use Rattle.f3_code.specs.Machine.{step, routine_at}
 use Rattle.f3_code.specs.Code.{work_code, routines_code, places_of}
 use Rattle.f3_code_laws.proofs.Places.{HasAt, has_front, has_back}

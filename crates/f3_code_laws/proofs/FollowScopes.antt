@@ -1,33 +1,30 @@
 -- The code of SELECT CASE, DO and MOVE_ALLOC follows it, where that of the statements in it does.
-use Rattle.std.proofs.Common.{◌≡◌, ℕ, zero, suc, ◌+◌, ◌-◌, ◌≤◌, ℤ, Bool, true, false, List, [], ◌∷◌, ◌++◌, length, Option, None, Some, refl, sym, ap, ◌∙◌, arith, length-append, ◌+ℤ◌}
-use Rattle.std.specs.Prelude.{⊤, slice_get, drop}
+use Rattle.std.proofs.Common.{◌≡◌, ℕ, ◌+◌, Bool, true, false, List, [], ◌∷◌, ◌++◌, length, Option, Some, refl, sym, ap, ◌∙◌, arith, length-append}
+use Rattle.std.specs.Prelude.{slice_get, drop}
 use Rattle.f3_rules.specs.declared.source.Place.{Place}
-use Rattle.f3_program.specs.declared.declarations.Kind.{Kind}
 use Rattle.f3_program.specs.declared.expression.Designator.{Designator}
 use Rattle.f3_program.specs.declared.expression.Expression.{Expression}
-use Rattle.f3_meaning_whole.specs.Value.{Value, Number, Truth, Composite, Array, Unallocated, Allocated, number_of}
+use Rattle.f3_meaning_whole.specs.Value.{Value, Number, Truth, Composite, Array, Unallocated, Allocated}
 use Rattle.f3_meaning_whole.specs.Store.{get}
 use Rattle.f3_meaning_whole.specs.Reference.{Reference}
-use Rattle.f3_meaning_whole.specs.Ran.{World, Ran, ◌>>=◌, gives, looks}
-use Rattle.f3_meaning_whole.specs.Arithmetic.{converted, trips}
-use Rattle.f3_meaning_whole.specs.Act.{Setting, Here, Calls, at, set, selecting, lending}
-use Rattle.f3_meaning_whole.specs.Eval.{value, locate}
+use Rattle.f3_meaning_whole.specs.Ran.{World, ◌>>=◌, looks}
+use Rattle.f3_meaning_whole.specs.Act.{Setting, Here, Calls, at, selecting, lending}
 use Rattle.f3_meaning_whole.specs.Exec.{Flow, Onward, Cycled, Left, Returned, next_turn, counted, unless_zero}
 use Rattle.f3_meaning_whole.specs.Exec as meaning
 use Rattle.f3_core.specs.Work.{Work, routines_of}
 use Rattle.f3_core.specs.Core as c
-use Rattle.f3_core.specs.Exec.{exec, works, move_alloc}
+use Rattle.f3_core.specs.Exec.{move_alloc}
 use Rattle.f3_code.specs.declared.instruction.Instruction.TheVariants as i
 use Rattle.f3_code.specs.declared.instruction.Way.TheVariants as way
-use Rattle.f3_code.specs.State.{Line, line, placed, Code, Cell, Datum, Object, Turns, Outside, Going, Frame, State, Goes}
+use Rattle.f3_code.specs.State.{Line, line, placed, Code, Cell, Datum, Object, Outside, Going, Frame, Goes}
 use Rattle.f3_code.specs.Machine.{act, step, no_calls}
-use Rattle.f3_code.specs.Code.{value_code, locate_code, work_code, Ways, counting, scoped, leaving_code, departing_code, up_code, turns_code, limits_code, code_of}
+use Rattle.f3_code.specs.Code.{value_code, locate_code, work_code, Ways, scoped, leaving_code, departing_code, code_of}
 use Rattle.f3_code_laws.proofs.Places.{HasAt, has_front, has_back}
-use Rattle.f3_code_laws.proofs.Reaching.{Comes, Reaches, step_first, fewer, step_then, stays, arrives, one_step, then_on, ends_with, comes_by, comes_on, as_well, looked, then_same, bind_ends, looks_end}
-use Rattle.f3_code_laws.proofs.Ending.{converted_ends, unless_ends, set_ends, take_over_ends}
-use Rattle.f3_code_laws.proofs.FollowValue.{state, CallsFollow, is_at, starting, ending, at_line, then_code, value_follows, locate_follows}
+use Rattle.f3_code_laws.proofs.Reaching.{Comes, Reaches, step_then, then_on, ends_with, comes_by, comes_on, as_well, then_same, bind_ends, looks_end}
+use Rattle.f3_code_laws.proofs.Ending.{take_over_ends}
+use Rattle.f3_code_laws.proofs.FollowValue.{state, CallsFollow, is_at, at_line, value_follows, locate_follows}
 use Rattle.f3_code_laws.proofs.FollowWork.{RoutinesFollow, work_follows}
-use Rattle.f3_code_laws.proofs.FollowStatement.{leads, goes_onward, at_beyond}
+use Rattle.f3_code_laws.proofs.FollowStatement.{leads, goes_onward}
 use Rattle.f3_code_laws.proofs.FollowCore.{Follows}
 
 module _ (limit : ℕ) (g : Setting) (code : Code) (n : ℕ) (frames : List Frame) where

@@ -1,30 +1,16 @@
 -- The code of statements follows Core.
-use Rattle.std.proofs.Common.{◌≡◌, ℕ, zero, suc, ◌+◌, ◌-◌, ◌≤◌, ℤ, Bool, true, false, List, [], ◌∷◌, ◌++◌, length, Option, None, Some, refl, sym, ap, ◌∙◌, subst, arith, length-append, if◌then◌else◌}
-use Rattle.std.specs.Prelude.{⊤, slice_get, drop}
+use Rattle.std.proofs.Common.{◌≡◌, ℕ, zero, suc, ◌+◌, ◌-◌, ◌≤◌, Bool, true, false, List, [], ◌∷◌, Option, Some, refl, sym, ap, ◌∙◌, arith, if◌then◌else◌}
+use Rattle.std.specs.Prelude.{slice_get, drop}
 use Rattle.f3_rules.specs.declared.source.Place.{Place}
-use Rattle.f3_program.specs.declared.expression.Designator.{Designator}
-use Rattle.f3_program.specs.declared.expression.Expression.{Expression}
 use Rattle.f3_meaning_whole.specs.Value.{Value, truth_of}
 use Rattle.f3_meaning_whole.specs.Ran.{World, Ran, ◌>>=◌, gives, beyond}
-use Rattle.f3_meaning_whole.specs.Act.{Setting, Here, Calls, begins, at, selecting}
-use Rattle.f3_meaning_whole.specs.Eval.{value, locate}
+use Rattle.f3_meaning_whole.specs.Act.{Setting, Here, at}
 use Rattle.f3_meaning_whole.specs.Exec.{Flow, Onward, Cycled, Left, Returned, onward, next_turn, turns}
-use Rattle.f3_meaning_whole.specs.Exec as meaning
-use Rattle.f3_core.specs.Work.{Work, routines_of}
-use Rattle.f3_core.specs.Core as c
-use Rattle.f3_core.specs.Exec.{exec}
 use Rattle.f3_code.specs.declared.instruction.Instruction.TheVariants as i
-use Rattle.f3_code.specs.declared.instruction.Way.TheVariants as way
-use Rattle.f3_code.specs.State.{Line, line, placed, Code, Cell, Datum, Object, Outside, Going, Frame, State, Next, Goes}
-use Rattle.f3_code.specs.Machine.{act, step, run}
-use Rattle.f3_code.specs.Code.{value_code, locate_code, transfer_code, allocate_code, deallocate_code, status_code, items_code, ranges_code, Ways, farther, looped, scoped, leaving_code, departing_code, code_of}
-use Rattle.f3_code_laws.proofs.Places.{HasAt, has_front, has_back}
-use Rattle.f3_code_laws.proofs.Reaching.{Comes, Reaches, step_first, fewer, step_then, stays, arrives, one_step, stops_at, then_on, ends_with, comes_here, comes_by, comes_on, comes_then, as_well, joined, nothing_then}
-use Rattle.f3_code_laws.proofs.Ending.{begins_ends}
-use Rattle.f3_code_laws.proofs.FollowValue.{state, CallsFollow, is_at, starting, at_line, value_follows, locate_follows}
-use Rattle.f3_code_laws.proofs.FollowWork.{RoutinesFollow, test_case}
-use Rattle.f3_code_laws.proofs.FollowParts.{allocates_follow, status_follows}
-use Rattle.f3_code_laws.proofs.FollowTransfer.{transfer_follows, deallocates_follow, items_follow, ranges_follow}
+use Rattle.f3_code.specs.State.{Line, line, placed, Code, Cell, Datum, Frame, State, Goes}
+use Rattle.f3_code.specs.Machine.{act, step}
+use Rattle.f3_code_laws.proofs.Reaching.{Comes, Reaches, step_first, fewer, step_then, stays, arrives, then_on, comes_here, comes_by, as_well, joined, nothing_then}
+use Rattle.f3_code_laws.proofs.FollowValue.{state, is_at}
 
 -- Where a statement leads: on, to the loop's next turn, out of the loop, or out of the procedure, where so many cells go.
 abbrev pub leads : ℕ → ℕ → ℕ → ℕ → ℕ → List Cell → Here → List Frame → Flow → World → State

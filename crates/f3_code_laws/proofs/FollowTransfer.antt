@@ -1,5 +1,5 @@
 -- The code of assignments, DEALLOCATE, PRINT, ranges and selectors follows them.
-use Rattle.std.proofs.Common.{◌≡◌, ℕ, zero, suc, ◌+◌, Bool, true, false, List, [], ◌∷◌, ◌++◌, length, Option, None, Some, refl, sym, ap, ◌∙◌, subst, arith, length-append, if◌then◌else◌}
+use Rattle.std.proofs.Common.{◌≡◌, ℕ, suc, ◌+◌, Bool, true, false, List, [], ◌∷◌, ◌++◌, length, Option, None, Some, refl, sym, ap, ◌∙◌, arith, length-append, if◌then◌else◌}
 use Rattle.std.specs.Prelude.{⊤, slice_get, nat_eq}
 use Rattle.f3_rules.specs.declared.source.Place.{Place}
 use Rattle.f3_program.specs.declared.expression.Designator.{Designator}
@@ -12,7 +12,7 @@ use Rattle.f3_meaning_whole.specs.Store.{get}
 use Rattle.f3_meaning_whole.specs.Reference.{Reference, spans, is_pinned}
 use Rattle.f3_meaning_whole.specs.declared.run_error.RunError.{RunError}
 use Rattle.f3_meaning_whole.specs.declared.run_error.RunError.TheVariants.{NotAllocated, ShapesDiffer, InUse}
-use Rattle.f3_meaning_whole.specs.Ran.{World, Ran, ◌>>=◌, gives, fails, does, prints_bytes}
+use Rattle.f3_meaning_whole.specs.Ran.{World, Ran, ◌>>=◌, gives, does, prints_bytes}
 use Rattle.f3_meaning_whole.specs.Arithmetic.{converted, meets}
 use Rattle.f3_meaning_whole.specs.Act.{Setting, Here, Calls, claim, claim_for, contents, set}
 use Rattle.f3_meaning_whole.specs.Eval.{value, locate}
@@ -145,10 +145,10 @@ module _ (limit : ℕ) (g : Setting) (code : Code) (n : ℕ) (frames : List Fram
         let to_y : pc + 1 + (length cx + 1) ≡ p1 + 1 = omega arith in
         let to_z : pc + 1 + (length cx + 1 + (length cy + 1)) ≡ p2 + 1 = omega arith in
         looked limit g code (λ store. get store r.path) (λ old. by_state old v (transfer g n types calls x r v there) (transfer g n types calls y r v there) (transfer g n types calls z r v there))
-          (state_case (get w.store r.path) v (state pc all here frames w) w (length cx + 1) (length cx + 1 + (length cy + 1)) _ _ _ _ (at_it pc all here w l has.0)
-            (λ e. step_then limit g code e (ends_with limit g code (transfer_follows x o (pc + 1) r v stack here w hx) (λ done w. comes_by limit g code (at_it p1 stack here w g1 h1.0 ∙ ap (λ q. Goes [] (state q stack here frames w)) over1))))
-            (λ e. step_then limit g code e (starting limit g code n frames n _ _ all here w to_y (ends_with limit g code (transfer_follows y o (p1 + 1) r v stack here w hy) (λ done w. comes_by limit g code (at_it p2 stack here w g2 h2.0 ∙ ap (λ q. Goes [] (state q stack here frames w)) over2)))))
-            (λ e. step_then limit g code e (starting limit g code n frames n _ _ all here w to_z (ending limit g code n frames _ _ (λ done. stack) here over2 (transfer_follows z o (p2 + 1) r v stack here w h2.1)))))
+        (state_case (get w.store r.path) v (state pc all here frames w) w (length cx + 1) (length cx + 1 + (length cy + 1)) _ _ _ _ (at_it pc all here w l has.0)
+        (λ e. step_then limit g code e (ends_with limit g code (transfer_follows x o (pc + 1) r v stack here w hx) (λ done w. comes_by limit g code (at_it p1 stack here w g1 h1.0 ∙ ap (λ q. Goes [] (state q stack here frames w)) over1))))
+        (λ e. step_then limit g code e (starting limit g code n frames n _ _ all here w to_y (ends_with limit g code (transfer_follows y o (p1 + 1) r v stack here w hy) (λ done w. comes_by limit g code (at_it p2 stack here w g2 h2.0 ∙ ap (λ q. Goes [] (state q stack here frames w)) over2)))))
+        (λ e. step_then limit g code e (starting limit g code n frames n _ _ all here w to_z (ending limit g code n frames _ _ (λ done. stack) here over2 (transfer_follows z o (p2 + 1) r v stack here w h2.1)))))
     transfer_follows (c.Of_rank rank x) o pc r v stack here w has =
         as_well limit g code (tested_then (nat_eq rank (length (spans_of v))) NotAllocated (placed o here) (transfer g n types calls x r v (placed o here))) (then_code limit g code n frames (line o (i.TestRank rank) ∷ []) (transfer_code m o x) pc has (λ h. at_line limit g code n frames (tested (nat_eq rank (length (spans_of v))) NotAllocated (placed o here)) pc _ here w (line o (i.TestRank rank)) (tested_ends (nat_eq rank (length (spans_of v))) NotAllocated (placed o here)) h.0 refl) (λ done w h. transfer_follows x o _ r v stack here w h))
     transfer_follows (c.Behind x y) o pc r v stack here w has =
@@ -184,12 +184,12 @@ module _ (limit : ℕ) (g : Setting) (code : Code) (n : ℕ) (frames : List Fram
         let b = is_pinned h.path there.lent in
         let hd = has_back code.lines (pc + 1) cx (line o i.Drop ∷ line o i.NoError ∷ []) has.1 in
         looked limit g code (λ store. is_allocated (get store h.path)) (λ allocated. if allocated then (if b then gives (Some InUse) else freed) else gives (Some NotAllocated))
-          (test_case limit g code n frames (is_allocated (get w.store h.path)) s w (if b then fails_as InUse else goes) (fails_as NotAllocated) _ _ _ (at_it pc (Object h ∷ stack) here w (line o (i.TestFree d)) has.0)
-            (λ e. test_case limit g code n frames b s w (fails_as InUse) goes (gives (Some InUse)) freed _ e
-              (λ e. one_step limit g code n (Some InUse) w _ (e ∙ ap (λ q. Goes [] (state q (Status (Some InUse) ∷ stack) here frames w)) over))
-              (λ e. step_then limit g code e (ending limit g code n frames _ _ (λ status. Status status ∷ stack) here len (then_on limit g code (works_follow x o (pc + 1) h stack here w (has_front code.lines (pc + 1) cx _ has.1)) (λ done w.
-                step_then limit g code (at_it (pc + 1 + length cx) (Object h ∷ stack) here w (line o i.Drop) hd.0) (one_step limit g code n None w (λ status w. state (pc + 1 + length cx + 1 + 1) (Status status ∷ stack) here frames w) (at_it (pc + 1 + length cx + 1) stack here w (line o i.NoError) hd.1.0)))))))
-            (λ e. one_step limit g code n (Some NotAllocated) w _ (e ∙ ap (λ q. Goes [] (state q (Status (Some NotAllocated) ∷ stack) here frames w)) over)))
+        (test_case limit g code n frames (is_allocated (get w.store h.path)) s w (if b then fails_as InUse else goes) (fails_as NotAllocated) _ _ _ (at_it pc (Object h ∷ stack) here w (line o (i.TestFree d)) has.0)
+        (λ e. test_case limit g code n frames b s w (fails_as InUse) goes (gives (Some InUse)) freed _ e
+        (λ e. one_step limit g code n (Some InUse) w _ (e ∙ ap (λ q. Goes [] (state q (Status (Some InUse) ∷ stack) here frames w)) over))
+        (λ e. step_then limit g code e (ending limit g code n frames _ _ (λ status. Status status ∷ stack) here len (then_on limit g code (works_follow x o (pc + 1) h stack here w (has_front code.lines (pc + 1) cx _ has.1)) (λ done w.
+        step_then limit g code (at_it (pc + 1 + length cx) (Object h ∷ stack) here w (line o i.Drop) hd.0) (one_step limit g code n None w (λ status w. state (pc + 1 + length cx + 1 + 1) (Status status ∷ stack) here frames w) (at_it (pc + 1 + length cx + 1) stack here w (line o i.NoError) hd.1.0)))))))
+        (λ e. one_step limit g code n (Some NotAllocated) w _ (e ∙ ap (λ q. Goes [] (state q (Status (Some NotAllocated) ∷ stack) here frames w)) over)))
 
     pub deallocates_follow : (xs : List c.Deallocation) (o : Option Place) (pc : ℕ) (stack : List Cell) (here : Here) (w : World) → HasAt code.lines pc (deallocate_code m o xs) → Reaches limit g code n (state pc stack here frames w) (deallocate_all g n types calls xs (placed o here)) w (λ x w. state (pc + length (deallocate_code m o xs)) (Status x ∷ stack) here frames w)
     deallocates_follow [] o pc stack here w has = one_step limit g code n None w _ (at_it pc stack here w (line o i.NoError) has.0)

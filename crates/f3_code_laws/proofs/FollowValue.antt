@@ -1,5 +1,5 @@
 -- The code of expressions and designators follows them.
-use Rattle.std.proofs.Common.{◌≡◌, ℕ, zero, suc, ◌+◌, ℤ, pos, Bool, true, false, List, [], ◌∷◌, ◌++◌, length, Option, None, Some, refl, sym, ap, ◌∙◌, subst, arith, append-nil, length-append, if◌then◌else◌}
+use Rattle.std.proofs.Common.{◌≡◌, ℕ, suc, ◌+◌, ℤ, pos, Bool, true, false, List, [], ◌∷◌, ◌++◌, length, Option, None, Some, refl, sym, ap, ◌∙◌, subst, arith, append-nil, length-append, if◌then◌else◌}
 use Rattle.std.specs.Prelude.{slice_get, slice_index_or}
 use Rattle.f3_rules.specs.declared.source.Place.{Place}
 use Rattle.f3_program.specs.declared.declarations.Base.TheVariants as base
@@ -8,19 +8,19 @@ use Rattle.f3_program.specs.declared.expression.Designator as d
 use Rattle.f3_program.specs.declared.expression.Expression as e
 use Rattle.f3_program.specs.declared.expression.Selection as l
 use Rattle.f3_program.specs.declared.expression.Subscript as u
-use Rattle.f3_meaning_whole.specs.Value.{Span, Value, Number, Array, joined, number_of, count}
+use Rattle.f3_meaning_whole.specs.Value.{Value, Number, Array, joined, number_of, count}
 use Rattle.f3_meaning_whole.specs.Reference.{Selected, Reach, One, Many, Reference}
-use Rattle.f3_meaning_whole.specs.Ran.{World, Ran, ◌>>=◌, gives, looks}
+use Rattle.f3_meaning_whole.specs.Ran.{World, Ran, ◌>>=◌, gives}
 use Rattle.f3_meaning_whole.specs.Arithmetic.{apply, change_of, converted}
 use Rattle.f3_meaning_whole.specs.Shape.{Whole}
-use Rattle.f3_meaning_whole.specs.Act.{Setting, Here, Passed, Given, Lent, Calls, Chosen, At, Range, claim_for, named, component, component_of, contents, read, picks_in_each, structure, components_of, given}
+use Rattle.f3_meaning_whole.specs.Act.{Setting, Here, Passed, Calls, claim_for, named, component, component_of, contents, read, picks_in_each, structure, components_of, given}
 use Rattle.f3_meaning_whole.specs.Eval.{result, spans_of_component, asked, built, by_reach, value, bounds, argument, arguments, locate, select, select_in_each, chosen, subscript}
 use Rattle.f3_code.specs.declared.instruction.Instruction.TheVariants as i
-use Rattle.f3_code.specs.State.{Line, line, placed, Code, Cell, Datum, Object, Argument, Choice, Bound, Bounds, Frame, State, Next, Goes}
+use Rattle.f3_code.specs.State.{Line, line, placed, Code, Cell, Datum, Object, Argument, Choice, Bound, Bounds, Frame, State, Next}
 use Rattle.f3_code.specs.Machine.{on_some, on_many, argument_of, choice_of, called, selects, performs, act, does_line, step}
 use Rattle.f3_code.specs.Code.{argument_count, subscript_count, value_code, bounds_code, argument_code, arguments_code, locate_code, select_code, select_of_code, chosen_code, subscript_code}
 use Rattle.f3_code_laws.proofs.Places.{HasAt, has_front, has_back}
-use Rattle.f3_code_laws.proofs.Reaching.{AllGive, give_all, gives_as, give_any, Reaches, step_then, stays, one_step, does_it, then_where, then_on, as_well, Ends, bind_ends, looks_end}
+use Rattle.f3_code_laws.proofs.Reaching.{AllGive, give_all, gives_as, give_any, Reaches, stays, one_step, does_it, then_where, then_on, as_well, Ends, bind_ends, looks_end}
 use Rattle.f3_code_laws.proofs.Ending.{converted_ends, apply_ends, change_ends, claim_for_ends, built_ends, read_ends, result_ends, asked_ends, structure_ends, named_ends, component_ends, contents_end, selects_end, in_each_ends, reach_ends}
 
 -- a state by its parts
@@ -136,7 +136,7 @@ module _ (limit : ℕ) (g : Setting) (code : Code) (n : ℕ) (frames : List Fram
       value_follows (e.Call' f k xs) o pc stack here w has =
           then_where_code (λ ps. length ps ≡ argument_count xs) (arguments_count g calls xs (placed o here)) (arguments_code o xs) (line o (i.Call f (argument_count xs)) ∷ line o i.Result ∷ []) pc has (arguments_follow xs o pc stack here w) (λ ps w e h.
           then_code (line o (i.Call f (argument_count xs)) ∷ []) (line o i.Result ∷ []) _ h (λ h. follow.by f (placed o here) ps _ stack here w (is_at _ _ here w (line o (i.Call f (argument_count xs))) h.0 ∙ ap (λ k. called limit code f k (placed o here) (state (pc + length (arguments_code o xs)) (onto Argument ps stack) here frames w)) (sym e)))
-            (λ v w h. at_line (result v (placed o here) >>= λ v. built v (placed o here)) _ _ here w (line o i.Result) (bind_ends (result_ends v (placed o here)) (λ v. built_ends v (placed o here))) h.0 refl))
+          (λ v w h. at_line (result v (placed o here) >>= λ v. built v (placed o here)) _ _ here w (line o i.Result) (bind_ends (result_ends v (placed o here)) (λ v. built_ends v (placed o here))) h.0 refl))
       value_follows (e.Allocated' p x) o pc stack here w has =
           then_code (locate_code o x) (line o i.IsAllocated ∷ []) pc has (locate_follows x o pc stack here w) (λ r w h. at_line _ _ _ here w (line o i.IsAllocated) (looks_end _) h.0 refl)
       value_follows (e.Size' p x) o pc stack here w has =

@@ -1,21 +1,21 @@
 -- The code of the work on objects follows it.
-use Rattle.std.proofs.Common.{◌≡◌, ℕ, zero, suc, ◌+◌, ◌-◌, Bool, true, false, List, [], ◌∷◌, ◌++◌, length, Option, None, Some, refl, sym, ap, ◌∙◌, subst, arith, length-append, if◌then◌else◌}
-use Rattle.std.specs.Prelude.{⊤, slice_get, nat_lt, nat_eq}
+use Rattle.std.proofs.Common.{◌≡◌, ℕ, ◌+◌, ◌-◌, Bool, true, false, List, [], ◌∷◌, ◌++◌, length, Option, Some, refl, sym, ap, ◌∙◌, arith, length-append, if◌then◌else◌}
+use Rattle.std.specs.Prelude.{slice_get, nat_lt, nat_eq}
 use Rattle.f3_rules.specs.declared.source.Place.{Place}
-use Rattle.f3_meaning_whole.specs.Value.{Value, Unallocated, is_allocated}
+use Rattle.f3_meaning_whole.specs.Value.{Unallocated, is_allocated}
 use Rattle.f3_meaning_whole.specs.Store.{Path, get}
 use Rattle.f3_meaning_whole.specs.Reference.{Language, One, Reference, paths, spans, is_pinned}
 use Rattle.f3_meaning_whole.specs.declared.run_error.RunError.TheVariants.{InUse}
-use Rattle.f3_meaning_whole.specs.Ran.{World, Ran, ◌>>=◌, gives, fails, looks, each}
+use Rattle.f3_meaning_whole.specs.Ran.{World, Ran, ◌>>=◌, gives, fails, each}
 use Rattle.f3_meaning_whole.specs.Act.{Setting, Here, Lent, Calls, set, clear, lending, component, moved, contents}
 use Rattle.f3_core.specs.Work as w
 use Rattle.f3_core.specs.Work.{Routines, work}
 use Rattle.f3_code.specs.declared.instruction.Instruction.TheVariants as i
-use Rattle.f3_code.specs.State.{Line, line, line_with, placed, Code, Cell, Datum, Object, Argument, Elements, To, Frame, State, Next, Goes, Stays}
-use Rattle.f3_code.specs.Machine.{opens, performs, act, step, routine_at}
+use Rattle.f3_code.specs.State.{Line, line, line_with, placed, Code, Cell, Datum, Object, Argument, Elements, To, Frame, State, Next, Goes}
+use Rattle.f3_code.specs.Machine.{opens, act, step, routine_at}
 use Rattle.f3_code.specs.Code.{work_code}
 use Rattle.f3_code_laws.proofs.Places.{HasAt, has_front, has_back}
-use Rattle.f3_code_laws.proofs.Reaching.{Comes, Reaches, step_then, stays, one_step, does_it, then_on, ends_with, comes_by, as_well, looked, fails_then}
+use Rattle.f3_code_laws.proofs.Reaching.{Reaches, step_then, one_step, then_on, ends_with, comes_by, as_well, looked, fails_then}
 use Rattle.f3_code_laws.proofs.Ending.{set_ends, clear_ends, component_ends, opens_end}
 use Rattle.f3_code_laws.proofs.FollowValue.{state, CallsFollow, is_at, ending, starting, at_line, then_code, no_code}
 
@@ -88,8 +88,8 @@ module _ (limit : ℕ) (g : Setting) (code : Code) (n : ℕ) (frames : List Fram
         let to_y : pc + 1 + (length cx + 1) ≡ pc + 1 + length cx + 1 = omega arith in
         let over : pc + 1 + length cx + 1 + length cy ≡ on = omega (arith, length-append cx (line o (i.GoOn (length cy)) ∷ cy)) in
         test_case (nat_eq rank (length (spans r.reach))) s w (Goes [] (state (pc + 1) (Object r ∷ stack) here frames w)) (Goes [] (state (pc + 1 + (length cx + 1)) (Object r ∷ stack) here frames w)) _ _ _ (at_it pc (Object r ∷ stack) here w (line o (i.SkipUnlessRank rank (length cx + 1))) has.0)
-          (λ e. step_then limit g code e (ends_with limit g code (work_follows x o (pc + 1) r stack here w (has_front code.lines (pc + 1) cx _ has.1)) (λ done w. comes_by limit g code (at_it (pc + 1 + length cx) (Object r ∷ stack) here w (line o (i.GoOn (length cy))) hy.0 ∙ ap (λ q. Goes [] (state q (Object r ∷ stack) here frames w)) over))))
-          (λ e. step_then limit g code e (starting limit g code n frames n _ _ (Object r ∷ stack) here w to_y (ending limit g code n frames _ _ (λ done. Object r ∷ stack) here over (work_follows y o (pc + 1 + length cx + 1) r stack here w hy.1))))
+        (λ e. step_then limit g code e (ends_with limit g code (work_follows x o (pc + 1) r stack here w (has_front code.lines (pc + 1) cx _ has.1)) (λ done w. comes_by limit g code (at_it (pc + 1 + length cx) (Object r ∷ stack) here w (line o (i.GoOn (length cy))) hy.0 ∙ ap (λ q. Goes [] (state q (Object r ∷ stack) here frames w)) over))))
+        (λ e. step_then limit g code e (starting limit g code n frames n _ _ (Object r ∷ stack) here w to_y (ending limit g code n frames _ _ (λ done. Object r ∷ stack) here over (work_follows y o (pc + 1 + length cx + 1) r stack here w hy.1))))
     work_follows (w.Final f) o pc r stack here w has =
         let len : pc + 1 + 1 + 1 ≡ pc + 3 = omega arith in
         let there = placed o here in
@@ -112,16 +112,16 @@ module _ (limit : ℕ) (g : Setting) (code : Code) (n : ℕ) (frames : List Fram
         let s = state pc (Object r ∷ stack) here frames w in
         let len : pc + 1 + length cx ≡ pc + length (line o (i.SkipUnlessAllocated (length cx)) ∷ cx) = omega arith in
         looked limit g code (λ store. is_allocated (get store r.path)) (λ b. if b then work g calls routines x r (placed o here) else gives tt)
-          (test_case (is_allocated (get w.store r.path)) s w (Goes [] (state (pc + 1) (Object r ∷ stack) here frames w)) (Goes [] (state (pc + 1 + length cx) (Object r ∷ stack) here frames w)) _ _ _ (at_it pc (Object r ∷ stack) here w (line o (i.SkipUnlessAllocated (length cx))) has.0)
-            (λ e. step_then limit g code e (ending limit g code n frames _ _ (λ done. Object r ∷ stack) here len (work_follows x o (pc + 1) r stack here w has.1)))
-            (λ e. one_step limit g code n tt w _ (e ∙ ap (λ q. Goes [] (state q (Object r ∷ stack) here frames w)) len)))
+        (test_case (is_allocated (get w.store r.path)) s w (Goes [] (state (pc + 1) (Object r ∷ stack) here frames w)) (Goes [] (state (pc + 1 + length cx) (Object r ∷ stack) here frames w)) _ _ _ (at_it pc (Object r ∷ stack) here w (line o (i.SkipUnlessAllocated (length cx))) has.0)
+        (λ e. step_then limit g code e (ending limit g code n frames _ _ (λ done. Object r ∷ stack) here len (work_follows x o (pc + 1) r stack here w has.1)))
+        (λ e. one_step limit g code n tt w _ (e ∙ ap (λ q. Goes [] (state q (Object r ∷ stack) here frames w)) len)))
     work_follows (w.Of_contents x) o pc r stack here w has =
         let cx = work_code m o x in
         let there = placed o here in
         let whole = then_code limit g code n frames (line o i.OpenContents ∷ []) (cx ++ (line o i.Drop ∷ line o i.Free ∷ [])) pc has (λ h. at_line limit g code n frames (opens r there) pc (Object r ∷ stack) here w (line o i.OpenContents) (opens_end r there) h.0 refl) (λ q w h.
-          then_code limit g code n frames cx (line o i.Drop ∷ line o i.Free ∷ []) (pc + 1) h (λ h. work_follows x o (pc + 1) q (Object r ∷ stack) here w h) (λ done w h.
-          let len : pc + 1 + length cx + 1 + 1 ≡ pc + 1 + length cx + 2 = omega arith in
-          ending limit g code n frames _ _ (λ done. Object r ∷ stack) here len (step_then limit g code (at_it (pc + 1 + length cx) (Object q ∷ Object r ∷ stack) here w (line o i.Drop) h.0) (at_line limit g code n frames (set r Unallocated there) (pc + 1 + length cx + 1) (Object r ∷ stack) here w (line o i.Free) (set_ends r Unallocated there) h.1.0 refl)))) in
+        then_code limit g code n frames cx (line o i.Drop ∷ line o i.Free ∷ []) (pc + 1) h (λ h. work_follows x o (pc + 1) q (Object r ∷ stack) here w h) (λ done w h.
+        let len : pc + 1 + length cx + 1 + 1 ≡ pc + 1 + length cx + 2 = omega arith in
+        ending limit g code n frames _ _ (λ done. Object r ∷ stack) here len (step_then limit g code (at_it (pc + 1 + length cx) (Object q ∷ Object r ∷ stack) here w (line o i.Drop) h.0) (at_line limit g code n frames (set r Unallocated there) (pc + 1 + length cx + 1) (Object r ∷ stack) here w (line o i.Free) (set_ends r Unallocated there) h.1.0 refl)))) in
         as_well limit g code (opens_then r there (λ q. work g calls routines x q there >>= λ done. set r Unallocated there)) whole
     work_follows w.Clear o pc r stack here w has = at_line limit g code n frames (clear r (placed o here)) pc (Object r ∷ stack) here w (line o i.Clear) (clear_ends r (placed o here)) has.0 refl
     work_follows (w.Set v) o pc r stack here w has = at_line limit g code n frames (set r v (placed o here)) pc (Object r ∷ stack) here w (line_with o v i.Set) (set_ends r v (placed o here)) has.0 refl

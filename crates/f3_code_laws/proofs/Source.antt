@@ -1,9 +1,7 @@
 -- The code of the Core of a program follows the program.
 use Rattle.std.proofs.Common.{ℕ, Bool, subst}
-use Rattle.std.specs.Prelude.{⊤}
 use Rattle.std.proofs.Math.Path.{fun_ext}
 use Rattle.f3_program.specs.declared.program.Program.{Program}
-use Rattle.f3_meaning_whole.specs.Ran.{Outcome}
 use Rattle.f3_meaning_whole.specs.Run.{run_of}
 use Rattle.f3_core.specs.Lower.{lowered_program}
 use Rattle.f3_lower_laws.proofs.Whole.{lowers}

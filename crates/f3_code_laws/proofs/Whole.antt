@@ -1,24 +1,22 @@
 -- The code of a whole program follows it.
-use Rattle.std.proofs.Common.{◌≡◌, ◌≢◌, ⊎_elim, ℕ, zero, suc, ◌+◌, ◌≤◌, Bool, List, [], ◌∷◌, ◌++◌, length, Option, Some, None, refl, sym, ap, ◌∙◌, subst, arith, append-nil}
+use Rattle.std.proofs.Common.{◌≡◌, ◌≢◌, ⊎_elim, ℕ, suc, ◌+◌, ◌≤◌, Bool, List, [], ◌∷◌, ◌++◌, length, Option, Some, None, refl, sym, ap, ◌∙◌, subst, arith, append-nil}
 use Rattle.std.specs.Prelude.{⊤, slice_get}
 use Rattle.std.proofs.lemmas.Bool.{cases_lt}
 use Rattle.f3_rules.specs.declared.source.Place.{Place}
 use Rattle.f3_meaning_whole.specs.declared.run_error.RunError.{RunError}
 use Rattle.f3_meaning_whole.specs.Ran.{Event, World, End, Gives, Fails, Stops, Beyond, Ran, go_on, ◌>>=◌}
-use Rattle.f3_meaning_whole.specs.Act.{Setting, Here, Calls, at, begins, claim, enter}
+use Rattle.f3_meaning_whole.specs.Act.{Setting, Here, at, begins, claim, enter}
 use Rattle.f3_meaning_whole.specs.Exec.{Flow, Onward, Cycled, Left, Returned}
-use Rattle.f3_core.specs.Work.{Work}
 use Rattle.f3_core.specs.Core as c
 use Rattle.f3_core.specs.Exec.{exec}
-use Rattle.f3_core.specs.Run.{core_setting, core_here, core_world, core_calls, core_main, core_runs, core_run_of}
+use Rattle.f3_core.specs.Run.{core_setting, core_here, core_world, core_calls, core_runs, core_run_of}
 use Rattle.f3_code.specs.declared.instruction.Instruction.TheVariants as i
-use Rattle.f3_code.specs.State.{Line, line, Code, Frame, State, Course, Halt, Running, Done, Stopped, Failed, Stuck, Next, Goes, Stays}
+use Rattle.f3_code.specs.State.{line, Code, Frame, State, Course, Halt, Running, Done, Stopped, Failed, Stuck, Next, Stays}
 use Rattle.f3_code.specs.Machine.{before, performs, ends_so, advance, step, run, course}
-use Rattle.f3_code.specs.Machine as machine
 use Rattle.f3_code.specs.Code.{code_of, main_ways, main_code, procedures_code, routines_code, places_of, program_code}
 use Rattle.f3_code.specs.Run.{start, after, Agrees, Behaves}
 use Rattle.f3_code_laws.proofs.Places.{HasAt, has_front, has_back, has_all}
-use Rattle.f3_code_laws.proofs.Reaching.{Comes, ReachesAs, Reaches, Ends, bind_ends, then_on, bind_assoc}
+use Rattle.f3_code_laws.proofs.Reaching.{ReachesAs, Reaches, Ends, bind_ends, bind_assoc}
 use Rattle.f3_code_laws.proofs.Ending.{begins_ends, claim_ends, enter_ends}
 use Rattle.f3_code_laws.proofs.FollowValue.{state, is_at, at_line}
 use Rattle.f3_code_laws.proofs.FollowStatement.{leads}
