@@ -119,7 +119,8 @@ result_ends (Array ss vs) here = gives_end _
 
 pub asked_ends : (q : Query) (ss : List Span) (z : ℤ) (here : Here) → Ends (asked q ss z here)
 asked_ends q [] z here = fails_end _ here.place
-asked_ends q (s ∷ ss) z here = if_ends (int_le z (pos 0)) (fails_end _ here.place) (if_ends (int_le z (pos 1)) (converted_ends _ _ here.place) (asked_ends q ss (z -ℤ pos 1) here))
+asked_ends q (s ∷ ss) z here = if_ends (int_le z (pos 0)) (fails_end _ here.place)
+    (if_ends (int_le z (pos 1)) (converted_ends _ _ here.place) (asked_ends q ss (z -ℤ pos 1) here))
 
 fitted_ends : (d : Declared) (v : Value) (here : Here) → Ends (fitted d v here)
 unfolding fitted
@@ -148,7 +149,8 @@ fitted_argument_ends d i (Some (Lent k r)) here = bind_ends (looks_end _) (λ v.
 pub structure_ends : (xs : Parts) (k : ℕ) (ps : List Passed) (here : Here) → Ends (structure xs k ps here)
 structure_ends nothing k ps here = gives_end _
 structure_ends (and c s rest) k ps here =
-    bind_ends (fitted_argument_ends c.declared _ (passed_at k ps) here) (λ v. bind_ends (claim_for_ends v here) (λ done. bind_ends (structure_ends rest (suc k) ps here) (λ vs. gives_end _)))
+    bind_ends (fitted_argument_ends c.declared _ (passed_at k ps) here)
+        (λ v. bind_ends (claim_for_ends v here) (λ done. bind_ends (structure_ends rest (suc k) ps here) (λ vs. gives_end _)))
 
 -- ---- references
 
@@ -212,7 +214,8 @@ request_ends = bind_ends asks_end (λ b. bind_ends (does_end _) (λ done. gives_
 
 pub allocate_ends : (rank : ℕ) (v : Value) (h : Reference) (ss : List Span) (here : Here) → Ends (allocate rank v h ss here)
 allocate_ends rank v h ss here = bind_ends (looks_end _) (λ already. if_ends already (gives_end _)
-    (if_ends (too_many ss || nat_lt 16777216 (count ss)) (gives_end _) (bind_ends request_ends (λ refused. if_ends refused (gives_end _) (bind_ends (does_end _) (λ done. gives_end _))))))
+    (if_ends (too_many ss || nat_lt 16777216 (count ss)) (gives_end _)
+        (bind_ends request_ends (λ refused. if_ends refused (gives_end _) (bind_ends (does_end _) (λ done. gives_end _))))))
 
 pub take_over_ends : (g : Setting) (from to : Reference) (v : Value) (here : Here) → Ends (take_over g 0 no_calls from to v here)
 take_over_ends g from to (Allocated v) here = if_ends (is_pinned from.path here.lent) (fails_end _ here.place) (bind_ends (does_end _) (λ done. does_end _))
@@ -223,4 +226,5 @@ take_over_ends g from to (Composite vs) here = gives_end tt
 take_over_ends g from to (Array ss vs) here = gives_end tt
 
 pub begun_ends : (ps : List Passed) (initial : List Value) (here : Here) → Ends (begun ps initial here)
-begun_ends ps initial here = bind_ends (claim_ends here) (λ done. bind_ends (looks_end _) (λ level. bind_ends (enter_ends _) (λ done. bind_ends (enter_ends _) (λ done. gives_end level))))
+begun_ends ps initial here = bind_ends (claim_ends here) (λ done.
+    bind_ends (looks_end _) (λ level. bind_ends (enter_ends _) (λ done. bind_ends (enter_ends _) (λ done. gives_end level))))

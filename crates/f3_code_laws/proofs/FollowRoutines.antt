@@ -17,7 +17,9 @@ use Rattle.f3_code_laws.proofs.FollowWork.{RoutinesFollow, work_follows}
 -- the routines stand one behind another from this place on
 abbrev pub RoutinesAt : List Line → ℕ → List Work → Type 0
 RoutinesAt code pc [] = Unit {0}
-RoutinesAt code pc (x ∷ xs) = HasAt code pc (work_code (length xs) None x) × (slice_get code (pc + length (work_code (length xs) None x)) ≡ Some (line None i.Back)) × RoutinesAt code (pc + length (work_code (length xs) None x) + 1) xs
+RoutinesAt code pc (x ∷ xs) = HasAt code pc (work_code (length xs) None x) ×
+    (slice_get code (pc + length (work_code (length xs) None x)) ≡ Some (line None i.Back)) ×
+    RoutinesAt code (pc + length (work_code (length xs) None x) + 1) xs
 
 pub routines_at : (code : List Line) (pc : ℕ) (xs : List Work) → HasAt code pc (routines_code xs) → RoutinesAt code pc xs
 routines_at code pc [] h = tt
@@ -44,7 +46,8 @@ table_older places older pc h = record {
 
 module _ (limit : ℕ) (g : Setting) (code : Code) (n : ℕ) (frames : List Frame) (calls : Calls) (follow : CallsFollow limit g code n calls frames) where
   -- routines, by those that are older
-  pub routines_follow : (xs : List Work) (base : ℕ) → RoutinesAt code.lines base xs → TableEnds code.routines (places_of base xs) → RoutinesFollow limit g code n (length xs) (routines_of g calls xs) frames
+  pub routines_follow : (xs : List Work) (base : ℕ) → RoutinesAt code.lines base xs → TableEnds code.routines (places_of base xs) →
+      RoutinesFollow limit g code n (length xs) (routines_of g calls xs) frames
   routines_follow [] base has table = record {
     by = λ t pc r stack here there w lt e is. absurd (grind arith);
     none = λ t r here e. refl;
@@ -60,7 +63,13 @@ module _ (limit : ℕ) (g : Setting) (code : Code) (n : ℕ) (frames : List Fram
             ap (λ b. if b then work g calls (routines_of g calls xs) x r here else routines_of g calls xs t r here) other ∙ older.none t r here more;
       }
     where
-      newest : RoutinesFollow limit g code n (length xs) (routines_of g calls xs) frames → (t pc : ℕ) (r : Reference) (stack : List Cell) (here there : Here) (w : World) → nat_lt t (length (x ∷ xs)) ≡ true → step limit g code (state pc (Object r ∷ stack) here frames w) ≡ routine_at code.routines t (λ to. Goes [] (state to (Object r ∷ To (pc + 1) here.place ∷ stack) there frames w)) (Goes [] (state (pc + 1) (Object r ∷ stack) here frames w)) → there ≡ placed (Some there.place) here → (b : Bool) → nat_eq t (length xs) ≡ b → Reaches limit g code n (state pc (Object r ∷ stack) here frames w) (routines_of g calls (x ∷ xs) t r there) w (λ done w. state (pc + 1) (Object r ∷ stack) here frames w)
+      newest : RoutinesFollow limit g code n (length xs) (routines_of g calls xs) frames →
+          (t pc : ℕ) (r : Reference) (stack : List Cell) (here there : Here) (w : World) → nat_lt t (length (x ∷ xs)) ≡ true →
+          step limit g code (state pc (Object r ∷ stack) here frames w) ≡ routine_at code.routines t
+          (λ to. Goes [] (state to (Object r ∷ To (pc + 1) here.place ∷ stack) there frames w)) (Goes [] (state (pc + 1) (Object r ∷ stack) here frames w)) →
+          there ≡ placed (Some there.place) here → (b : Bool) → nat_eq t (length xs) ≡ b →
+          Reaches limit g code n (state pc (Object r ∷ stack) here frames w) (routines_of g calls (x ∷ xs) t r there) w
+          (λ done w. state (pc + 1) (Object r ∷ stack) here frames w)
       newest older t pc r stack here there w lt e same true is =
           let cx = work_code (length xs) None x in
           let under = To (pc + 1) here.place ∷ stack in
@@ -69,11 +78,19 @@ module _ (limit : ℕ) (g : Setting) (code : Code) (n : ℕ) (frames : List Fram
           let others = places_of (base + length cx + 1) xs in
           let l = places_length (base + length cx + 1) xs in
           let lt' : nat_lt t (length (base ∷ others)) ≡ true = ap (λ k. nat_lt t (suc k)) l ∙ lt in
-          let e' : step limit g code (state pc (Object r ∷ stack) here frames w) ≡ go base = e ∙ table.by t go none lt' ∙ ap (λ k. if nat_eq t k then go base else routine_at others t go none) l ∙ ap (λ b. if b then go base else routine_at others t go none) is in
+          let e' : step limit g code (state pc (Object r ∷ stack) here frames w) ≡ go base = e ∙ table.by t go none lt' ∙
+              ap (λ k. if nat_eq t k then go base else routine_at others t go none) l ∙ ap (λ b. if b then go base else routine_at others t go none) is in
           let back : at here.place there ≡ here = ap (λ h. at here.place h) same in
           let runs = work_follows limit g code n frames calls follow (length xs) (routines_of g calls xs) older x None base r under there w has.0 in
-          let whole : Reaches limit g code n (state pc (Object r ∷ stack) here frames w) (work g calls (routines_of g calls xs) x r there) w (λ done w. state (pc + 1) (Object r ∷ stack) here frames w) = step_then limit g code e' (ends_with limit g code runs (λ done w. comes_by limit g code (is_at limit g code n frames (base + length cx) (Object r ∷ under) there w (line None i.Back) has.1 ∙ ap (λ h. Goes [] (state (pc + 1) (Object r ∷ stack) h frames w)) back))) in
-          subst (λ m. Reaches limit g code n (state pc (Object r ∷ stack) here frames w) m w (λ done w. state (pc + 1) (Object r ∷ stack) here frames w)) (ap (λ b. if b then work g calls (routines_of g calls xs) x r there else routines_of g calls xs t r there) (sym is)) whole
+          let whole : Reaches limit g code n (state pc (Object r ∷ stack) here frames w) (work g calls (routines_of g calls xs) x r there) w
+              (λ done w. state (pc + 1) (Object r ∷ stack) here frames w) =
+              step_then limit g code e' (ends_with limit g code runs (λ done w.
+              comes_by limit g code (is_at limit g code n frames (base + length cx) (Object r ∷ under) there w (line None i.Back) has.1 ∙
+              ap (λ h. Goes [] (state (pc + 1) (Object r ∷ stack) h frames w)) back))) in
+          subst (λ m. Reaches limit g code n (state pc (Object r ∷ stack) here frames w) m w (λ done w. state (pc + 1) (Object r ∷ stack) here frames w))
+              (ap (λ b. if b then work g calls (routines_of g calls xs) x r there else routines_of g calls xs t r there) (sym is)) whole
       newest older t pc r stack here there w lt e same false is =
           let more : nat_lt t (length xs) ≡ true = grind arith in
-          subst (λ m. Reaches limit g code n (state pc (Object r ∷ stack) here frames w) m w (λ done w. state (pc + 1) (Object r ∷ stack) here frames w)) (ap (λ b. if b then work g calls (routines_of g calls xs) x r there else routines_of g calls xs t r there) (sym is)) (older.by t pc r stack here there w more e same)
+          subst (λ m. Reaches limit g code n (state pc (Object r ∷ stack) here frames w) m w (λ done w. state (pc + 1) (Object r ∷ stack) here frames w))
+              (ap (λ b. if b then work g calls (routines_of g calls xs) x r there else routines_of g calls xs t r there) (sym is))
+              (older.by t pc r stack here there w more e same)

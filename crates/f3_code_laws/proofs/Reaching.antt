@@ -23,7 +23,8 @@ GivesAs P Beyond = Unit {0}
 pub record AllGive {A : Type 0} (P : A → Type 0) (r : Ran A) : Type 0 where
   pub as_said : (w : World) → GivesAs P (r.from w).end
 
-pub give_all : {A B : Type 0} (P : A → Type 0) (Q : B → Type 0) {m : Ran A} {f : A → Ran B} → AllGive P m → ((x : A) → P x → AllGive Q (f x)) → AllGive Q (m >>= f)
+pub give_all : {A B : Type 0} (P : A → Type 0) (Q : B → Type 0) {m : Ran A} {f : A → Ran B} → AllGive P m → ((x : A) → P x → AllGive Q (f x)) →
+    AllGive Q (m >>= f)
 unfolding ◌>>=◌
 give_all {A = A} P Q {m = m} {f = f} g h = record { as_said = λ w. by_end (m.from w).out (m.from w).end (g.as_said w) }
   where
@@ -91,7 +92,8 @@ behind_twice : {A B : Type 0} (front : List Event) (r : Outcome A) (f : A → Ra
 behind_twice {A = A} {B = B} front r f = by_end r.end
   where
     by_end : (end : End A) → go_on (front ++ r.out) end f ≡ behind front (go_on r.out end f)
-    by_end (Gives x w) = let P : List Event → Outcome B = λ l. record { out = l; end = ((f x).from w).end } in ap P (append_assoc front r.out ((f x).from w).out)
+    by_end (Gives x w) = let P : List Event → Outcome B = λ l. record { out = l; end = ((f x).from w).end } in ap P
+        (append_assoc front r.out ((f x).from w).out)
     by_end (Fails error place) = refl
     by_end (Stops code) = refl
     by_end Beyond = refl
@@ -140,14 +142,16 @@ module _ (limit : ℕ) (g : Setting) (code : Code) where
     pub as_said : ReachesAs n s (r.from w).out (r.from w).end next
 
   -- one instruction first, at which nothing happens
-  pub step_first : {A : Type 0} {n : ℕ} {s t : State} {r : Ran A} {w : World} {next : A → World → State} → step limit g code s ≡ Goes [] t → Reaches n t r w next → Reaches (suc n) s r w next
+  pub step_first : {A : Type 0} {n : ℕ} {s t : State} {r : Ran A} {w : World} {next : A → World → State} → step limit g code s ≡ Goes [] t →
+      Reaches n t r w next → Reaches (suc n) s r w next
   step_first {A = A} {n = n} {s = s} {t = t} {r = r} {w = w} {next = next} e h = record { as_said = by_end (r.from w).out (r.from w).end h.as_said }
     where
       one : (k : ℕ) → run limit g code (suc k) s ≡ before [] (run limit g code k t)
       one k = ap (λ x. advance limit g code x (run limit g code k)) e
 
       by_end : (out : List Event) (end : End A) → ReachesAs n t out end next → ReachesAs (suc n) s out end next
-      by_end out (Gives x w) c = record { by = λ k. let a = c.by k in (suc a.0, omega (arith, a.1), one a.0 ∙ ap (before []) a.2 ∙ before_before [] out (run limit g code k (next x w))) }
+      by_end out (Gives x w) c = record { by = λ k. let a = c.by k
+          in (suc a.0, omega (arith, a.1), one a.0 ∙ ap (before []) a.2 ∙ before_before [] out (run limit g code k (next x w))) }
       by_end out (Fails error place) c = (suc c.0, one c.0 ∙ ap (before []) c.1)
       by_end out (Stops number) c = (suc c.0, one c.0 ∙ ap (before []) c.1)
       by_end out Beyond c = (suc c.0, omega (arith, c.1), one c.0 ∙ ap (before []) c.2)
@@ -163,7 +167,8 @@ module _ (limit : ℕ) (g : Setting) (code : Code) where
       by_end out Beyond c = (c.0, omega (arith, c.1), c.2)
 
   -- one instruction first, which costs no turn
-  pub step_then : {A : Type 0} {n : ℕ} {s t : State} {r : Ran A} {w : World} {next : A → World → State} → step limit g code s ≡ Goes [] t → Reaches n t r w next → Reaches n s r w next
+  pub step_then : {A : Type 0} {n : ℕ} {s t : State} {r : Ran A} {w : World} {next : A → World → State} → step limit g code s ≡ Goes [] t →
+      Reaches n t r w next → Reaches n s r w next
   step_then {n = n} e h = fewer n (suc n) (omega arith) (step_first e h)
 
   -- nothing to do
@@ -175,11 +180,13 @@ module _ (limit : ℕ) (g : Setting) (code : Code) where
   arrives n x w next e = subst (λ s. Reaches n s (gives x) w next) (sym e) (stays n x w next)
 
   -- one instruction, at which nothing happens
-  pub one_step : {A : Type 0} (n : ℕ) {s : State} (x : A) (w : World) (next : A → World → State) → step limit g code s ≡ Goes [] (next x w) → Reaches n s (gives x) w next
+  pub one_step : {A : Type 0} (n : ℕ) {s : State} (x : A) (w : World) (next : A → World → State) → step limit g code s ≡ Goes [] (next x w) →
+      Reaches n s (gives x) w next
   one_step n x w next e = step_then e (stays n x w next)
 
   -- one instruction that does what a part of a run does, which needs no turns
-  pub does_it : {A : Type 0} (n : ℕ) {s : State} (r : Ran A) (w : World) (next : A → World → State) → Ends r → step limit g code s ≡ performs r w next → Reaches n s r w next
+  pub does_it : {A : Type 0} (n : ℕ) {s : State} (r : Ran A) (w : World) (next : A → World → State) → Ends r → step limit g code s ≡ performs r w next →
+      Reaches n s r w next
   does_it {A = A} n {s = s} r w next h e = record { as_said = by_end (r.from w).out (r.from w).end (h.by w) e }
     where
       by_end : (out : List Event) (end : End A) → end ≢ Beyond → step limit g code s ≡ ends_so out end next → ReachesAs n s out end next
@@ -189,24 +196,29 @@ module _ (limit : ℕ) (g : Setting) (code : Code) where
       by_end out Beyond h e = absurd (h refl)
 
   -- an error
-  pub fails_at : {A : Type 0} (n : ℕ) {s : State} (error : RunError) (place : Place) (w : World) (next : A → World → State) → step limit g code s ≡ Stays [] (Failed error place) → Reaches n s (fails error place) w next
+  pub fails_at : {A : Type 0} (n : ℕ) {s : State} (error : RunError) (place : Place) (w : World) (next : A → World → State) →
+      step limit g code s ≡ Stays [] (Failed error place) → Reaches n s (fails error place) w next
   unfolding fails
   fails_at n error place w next e = record { as_said = (1, ap (λ x. advance limit g code x (run limit g code 0)) e) }
 
-  pub stops_at : {A : Type 0} (n : ℕ) {s : State} (number : Option ℕ) (w : World) (next : A → World → State) → step limit g code s ≡ Stays [] (Stopped number) → Reaches n s (stops number) w next
+  pub stops_at : {A : Type 0} (n : ℕ) {s : State} (number : Option ℕ) (w : World) (next : A → World → State) →
+      step limit g code s ≡ Stays [] (Stopped number) → Reaches n s (stops number) w next
   unfolding stops
   stops_at n number w next e = record { as_said = (1, ap (λ x. advance limit g code x (run limit g code 0)) e) }
 
   -- one part behind another
-  pub then_where : {A B : Type 0} {n : ℕ} {s : State} {m : Ran A} {f : A → Ran B} {w : World} {mid : A → World → State} {next : B → World → State} (P : A → Type 0) → AllGive P m → Reaches n s m w mid → ((x : A) (w : World) → P x → Reaches n (mid x w) (f x) w next) → Reaches n s (m >>= f) w next
+  pub then_where : {A B : Type 0} {n : ℕ} {s : State} {m : Ran A} {f : A → Ran B} {w : World} {mid : A → World → State} {next : B → World → State}
+      (P : A → Type 0) → AllGive P m → Reaches n s m w mid → ((x : A) (w : World) → P x → Reaches n (mid x w) (f x) w next) → Reaches n s (m >>= f) w next
   unfolding ◌>>=◌
-  then_where {A = A} {B = B} {n = n} {s = s} {m = m} {f = f} {w = w} {mid = mid} {next = next} P all h k = record { as_said = by_end (m.from w).out (m.from w).end (all.as_said w) h.as_said }
+  then_where {A = A} {B = B} {n = n} {s = s} {m = m} {f = f} {w = w} {mid = mid} {next = next} P all h k =
+      record { as_said = by_end (m.from w).out (m.from w).end (all.as_said w) h.as_said }
     where
       behind_it : {t : State} (out : List Event) (r : Outcome B) → Comes s out t → ReachesAs n t r.out r.end next → ReachesAs n s (out ++ r.out) r.end next
       behind_it {t = t} out r c h = by_rest r.out r.end h
         where
           by_rest : (more : List Event) (end : End B) → ReachesAs n t more end next → ReachesAs n s (out ++ more) end next
-          by_rest more (Gives x w) h = record { by = λ k. let b = h.by k in let a = c.by b.0 in (a.0, omega (arith, a.1, b.1), a.2 ∙ ap (before out) b.2 ∙ before_before out more (run limit g code k (next x w))) }
+          by_rest more (Gives x w) h = record { by = λ k. let b = h.by k in let a =
+              c.by b.0 in (a.0, omega (arith, a.1, b.1), a.2 ∙ ap (before out) b.2 ∙ before_before out more (run limit g code k (next x w))) }
           by_rest more (Fails error place) h = let a = c.by h.0 in (a.0, a.2 ∙ ap (before out) h.1)
           by_rest more (Stops number) h = let a = c.by h.0 in (a.0, a.2 ∙ ap (before out) h.1)
           by_rest more Beyond h = let a = c.by h.0 in (a.0, omega (arith, a.1, h.1), a.2 ∙ ap (before out) h.2)
@@ -217,11 +229,13 @@ module _ (limit : ℕ) (g : Setting) (code : Code) where
       by_end out (Stops number) p c = c
       by_end out Beyond p c = c
 
-  pub then_on : {A B : Type 0} {n : ℕ} {s : State} {m : Ran A} {f : A → Ran B} {w : World} {mid : A → World → State} {next : B → World → State} → Reaches n s m w mid → ((x : A) (w : World) → Reaches n (mid x w) (f x) w next) → Reaches n s (m >>= f) w next
+  pub then_on : {A B : Type 0} {n : ℕ} {s : State} {m : Ran A} {f : A → Ran B} {w : World} {mid : A → World → State} {next : B → World → State} →
+      Reaches n s m w mid → ((x : A) (w : World) → Reaches n (mid x w) (f x) w next) → Reaches n s (m >>= f) w next
   then_on {m = m} h k = then_where (λ x. Unit {0}) (give_any m) h (λ x w p. k x w)
 
   -- what is done at the end, with what was given
-  pub ends_with : {A : Type 0} {n : ℕ} {s : State} {r : Ran A} {w : World} {mid next : A → World → State} → Reaches n s r w mid → ((x : A) (w : World) → Comes (mid x w) [] (next x w)) → Reaches n s r w next
+  pub ends_with : {A : Type 0} {n : ℕ} {s : State} {r : Ran A} {w : World} {mid next : A → World → State} → Reaches n s r w mid →
+      ((x : A) (w : World) → Comes (mid x w) [] (next x w)) → Reaches n s r w next
   ends_with {A = A} {n = n} {s = s} {r = r} {w = w} {mid = mid} {next = next} h f = record { as_said = by_end (r.from w).out (r.from w).end h.as_said }
     where
       by_end : (out : List Event) (end : End A) → ReachesAs n s out end mid → ReachesAs n s out end next
@@ -240,7 +254,8 @@ module _ (limit : ℕ) (g : Setting) (code : Code) where
   comes_on a b = record { by = λ k. let y = b.by k in let x = a.by y.0 in (x.0, omega (arith, x.1, y.1), x.2 ∙ ap (before []) y.2) }
 
   -- coming somewhere first
-  pub comes_then : {A : Type 0} {n : ℕ} {s t : State} {r : Ran A} {w : World} {next : A → World → State} → Comes s [] t → Reaches n t r w next → Reaches n s r w next
+  pub comes_then : {A : Type 0} {n : ℕ} {s t : State} {r : Ran A} {w : World} {next : A → World → State} → Comes s [] t → Reaches n t r w next →
+      Reaches n s r w next
   comes_then {A = A} {n = n} {s = s} {t = t} {r = r} {w = w} {next = next} c h = record { as_said = by_end (r.from w).out (r.from w).end h.as_said }
     where
       by_end : (out : List Event) (end : End A) → ReachesAs n t out end next → ReachesAs n s out end next
@@ -254,10 +269,12 @@ module _ (limit : ℕ) (g : Setting) (code : Code) where
   as_well {n = n} {s = s} {w = w} {next = next} e h = subst (λ r. Reaches n s r w next) e h
 
   -- a part within another
-  pub joined : {A B C : Type 0} {n : ℕ} {s : State} {w : World} (m : Ran A) (f : A → Ran B) (k : B → Ran C) {next : C → World → State} → Reaches n s (m >>= λ x. f x >>= k) w next → Reaches n s ((m >>= f) >>= k) w next
+  pub joined : {A B C : Type 0} {n : ℕ} {s : State} {w : World} (m : Ran A) (f : A → Ran B) (k : B → Ran C) {next : C → World → State} →
+      Reaches n s (m >>= λ x. f x >>= k) w next → Reaches n s ((m >>= f) >>= k) w next
   joined m f k h = as_well (sym (bind_assoc m f k)) h
 
   -- what the store shows, and then something
-  pub looked : {A B : Type 0} {n : ℕ} {s : State} {w : World} {next : B → World → State} (f : Store → A) (k : A → Ran B) → Reaches n s (k (f w.store)) w next → Reaches n s (looks f >>= k) w next
+  pub looked : {A B : Type 0} {n : ℕ} {s : State} {w : World} {next : B → World → State} (f : Store → A) (k : A → Ran B) →
+      Reaches n s (k (f w.store)) w next → Reaches n s (looks f >>= k) w next
   unfolding ◌>>=◌ looks
   looked f k h = record { as_said = h.as_said }

@@ -10,4 +10,5 @@ use Rattle.f3_code.specs.Run.{after, Does}
 use Rattle.f3_code_laws.proofs.Whole.{behaves}
 
 pub translated : (p : Program) (answers : ℕ → Bool) → Does (after 1000 (lowered_program p) (program_code (lowered_program p)) answers) (λ n. run_of p n answers)
-translated p answers = subst (Does (after 1000 (lowered_program p) (program_code (lowered_program p)) answers)) (fun_ext (λ n. lowers p n answers)) (behaves (lowered_program p) answers)
+translated p answers = subst (Does (after 1000 (lowered_program p) (program_code (lowered_program p)) answers)) (fun_ext (λ n. lowers p n answers))
+    (behaves (lowered_program p) answers)

@@ -43,11 +43,14 @@ Stopping number = let x : End ⊤ = Stops number in x ≡ Beyond
 
 module _ (limit : ℕ) (g : Setting) (code : Code) where
   -- a part that the machine follows, and then what has an end
-  reach_matches : {A : Type 0} {n : ℕ} {s : State} {m : Ran A} {f : A → Ran ⊤} {w : World} {mid : A → World → State} → Reaches limit g code n s m w mid → ((x : A) (w : World) → Matches (λ k. run limit g code k (mid x w)) n ((f x).from w).out ((f x).from w).end) → Matches (λ k. run limit g code k s) n ((m >>= f).from w).out ((m >>= f).from w).end
+  reach_matches : {A : Type 0} {n : ℕ} {s : State} {m : Ran A} {f : A → Ran ⊤} {w : World} {mid : A → World → State} → Reaches limit g code n s m w mid →
+      ((x : A) (w : World) → Matches (λ k. run limit g code k (mid x w)) n ((f x).from w).out ((f x).from w).end) →
+      Matches (λ k. run limit g code k s) n ((m >>= f).from w).out ((m >>= f).from w).end
   unfolding ◌>>=◌
   reach_matches {A = A} {n = n} {s = s} {m = m} {f = f} {w = w} {mid = mid} h rest = by_end (m.from w).out (m.from w).end h.as_said
     where
-      by_end : (out : List Event) (end : End A) → ReachesAs limit g code n s out end mid → Matches (λ k. run limit g code k s) n (go_on out end f).out (go_on out end f).end
+      by_end : (out : List Event) (end : End A) → ReachesAs limit g code n s out end mid →
+          Matches (λ k. run limit g code k s) n (go_on out end f).out (go_on out end f).end
       by_end out (Gives x w) comes =
           let later = rest x w in
           let a = comes.by later.k in
@@ -57,42 +60,59 @@ module _ (limit : ℕ) (g : Setting) (code : Code) where
             same = ap (λ (c : Course). c.out) a.2 ∙ ap (λ l. out ++ l) later.same;
             halt = subst (λ (c : Course). Agrees c.halt ((f x).from w).end) (sym a.2) later.halt;
           }
-      by_end out (Fails error place) ends = record { k = ends.0; turns = λ b. absurd (let e : Failing error place = b in cc); same = ap (λ (c : Course). c.out) ends.1; halt = subst (λ (c : Course). Agrees c.halt (Fails error place)) (sym ends.1) (refl, refl) }
-      by_end out (Stops number) ends = record { k = ends.0; turns = λ b. absurd (let e : Stopping number = b in cc); same = ap (λ (c : Course). c.out) ends.1; halt = subst (λ (c : Course). Agrees c.halt (Stops number)) (sym ends.1) refl }
-      by_end out Beyond ends = record { k = ends.0; turns = λ b. ends.1; same = ap (λ (c : Course). c.out) ends.2; halt = subst (λ (c : Course). Agrees c.halt Beyond) (sym ends.2) tt }
+      by_end out (Fails error place) ends = record { k = ends.0; turns = λ b. absurd (let e : Failing error place = b in cc); same =
+          ap (λ (c : Course). c.out) ends.1; halt = subst (λ (c : Course). Agrees c.halt (Fails error place)) (sym ends.1) (refl, refl) }
+      by_end out (Stops number) ends = record { k = ends.0; turns = λ b. absurd (let e : Stopping number = b in cc); same =
+          ap (λ (c : Course). c.out) ends.1; halt = subst (λ (c : Course). Agrees c.halt (Stops number)) (sym ends.1) refl }
+      by_end out Beyond ends = record { k = ends.0; turns = λ b. ends.1; same = ap (λ (c : Course). c.out) ends.2; halt =
+          subst (λ (c : Course). Agrees c.halt Beyond) (sym ends.2) tt }
 
   -- a part that the machine follows to its end
-  reach_done : {n : ℕ} {s : State} {r : Ran ⊤} {w : World} {next : ⊤ → World → State} → Reaches limit g code n s r w next → ((x : ⊤) (w : World) → step limit g code (next x w) ≡ Stays [] Done) → Matches (λ k. run limit g code k s) n (r.from w).out (r.from w).end
+  reach_done : {n : ℕ} {s : State} {r : Ran ⊤} {w : World} {next : ⊤ → World → State} → Reaches limit g code n s r w next →
+      ((x : ⊤) (w : World) → step limit g code (next x w) ≡ Stays [] Done) → Matches (λ k. run limit g code k s) n (r.from w).out (r.from w).end
   reach_done {n = n} {s = s} {r = r} {w = w} {next = next} h done = by_end (r.from w).out (r.from w).end h.as_said
     where
       by_end : (out : List Event) (end : End ⊤) → ReachesAs limit g code n s out end next → Matches (λ k. run limit g code k s) n out end
       by_end out (Gives x w) comes =
           let a = comes.by 1 in
           let e = a.2 ∙ ap (before out) (ap (λ x. advance limit g code x (run limit g code 0)) (done x w)) in
-          record { k = a.0; turns = λ b. absurd (let e : Giving w = b in cc); same = ap (λ (c : Course). c.out) e ∙ append-nil out; halt = subst (λ (c : Course). Agrees c.halt (Gives x w)) (sym e) tt }
-      by_end out (Fails error place) ends = record { k = ends.0; turns = λ b. absurd (let e : Failing error place = b in cc); same = ap (λ (c : Course). c.out) ends.1; halt = subst (λ (c : Course). Agrees c.halt (Fails error place)) (sym ends.1) (refl, refl) }
-      by_end out (Stops number) ends = record { k = ends.0; turns = λ b. absurd (let e : Stopping number = b in cc); same = ap (λ (c : Course). c.out) ends.1; halt = subst (λ (c : Course). Agrees c.halt (Stops number)) (sym ends.1) refl }
-      by_end out Beyond ends = record { k = ends.0; turns = λ b. ends.1; same = ap (λ (c : Course). c.out) ends.2; halt = subst (λ (c : Course). Agrees c.halt Beyond) (sym ends.2) tt }
+          record { k = a.0; turns = λ b. absurd (let e : Giving w = b in cc); same = ap (λ (c : Course). c.out) e ∙ append-nil out; halt =
+              subst (λ (c : Course). Agrees c.halt (Gives x w)) (sym e) tt }
+      by_end out (Fails error place) ends = record { k = ends.0; turns = λ b. absurd (let e : Failing error place = b in cc); same =
+          ap (λ (c : Course). c.out) ends.1; halt = subst (λ (c : Course). Agrees c.halt (Fails error place)) (sym ends.1) (refl, refl) }
+      by_end out (Stops number) ends = record { k = ends.0; turns = λ b. absurd (let e : Stopping number = b in cc); same =
+          ap (λ (c : Course). c.out) ends.1; halt = subst (λ (c : Course). Agrees c.halt (Stops number)) (sym ends.1) refl }
+      by_end out Beyond ends = record { k = ends.0; turns = λ b. ends.1; same = ap (λ (c : Course). c.out) ends.2; halt =
+          subst (λ (c : Course). Agrees c.halt Beyond) (sym ends.2) tt }
 
   -- a part first that needs no turns
-  behind_first : {A : Type 0} (n : ℕ) (m : Ran A) (f : A → Ran ⊤) (w : World) (next : A → World → State) → Ends m → ((x : A) (w : World) → Matches (λ k. run limit g code k (next x w)) n ((f x).from w).out ((f x).from w).end) → Matches (course limit g code (performs m w next)) n ((m >>= f).from w).out ((m >>= f).from w).end
+  behind_first : {A : Type 0} (n : ℕ) (m : Ran A) (f : A → Ran ⊤) (w : World) (next : A → World → State) → Ends m →
+      ((x : A) (w : World) → Matches (λ k. run limit g code k (next x w)) n ((f x).from w).out ((f x).from w).end) →
+      Matches (course limit g code (performs m w next)) n ((m >>= f).from w).out ((m >>= f).from w).end
   unfolding ◌>>=◌
   behind_first {A = A} n m f w next ends rest = by_end (m.from w).out (m.from w).end (ends.by w)
     where
-      by_end : (out : List Event) (end : End A) → end ≢ Beyond → Matches (course limit g code (ends_so out end next)) n (go_on out end f).out (go_on out end f).end
-      by_end out (Gives x w) b = let later = rest x w in record { k = suc later.k; turns = λ e. (let le = later.turns e in omega (arith, le)); same = ap (λ l. out ++ l) later.same; halt = later.halt }
+      by_end : (out : List Event) (end : End A) → end ≢ Beyond → Matches (course limit g code (ends_so out end next)) n (go_on out end f).out
+          (go_on out end f).end
+      by_end out (Gives x w) b = let later = rest x w in record { k = suc later.k; turns = λ e. (let le = later.turns e in omega (arith, le)); same =
+          ap (λ l. out ++ l) later.same; halt = later.halt }
       by_end out (Fails error place) b = record { k = 1; turns = λ e. absurd (let e : Failing error place = e in cc); same = refl; halt = (refl, refl) }
       by_end out (Stops number) b = record { k = 1; turns = λ e. absurd (let e : Stopping number = e in cc); same = refl; halt = refl }
       by_end out Beyond b = absurd (b refl)
 
   -- the END of the main program, wherever its statements lead
-  end_matches : (n : ℕ) (end : Place) (on : ℕ) (here : Here) (flow : Flow) (w : World) → slice_get code.lines on ≡ Some (line (Some end) i.Begin) → slice_get code.lines (on + 1) ≡ Some (line None i.Finish) → Matches (λ k. run limit g code k (leads on on on on 0 [] here [] flow w)) n ((begins (at end here)).from w).out ((begins (at end here)).from w).end
+  end_matches : (n : ℕ) (end : Place) (on : ℕ) (here : Here) (flow : Flow) (w : World) → slice_get code.lines on ≡ Some (line (Some end) i.Begin) →
+      slice_get code.lines (on + 1) ≡ Some (line None i.Finish) → Matches (λ k. run limit g code k (leads on on on on 0 [] here [] flow w)) n
+      ((begins (at end here)).from w).out ((begins (at end here)).from w).end
   end_matches n end on here flow w begin finish = by_flow flow
     where
-      from_here : (inner : Here) → Matches (λ k. run limit g code k (state on [] inner [] w)) n ((begins (at end inner)).from w).out ((begins (at end inner)).from w).end
-      from_here inner = reach_done (at_line limit g code n [] {next = λ done w. state (on + 1) [] inner [] w} (begins (at end inner)) on [] inner w (line (Some end) i.Begin) (begins_ends (at end inner)) begin refl) (λ done w. is_at limit g code n [] (on + 1) [] inner w (line None i.Finish) finish)
+      from_here : (inner : Here) → Matches (λ k. run limit g code k (state on [] inner [] w)) n ((begins (at end inner)).from w).out
+          ((begins (at end inner)).from w).end
+      from_here inner = reach_done (at_line limit g code n [] {next = λ done w. state (on + 1) [] inner [] w} (begins (at end inner)) on [] inner w
+          (line (Some end) i.Begin) (begins_ends (at end inner)) begin refl) (λ done w. is_at limit g code n [] (on + 1) [] inner w (line None i.Finish) finish)
 
-      by_flow : (flow : Flow) → Matches (λ k. run limit g code k (leads on on on on 0 [] here [] flow w)) n ((begins (at end here)).from w).out ((begins (at end here)).from w).end
+      by_flow : (flow : Flow) → Matches (λ k. run limit g code k (leads on on on on 0 [] here [] flow w)) n ((begins (at end here)).from w).out
+          ((begins (at end here)).from w).end
       by_flow Onward = from_here here
       by_flow Cycled = from_here here
       by_flow Left = from_here here
@@ -100,7 +120,9 @@ module _ (limit : ℕ) (g : Setting) (code : Code) where
 
 module _ (limit : ℕ) (p : c.Program) (n : ℕ) where
   -- the statements of the main program and its END
-  main_matches : (w : World) → Matches (λ k. run limit (core_setting p) (program_code p) k (start p w)) n ((exec (core_setting p) n p.routines (core_calls limit p n) p.main.body (core_here p) >>= λ flow. begins (at p.main.end (core_here p))).from w).out ((exec (core_setting p) n p.routines (core_calls limit p n) p.main.body (core_here p) >>= λ flow. begins (at p.main.end (core_here p))).from w).end
+  main_matches : (w : World) → Matches (λ k. run limit (core_setting p) (program_code p) k (start p w)) n
+      ((exec (core_setting p) n p.routines (core_calls limit p n) p.main.body (core_here p) >>= λ flow. begins (at p.main.end (core_here p))).from w).out
+      ((exec (core_setting p) n p.routines (core_calls limit p n) p.main.body (core_here p) >>= λ flow. begins (at p.main.end (core_here p))).from w).end
   main_matches w =
       let g = core_setting p in
       let code = program_code p in
@@ -122,7 +144,8 @@ module _ (limit : ℕ) (p : c.Program) (n : ℕ) where
       let on = 0 + length cx in
       let on_is : on ≡ on + 0 = omega arith in
       let last = has_back code.lines 0 cx (line (Some p.main.end) i.Begin ∷ line None i.Finish ∷ []) main in
-      let runs = exec_follows limit g code n [] calls follow m p.routines works_so p.main.body None main_ways 0 on on on on [] here w (has_front code.lines 0 cx _ main) refl on_is on_is on_is in
+      let runs = exec_follows limit g code n [] calls follow m p.routines works_so p.main.body None main_ways 0 on on on on [] here w
+          (has_front code.lines 0 cx _ main) refl on_is on_is on_is in
       reach_matches limit g code runs (λ flow w. end_matches limit g code n p.main.end on here flow w last.0 last.1.0)
 
 pub agrees_over : (h : Halt) (end : End ⊤) → end ≢ Beyond → Agrees h end → h ≢ Running
@@ -149,7 +172,8 @@ module _ (c : ℕ → Course) (so : Steady c) where
     where
       ends : end ≢ Beyond → (out ≡ (c k).out) × Agrees (c k).halt end
       ends b =
-          let same : c m.k ≡ c k = ⊎_elim (λ lt. so.longer k m.k (omega arith) over) (λ le. sym (so.longer m.k k le (agrees_over (c m.k).halt end b m.halt))) (cases_lt k m.k) in
+          let same : c m.k ≡ c k = ⊎_elim (λ lt. so.longer k m.k (omega arith) over) (λ le. sym (so.longer m.k k le (agrees_over (c m.k).halt end b m.halt)))
+              (cases_lt k m.k) in
           (sym m.same ∙ ap (λ (c : Course). c.out) same, subst (λ (c : Course). Agrees c.halt end) same m.halt)
 
       by_end : (e : End ⊤) → end ≡ e → (out ≡ (c k).out) × Agrees (c k).halt end
@@ -167,7 +191,9 @@ module _ (c : ℕ → Course) (so : Steady c) where
       later le = let f = so.front k m.k le in (f.0, sym m.same ∙ f.1)
 
       ends : end ≢ Beyond → (rest : List Event) × (out ≡ (c k).out ++ rest)
-      ends b = ⊎_elim (λ lt. later (omega arith)) (λ le. let same = so.longer m.k k le (agrees_over (c m.k).halt end b m.halt) in ([], sym m.same ∙ ap (λ (c : Course). c.out) (sym same) ∙ sym (append-nil (c k).out))) (cases_lt k m.k)
+      ends b = ⊎_elim (λ lt. later (omega arith)) (λ le. let same =
+          so.longer m.k k le (agrees_over (c m.k).halt end b m.halt) in ([], sym m.same ∙ ap (λ (c : Course). c.out) (sym same) ∙
+          sym (append-nil (c k).out))) (cases_lt k m.k)
 
       by_end : (e : End ⊤) → end ≡ e → (rest : List Event) × (out ≡ (c k).out ++ rest)
       by_end (Gives x w) is = ends (λ b. let e : Gives x w ≡ Beyond = sym is ∙ b in cc)
@@ -182,9 +208,13 @@ module _ (limit : ℕ) (p : c.Program) (answers : ℕ → Bool) where
   matches : (n : ℕ) → Matches (course limit (core_setting p) (program_code p) first) n (core_runs limit p n answers).out (core_runs limit p n answers).end
   unfolding core_runs
   matches n =
-      let rest : ⊤ → Ran ⊤ = λ done. exec (core_setting p) n p.routines (core_calls limit p n) p.main.body (core_here p) >>= λ flow. begins (at p.main.end (core_here p)) in
-      let first_so = behind_first limit (core_setting p) (program_code p) n (claim (core_here p) >>= λ done. enter p.main.initial) rest (core_world p answers) (λ done w. start p w) (bind_ends (claim_ends (core_here p)) (λ done. enter_ends p.main.initial)) (λ done w. main_matches limit p n w) in
-      subst (λ r. Matches (course limit (core_setting p) (program_code p) first) n (r.from (core_world p answers)).out (r.from (core_world p answers)).end) (bind_assoc (claim (core_here p)) (λ done. enter p.main.initial) rest) first_so
+      let rest : ⊤ → Ran ⊤ = λ done. exec (core_setting p) n p.routines (core_calls limit p n) p.main.body (core_here p) >>= λ flow.
+          begins (at p.main.end (core_here p)) in
+      let first_so = behind_first limit (core_setting p) (program_code p) n (claim (core_here p) >>= λ done. enter p.main.initial) rest
+          (core_world p answers) (λ done w. start p w) (bind_ends (claim_ends (core_here p)) (λ done. enter_ends p.main.initial))
+          (λ done w. main_matches limit p n w) in
+      subst (λ r. Matches (course limit (core_setting p) (program_code p) first) n (r.from (core_world p answers)).out (r.from (core_world p answers)).end)
+          (bind_assoc (claim (core_here p)) (λ done. enter p.main.initial) rest) first_so
 
 pub behaves : (p : c.Program) (answers : ℕ → Bool) → Behaves p (program_code p) answers
 unfolding after core_run_of
@@ -192,6 +222,7 @@ behaves p answers =
     let so = steady 1000 (core_setting p) (program_code p) (first 1000 p answers) in
     record {
       follows = λ n. let m = matches 1000 p answers n in (m.k, m.turns, m.same, m.halt);
-      only = λ k over. let o = over_too _ so k (core_runs 1000 p k answers).out (core_runs 1000 p k answers).end (matches 1000 p answers k) over in (k, o.0, o.1);
+      only = λ k over. let o = over_too _ so k (core_runs 1000 p k answers).out (core_runs 1000 p k answers).end (matches 1000 p answers k) over
+          in (k, o.0, o.1);
       begins = λ k. let o = begins_run _ so k (core_runs 1000 p k answers).out (core_runs 1000 p k answers).end (matches 1000 p answers k) in (k, o.0, o.1);
     }

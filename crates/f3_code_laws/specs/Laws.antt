@@ -13,4 +13,5 @@ Compiles = (p : Program) (answers : ℕ → Bool) → Behaves p (program_code p)
 
 -- The code of the Core of each program does what the program means, whatever the heap answers.
 abbrev pub Translates : Type 0
-Translates = (p : source.Program) (answers : ℕ → Bool) → Does (after 1000 (lowered_program p) (program_code (lowered_program p)) answers) (λ n. run_of p n answers)
+Translates = (p : source.Program) (answers : ℕ → Bool) → Does (after 1000 (lowered_program p) (program_code (lowered_program p)) answers)
+    (λ n. run_of p n answers)
