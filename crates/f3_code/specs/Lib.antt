@@ -1,0 +1,4 @@
+pub mod State
+pub mod Machine
+pub mod Code
+pub mod Run
