@@ -19,13 +19,13 @@ pub struct Line {
 }
 
 /// One more line in front.
-pub fn put(
-    code: &mut Vec<Line>,
-    place: Option<Place>,
-    act: Instruction,
-) -> Result<(), AllocError>
+pub fn put(code: &mut Vec<Line>, place: Option<Place>, act: Instruction) -> Result<(), AllocError>
     ensures { OnOk result (Emitted code.old.items code.new.items (line place act ∷ [])) }
 {
-    code.push(Line { place, initial: None, act })?;
+    code.push(Line {
+        place,
+        initial: None,
+        act,
+    })?;
     Ok(())
 }

@@ -166,7 +166,11 @@ fn emit_selection(
         Selection::Whole => Ok(()),
         Selection::Contents => put(code, place, Instruction::Contents),
         Selection::Elements(is_opened, subscripts) => {
-            put(code, place, Instruction::Select(*is_opened, subscripts.len()))?;
+            put(
+                code,
+                place,
+                Instruction::Select(*is_opened, subscripts.len()),
+            )?;
             emit_subscripts(code, place, subscripts)
         }
     }
@@ -189,7 +193,11 @@ fn emit_selection_of(
             put(code, place, Instruction::Component(component))
         }
         Selection::Elements(is_opened, subscripts) => {
-            put(code, place, Instruction::SelectOf(*is_opened, component, subscripts.len()))?;
+            put(
+                code,
+                place,
+                Instruction::SelectOf(*is_opened, component, subscripts.len()),
+            )?;
             emit_subscripts(code, place, subscripts)?;
             put(code, place, Instruction::ComponentOf(component))
         }
