@@ -150,7 +150,7 @@ pub structure_ends : (xs : Parts) (k : ℕ) (ps : List Passed) (here : Here) →
 structure_ends nothing k ps here = gives_end _
 structure_ends (and c s rest) k ps here =
     bind_ends (fitted_argument_ends c.declared _ (passed_at k ps) here)
-        (λ v. bind_ends (claim_for_ends v here) (λ done. bind_ends (structure_ends rest (suc k) ps here) (λ vs. gives_end _)))
+    (λ v. bind_ends (claim_for_ends v here) (λ done. bind_ends (structure_ends rest (suc k) ps here) (λ vs. gives_end _)))
 
 -- ---- references
 
@@ -215,7 +215,7 @@ request_ends = bind_ends asks_end (λ b. bind_ends (does_end _) (λ done. gives_
 pub allocate_ends : (rank : ℕ) (v : Value) (h : Reference) (ss : List Span) (here : Here) → Ends (allocate rank v h ss here)
 allocate_ends rank v h ss here = bind_ends (looks_end _) (λ already. if_ends already (gives_end _)
     (if_ends (too_many ss || nat_lt 16777216 (count ss)) (gives_end _)
-        (bind_ends request_ends (λ refused. if_ends refused (gives_end _) (bind_ends (does_end _) (λ done. gives_end _))))))
+    (bind_ends request_ends (λ refused. if_ends refused (gives_end _) (bind_ends (does_end _) (λ done. gives_end _))))))
 
 pub take_over_ends : (g : Setting) (from to : Reference) (v : Value) (here : Here) → Ends (take_over g 0 no_calls from to v here)
 take_over_ends g from to (Allocated v) here = if_ends (is_pinned from.path here.lent) (fails_end _ here.place) (bind_ends (does_end _) (λ done. does_end _))

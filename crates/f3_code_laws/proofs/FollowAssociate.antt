@@ -55,7 +55,7 @@ module _ (limit : ℕ) (g : Setting) (code : Code) (n : ℕ) (frames : List Fram
   none_left (c.Bind d ∷ xs) o pc on stack here w has e =
       let e' : pc + 1 + 1 + length (discards_code m o xs) ≡ on = omega (arith, e) in
       comes_on limit g code (comes_by limit g code (at_it pc (Objects [] ∷ stack) here w (line o (i.NextObject 1)) has.0))
-          (none_left xs o (pc + 1 + 1) on stack here w has.1.1 e')
+      (none_left xs o (pc + 1 + 1) on stack here w has.1.1 e')
   none_left (c.Hold of x y ∷ xs) o pc on stack here w has e =
       let cy = work_code m o y in
       let cd = discards_code m o xs in
@@ -64,7 +64,7 @@ module _ (limit : ℕ) (g : Setting) (code : Code) (n : ℕ) (frames : List Fram
       let skip : pc + 1 + (length cy + 1) ≡ p = omega arith in
       let e' : p + length cd ≡ on = omega (arith, e, length-append cy (line o i.Drop ∷ cd)) in
       comes_on limit g code (comes_by limit g code (at_it pc (Objects [] ∷ stack) here w (line o (i.NextObject (length cy + 1))) has.0 ∙
-          ap (λ q. Goes [] (state q (Objects [] ∷ stack) here frames w)) skip)) (none_left xs o p on stack here w h.1 e')
+      ap (λ q. Goes [] (state q (Objects [] ∷ stack) here frames w)) skip)) (none_left xs o p on stack here w h.1 e')
 
   discards_follow : (xs : List c.Selector) (rs : List Reference) (o : Option Place) (pc on : ℕ) (stack : List Cell) (here : Here) (w : World) →
       HasAt code.lines pc (discards_code m o xs) → pc + length (discards_code m o xs) ≡ on →
@@ -73,7 +73,7 @@ module _ (limit : ℕ) (g : Setting) (code : Code) (n : ℕ) (frames : List Fram
   discards_follow [] rs o pc on stack here w has e =
       let e' : pc ≡ on = omega (arith, e) in
       ending limit g code n frames pc on (λ done. Objects rs ∷ stack) here e'
-          (stays limit g code n tt w (λ done w. state pc (Objects rs ∷ stack) here frames w))
+      (stays limit g code n tt w (λ done w. state pc (Objects rs ∷ stack) here frames w))
   discards_follow (c.Bind d ∷ xs) [] o pc on stack here w has e =
       comes_then limit g code (none_left (c.Bind d ∷ xs) o pc on stack here w has e)
       (stays limit g code n tt w (λ done w. state on (Objects [] ∷ stack) here frames w))
@@ -83,8 +83,8 @@ module _ (limit : ℕ) (g : Setting) (code : Code) (n : ℕ) (frames : List Fram
   discards_follow (c.Bind d ∷ xs) (r ∷ rs) o pc on stack here w has e =
       let e' : pc + 1 + 1 + length (discards_code m o xs) ≡ on = omega (arith, e) in
       step_then limit g code (at_it pc (Objects (r ∷ rs) ∷ stack) here w (line o (i.NextObject 1)) has.0)
-          (step_then limit g code (at_it (pc + 1) (Object r ∷ Objects rs ∷ stack) here w (line o i.Drop) has.1.0)
-          (discards_follow xs rs o (pc + 1 + 1) on stack here w has.1.1 e'))
+      (step_then limit g code (at_it (pc + 1) (Object r ∷ Objects rs ∷ stack) here w (line o i.Drop) has.1.0)
+      (discards_follow xs rs o (pc + 1 + 1) on stack here w has.1.1 e'))
   discards_follow (c.Hold of x y ∷ xs) (r ∷ rs) o pc on stack here w has e =
       let cy = work_code m o y in
       let cd = discards_code m o xs in
@@ -92,8 +92,8 @@ module _ (limit : ℕ) (g : Setting) (code : Code) (n : ℕ) (frames : List Fram
       let p = pc + 1 + length cy in
       let e' : p + 1 + length cd ≡ on = omega (arith, e, length-append cy (line o i.Drop ∷ cd)) in
       step_then limit g code (at_it pc (Objects (r ∷ rs) ∷ stack) here w (line o (i.NextObject (length cy + 1))) has.0)
-          (then_on limit g code (work_follows limit g code n frames calls follow m (routines_of g calls types) routines_follow y o (pc + 1) r
-          (Objects rs ∷ stack) here w (has_front code.lines (pc + 1) cy _ has.1)) (λ done w.
+      (then_on limit g code (work_follows limit g code n frames calls follow m (routines_of g calls types) routines_follow y o (pc + 1) r
+      (Objects rs ∷ stack) here w (has_front code.lines (pc + 1) cy _ has.1)) (λ done w.
       step_then limit g code (at_it p (Object r ∷ Objects rs ∷ stack) here w (line o i.Drop) h.0) (discards_follow xs rs o (p + 1) on stack here w h.1 e')))
 
   pub associate_follows : (xs : List c.Selector) (x : c.Core) → Does x → Does (c.Associate xs x)
@@ -112,30 +112,36 @@ module _ (limit : ℕ) (g : Setting) (code : Code) (n : ℕ) (frames : List Fram
       let p3 = p2 + 4 in
       let h4 = has_back code.lines (p3 + 1) cd r3 h3.1 in
       let p4 = p3 + 1 + length cd in
-      let len : p4 + 1 + 3 ≡ on = omega (arith, on_is, length-append cs (begin ∷ (cx ++ (cl ++ r2))), length-append cx (cl ++ r2), length-append cl r2,
-          length-append cd r3) in
+      let len : p4 + 1 + 3 ≡ on = omega (
+        arith,
+        on_is,
+        length-append cs (begin ∷ (cx ++ (cl ++ r2))),
+        length-append cx (cl ++ r2),
+        length-append cl r2,
+        length-append cd r3,
+      ) in
       then_where limit g code (λ found. length found ≡ length xs) (selectors_count limit g code n frames calls follow types xs there)
-          (selectors_follow limit g code n frames calls follow types xs o pc base here w (has_front code.lines pc cs _ has)) (λ found w count.
+      (selectors_follow limit g code n frames calls follow types xs o pc base here w (has_front code.lines pc cs _ has)) (λ found w count.
       as_well limit g code (entered_then (λ store. length store.levels) (enter (held_by found))
-          (λ level. exec g n types calls x (associating (associates found level 0 here.unit) there) >>= λ flow.
-          discard_selectors g n types calls xs (associates found level 0 here.unit) there >>= λ done. leave level >>= λ done. gives flow))
+      (λ level. exec g n types calls x (associating (associates found level 0 here.unit) there) >>= λ flow.
+      discard_selectors g n types calls xs (associates found level 0 here.unit) there >>= λ done. leave level >>= λ done. gives flow))
       (then_on limit g code (at_line limit g code n frames {next = λ level w.
-          state (p1 + 1) (Outside here ∷ Level level (associates found level 0 here.unit) ∷ base) (associating (associates found level 0 here.unit) here)
-          frames w} (looks (λ store. length store.levels) >>= λ level. enter (held_by found) >>= λ done. gives level) p1 (onto Selector found base) here w
-          begin (bind_ends (looks_end _) (λ level. bind_ends (enter_ends (held_by found)) (λ done. gives_end level))) h1.0
-          (popped selector_of Selector (λ a. refl) found base (length xs) _ count)) (λ level w.
+      state (p1 + 1) (Outside here ∷ Level level (associates found level 0 here.unit) ∷ base) (associating (associates found level 0 here.unit) here)
+      frames w} (looks (λ store. length store.levels) >>= λ level. enter (held_by found) >>= λ done. gives level) p1 (onto Selector found base) here w
+      begin (bind_ends (looks_end _) (λ level. bind_ends (enter_ends (held_by found)) (λ done. gives_end level))) h1.0
+      (popped selector_of Selector (λ a. refl) found base (length xs) _ count)) (λ level w.
       let rs = associates found level 0 here.unit in
       let under = Level level rs ∷ base in
       let inner = associating rs here in
       then_on limit g code (follows o scoped (p1 + 1) p2 (p2 + 1) (p2 + 2) (p2 + 3) (Outside here ∷ under) inner w (has_front code.lines (p1 + 1) cx _ h1.1)
-          refl refl refl refl) (λ flow w.
+      refl refl refl refl) (λ flow w.
       comes_then limit g code (leaves limit g code n frames o p2 under inner here flow w (has_front code.lines p2 cl r2 h2))
-          (step_then limit g code (at_it p3 (Going flow ∷ under) here w (line o i.Associated) h3.0)
+      (step_then limit g code (at_it p3 (Going flow ∷ under) here w (line o i.Associated) h3.0)
       (then_on limit g code (discards_follow xs rs o (p3 + 1) p4 (Going flow ∷ under) here w (has_front code.lines (p3 + 1) cd _ h3.1) refl) (λ done w.
       then_on limit g code (at_line limit g code n frames {next = λ done w. state (p4 + 1) (Going flow ∷ base) here frames w} (leave level) p4
-          (Objects (left_over xs rs) ∷ Going flow ∷ under) here w (line o i.EndAssociate) (leave_ends level) h4.0 refl) (λ done w.
+      (Objects (left_over xs rs) ∷ Going flow ∷ under) here w (line o i.EndAssociate) (leave_ends level) h4.0 refl) (λ done w.
       comes_then limit g code (departs_so limit g code n frames o ws (p4 + 1) on cyc left back base here flow w h4.1 len cyc_is left_is back_is)
-          (stays limit g code n flow w (leads on cyc left back ws.cells base here frames))))))))))
+      (stays limit g code n flow w (leads on cyc left back ws.cells base here frames))))))))))
 
   -- the code of each statement does what the statement does
   pub exec_follows : (x : c.Core) → Does x

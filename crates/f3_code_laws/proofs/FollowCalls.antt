@@ -34,7 +34,7 @@ begun_then : {A : Type 0} (ps : List Passed) (initial : List Value) (here : Here
 begun_then ps initial here rest =
     bind_assoc (claim here) (λ done. looks (λ store. length store.levels) >>= λ level. enter (held ps) >>= λ done. enter initial >>= λ done. gives level) rest
     ∙ then_same (claim here) (λ done. bind_assoc (looks (λ store. length store.levels))
-        (λ level. enter (held ps) >>= λ done. enter initial >>= λ done. gives level) rest
+    (λ level. enter (held ps) >>= λ done. enter initial >>= λ done. gives level) rest
     ∙ then_same (looks (λ store. length store.levels)) (λ level. bind_assoc (enter (held ps)) (λ done. enter initial >>= λ done. gives level) rest
     ∙ then_same (enter (held ps)) (λ done. bind_assoc (enter initial) (λ done. gives level) rest
     ∙ then_same (enter initial) (λ done. nothing_then level rest))))
@@ -77,9 +77,11 @@ AllAt m code pc (p ∷ ps) = HasAt code pc (body_code m p) × AllAt m code (pc +
 
 pub all_at : (m : ℕ) (code : List Line) (pc : ℕ) (ps : List c.Procedure) → HasAt code pc (procedures_code m ps) → AllAt m code pc ps
 all_at m code pc [] h = tt
-all_at m code pc (p ∷ ps) h =
-    (has_front code pc (body_code m p) (procedures_code m ps) h, all_at m code (pc + length (body_code m p)) ps
-        (has_back code pc (body_code m p) (procedures_code m ps) h))
+all_at m code pc (p ∷ ps) h = (
+  has_front code pc (body_code m p) (procedures_code m ps) h,
+  all_at m code (pc + length (body_code m p)) ps
+      (has_back code pc (body_code m p) (procedures_code m ps) h),
+)
 
 module _ (limit : ℕ) (g : Setting) (code : Code) (n : ℕ) (frame : Frame) (frames : List Frame) (calls : Calls)
     (follow : CallsFollow limit g code n calls (frame ∷ frames)) (m : ℕ) (types : List Work)
@@ -106,14 +108,14 @@ module _ (limit : ℕ) (g : Setting) (code : Code) (n : ℕ) (frame : Frame) (fr
       let h2 = has_back code.lines p2 cd (line None i.Return ∷ []) h1.1.1 in
       let p3 = p2 + length cd in
       then_on limit g code (finish_follows limit g code n fs calls follow m types routines_follow p.finish 0 pc [] here w (has_front code.lines pc cf _ has))
-          (λ done w.
+      (λ done w.
       then_on limit g code (at_line limit g code n fs {next = λ v w. state (p1 + 1) (Datum v ∷ []) here fs w} (looks (result_at p.result (suc frame.level)))
-          p1 [] here w (line None (i.ResultOf p.result)) (looks_end _) h1.0 refl) (λ v w.
+      p1 [] here w (line None (i.ResultOf p.result)) (looks_end _) h1.0 refl) (λ v w.
       step_then limit g code (stood (p1 + 1) (Datum v ∷ []) here w (line None i.Outward) h1.1.0)
       (then_on limit g code (discard_follows limit g code n fs calls follow m types routines_follow p.discard 0 rs p2 p3 (Datum v ∷ []) frame.caller w
-          (has_front code.lines p2 cd _ h1.1.1) refl) (λ done w.
+      (has_front code.lines p2 cd _ h1.1.1) refl) (λ done w.
       then_on limit g code (at_line limit g code n fs {next = λ done w. state frame.pc (Datum v ∷ frame.stack) frame.here frames w} (leave frame.level) p3
-          (Objects (left_over p.discard rs) ∷ Datum v ∷ []) frame.caller w (line None i.Return) (leave_ends frame.level) h2.0 refl) (λ done w.
+      (Objects (left_over p.discard rs) ∷ Datum v ∷ []) frame.caller w (line None i.Return) (leave_ends frame.level) h2.0 refl) (λ done w.
       stays limit g code n v w (λ v w. state frame.pc (Datum v ∷ frame.stack) frame.here frames w))))))
 
   -- how the body is left
@@ -123,9 +125,9 @@ module _ (limit : ℕ) (g : Setting) (code : Code) (n : ℕ) (frame : Frame) (fr
       (λ place w. state (on + 1 + 1) [] (at place here) (frame ∷ frames) w)
   left_follows end on here w Onward begin sets =
       then_on limit g code (at_line limit g code n (frame ∷ frames) {next = λ done w. state (on + 1) [] here (frame ∷ frames) w} (begins (at end here)) on []
-          here w (line (Some end) i.Begin) (begins_ends (at end here)) begin refl) (λ done w.
+      here w (line (Some end) i.Begin) (begins_ends (at end here)) begin refl) (λ done w.
       one_step limit g code n end w (λ place w. state (on + 1 + 1) [] (at place here) (frame ∷ frames) w)
-          (stood (on + 1) [] here w (line (Some end) i.SetPlace) sets))
+      (stood (on + 1) [] here w (line (Some end) i.SetPlace) sets))
   left_follows end on here w Cycled begin sets = one_step limit g code n end w (λ place w. state (on + 1 + 1) [] (at place here) (frame ∷ frames) w)
       (stood (on + 1) [] here w (line (Some end) i.SetPlace) sets)
   left_follows end on here w Left begin sets = one_step limit g code n end w (λ place w. state (on + 1 + 1) [] (at place here) (frame ∷ frames) w)
@@ -149,10 +151,10 @@ module _ (limit : ℕ) (g : Setting) (code : Code) (n : ℕ) (frame : Frame) (fr
       let back_is : on + 1 + 1 ≡ on + 2 = omega arith in
       step_then limit g code (stood pc [] here w (line None i.Dummies) has.0)
       (then_on limit g code (begin_follows limit g code n fs calls follow m types routines_follow p.begin rs (pc + 1) p1 [] here w
-          (has_front code.lines (pc + 1) cb _ has.1) refl) (λ done w.
+      (has_front code.lines (pc + 1) cb _ has.1) refl) (λ done w.
       step_then limit g code (stood p1 (Objects (left_over p.begin rs) ∷ []) here w (line None i.Drop) h1.0)
       (then_on limit g code (exec_follows limit g code n fs calls follow m types routines_follow p.body None body_ways (p1 + 1) on (on + 1) (on + 1)
-          (on + 1 + 1) [] here w (has_front code.lines (p1 + 1) cx _ h1.1) refl refl refl back_is) (λ flow w.
+      (on + 1 + 1) [] here w (has_front code.lines (p1 + 1) cx _ h1.1) refl refl refl back_is) (λ flow w.
       then_on limit g code (left_follows p.end on here w flow h2.0 h2.1.0) (λ place w. last_follows p place (on + 1 + 1) w h2.1.1)))))
 
 module _ (limit : ℕ) (p : c.Program) (code : Code) (n : ℕ) (frames : List Frame) (calls : Calls) (m : ℕ) where
@@ -171,8 +173,8 @@ module _ (limit : ℕ) (p : c.Program) (code : Code) (n : ℕ) (frames : List Fr
       let s = state pc onto here frames w in
       let entry : Entry = record { at = base; unit = q.unit; dummies = q.dummies; variables = q.variables; initial = q.initial } in
       as_well limit g code (called_so g n p.routines calls q ps there)
-          (then_on limit g code (does_it limit g code n (begun ps q.initial there) w (entered s stack there entry ps) (begun_ends ps q.initial there) e)
-          (λ level w.
+      (then_on limit g code (does_it limit g code n (begun ps q.initial there) w (entered s stack there entry ps) (begun_ends ps q.initial there) e)
+      (λ level w.
       let frame : Frame = record { pc = pc + 1; stack = stack; here = here; caller = there; arguments = ps; level = level } in
       body_follows limit g code n frame frames calls (follow frame) m p.routines (routines frame) q base w has.0))
   entry_follows (suc f) (q ∷ qs) base there ps pc stack onto here w follow routines has e =
@@ -190,10 +192,10 @@ module _ (limit : ℕ) (p : c.Program) (code : Code) (n base at_routines : ℕ) 
         let t : nat_lt (length frames) limit ≡ false = grind arith in
         let goes_in : Next = called_at (slice_get code.procedures f) s stack there ps in
         let taken = popped argument_of Argument (λ p. refl) ps stack (length ps)
-            (λ ps stack. if nat_lt (length frames) limit then called_at (slice_get code.procedures f) s stack there ps else Stays []
-            (Failed CallsTooDeep there.place)) refl in
+        (λ ps stack. if nat_lt (length frames) limit then called_at (slice_get code.procedures f) s stack there ps else Stays []
+        (Failed CallsTooDeep there.place)) refl in
         fails_at limit (core_setting p) code n CallsTooDeep there.place w (λ v w. state (pc + 1) (Datum v ∷ stack) here frames w)
-            (e ∙ taken ∙ ap (λ b. if b then goes_in else Stays [] (Failed CallsTooDeep there.place)) t);
+        (e ∙ taken ∙ ap (λ b. if b then goes_in else Stays [] (Failed CallsTooDeep there.place)) t);
   }
   calls_follow (suc depth) frames full = record {
     by = λ f there ps pc stack here w e.
@@ -202,15 +204,15 @@ module _ (limit : ℕ) (p : c.Program) (code : Code) (n base at_routines : ℕ) 
         let t : nat_lt (length frames) limit ≡ true = grind arith in
         let goes_in : Next = called_at (slice_get code.procedures f) s stack there ps in
         let taken = popped argument_of Argument (λ p. refl) ps stack (length ps)
-            (λ ps stack. if nat_lt (length frames) limit then called_at (slice_get code.procedures f) s stack there ps else Stays []
-            (Failed CallsTooDeep there.place)) refl in
+        (λ ps stack. if nat_lt (length frames) limit then called_at (slice_get code.procedures f) s stack there ps else Stays []
+        (Failed CallsTooDeep there.place)) refl in
         let e' : step limit g code s ≡ called_at (slice_get (entries (length p.routines) base p.procedures) f) s stack there ps = e ∙ taken ∙
-            ap (λ b. if b then goes_in else Stays [] (Failed CallsTooDeep there.place)) t ∙ ap (λ es. called_at (slice_get es f) s stack there ps) table in
+        ap (λ b. if b then goes_in else Stays [] (Failed CallsTooDeep there.place)) t ∙ ap (λ es. called_at (slice_get es f) s stack there ps) table in
         let calls = core_calls depth p n in
         let deeper : (frame : Frame) → CallsFollow limit g code n calls (frame ∷ frames) = λ frame.
-            (let full' : length (frame ∷ frames) + depth ≡ limit = omega (arith, full) in calls_follow depth (frame ∷ frames) full') in
+        (let full' : length (frame ∷ frames) + depth ≡ limit = omega (arith, full) in calls_follow depth (frame ∷ frames) full') in
         let ends : TableEnds code.routines (places_of at_routines p.routines) =
-            record { by = λ t go none lt. ap (λ l. machine.routine_at l t go none) places } in
+        record { by = λ t go none lt. ap (λ l. machine.routine_at l t go none) places } in
         entry_follows limit p code n frames calls (length p.routines) f p.procedures base there ps pc stack (onto Argument ps stack) here w deeper
-            (λ frame. routines_follow limit g code n (frame ∷ frames) calls (deeper frame) p.routines at_routines has_routines ends) has e';
+        (λ frame. routines_follow limit g code n (frame ∷ frames) calls (deeper frame) p.routines at_routines has_routines ends) has e';
   }

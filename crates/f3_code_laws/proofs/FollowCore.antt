@@ -58,7 +58,7 @@ module _ (limit : ℕ) (g : Setting) (code : Code) (n : ℕ) (frames : List Fram
   at_follows place true x follows o ws pc on cyc left back base here w has on_is cyc_is left_is back_is =
       let on_x : on ≡ pc + 1 + length (code_of m (Some place) x ws) = omega (arith, on_is) in
       then_on limit g code (at_line limit g code n frames (begins (at place here)) pc base here w (line (Some place) i.Begin) (begins_ends (at place here))
-          has.0 refl) (λ done w. follows (Some place) ws (pc + 1) on cyc left back base here w has.1 on_x cyc_is left_is back_is)
+      has.0 refl) (λ done w. follows (Some place) ws (pc + 1) on cyc left back base here w has.1 on_x cyc_is left_is back_is)
   at_follows place false x follows o ws pc on cyc left back base here w has on_is cyc_is left_is back_is =
       follows (Some place) ws pc on cyc left back base here w has on_is cyc_is left_is back_is
 
@@ -76,8 +76,8 @@ module _ (limit : ℕ) (g : Setting) (code : Code) (n : ℕ) (frames : List Fram
       let left_x : left ≡ mid + (length cy + ws.exit) = omega (arith, left_is, on_y) in
       let back_x : back ≡ mid + (length cy + ws.ret) = omega (arith, back_is, on_y) in
       then_on limit g code (first o ws' pc mid cyc left back base here w (has_front code.lines pc cx cy has) refl cyc_x left_x back_x)
-          (λ flow w. onward_follows limit g code n frames on mid cyc left back ws.cells base here flow (exec g n types calls y (placed o here)) w
-          (second o ws mid on cyc left back base here w (has_back code.lines pc cx cy has) on_y cyc_is left_is back_is))
+      (λ flow w. onward_follows limit g code n frames on mid cyc left back ws.cells base here flow (exec g n types calls y (placed o here)) w
+      (second o ws mid on cyc left back base here w (has_back code.lines pc cx cy has) on_y cyc_is left_is back_is))
 
   pub assign_follows : (d : Designator) (x : c.Transfer) (e : Expression) → Follows (c.Assign d x e)
   assign_follows d x e o ws pc on cyc left back base here w has on_is cyc_is left_is back_is =
@@ -90,7 +90,7 @@ module _ (limit : ℕ) (g : Setting) (code : Code) (n : ℕ) (frames : List Fram
       then_on limit g code (values e o pc base here w (has_front code.lines pc ce (cd ++ ct) has)) (λ v w.
       then_on limit g code (locates d o p1 (Datum v ∷ base) here w (has_front code.lines p1 cd ct h1)) (λ r w.
       then_on limit g code (transfer_follows limit g code n frames calls follow m types routines_follow x o p2 r v base here w h2)
-          (λ done w. goes_on (p2 + length ct) on cyc left back ws.cells base here w len)))
+      (λ done w. goes_on (p2 + length ct) on cyc left back ws.cells base here w len)))
 
   pub call_follows : (e : Expression) → Follows (c.Call e)
   call_follows e o ws pc on cyc left back base here w has on_is cyc_is left_is back_is =
@@ -98,8 +98,8 @@ module _ (limit : ℕ) (g : Setting) (code : Code) (n : ℕ) (frames : List Fram
       let h = has_back code.lines pc ce (line o i.Drop ∷ []) has in
       let len : pc + length ce + 1 ≡ on = omega (arith, on_is, length-append ce (line o i.Drop ∷ [])) in
       then_on limit g code (values e o pc base here w (has_front code.lines pc ce _ has))
-          (λ v w. step_then limit g code (at_it (pc + length ce) (Datum v ∷ base) here w (line o i.Drop) h.0)
-          (goes_on (pc + length ce + 1) on cyc left back ws.cells base here w len))
+      (λ v w. step_then limit g code (at_it (pc + length ce) (Datum v ∷ base) here w (line o i.Drop) h.0)
+      (goes_on (pc + length ce + 1) on cyc left back ws.cells base here w len))
 
   pub allocate_follows : (xs : List c.Allocation) (stat : Option Designator) → Follows (c.Allocate xs stat)
   allocate_follows xs stat o ws pc on cyc left back base here w has on_is cyc_is left_is back_is =
@@ -108,7 +108,7 @@ module _ (limit : ℕ) (g : Setting) (code : Code) (n : ℕ) (frames : List Fram
       let len : p1 + length cs ≡ on = omega (arith, on_is, length-append ca cs) in
       then_on limit g code (allocates_follow limit g code n frames calls follow types xs o pc base here w (has_front code.lines pc ca cs has)) (λ status w.
       then_on limit g code (status_follows limit g code n frames calls follow stat status o p1 base here w (has_back code.lines pc ca cs has))
-          (λ done w. goes_on (p1 + length cs) on cyc left back ws.cells base here w len))
+      (λ done w. goes_on (p1 + length cs) on cyc left back ws.cells base here w len))
 
   pub deallocate_follows : (xs : List c.Deallocation) (stat : Option Designator) → Follows (c.Deallocate xs stat)
   deallocate_follows xs stat o ws pc on cyc left back base here w has on_is cyc_is left_is back_is =
@@ -116,14 +116,14 @@ module _ (limit : ℕ) (g : Setting) (code : Code) (n : ℕ) (frames : List Fram
       let p1 = pc + length ca in
       let len : p1 + length cs ≡ on = omega (arith, on_is, length-append ca cs) in
       then_on limit g code (deallocates_follow limit g code n frames calls follow m types routines_follow xs o pc base here w
-          (has_front code.lines pc ca cs has)) (λ status w.
+      (has_front code.lines pc ca cs has)) (λ status w.
       then_on limit g code (status_follows limit g code n frames calls follow stat status o p1 base here w (has_back code.lines pc ca cs has))
-          (λ done w. goes_on (p1 + length cs) on cyc left back ws.cells base here w len))
+      (λ done w. goes_on (p1 + length cs) on cyc left back ws.cells base here w len))
 
   pub print_follows : (xs : List Item) → Follows (c.Print xs)
   print_follows xs o ws pc on cyc left back base here w has on_is cyc_is left_is back_is =
       then_on limit g code (items_follow limit g code n frames calls follow xs o pc base here w has)
-          (λ done w. goes_on (pc + length (items_code o xs)) on cyc left back ws.cells base here w (sym on_is))
+      (λ done w. goes_on (pc + length (items_code o xs)) on cyc left back ws.cells base here w (sym on_is))
 
   pub stop_follows : (number : Option ℕ) → Follows (c.Stop number)
   stop_follows number o ws pc on cyc left back base here w has on_is cyc_is left_is back_is =
@@ -133,23 +133,23 @@ module _ (limit : ℕ) (g : Setting) (code : Code) (n : ℕ) (frames : List Fram
   cycle_follows o ws pc on cyc left back base here w has on_is cyc_is left_is back_is =
       let e : pc + 1 + ws.cycle ≡ cyc = omega (arith, on_is, cyc_is) in
       one_step limit g code n Cycled w (leads on cyc left back ws.cells base here frames)
-          (at_it pc base here w (line o (i.GoOn ws.cycle)) has.0 ∙ ap (λ q. Goes [] (state q base here frames w)) e)
+      (at_it pc base here w (line o (i.GoOn ws.cycle)) has.0 ∙ ap (λ q. Goes [] (state q base here frames w)) e)
 
   pub exit_follows : Follows c.Exit
   exit_follows o ws pc on cyc left back base here w has on_is cyc_is left_is back_is =
       let e : pc + 1 + ws.exit ≡ left = omega (arith, on_is, left_is) in
       one_step limit g code n Left w (leads on cyc left back ws.cells base here frames)
-          (at_it pc base here w (line o (i.GoOn ws.exit)) has.0 ∙ ap (λ q. Goes [] (state q base here frames w)) e)
+      (at_it pc base here w (line o (i.GoOn ws.exit)) has.0 ∙ ap (λ q. Goes [] (state q base here frames w)) e)
 
   pub return_follows : Follows c.Return
   return_follows o ws pc on cyc left back base here w has on_is cyc_is left_is back_is =
       let e : pc + 1 + 1 + 1 + ws.ret ≡ back = omega (arith, on_is, back_is) in
       let there = placed o here in
       step_then limit g code (at_it pc base here w (line o i.SetPlace) has.0)
-          (step_then limit g code (at_it (pc + 1) base there w (line o (i.Unwind ws.cells)) has.1.0)
+      (step_then limit g code (at_it (pc + 1) base there w (line o (i.Unwind ws.cells)) has.1.0)
       (one_step limit g code n (Returned there.place) w (leads on cyc left back ws.cells base here frames)
-          (at_it (pc + 1 + 1) (drop ws.cells base) there w (line o (i.GoOn ws.ret)) has.1.1.0 ∙
-          ap (λ q. Goes [] (state q (drop ws.cells base) there frames w)) e)))
+      (at_it (pc + 1 + 1) (drop ws.cells base) there w (line o (i.GoOn ws.ret)) has.1.1.0 ∙
+      ap (λ q. Goes [] (state q (drop ws.cells base) there frames w)) e)))
 
   pub if_follows : (e : Expression) (x y : c.Core) → Follows x → Follows y → Follows (c.If e x y)
   if_follows e x y first second o ws pc on cyc left back base here w has on_is cyc_is left_is back_is =
@@ -168,11 +168,11 @@ module _ (limit : ℕ) (g : Setting) (code : Code) (n : ℕ) (frames : List Fram
       let left_x : left ≡ end + (1 + length cy + ws.exit) = omega (arith, left_is, jumps_on) in
       let back_x : back ≡ end + (1 + length cy + ws.ret) = omega (arith, back_is, jumps_on) in
       then_on limit g code (values e o pc base here w (has_front code.lines pc ce _ has))
-          (λ v w. fewer limit g code n (suc n) (omega arith) (chosen limit g code n frames n (truth_of v) _ (state (mid + 1) base here frames w)
-          (state (mid + 1 + (length cx + 1)) base here frames w) (exec g n types calls x (placed o here)) (exec g n types calls y (placed o here)) w _
-          (at_it mid (Datum v ∷ base) here w skip h.0)
+      (λ v w. fewer limit g code n (suc n) (omega arith) (chosen limit g code n frames n (truth_of v) _ (state (mid + 1) base here frames w)
+      (state (mid + 1 + (length cx + 1)) base here frames w) (exec g n types calls x (placed o here)) (exec g n types calls y (placed o here)) w _
+      (at_it mid (Datum v ∷ base) here w skip h.0)
       (ends_with limit g code (first o ws' (mid + 1) end cyc left back base here w (has_front code.lines (mid + 1) cx _ h.1) refl cyc_x left_x back_x)
-          (λ flow w. jumped limit g code n frames o (length cy) on end cyc left back ws.cells base here flow w hy.0 jumps_on))
+      (λ flow w. jumped limit g code n frames o (length cy) on end cyc left back ws.cells base here flow w hy.0 jumps_on))
       (starting limit g code n frames n _ _ base here w to_y (second o ws (end + 1) on cyc left back base here w hy.1 (sym jumps_on) cyc_is left_is back_is))))
 
   pub case_follows : (rs : List Range) (x y : c.Core) → Follows x → Follows y → Follows (c.Case rs x y)
@@ -192,13 +192,13 @@ module _ (limit : ℕ) (g : Setting) (code : Code) (n : ℕ) (frames : List Fram
       let left_x : left ≡ end + (1 + length cy + ws.exit) = omega (arith, left_is, jumps_on) in
       let back_x : back ≡ end + (1 + length cy + ws.ret) = omega (arith, back_is, jumps_on) in
       let in_x = ends_with limit g code (first o ws' (mid + 1) end cyc left back base here w (has_front code.lines (mid + 1) cx _ h.1) refl cyc_x left_x
-          back_x) (λ flow w. jumped limit g code n frames o (length cy) on end cyc left back ws.cells base here flow w hy.0 jumps_on) in
+      back_x) (λ flow w. jumped limit g code n frames o (length cy) on end cyc left back ws.cells base here flow w hy.0 jumps_on) in
       let in_y = step_then limit g code (at_it mid base here w skip h.0)
-          (starting limit g code n frames n _ _ base here w to_y (second o ws (end + 1) on cyc left back base here w hy.1 (sym jumps_on) cyc_is left_is
-          back_is)) in
+      (starting limit g code n frames n _ _ base here w to_y (second o ws (end + 1) on cyc left back base here w hy.1 (sym jumps_on) cyc_is left_is
+      back_is)) in
       comes_then limit g code (ranges_follow limit g code n frames calls follow rs o pc mid base here w (has_front code.lines pc cr _ has) refl)
-          (either (meaning.some_meets g n calls rs here.selected) mid base here w (exec g n types calls x (placed o here))
-          (exec g n types calls y (placed o here)) (leads on cyc left back ws.cells base here frames) in_x in_y)
+      (either (meaning.some_meets g n calls rs here.selected) mid base here w (exec g n types calls x (placed o here))
+      (exec g n types calls y (placed o here)) (leads on cyc left back ws.cells base here frames) in_x in_y)
     where
       either : (b : Bool) (mid : ℕ) (base : List Cell) (here : Here) (w : World) (r q : Ran Flow) (next : Flow → World → State) →
           Reaches limit g code n (state (mid + 1) base here frames w) r w next → Reaches limit g code n (state mid base here frames w) q w next →
@@ -224,6 +224,6 @@ module _ (limit : ℕ) (g : Setting) (code : Code) (n : ℕ) (frames : List Fram
       let left_x : on ≡ end + 1 = omega (arith, end_is) in
       let back_x : back ≡ end + (1 + ws.ret) = omega (arith, back_is, end_is) in
       loop_follows limit g code n frames o (value g calls e (placed o here)) (exec g n types calls x (placed o here)) base here pc mid end on cyc left back
-          ws.cells (length cx + 1) b h.0 skips hb.0 returns (λ w. values e o pc base here w (has_front code.lines pc ce _ has))
-          (λ w. follows o (looped ws) (mid + 1) end end on back base here w (has_front code.lines (mid + 1) cx _ h.1) refl cyc_x left_x back_x) n
-          (omega arith) w
+      ws.cells (length cx + 1) b h.0 skips hb.0 returns (λ w. values e o pc base here w (has_front code.lines pc ce _ has))
+      (λ w. follows o (looped ws) (mid + 1) end end on back base here w (has_front code.lines (mid + 1) cx _ h.1) refl cyc_x left_x back_x) n
+      (omega arith) w

@@ -53,5 +53,5 @@ module _ (limit : ℕ) (g : Setting) (code : Code) (n : ℕ) (frames : List Fram
   count_follows zero (suc k) le w = at_beyond limit g code n frames (state pc (Turns (suc k) by ∷ base) here frames w) w _
   count_follows (suc m) (suc k) le w =
       step_first limit g code (at_it pc (Turns (suc k) by ∷ base) w (line o (i.CountNext d)) next)
-          (then_on limit g code (fewer limit g code m n (omega arith) (goes_round w k))
-          (λ flow w. counts_on m k flow (counted m k body up) w (omega arith) (λ w. count_follows m k (omega arith) w)))
+      (then_on limit g code (fewer limit g code m n (omega arith) (goes_round w k))
+      (λ flow w. counts_on m k flow (counted m k body up) w (omega arith) (λ w. count_follows m k (omega arith) w)))

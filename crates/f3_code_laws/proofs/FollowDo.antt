@@ -34,10 +34,10 @@ module _ (limit : ℕ) (g : Setting) (code : Code) (n : ℕ) (frames : List Fram
   up_follows d k by o turns pc base here w has =
       let there = placed o here in
       then_code limit g code n frames (locate_code o d) (line o (i.CountUp k.of) ∷ []) pc has
-          (locate_follows limit g code n frames calls follow d o pc (Turns turns by ∷ base) here w) (λ r w h.
+      (locate_follows limit g code n frames calls follow d o pc (Turns turns by ∷ base) here w) (λ r w h.
       at_line limit g code n frames (looks (λ store. get store r.path) >>= λ old. converted k.of (Number (number_of old +ℤ by)) there.place >>= λ v.
-          set r v there) (pc + length (locate_code o d)) (Object r ∷ Turns turns by ∷ base) here w (line o (i.CountUp k.of))
-          (bind_ends (looks_end _) (λ old. bind_ends (converted_ends k.of (Number (number_of old +ℤ by)) there.place) (λ v. set_ends r v there))) h.0 refl)
+      set r v there) (pc + length (locate_code o d)) (Object r ∷ Turns turns by ∷ base) here w (line o (i.CountUp k.of))
+      (bind_ends (looks_end _) (λ old. bind_ends (converted_ends k.of (Number (number_of old +ℤ by)) there.place) (λ v. set_ends r v there))) h.0 refl)
 
   pub do_follows : (d : Designator) (k : Kind) (from to by : Expression) (x : c.Core) →
       Follows limit g code n frames calls follow m types routines_follow x →
@@ -77,25 +77,25 @@ module _ (limit : ℕ) (g : Setting) (code : Code) (n : ℕ) (frames : List Fram
       let back_x : back ≡ p6 + (length cu + 2 + ws.ret) = omega (arith, back_is, lasts) in
       then_on limit g code (value_follows limit g code n frames calls follow from o pc base here w (has_front code.lines pc ca _ has)) (λ v w.
       then_on limit g code (at_line limit g code n frames {next = λ v w. state p1 (Datum v ∷ base) here frames w} (converted k.of v there.place)
-          (pc + length ca) (Datum v ∷ base) here w conv (converted_ends k.of v there.place) h1.0 refl) (λ first w.
+      (pc + length ca) (Datum v ∷ base) here w conv (converted_ends k.of v there.place) h1.0 refl) (λ first w.
       then_on limit g code (value_follows limit g code n frames calls follow to o p1 (Datum first ∷ base) here w (has_front code.lines p1 cb _ h1.1)) (λ v w.
       then_on limit g code (at_line limit g code n frames {next = λ v w. state p2 (Datum v ∷ Datum first ∷ base) here frames w}
-          (converted k.of v there.place) (p1 + length cb) (Datum v ∷ Datum first ∷ base) here w conv (converted_ends k.of v there.place) h2.0 refl) (λ last w.
+      (converted k.of v there.place) (p1 + length cb) (Datum v ∷ Datum first ∷ base) here w conv (converted_ends k.of v there.place) h2.0 refl) (λ last w.
       then_on limit g code (value_follows limit g code n frames calls follow by o p2 (Datum last ∷ Datum first ∷ base) here w
-          (has_front code.lines p2 cs _ h2.1)) (λ v w.
+      (has_front code.lines p2 cs _ h2.1)) (λ v w.
       then_on limit g code (at_line limit g code n frames {next = λ v w. state p3 (Datum v ∷ Datum last ∷ Datum first ∷ base) here frames w}
-          (converted k.of v there.place) (p2 + length cs) (Datum v ∷ Datum last ∷ Datum first ∷ base) here w conv (converted_ends k.of v there.place) h3.0
-          refl) (λ step w.
+      (converted k.of v there.place) (p2 + length cs) (Datum v ∷ Datum last ∷ Datum first ∷ base) here w conv (converted_ends k.of v there.place) h3.0
+      refl) (λ step w.
       let stack = Datum step ∷ Datum last ∷ Datum first ∷ base in
       then_on limit g code (at_line limit g code n frames {next = λ done w. state (p3 + 1) stack here frames w} (unless_zero (number_of step) there) p3 stack
-          here w (line o i.TestStep) (unless_ends (number_of step) there) h3.1.0 refl) (λ done w.
+      here w (line o i.TestStep) (unless_ends (number_of step) there) h3.1.0 refl) (λ done w.
       then_on limit g code (locate_follows limit g code n frames calls follow d o (p3 + 1) stack here w (has_front code.lines (p3 + 1) cd _ h3.1.1)) (λ r w.
       then_on limit g code (at_line limit g code n frames {next = λ done w.
-          state p5 (Turns (trips (number_of first) (number_of last) (number_of step)) (number_of step) ∷ base) here frames w} (set r first there) p4
-          (Object r ∷ stack) here w (line o i.CountBegin) (set_ends r first there) h4.0 refl) (λ done w.
+      state p5 (Turns (trips (number_of first) (number_of last) (number_of step)) (number_of step) ∷ base) here frames w} (set r first there) p4
+      (Object r ∷ stack) here w (line o i.CountBegin) (set_ends r first there) h4.0 refl) (λ done w.
       count_follows limit g code n frames o (exec g n types calls x there) (meaning.increment g n calls d k (number_of step) there) (number_of step) base
-          here p5 p6 p7 on cyc left back ws.cells (length cx + length cu + 1) b h4.1.0 skips h7.0 returns h7.1.0 lasts
+      here p5 p6 p7 on cyc left back ws.cells (length cx + length cu + 1) b h4.1.0 skips h7.0 returns h7.1.0 lasts
       (λ w t. follows o (counting (length cu) ws) (p5 + 1) p6 p6 (p7 + 1) back (Turns t (number_of step) ∷ base) here w
-          (has_front code.lines (p5 + 1) cx _ h4.1.1) refl cyc_x left_x back_x)
+      (has_front code.lines (p5 + 1) cx _ h4.1.1) refl cyc_x left_x back_x)
       (λ w t. up_follows d k (number_of step) o t p6 base here w (has_front code.lines p6 cu _ h6)) n
-          (trips (number_of first) (number_of last) (number_of step)) (omega arith) w)))))))))
+      (trips (number_of first) (number_of last) (number_of step)) (omega arith) w)))))))))

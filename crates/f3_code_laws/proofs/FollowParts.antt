@@ -36,8 +36,8 @@ pub dimensions_count : (g : Setting) (n : ℕ) (calls : Calls) (bs : List Bounds
 dimensions_count g n calls [] here = gives_as _ [] refl
 dimensions_count g n calls (b ∷ bs) here =
     give_all (λ v. Unit {0}) _ (give_any (value g calls b.lower here))
-        (λ l t. give_all (λ v. Unit {0}) _ (give_any (value g calls b.upper here))
-        (λ u t. give_all (λ ss. length ss ≡ length bs) _ (dimensions_count g n calls bs here) (λ ss e. gives_as _ _ (ap suc e))))
+    (λ l t. give_all (λ v. Unit {0}) _ (give_any (value g calls b.upper here))
+    (λ u t. give_all (λ ss. length ss ≡ length bs) _ (dimensions_count g n calls bs here) (λ ss e. gives_as _ _ (ap suc e))))
 
 module _ (limit : ℕ) (g : Setting) (code : Code) (n : ℕ) (frames : List Frame) (calls : Calls) (follow : CallsFollow limit g code n calls frames) where
   at_it : (pc : ℕ) (stack : List Cell) (here : Here) (w : World) (l : Line) → slice_get code.lines pc ≡ Some l →
@@ -67,9 +67,9 @@ module _ (limit : ℕ) (g : Setting) (code : Code) (n : ℕ) (frames : List Fram
       let s : Span = record { lower = number_of l; extent = trips (number_of l) (number_of u) (pos 1) } in
       let len : p + 1 + length (dimensions_code o bs) ≡ p + length rest = omega arith in
       step_then limit g code (at_it p (Datum u ∷ Datum l ∷ stack) here w (line o i.Dimension) h.0)
-          (then_on limit g code (dimensions_follow bs o (p + 1) (Extent s ∷ stack) here w h.1)
-          (λ ss w. ending limit g code n frames _ _ (λ ss. onto Extent ss stack) here len
-          (stays limit g code n (s ∷ ss) w (λ ss w. state (p + 1 + length (dimensions_code o bs)) (onto Extent ss stack) here frames w))))))
+      (then_on limit g code (dimensions_follow bs o (p + 1) (Extent s ∷ stack) here w h.1)
+      (λ ss w. ending limit g code n frames _ _ (λ ss. onto Extent ss stack) here len
+      (stays limit g code n (s ∷ ss) w (λ ss w. state (p + 1 + length (dimensions_code o bs)) (onto Extent ss stack) here frames w))))))
 
   -- the end of an ALLOCATE or DEALLOCATE
   pub status_follows : (stat : Option Designator) (x : Option RunError) (o : Option Place) (pc : ℕ) (stack : List Cell) (here : Here) (w : World) →
@@ -81,12 +81,12 @@ module _ (limit : ℕ) (g : Setting) (code : Code) (n : ℕ) (frames : List Fram
       (checked_ends (Some error) (placed o here)) has.0 refl
   status_follows (Some d) None o pc stack here w has =
       then_code limit g code n frames (locate_code o d) (line o i.StoreStatus ∷ []) pc has (locates d o pc (Status None ∷ stack) here w)
-          (λ r w h. at_line limit g code n frames (set r (Number (pos 0)) (placed o here)) _ _ here w (line o i.StoreStatus)
-          (set_ends r (Number (pos 0)) (placed o here)) h.0 refl)
+      (λ r w h. at_line limit g code n frames (set r (Number (pos 0)) (placed o here)) _ _ here w (line o i.StoreStatus)
+      (set_ends r (Number (pos 0)) (placed o here)) h.0 refl)
   status_follows (Some d) (Some error) o pc stack here w has =
       then_code limit g code n frames (locate_code o d) (line o i.StoreStatus ∷ []) pc has (locates d o pc (Status (Some error) ∷ stack) here w)
-          (λ r w h. at_line limit g code n frames (set r (Number (pos (status_number (Some error)))) (placed o here)) _ _ here w (line o i.StoreStatus)
-          (set_ends r (Number (pos (status_number (Some error)))) (placed o here)) h.0 refl)
+      (λ r w h. at_line limit g code n frames (set r (Number (pos (status_number (Some error)))) (placed o here)) _ _ here w (line o i.StoreStatus)
+      (set_ends r (Number (pos (status_number (Some error)))) (placed o here)) h.0 refl)
 
   -- the rest, unless there was an error
   pub failed_follows : (x : Option RunError) (rest : Ran (Option RunError)) (cx : List Line) (o : Option Place) (pc : ℕ) (stack : List Cell) (here : Here)
@@ -116,8 +116,8 @@ module _ (limit : ℕ) (g : Setting) (code : Code) (n : ℕ) (frames : List Fram
       let la = line_with o x.element (i.Allocate x.rank (length x.bounds)) in
       then_code limit g code n frames (locate_code o x.object) (dimensions_code o x.bounds ++ (la ∷ cr)) pc has (locates x.object o pc stack here w) (λ h w has.
       then_where_code limit g code n frames (λ ss. length ss ≡ length x.bounds) (dimensions_count g n calls x.bounds there) (dimensions_code o x.bounds)
-          (la ∷ cr) _ has (dimensions_follow x.bounds o _ (Object h ∷ stack) here w) (λ ss w e has.
+      (la ∷ cr) _ has (dimensions_follow x.bounds o _ (Object h ∷ stack) here w) (λ ss w e has.
       then_code limit g code n frames (la ∷ []) cr _ has (λ has. at_line limit g code n frames (allocate x.rank x.element h ss there) _ _ here w la
-          (allocate_ends x.rank x.element h ss there) has.0 (popped extent_of Extent (λ s. refl) ss (Object h ∷ stack) (length x.bounds) _ e)) (λ status w has.
+      (allocate_ends x.rank x.element h ss there) has.0 (popped extent_of Extent (λ s. refl) ss (Object h ∷ stack) (length x.bounds) _ e)) (λ status w has.
       failed_follows status (allocate_all g n types calls xs there) (allocate_code o xs) o _ stack here w has
-          (λ has. allocates_follow types xs o _ stack here w has))))
+      (λ has. allocates_follow types xs o _ stack here w has))))

@@ -34,13 +34,13 @@ module _ (limit : ℕ) (g : Setting) (code : Code) (n : ℕ) (frames : List Fram
       let cx = work_code m None x in
       let rest = line None i.Drop ∷ finish_code m (suc k) xs in
       then_code limit g code n frames (line None (i.Refer (name.Local k)) ∷ []) (cx ++ rest) pc has
-          (λ h. at_line limit g code n frames (named g (name.Local k) here) pc stack here w (line None (i.Refer (name.Local k)))
-          (named_ends g (name.Local k) here) h.0 refl) (λ r w h.
+      (λ h. at_line limit g code n frames (named g (name.Local k) here) pc stack here w (line None (i.Refer (name.Local k)))
+      (named_ends g (name.Local k) here) h.0 refl) (λ r w h.
       then_code limit g code n frames cx rest (pc + 1) h (λ h. work_follows limit g code n frames calls follow m (routines_of g calls types) routines_follow
-          x None (pc + 1) r stack here w h) (λ done w h.
+      x None (pc + 1) r stack here w h) (λ done w h.
       let len : pc + 1 + length cx + 1 + length (finish_code m (suc k) xs) ≡ pc + 1 + length cx + length rest = omega arith in
       step_then limit g code (is_at limit g code n frames (pc + 1 + length cx) (Object r ∷ stack) here w (line None i.Drop) h.0)
-          (ending limit g code n frames _ _ (λ done. stack) here len (finish_follows xs (suc k) (pc + 1 + length cx + 1) stack here w h.1))))
+      (ending limit g code n frames _ _ (λ done. stack) here len (finish_follows xs (suc k) (pc + 1 + length cx + 1) stack here w h.1))))
 
   at_it : (pc : ℕ) (stack : List Cell) (here : Here) (w : World) (l : Line) → slice_get code.lines pc ≡ Some l →
       step limit g code (state pc stack here frames w) ≡ act limit g code l.act l.value (placed l.place here) (state pc stack here frames w)
@@ -59,7 +59,7 @@ module _ (limit : ℕ) (g : Setting) (code : Code) (n : ℕ) (frames : List Fram
       let skip : pc + 1 + (length cx + 1) ≡ p = omega arith in
       let e' : p + length (begin_code m xs) ≡ on = omega (arith, e, length-append cx rest) in
       comes_on limit g code (comes_by limit g code (at_it pc (Objects [] ∷ stack) here w (line None (i.NextObject (length cx + 1))) has.0 ∙
-          ap (λ q. Goes [] (state q (Objects [] ∷ stack) here frames w)) skip)) (none_left xs p on stack here w h.1 e')
+      ap (λ q. Goes [] (state q (Objects [] ∷ stack) here frames w)) skip)) (none_left xs p on stack here w h.1 e')
 
   -- the work on the dummies as a procedure begins
   pub begin_follows : (xs : List Work) (rs : List Reference) (pc on : ℕ) (stack : List Cell) (here : Here) (w : World) →
@@ -69,7 +69,7 @@ module _ (limit : ℕ) (g : Setting) (code : Code) (n : ℕ) (frames : List Fram
   begin_follows [] rs pc on stack here w has e =
       let e' : pc ≡ on = omega (arith, e) in
       ending limit g code n frames pc on (λ done. Objects rs ∷ stack) here e'
-          (stays limit g code n tt w (λ done w. state pc (Objects rs ∷ stack) here frames w))
+      (stays limit g code n tt w (λ done w. state pc (Objects rs ∷ stack) here frames w))
   begin_follows (x ∷ xs) [] pc on stack here w has e = comes_then limit g code (none_left (x ∷ xs) pc on stack here w has e)
       (stays limit g code n tt w (λ done w. state on (Objects [] ∷ stack) here frames w))
   begin_follows (x ∷ xs) (r ∷ rs) pc on stack here w has e =
@@ -79,8 +79,8 @@ module _ (limit : ℕ) (g : Setting) (code : Code) (n : ℕ) (frames : List Fram
       let p = pc + 1 + length cx in
       let e' : p + 1 + length (begin_code m xs) ≡ on = omega (arith, e, length-append cx rest) in
       step_then limit g code (at_it pc (Objects (r ∷ rs) ∷ stack) here w (line None (i.NextObject (length cx + 1))) has.0)
-          (then_on limit g code (work_follows limit g code n frames calls follow m (routines_of g calls types) routines_follow x None (pc + 1) r
-          (Objects rs ∷ stack) here w (has_front code.lines (pc + 1) cx _ has.1)) (λ done w.
+      (then_on limit g code (work_follows limit g code n frames calls follow m (routines_of g calls types) routines_follow x None (pc + 1) r
+      (Objects rs ∷ stack) here w (has_front code.lines (pc + 1) cx _ has.1)) (λ done w.
       step_then limit g code (at_it p (Object r ∷ Objects rs ∷ stack) here w (line None i.Drop) h.0) (begin_follows xs rs (p + 1) on stack here w h.1 e')))
 
   none_passed : (xs : List Work) (k pc on : ℕ) (stack : List Cell) (here : Here) (w : World) → HasAt code.lines pc (discard_code m k xs) →
@@ -96,7 +96,7 @@ module _ (limit : ℕ) (g : Setting) (code : Code) (n : ℕ) (frames : List Fram
       let skip : pc + 1 + (length cx + 1) ≡ p = omega arith in
       let e' : p + length (discard_code m (suc k) xs) ≡ on = omega (arith, e, length-append cx rest) in
       comes_on limit g code (comes_by limit g code (at_it pc (Objects [] ∷ stack) here w (line None (i.NextArgument k (length cx + 1))) has.0 ∙
-          ap (λ q. Goes [] (state q (Objects [] ∷ stack) here frames w)) skip)) (none_passed xs (suc k) p on stack here w h.1 e')
+      ap (λ q. Goes [] (state q (Objects [] ∷ stack) here frames w)) skip)) (none_passed xs (suc k) p on stack here w h.1 e')
 
   by_held : (b : Bool) (x : Work) (more : List Line) (r : Reference) (rs : List Reference) (pc : ℕ) (stack : List Cell) (here : Here) (w : World) →
       HasAt code.lines (pc + 1) (work_code m None x ++ line None i.Drop ∷ more) →
@@ -107,13 +107,13 @@ module _ (limit : ℕ) (g : Setting) (code : Code) (n : ℕ) (frames : List Fram
       let cx = work_code m None x in
       let h = has_back code.lines (pc + 1) cx (line None i.Drop ∷ more) has in
       step_then limit g code e (ends_with limit g code (work_follows limit g code n frames calls follow m (routines_of g calls types) routines_follow x None
-          (pc + 1) r (Objects rs ∷ stack) here w (has_front code.lines (pc + 1) cx _ has))
-          (λ done w. comes_by limit g code (at_it (pc + 1 + length cx) (Object r ∷ Objects rs ∷ stack) here w (line None i.Drop) h.0)))
+      (pc + 1) r (Objects rs ∷ stack) here w (has_front code.lines (pc + 1) cx _ has))
+      (λ done w. comes_by limit g code (at_it (pc + 1 + length cx) (Object r ∷ Objects rs ∷ stack) here w (line None i.Drop) h.0)))
   by_held false x more r rs pc stack here w has e =
       let cx = work_code m None x in
       let skip : pc + 1 + (length cx + 1) ≡ pc + 1 + length cx + 1 = omega arith in
       one_step limit g code n tt w (λ done w. state (pc + 1 + length cx + 1) (Objects rs ∷ stack) here frames w)
-          (e ∙ ap (λ q. Goes [] (state q (Objects rs ∷ stack) here frames w)) skip)
+      (e ∙ ap (λ q. Goes [] (state q (Objects rs ∷ stack) here frames w)) skip)
 
   -- the work on held arguments at the end
   pub discard_follows : (xs : List Work) (k : ℕ) (rs : List Reference) (pc on : ℕ) (stack : List Cell) (here : Here) (w : World) →
@@ -123,7 +123,7 @@ module _ (limit : ℕ) (g : Setting) (code : Code) (n : ℕ) (frames : List Fram
   discard_follows [] k rs pc on stack here w has e =
       let e' : pc ≡ on = omega (arith, e) in
       ending limit g code n frames pc on (λ done. Objects rs ∷ stack) here e'
-          (stays limit g code n tt w (λ done w. state pc (Objects rs ∷ stack) here frames w))
+      (stays limit g code n tt w (λ done w. state pc (Objects rs ∷ stack) here frames w))
   discard_follows (x ∷ xs) k [] pc on stack here w has e = comes_then limit g code (none_passed (x ∷ xs) k pc on stack here w has e)
       (stays limit g code n tt w (λ done w. state on (Objects [] ∷ stack) here frames w))
   discard_follows (x ∷ xs) k (r ∷ rs) pc on stack here w has e =
@@ -134,5 +134,5 @@ module _ (limit : ℕ) (g : Setting) (code : Code) (n : ℕ) (frames : List Fram
       let e' : p + length (discard_code m (suc k) xs) ≡ on = omega (arith, e, length-append cx rest) in
       let begins = at_it pc (Objects (r ∷ rs) ∷ stack) here w (line None (i.NextArgument k (length cx + 1))) has.0 in
       then_on limit g code {mid = λ done w. state p (Objects rs ∷ stack) here frames w}
-          (by_held (is_held (passed_at k (passed_in frames))) x (discard_code m (suc k) xs) r rs pc stack here w has.1 begins)
-          (λ done w. discard_follows xs (suc k) rs p on stack here w h.1 e')
+      (by_held (is_held (passed_at k (passed_in frames))) x (discard_code m (suc k) xs) r rs pc stack here w has.1 begins)
+      (λ done w. discard_follows xs (suc k) rs p on stack here w h.1 e')

@@ -79,18 +79,18 @@ module _ (limit : ℕ) (g : Setting) (code : Code) (n : ℕ) (frames : List Fram
           let l = places_length (base + length cx + 1) xs in
           let lt' : nat_lt t (length (base ∷ others)) ≡ true = ap (λ k. nat_lt t (suc k)) l ∙ lt in
           let e' : step limit g code (state pc (Object r ∷ stack) here frames w) ≡ go base = e ∙ table.by t go none lt' ∙
-              ap (λ k. if nat_eq t k then go base else routine_at others t go none) l ∙ ap (λ b. if b then go base else routine_at others t go none) is in
+          ap (λ k. if nat_eq t k then go base else routine_at others t go none) l ∙ ap (λ b. if b then go base else routine_at others t go none) is in
           let back : at here.place there ≡ here = ap (λ h. at here.place h) same in
           let runs = work_follows limit g code n frames calls follow (length xs) (routines_of g calls xs) older x None base r under there w has.0 in
           let whole : Reaches limit g code n (state pc (Object r ∷ stack) here frames w) (work g calls (routines_of g calls xs) x r there) w
-              (λ done w. state (pc + 1) (Object r ∷ stack) here frames w) =
-              step_then limit g code e' (ends_with limit g code runs (λ done w.
-              comes_by limit g code (is_at limit g code n frames (base + length cx) (Object r ∷ under) there w (line None i.Back) has.1 ∙
-              ap (λ h. Goes [] (state (pc + 1) (Object r ∷ stack) h frames w)) back))) in
+          (λ done w. state (pc + 1) (Object r ∷ stack) here frames w) =
+          step_then limit g code e' (ends_with limit g code runs (λ done w.
+          comes_by limit g code (is_at limit g code n frames (base + length cx) (Object r ∷ under) there w (line None i.Back) has.1 ∙
+          ap (λ h. Goes [] (state (pc + 1) (Object r ∷ stack) h frames w)) back))) in
           subst (λ m. Reaches limit g code n (state pc (Object r ∷ stack) here frames w) m w (λ done w. state (pc + 1) (Object r ∷ stack) here frames w))
-              (ap (λ b. if b then work g calls (routines_of g calls xs) x r there else routines_of g calls xs t r there) (sym is)) whole
+          (ap (λ b. if b then work g calls (routines_of g calls xs) x r there else routines_of g calls xs t r there) (sym is)) whole
       newest older t pc r stack here there w lt e same false is =
           let more : nat_lt t (length xs) ≡ true = grind arith in
           subst (λ m. Reaches limit g code n (state pc (Object r ∷ stack) here frames w) m w (λ done w. state (pc + 1) (Object r ∷ stack) here frames w))
-              (ap (λ b. if b then work g calls (routines_of g calls xs) x r there else routines_of g calls xs t r there) (sym is))
-              (older.by t pc r stack here there w more e same)
+          (ap (λ b. if b then work g calls (routines_of g calls xs) x r there else routines_of g calls xs t r there) (sym is))
+          (older.by t pc r stack here there w more e same)

@@ -97,12 +97,12 @@ module _ (limit : ℕ) (g : Setting) (code : Code) (n : ℕ) (frames : List Fram
         (leads on cyc left back cells base here frames)
     loop_follows zero le w =
         by_test zero le (λ b. if b then beyond else gives Onward) w (λ v w.
-            fewer limit g code 0 1 (omega arith) (chosen 0 (truth_of v) _ (state (mid + 1) base here frames w) (state (mid + 1 + d) base here frames w)
-            beyond (gives Onward) w _ (at_it mid (Datum v ∷ base) here w (line o (i.SkipIfFalse d)) skip)
-            (at_beyond (state (mid + 1) base here frames w) w _) (ended 0 w)))
+        fewer limit g code 0 1 (omega arith) (chosen 0 (truth_of v) _ (state (mid + 1) base here frames w) (state (mid + 1 + d) base here frames w)
+        beyond (gives Onward) w _ (at_it mid (Datum v ∷ base) here w (line o (i.SkipIfFalse d)) skip)
+        (at_beyond (state (mid + 1) base here frames w) w _) (ended 0 w)))
     loop_follows (suc m) le w =
         by_test (suc m) le (λ b. if b then (body >>= λ flow. next_turn flow (turns m tested body)) else gives Onward) w
-            (λ v w. chosen m (truth_of v) _ (state (mid + 1) base here frames w) (state (mid + 1 + d) base here frames w)
-            (body >>= λ flow. next_turn flow (turns m tested body)) (gives Onward) w _ (at_it mid (Datum v ∷ base) here w (line o (i.SkipIfFalse d)) skip)
-            (then_on limit g code (fewer limit g code m n (omega arith) (goes_round w))
-            (λ flow w. turn_follows m flow (turns m tested body) w (loop_follows m (omega arith) w))) (ended m w))
+        (λ v w. chosen m (truth_of v) _ (state (mid + 1) base here frames w) (state (mid + 1 + d) base here frames w)
+        (body >>= λ flow. next_turn flow (turns m tested body)) (gives Onward) w _ (at_it mid (Datum v ∷ base) here w (line o (i.SkipIfFalse d)) skip)
+        (then_on limit g code (fewer limit g code m n (omega arith) (goes_round w))
+        (λ flow w. turn_follows m flow (turns m tested body) w (loop_follows m (omega arith) w))) (ended m w))

@@ -62,8 +62,8 @@ module _ (limit : ℕ) (g : Setting) (code : Code) (n : ℕ) (frames : List Fram
   bytes_follow [] o pc stack here w has = as_well limit g code (sym no_bytes) (no_code limit g code n frames tt pc (λ done. stack) here w)
   bytes_follow (b ∷ bs) o pc stack here w has =
       as_well limit g code (byte_by_byte b bs) (then_code limit g code n frames (line o (i.PrintByte b) ∷ []) (bytes_code o bs) pc has
-          (λ h. at_line limit g code n frames (prints_bytes (b ∷ [])) pc stack here w (line o (i.PrintByte b)) (printed_ends (b ∷ [])) h.0 refl)
-          (λ done w h. bytes_follow bs o _ stack here w h))
+      (λ h. at_line limit g code n frames (prints_bytes (b ∷ [])) pc stack here w (line o (i.PrintByte b)) (printed_ends (b ∷ [])) h.0 refl)
+      (λ done w h. bytes_follow bs o _ stack here w h))
 
   pub items_follow : (xs : List Item) (o : Option Place) (pc : ℕ) (stack : List Cell) (here : Here) (w : World) → HasAt code.lines pc (items_code o xs) →
       Reaches limit g code n (state pc stack here frames w) (meaning.items g n calls xs (placed o here)) w
@@ -73,11 +73,11 @@ module _ (limit : ℕ) (g : Setting) (code : Code) (n : ℕ) (frames : List Fram
   items_follow (item.Value e ∷ xs) o pc stack here w has =
       then_code limit g code n frames (value_code o e) (line o i.PrintValue ∷ items_code o xs) pc has (values e o pc stack here w) (λ v w h.
       then_code limit g code n frames (line o i.PrintValue ∷ []) (items_code o xs) _ h
-          (λ h. at_line limit g code n frames (print_value v) _ _ here w (line o i.PrintValue) (print_ends v) h.0 refl)
-          (λ done w h. items_follow xs o _ stack here w h))
+      (λ h. at_line limit g code n frames (print_value v) _ _ here w (line o i.PrintValue) (print_ends v) h.0 refl)
+      (λ done w h. items_follow xs o _ stack here w h))
   items_follow (item.Text t ∷ xs) o pc stack here w has =
       then_code limit g code n frames (bytes_code o (32 ∷ t.items)) (items_code o xs) pc has (bytes_follow (32 ∷ t.items) o pc stack here w)
-          (λ done w h. items_follow xs o _ stack here w h)
+      (λ done w h. items_follow xs o _ stack here w h)
 
   -- ---- ranges of a CASE
 
@@ -90,7 +90,7 @@ module _ (limit : ℕ) (g : Setting) (code : Code) (n : ℕ) (frames : List Fram
   ranges_follow (r ∷ rs) o pc to stack here w has e =
       let rest : pc + 1 + 1 + length (ranges_code o rs) ≡ to = omega (arith, e) in
       comes_on limit g code (comes_by limit g code (at_it pc stack here w (line o (i.Meets r)) has.0))
-          (by_test (ranges_follow rs o (pc + 1 + 1) to stack here w has.1.1 rest) (meets r here.selected))
+      (by_test (ranges_follow rs o (pc + 1 + 1) to stack here w has.1.1 rest) (meets r here.selected))
     where
       by_test : Comes limit g code (state (pc + 1 + 1) stack here frames w) []
           (state (if meaning.some_meets g n calls rs here.selected then to + 1 else to) stack here frames w) → (b : Bool) →
@@ -100,11 +100,11 @@ module _ (limit : ℕ) (g : Setting) (code : Code) (n : ℕ) (frames : List Fram
           let d = length (ranges_code o rs) + 1 in
           let far : pc + 1 + 1 + d ≡ to + 1 = omega (arith, e) in
           comes_by limit g code (is_at limit g code n frames (pc + 1) (Datum (Truth true) ∷ stack) here w (line o (i.SkipIfTrue d)) has.1.0 ∙
-              ap (λ q. Goes [] (state q stack here frames w)) far)
+          ap (λ q. Goes [] (state q stack here frames w)) far)
       by_test others false =
           let d = length (ranges_code o rs) + 1 in
           comes_on limit g code (comes_by limit g code (is_at limit g code n frames (pc + 1) (Datum (Truth false) ∷ stack) here w (line o (i.SkipIfTrue d))
-              has.1.0)) others
+          has.1.0)) others
 
   -- ---- selectors
 
@@ -113,11 +113,11 @@ module _ (limit : ℕ) (g : Setting) (code : Code) (n : ℕ) (frames : List Fram
   selectors_count types [] here = gives_as _ [] refl
   selectors_count types (c.Bind d ∷ xs) here =
       give_all (λ r. Unit {0}) _ (give_any (locate g calls d here))
-          (λ r t. give_all (λ found. length found ≡ length xs) _ (selectors_count types xs here) (λ found e. gives_as _ _ (ap suc e)))
+      (λ r t. give_all (λ found. length found ≡ length xs) _ (selectors_count types xs here) (λ found e. gives_as _ _ (ap suc e)))
   selectors_count types (c.Hold of x at_end ∷ xs) here =
       give_all (λ v. Unit {0}) _ (give_any (value g calls x here))
-          (λ v t. give_all (λ done. Unit {0}) _ (give_any (claim_for v here))
-          (λ done t. give_all (λ found. length found ≡ length xs) _ (selectors_count types xs here) (λ found e. gives_as _ _ (ap suc e))))
+      (λ v t. give_all (λ done. Unit {0}) _ (give_any (claim_for v here))
+      (λ done t. give_all (λ found. length found ≡ length xs) _ (selectors_count types xs here) (λ found e. gives_as _ _ (ap suc e))))
 
   pub selectors_follow : (types : List Work) (xs : List c.Selector) (o : Option Place) (pc : ℕ) (stack : List Cell) (here : Here) (w : World) →
       HasAt code.lines pc (selectors_code o xs) → Reaches limit g code n (state pc stack here frames w) (selectors g n types calls xs (placed o here)) w
@@ -128,15 +128,15 @@ module _ (limit : ℕ) (g : Setting) (code : Code) (n : ℕ) (frames : List Fram
       let p = pc + length (locate_code o d) in
       let len : p + 1 + length (selectors_code o xs) ≡ p + suc (length (selectors_code o xs)) = omega arith in
       step_then limit g code (at_it p (Object r ∷ stack) here w (line o i.SelectVariable) h.0)
-          (ending limit g code n frames _ _ (λ found. onto Selector found stack) here len
-          (then_on limit g code (selectors_follow types xs o (p + 1) (Selector (Means r) ∷ stack) here w h.1)
-          (λ found w. stays limit g code n (Means r ∷ found) w (λ found w.
-          state (p + 1 + length (selectors_code o xs)) (onto Selector found stack) here frames w)))))
+      (ending limit g code n frames _ _ (λ found. onto Selector found stack) here len
+      (then_on limit g code (selectors_follow types xs o (p + 1) (Selector (Means r) ∷ stack) here w h.1)
+      (λ found w. stays limit g code n (Means r ∷ found) w (λ found w.
+      state (p + 1 + length (selectors_code o xs)) (onto Selector found stack) here frames w)))))
   selectors_follow types (c.Hold of x at_end ∷ xs) o pc stack here w has =
       then_code limit g code n frames (value_code o x) (line o (i.SelectValue of) ∷ selectors_code o xs) pc has (values x o pc stack here w) (λ v w h.
       then_code limit g code n frames (line o (i.SelectValue of) ∷ []) (selectors_code o xs) _ h
-          (λ h. at_line limit g code n frames (claim_for v (placed o here)) _ _ here w (line o (i.SelectValue of)) (claim_for_ends v (placed o here)) h.0
-          refl) (λ done w h.
+      (λ h. at_line limit g code n frames (claim_for v (placed o here)) _ _ here w (line o (i.SelectValue of)) (claim_for_ends v (placed o here)) h.0
+      refl) (λ done w h.
       then_on limit g code (selectors_follow types xs o _ (Selector (Holds of v) ∷ stack) here w h) (λ found w. stays limit g code n (Holds of v ∷ found) w _)))
 
   -- ---- with work on objects
@@ -169,9 +169,9 @@ module _ (limit : ℕ) (g : Setting) (code : Code) (n : ℕ) (frames : List Fram
         (transfer g n types calls x r v (placed o here)) w (λ done w. state (pc + length (transfer_code m o x)) stack here frames w)
     transfer_follows (c.Conforming x) o pc r v stack here w has =
         as_well limit g code (tested_then (conforms (spans r.reach) v) ShapesDiffer (placed o here) (transfer g n types calls x r v (placed o here)))
-            (then_code limit g code n frames (line o i.TestShape ∷ []) (transfer_code m o x) pc has
-            (λ h. at_line limit g code n frames (tested (conforms (spans r.reach) v) ShapesDiffer (placed o here)) pc _ here w (line o i.TestShape)
-            (tested_ends (conforms (spans r.reach) v) ShapesDiffer (placed o here)) h.0 refl) (λ done w h. transfer_follows x o _ r v stack here w h))
+        (then_code limit g code n frames (line o i.TestShape ∷ []) (transfer_code m o x) pc has
+        (λ h. at_line limit g code n frames (tested (conforms (spans r.reach) v) ShapesDiffer (placed o here)) pc _ here w (line o i.TestShape)
+        (tested_ends (conforms (spans r.reach) v) ShapesDiffer (placed o here)) h.0 refl) (λ done w h. transfer_follows x o _ r v stack here w h))
     transfer_follows (c.By_state x y z) o pc r v stack here w has =
         let cx = transfer_code m o x in let cy = transfer_code m o y in let cz = transfer_code m o z in
         let there = placed o here in
@@ -193,46 +193,46 @@ module _ (limit : ℕ) (g : Setting) (code : Code) (n : ℕ) (frames : List Fram
         let to_y : pc + 1 + (length cx + 1) ≡ p1 + 1 = omega arith in
         let to_z : pc + 1 + (length cx + 1 + (length cy + 1)) ≡ p2 + 1 = omega arith in
         looked limit g code (λ store. get store r.path) (λ old. by_state old v (transfer g n types calls x r v there) (transfer g n types calls y r v there)
-            (transfer g n types calls z r v there))
+        (transfer g n types calls z r v there))
         (state_case (get w.store r.path) v (state pc all here frames w) w (length cx + 1) (length cx + 1 + (length cy + 1)) _ _ _ _
-            (at_it pc all here w l has.0)
+        (at_it pc all here w l has.0)
         (λ e. step_then limit g code e (ends_with limit g code (transfer_follows x o (pc + 1) r v stack here w hx)
-            (λ done w. comes_by limit g code (at_it p1 stack here w g1 h1.0 ∙ ap (λ q. Goes [] (state q stack here frames w)) over1))))
+        (λ done w. comes_by limit g code (at_it p1 stack here w g1 h1.0 ∙ ap (λ q. Goes [] (state q stack here frames w)) over1))))
         (λ e. step_then limit g code e (starting limit g code n frames n _ _ all here w to_y
-            (ends_with limit g code (transfer_follows y o (p1 + 1) r v stack here w hy)
-            (λ done w. comes_by limit g code (at_it p2 stack here w g2 h2.0 ∙ ap (λ q. Goes [] (state q stack here frames w)) over2)))))
+        (ends_with limit g code (transfer_follows y o (p1 + 1) r v stack here w hy)
+        (λ done w. comes_by limit g code (at_it p2 stack here w g2 h2.0 ∙ ap (λ q. Goes [] (state q stack here frames w)) over2)))))
         (λ e. step_then limit g code e (starting limit g code n frames n _ _ all here w to_z
-            (ending limit g code n frames _ _ (λ done. stack) here over2 (transfer_follows z o (p2 + 1) r v stack here w h2.1)))))
+        (ending limit g code n frames _ _ (λ done. stack) here over2 (transfer_follows z o (p2 + 1) r v stack here w h2.1)))))
     transfer_follows (c.Of_rank rank x) o pc r v stack here w has =
         as_well limit g code (tested_then (nat_eq rank (length (spans_of v))) NotAllocated (placed o here) (transfer g n types calls x r v (placed o here)))
-            (then_code limit g code n frames (line o (i.TestRank rank) ∷ []) (transfer_code m o x) pc has
-            (λ h. at_line limit g code n frames (tested (nat_eq rank (length (spans_of v))) NotAllocated (placed o here)) pc _ here w
-            (line o (i.TestRank rank)) (tested_ends (nat_eq rank (length (spans_of v))) NotAllocated (placed o here)) h.0 refl)
-            (λ done w h. transfer_follows x o _ r v stack here w h))
+        (then_code limit g code n frames (line o (i.TestRank rank) ∷ []) (transfer_code m o x) pc has
+        (λ h. at_line limit g code n frames (tested (nat_eq rank (length (spans_of v))) NotAllocated (placed o here)) pc _ here w
+        (line o (i.TestRank rank)) (tested_ends (nat_eq rank (length (spans_of v))) NotAllocated (placed o here)) h.0 refl)
+        (λ done w h. transfer_follows x o _ r v stack here w h))
     transfer_follows (c.Behind x y) o pc r v stack here w has =
         then_code limit g code n frames (work_code m o x) (transfer_code m o y) pc has (works_follow x o pc r (Datum v ∷ stack) here w)
-            (λ done w h. transfer_follows y o _ r v stack here w h)
+        (λ done w h. transfer_follows y o _ r v stack here w h)
     transfer_follows (c.New rank element x) o pc r v stack here w has =
         let there = placed o here in
         let l = line_with o element (i.New rank) in
         let put : ⊤ → Ran ⊤ = λ done. set r (Allocated (vacant rank (spans_of v) element)) there in
         as_well limit g code (bind_assoc (claim there) put (λ done. transfer g n types calls x r v there))
-            (then_code limit g code n frames (l ∷ []) (transfer_code m o x) pc has
-            (λ h. at_line limit g code n frames (claim there >>= put) pc _ here w l
-            (bind_ends (claim_ends there) (λ done. set_ends r (Allocated (vacant rank (spans_of v) element)) there)) h.0 refl)
-            (λ done w h. transfer_follows x o _ r v stack here w h))
+        (then_code limit g code n frames (l ∷ []) (transfer_code m o x) pc has
+        (λ h. at_line limit g code n frames (claim there >>= put) pc _ here w l
+        (bind_ends (claim_ends there) (λ done. set_ends r (Allocated (vacant rank (spans_of v) element)) there)) h.0 refl)
+        (λ done w h. transfer_follows x o _ r v stack here w h))
     transfer_follows (c.In_contents x) o pc r v stack here w has =
         then_code limit g code n frames (line o i.Contents ∷ []) (transfer_code m o x) pc has
-            (λ h. at_line limit g code n frames (contents r (placed o here)) pc _ here w (line o i.Contents) (contents_end r (placed o here)) h.0 refl)
-            (λ q w h. transfer_follows x o _ q v stack here w h)
+        (λ h. at_line limit g code n frames (contents r (placed o here)) pc _ here w (line o i.Contents) (contents_end r (placed o here)) h.0 refl)
+        (λ q w h. transfer_follows x o _ q v stack here w h)
     transfer_follows (c.Take of) o pc r v stack here w has =
         let there = placed o here in
         at_line limit g code n frames (converted of v there.place >>= λ v. claim_for v there >>= λ done. set r v there) pc _ here w (line o (i.Take of))
-            (bind_ends (converted_ends of v there.place) (λ v. bind_ends (claim_for_ends v there) (λ done. set_ends r v there))) has.0 refl
+        (bind_ends (converted_ends of v there.place) (λ v. bind_ends (claim_for_ends v there) (λ done. set_ends r v there))) has.0 refl
     transfer_follows (c.Fill of) o pc r v stack here w has =
         let there = placed o here in
         at_line limit g code n frames (converted of v there.place >>= λ v. set r v there) pc _ here w (line o (i.Fill of))
-            (bind_ends (converted_ends of v there.place) (λ v. set_ends r v there)) has.0 refl
+        (bind_ends (converted_ends of v there.place) (λ v. set_ends r v there)) has.0 refl
 
     -- an object of a DEALLOCATE
     free_follows : (x : Work) (o : Option Place) (pc : ℕ) (h : Reference) (stack : List Cell) (here : Here) (w : World) →
@@ -253,16 +253,16 @@ module _ (limit : ℕ) (g : Setting) (code : Code) (n : ℕ) (frames : List Fram
         let b = is_pinned h.path there.lent in
         let hd = has_back code.lines (pc + 1) cx (line o i.Drop ∷ line o i.NoError ∷ []) has.1 in
         looked limit g code (λ store. is_allocated (get store h.path))
-            (λ allocated. if allocated then (if b then gives (Some InUse) else freed) else gives (Some NotAllocated))
+        (λ allocated. if allocated then (if b then gives (Some InUse) else freed) else gives (Some NotAllocated))
         (test_case limit g code n frames (is_allocated (get w.store h.path)) s w (if b then fails_as InUse else goes) (fails_as NotAllocated) _ _ _
-            (at_it pc (Object h ∷ stack) here w (line o (i.TestFree d)) has.0)
+        (at_it pc (Object h ∷ stack) here w (line o (i.TestFree d)) has.0)
         (λ e. test_case limit g code n frames b s w (fails_as InUse) goes (gives (Some InUse)) freed _ e
         (λ e. one_step limit g code n (Some InUse) w _ (e ∙ ap (λ q. Goes [] (state q (Status (Some InUse) ∷ stack) here frames w)) over))
         (λ e. step_then limit g code e (ending limit g code n frames _ _ (λ status. Status status ∷ stack) here len
-            (then_on limit g code (works_follow x o (pc + 1) h stack here w (has_front code.lines (pc + 1) cx _ has.1)) (λ done w.
+        (then_on limit g code (works_follow x o (pc + 1) h stack here w (has_front code.lines (pc + 1) cx _ has.1)) (λ done w.
         step_then limit g code (at_it (pc + 1 + length cx) (Object h ∷ stack) here w (line o i.Drop) hd.0)
-            (one_step limit g code n None w (λ status w. state (pc + 1 + length cx + 1 + 1) (Status status ∷ stack) here frames w)
-            (at_it (pc + 1 + length cx + 1) stack here w (line o i.NoError) hd.1.0)))))))
+        (one_step limit g code n None w (λ status w. state (pc + 1 + length cx + 1 + 1) (Status status ∷ stack) here frames w)
+        (at_it (pc + 1 + length cx + 1) stack here w (line o i.NoError) hd.1.0)))))))
         (λ e. one_step limit g code n (Some NotAllocated) w _ (e ∙ ap (λ q. Goes [] (state q (Status (Some NotAllocated) ∷ stack) here frames w)) over)))
 
     pub deallocates_follow : (xs : List c.Deallocation) (o : Option Place) (pc : ℕ) (stack : List Cell) (here : Here) (w : World) →
@@ -274,4 +274,4 @@ module _ (limit : ℕ) (g : Setting) (code : Code) (n : ℕ) (frames : List Fram
         then_code limit g code n frames (locate_code o x.object) (free_code m o x.free ++ cr) pc has (locates x.object o pc stack here w) (λ h w has.
         then_code limit g code n frames (free_code m o x.free) cr _ has (free_follows x.free o _ h stack here w) (λ status w has.
         failed_follows limit g code n frames calls follow status (deallocate_all g n types calls xs (placed o here)) (deallocate_code m o xs) o _ stack here
-            w has (λ has. deallocates_follow xs o _ stack here w has)))
+        w has (λ has. deallocates_follow xs o _ stack here w has)))

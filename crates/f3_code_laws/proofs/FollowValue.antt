@@ -41,7 +41,7 @@ taken of cell is [] acc stack m f = ap (λ k. on_many of k acc stack f) (let e :
 taken of cell is (x ∷ xs) acc stack m f =
     let e : suc (length xs) + m ≡ length xs + suc m = omega arith in
     ap (λ k. on_many of k acc (onto cell xs (cell x ∷ stack)) f) e ∙ taken of cell is xs acc (cell x ∷ stack) (suc m) f ∙
-        ap (λ o. on_some o (λ x. on_many of m (x ∷ (xs ++ acc)) stack f)) (is x)
+    ap (λ o. on_some o (λ x. on_many of m (x ∷ (xs ++ acc)) stack f)) (is x)
 
 -- what was pushed is taken
 pub popped : {X : Type 0} (of : Cell → Option X) (cell : X → Cell) → ((x : X) → of (cell x) ≡ Some x) →
@@ -57,14 +57,14 @@ pub arguments_count : (g : Setting) (calls : Calls) {m : _} (xs : e.Row_of-Argum
 arguments_count g calls e.end_of-Argument here = gives_as _ [] refl
 arguments_count g calls (e.more_of-Argument x rest) here =
     give_all (λ p. Unit {0}) _ (give_any (argument g calls x here))
-        (λ p t. give_all (λ ps. length ps ≡ argument_count rest) _ (arguments_count g calls rest here) (λ ps n. gives_as _ (p ∷ ps) (ap suc n)))
+    (λ p t. give_all (λ ps. length ps ≡ argument_count rest) _ (arguments_count g calls rest here) (λ ps n. gives_as _ (p ∷ ps) (ap suc n)))
 
 pub chosen_count : (g : Setting) (calls : Calls) {m : _} (xs : l.Row_of-Subscript m) (here : Here) →
     AllGive (λ cs. length cs ≡ subscript_count xs) (chosen g calls xs here)
 chosen_count g calls l.end_of-Subscript here = gives_as _ [] refl
 chosen_count g calls (l.more_of-Subscript x rest) here =
     give_all (λ p. Unit {0}) _ (give_any (subscript g calls x here))
-        (λ p t. give_all (λ cs. length cs ≡ subscript_count rest) _ (chosen_count g calls rest here) (λ ps n. gives_as _ (p ∷ ps) (ap suc n)))
+    (λ p t. give_all (λ cs. length cs ≡ subscript_count rest) _ (chosen_count g calls rest here) (λ ps n. gives_as _ (p ∷ ps) (ap suc n)))
 
 pub reach_bind : {A B : Type 0} (reach : Reach) (m : Ran A) (f h : A → Ran B) → (m >>= λ x. by_reach reach (f x) (h x)) ≡ by_reach reach (m >>= f) (m >>= h)
 reach_bind One m f h = refl
@@ -121,7 +121,7 @@ module _ (limit : ℕ) (g : Setting) (code : Code) (n : ℕ) (frames : List Fram
   then_where_code {last = last} {there = there} P all cx cy pc has first rest =
       let len : pc + length cx + length cy ≡ pc + length (cx ++ cy) = omega (arith, length-append cx cy) in
       ending (pc + length cx + length cy) (pc + length (cx ++ cy)) last there len
-          (then_where limit g code P all (first (has_front code.lines pc cx cy has)) (λ x w p. rest x w p (has_back code.lines pc cx cy has)))
+      (then_where limit g code P all (first (has_front code.lines pc cx cy has)) (λ x w p. rest x w p (has_back code.lines pc cx cy has)))
 
   pub then_code : {A B : Type 0} {m : Ran A} {k : A → Ran B} {s : State} {w : World} {mid : A → List Cell} {last : B → List Cell} {here there : Here}
       (cx cy : List Line) (pc : ℕ) → HasAt code.lines pc (cx ++ cy) →
@@ -154,69 +154,69 @@ module _ (limit : ℕ) (g : Setting) (code : Code) (n : ℕ) (frames : List Fram
           one_step limit g code n _ w _ (is_at pc stack here w (line o (i.Push c)) has.0)
       value_follows (e.Variable' p x) o pc stack here w has =
           then_code (locate_code o x) (line o i.Load ∷ []) pc has (locate_follows x o pc stack here w)
-              (λ r w h. at_line (read r (placed o here)) _ _ here w (line o i.Load) (read_ends r (placed o here)) h.0 refl)
+          (λ r w h. at_line (read r (placed o here)) _ _ here w (line o i.Load) (read_ends r (placed o here)) h.0 refl)
       value_follows (e.Group' p x) o pc stack here w has =
           then_code (value_code o x) (line o i.Plain ∷ []) pc has (value_follows x o pc stack here w)
-              (λ v w h. one_step limit g code n _ w _ (is_at _ _ here w (line o i.Plain) h.0))
+          (λ v w h. one_step limit g code n _ w _ (is_at _ _ here w (line o i.Plain) h.0))
       value_follows (e.Unary' c t p x) o pc stack here w has =
           then_code (value_code o x) (line o (i.Unary c t) ∷ []) pc has (value_follows x o pc stack here w)
-              (λ v w h. at_line (change_of c t v (placed o here).place) _ _ here w (line o (i.Unary c t)) (change_ends c t v _) h.0 refl)
+          (λ v w h. at_line (change_of c t v (placed o here).place) _ _ here w (line o (i.Unary c t)) (change_ends c t v _) h.0 refl)
       value_follows (e.Binary' c t p x q y) o pc stack here w has =
           then_code (value_code o x) (value_code o y ++ line o (i.Binary c t) ∷ []) pc has (value_follows x o pc stack here w) (λ v w h.
           then_code (value_code o y) (line o (i.Binary c t) ∷ []) _ h (value_follows y o _ (Datum v ∷ stack) here w)
-              (λ z w h. at_line (apply c t v z (placed o here).place) _ _ here w (line o (i.Binary c t)) (apply_ends c t v z _) h.0 refl))
+          (λ z w h. at_line (apply c t v z (placed o here).place) _ _ here w (line o (i.Binary c t)) (apply_ends c t v z _) h.0 refl))
       value_follows (e.Array' k xs) o pc stack here w has =
           let array_of : List Passed → Value = λ ps. Array (record { lower = pos 1; extent = length (given ps) } ∷ []) (joined (given ps)) in
           then_where_code (λ ps. length ps ≡ argument_count xs) (arguments_count g calls xs (placed o here)) (arguments_code o xs)
-              (line o (i.Array (argument_count xs)) ∷ []) pc has (arguments_follow xs o pc stack here w)
-              (λ ps w e h. at_line (built (array_of ps) (placed o here)) _ _ here w (line o (i.Array (argument_count xs)))
-              (built_ends (array_of ps) (placed o here)) h.0 (popped argument_of Argument (λ p. refl) ps stack (argument_count xs) _ e))
+          (line o (i.Array (argument_count xs)) ∷ []) pc has (arguments_follow xs o pc stack here w)
+          (λ ps w e h. at_line (built (array_of ps) (placed o here)) _ _ here w (line o (i.Array (argument_count xs)))
+          (built_ends (array_of ps) (placed o here)) h.0 (popped argument_of Argument (λ p. refl) ps stack (argument_count xs) _ e))
       value_follows (e.Structure' t k xs) o pc stack here w has =
           then_where_code (λ ps. length ps ≡ argument_count xs) (arguments_count g calls xs (placed o here)) (arguments_code o xs)
-              (line o (i.Structure t (argument_count xs)) ∷ []) pc has (arguments_follow xs o pc stack here w) (λ ps w e h.
+          (line o (i.Structure t (argument_count xs)) ∷ []) pc has (arguments_follow xs o pc stack here w) (λ ps w e h.
           then_on limit g code (at_line (structure (components_of (slice_index_or g.shapes t Whole)) 0 ps (placed o here)) _ _ here w
-              (line o (i.Structure t (argument_count xs))) (structure_ends _ 0 ps (placed o here)) h.0
-              (popped argument_of Argument (λ p. refl) ps stack (argument_count xs) _ e)) (λ vs w. stays limit g code n _ w _))
+          (line o (i.Structure t (argument_count xs))) (structure_ends _ 0 ps (placed o here)) h.0
+          (popped argument_of Argument (λ p. refl) ps stack (argument_count xs) _ e)) (λ vs w. stays limit g code n _ w _))
       value_follows (e.Call' f k xs) o pc stack here w has =
           then_where_code (λ ps. length ps ≡ argument_count xs) (arguments_count g calls xs (placed o here)) (arguments_code o xs)
-              (line o (i.Call f (argument_count xs)) ∷ line o i.Result ∷ []) pc has (arguments_follow xs o pc stack here w) (λ ps w e h.
+          (line o (i.Call f (argument_count xs)) ∷ line o i.Result ∷ []) pc has (arguments_follow xs o pc stack here w) (λ ps w e h.
           then_code (line o (i.Call f (argument_count xs)) ∷ []) (line o i.Result ∷ []) _ h
-              (λ h. follow.by f (placed o here) ps _ stack here w (is_at _ _ here w (line o (i.Call f (argument_count xs))) h.0 ∙
-              ap (λ k. called limit code f k (placed o here) (state (pc + length (arguments_code o xs)) (onto Argument ps stack) here frames w)) (sym e)))
+          (λ h. follow.by f (placed o here) ps _ stack here w (is_at _ _ here w (line o (i.Call f (argument_count xs))) h.0 ∙
+          ap (λ k. called limit code f k (placed o here) (state (pc + length (arguments_code o xs)) (onto Argument ps stack) here frames w)) (sym e)))
           (λ v w h. at_line (result v (placed o here) >>= λ v. built v (placed o here)) _ _ here w (line o i.Result)
-              (bind_ends (result_ends v (placed o here)) (λ v. built_ends v (placed o here))) h.0 refl))
+          (bind_ends (result_ends v (placed o here)) (λ v. built_ends v (placed o here))) h.0 refl))
       value_follows (e.Allocated' p x) o pc stack here w has =
           then_code (locate_code o x) (line o i.IsAllocated ∷ []) pc has (locate_follows x o pc stack here w)
-              (λ r w h. at_line _ _ _ here w (line o i.IsAllocated) (looks_end _) h.0 refl)
+          (λ r w h. at_line _ _ _ here w (line o i.IsAllocated) (looks_end _) h.0 refl)
       value_follows (e.Size' p x) o pc stack here w has =
           then_code (bounds_code o x) (line o i.Size ∷ []) pc has (bounds_follow x o pc stack here w)
-              (λ ss w h. at_line (converted base.Integer (Number (pos (count ss))) (placed o here).place) _ _ here w (line o i.Size) (converted_ends _ _ _)
-              h.0 refl)
+          (λ ss w h. at_line (converted base.Integer (Number (pos (count ss))) (placed o here).place) _ _ here w (line o i.Size) (converted_ends _ _ _)
+          h.0 refl)
       value_follows (e.Bound' q p x r y) o pc stack here w has =
           then_code (bounds_code o x) (value_code o y ++ line o (i.Bound q) ∷ []) pc has (bounds_follow x o pc stack here w) (λ ss w h.
           then_code (value_code o y) (line o (i.Bound q) ∷ []) _ h (value_follows y o _ (Bounds ss ∷ stack) here w)
-              (λ v w h. at_line (asked q ss (number_of v) (placed o here)) _ _ here w (line o (i.Bound q)) (asked_ends q ss _ (placed o here)) h.0 refl))
+          (λ v w h. at_line (asked q ss (number_of v) (placed o here)) _ _ here w (line o (i.Bound q)) (asked_ends q ss _ (placed o here)) h.0 refl))
 
       pub bounds_follow : (x : a.Argument) (o : Option Place) (pc : ℕ) (stack : List Cell) (here : Here) (w : World) →
           HasAt code.lines pc (bounds_code o x) → Reaches limit g code n (state pc stack here frames w) (bounds g calls x (placed o here)) w
           (λ ss w. state (pc + length (bounds_code o x)) (Bounds ss ∷ stack) here frames w)
       bounds_follow (a.Value' k p x) o pc stack here w has =
           then_code (value_code o x) (line o i.BoundsOfValue ∷ []) pc has (value_follows x o pc stack here w)
-              (λ v w h. one_step limit g code n _ w _ (is_at _ _ here w (line o i.BoundsOfValue) h.0))
+          (λ v w h. one_step limit g code n _ w _ (is_at _ _ here w (line o i.BoundsOfValue) h.0))
       bounds_follow (a.Variable' k p x) o pc stack here w has =
           then_code (locate_code o x) (line o i.BoundsOfVariable ∷ []) pc has (locate_follows x o pc stack here w)
-              (λ r w h. one_step limit g code n _ w _ (is_at _ _ here w (line o i.BoundsOfVariable) h.0))
+          (λ r w h. one_step limit g code n _ w _ (is_at _ _ here w (line o i.BoundsOfVariable) h.0))
 
       pub argument_follows : (x : a.Argument) (o : Option Place) (pc : ℕ) (stack : List Cell) (here : Here) (w : World) →
           HasAt code.lines pc (argument_code o x) → Reaches limit g code n (state pc stack here frames w) (argument g calls x (placed o here)) w
           (λ p w. state (pc + length (argument_code o x)) (Argument p ∷ stack) here frames w)
       argument_follows (a.Value' k p x) o pc stack here w has =
           then_code (value_code o x) (line o (i.PassValue k) ∷ []) pc has (value_follows x o pc stack here w)
-              (λ v w h. then_on limit g code (at_line (claim_for v (placed o here)) _ _ here w (line o (i.PassValue k)) (claim_for_ends v (placed o here))
-              h.0 refl) (λ done w. stays limit g code n _ w _))
+          (λ v w h. then_on limit g code (at_line (claim_for v (placed o here)) _ _ here w (line o (i.PassValue k)) (claim_for_ends v (placed o here))
+          h.0 refl) (λ done w. stays limit g code n _ w _))
       argument_follows (a.Variable' k p x) o pc stack here w has =
           then_code (locate_code o x) (line o (i.PassVariable k) ∷ []) pc has (locate_follows x o pc stack here w)
-              (λ r w h. one_step limit g code n _ w _ (is_at _ _ here w (line o (i.PassVariable k)) h.0))
+          (λ r w h. one_step limit g code n _ w _ (is_at _ _ here w (line o (i.PassVariable k)) h.0))
 
       pub arguments_follow : {m : _} (xs : e.Row_of-Argument m) (o : Option Place) (pc : ℕ) (stack : List Cell) (here : Here) (w : World) →
           HasAt code.lines pc (arguments_code o xs) → Reaches limit g code n (state pc stack here frames w) (arguments g calls xs (placed o here)) w
@@ -224,18 +224,18 @@ module _ (limit : ℕ) (g : Setting) (code : Code) (n : ℕ) (frames : List Fram
       arguments_follow e.end_of-Argument o pc stack here w has = no_code [] pc (λ ps. onto Argument ps stack) here w
       arguments_follow (e.more_of-Argument x rest) o pc stack here w has =
           then_code (argument_code o x) (arguments_code o rest) pc has (argument_follows x o pc stack here w)
-              (λ p w h. then_on limit g code (arguments_follow rest o _ (Argument p ∷ stack) here w h) (λ ps w. stays limit g code n _ w _))
+          (λ p w h. then_on limit g code (arguments_follow rest o _ (Argument p ∷ stack) here w h) (λ ps w. stays limit g code n _ w _))
 
       pub locate_follows : (x : d.Designator) (o : Option Place) (pc : ℕ) (stack : List Cell) (here : Here) (w : World) →
           HasAt code.lines pc (locate_code o x) → Reaches limit g code n (state pc stack here frames w) (locate g calls x (placed o here)) w
           (λ r w. state (pc + length (locate_code o x)) (Object r ∷ stack) here frames w)
       locate_follows (d.Name x how) o pc stack here w has =
           then_code (line o (i.Refer x) ∷ []) (select_code o how) pc has
-              (λ h. at_line (named g x (placed o here)) _ _ here w (line o (i.Refer x)) (named_ends g x (placed o here)) h.0 refl)
-              (λ r w h. select_follows how r o _ stack here w h)
+          (λ h. at_line (named g x (placed o here)) _ _ here w (line o (i.Refer x)) (named_ends g x (placed o here)) h.0 refl)
+          (λ r w h. select_follows how r o _ stack here w h)
       locate_follows (d.Component' p x k how) o pc stack here w has =
           then_code (locate_code o x) (select_of_code o k how) pc has (locate_follows x o pc stack here w)
-              (λ r w h. select_of_follows how k r o _ stack here w h)
+          (λ r w h. select_of_follows how k r o _ stack here w h)
 
       select_follows : (how : l.Selection) (r : Reference) (o : Option Place) (pc : ℕ) (stack : List Cell) (here : Here) (w : World) →
           HasAt code.lines pc (select_code o how) → Reaches limit g code n (state pc (Object r ∷ stack) here frames w) (select g calls how r (placed o here))
@@ -245,9 +245,9 @@ module _ (limit : ℕ) (g : Setting) (code : Code) (n : ℕ) (frames : List Fram
           (contents_end r (placed o here)) has.0 refl
       select_follows (l.Elements' is_opened k xs) r o pc stack here w has =
           then_where_code (λ cs. length cs ≡ subscript_count xs) (chosen_count g calls xs (placed o here)) (chosen_code o xs)
-              (line o (i.Select is_opened (subscript_count xs)) ∷ []) pc has (chosen_follow xs o pc (Object r ∷ stack) here w)
-              (λ cs w e h. at_line (selects is_opened cs r (placed o here)) _ _ here w (line o (i.Select is_opened (subscript_count xs)))
-              (selects_end is_opened cs r (placed o here)) h.0 (popped choice_of Choice (λ c. refl) cs (Object r ∷ stack) (subscript_count xs) _ e))
+          (line o (i.Select is_opened (subscript_count xs)) ∷ []) pc has (chosen_follow xs o pc (Object r ∷ stack) here w)
+          (λ cs w e h. at_line (selects is_opened cs r (placed o here)) _ _ here w (line o (i.Select is_opened (subscript_count xs)))
+          (selects_end is_opened cs r (placed o here)) h.0 (popped choice_of Choice (λ c. refl) cs (Object r ∷ stack) (subscript_count xs) _ e))
 
       select_of_follows : (how : l.Selection) (k : ℕ) (r : Reference) (o : Option Place) (pc : ℕ) (stack : List Cell) (here : Here) (w : World) →
           HasAt code.lines pc (select_of_code o k how) → Reaches limit g code n (state pc (Object r ∷ stack) here frames w)
@@ -256,24 +256,24 @@ module _ (limit : ℕ) (g : Setting) (code : Code) (n : ℕ) (frames : List Fram
           (λ q w. state (pc + length (select_of_code o k how)) (Object q ∷ stack) here frames w)
       select_of_follows l.Whole k r o pc stack here w has =
           then_on limit g code (at_line (component g k (Selected here.unit) r) _ _ here w (line o (i.Component k)) (component_ends g k _ r) has.0 refl)
-              (λ q w. reach_case r.reach (stays limit g code n q w _) (stays limit g code n q w _))
+          (λ q w. reach_case r.reach (stays limit g code n q w _) (stays limit g code n q w _))
       select_of_follows l.Contents k r o pc stack here w has =
           then_code (line o (i.Component k) ∷ []) (line o i.Contents ∷ []) pc has
-              (λ h. at_line (component g k (Selected here.unit) r) _ _ here w (line o (i.Component k)) (component_ends g k _ r) h.0 refl) (λ q w h.
+          (λ h. at_line (component g k (Selected here.unit) r) _ _ here w (line o (i.Component k)) (component_ends g k _ r) h.0 refl) (λ q w h.
           let opened = at_line (contents q (placed o here)) _ _ here w (line o i.Contents) (contents_end q (placed o here)) h.0 refl in reach_case r.reach
-              opened opened)
+          opened opened)
       select_of_follows (l.Elements' is_opened m xs) k r o pc stack here w has =
           let ss = spans_of_component (component_of g.program.types.items r.of k) in
           let last = line o (i.SelectOf is_opened k (subscript_count xs)) in
           then_code (line o (i.ComponentOf k) ∷ []) (chosen_code o xs ++ last ∷ []) pc has
-              (λ h. at_line (component g k (Selected here.unit) r) _ _ here w (line o (i.ComponentOf k)) (component_ends g k _ r) h.0 refl) (λ q w h.
+          (λ h. at_line (component g k (Selected here.unit) r) _ _ here w (line o (i.ComponentOf k)) (component_ends g k _ r) h.0 refl) (λ q w h.
           as_well limit g code (reach_bind r.reach (chosen g calls xs (placed o here)) (λ cs. selects is_opened cs q (placed o here))
-              (λ cs. picks_in_each ss q cs (placed o here)))
+          (λ cs. picks_in_each ss q cs (placed o here)))
           (then_where_code (λ cs. length cs ≡ subscript_count xs) (chosen_count g calls xs (placed o here)) (chosen_code o xs) (last ∷ []) _ h
-              (chosen_follow xs o _ (Object q ∷ Object r ∷ stack) here w) (λ cs w e h.
+          (chosen_follow xs o _ (Object q ∷ Object r ∷ stack) here w) (λ cs w e h.
           at_line (by_reach r.reach (selects is_opened cs q (placed o here)) (picks_in_each ss q cs (placed o here))) _ _ here w last
-              (reach_ends r.reach (selects_end is_opened cs q (placed o here)) (in_each_ends ss q cs (placed o here))) h.0
-              (popped choice_of Choice (λ c. refl) cs (Object q ∷ Object r ∷ stack) (subscript_count xs) _ e))))
+          (reach_ends r.reach (selects_end is_opened cs q (placed o here)) (in_each_ends ss q cs (placed o here))) h.0
+          (popped choice_of Choice (λ c. refl) cs (Object q ∷ Object r ∷ stack) (subscript_count xs) _ e))))
 
       chosen_follow : {m : _} (xs : l.Row_of-Subscript m) (o : Option Place) (pc : ℕ) (stack : List Cell) (here : Here) (w : World) →
           HasAt code.lines pc (chosen_code o xs) → Reaches limit g code n (state pc stack here frames w) (chosen g calls xs (placed o here)) w
@@ -281,19 +281,19 @@ module _ (limit : ℕ) (g : Setting) (code : Code) (n : ℕ) (frames : List Fram
       chosen_follow l.end_of-Subscript o pc stack here w has = no_code [] pc (λ cs. onto Choice cs stack) here w
       chosen_follow (l.more_of-Subscript x rest) o pc stack here w has =
           then_code (subscript_code o x) (chosen_code o rest) pc has (subscript_follows x o pc stack here w)
-              (λ c w h. then_on limit g code (chosen_follow rest o _ (Choice c ∷ stack) here w h) (λ cs w. stays limit g code n _ w _))
+          (λ c w h. then_on limit g code (chosen_follow rest o _ (Choice c ∷ stack) here w h) (λ cs w. stays limit g code n _ w _))
 
       subscript_follows : (x : u.Subscript) (o : Option Place) (pc : ℕ) (stack : List Cell) (here : Here) (w : World) →
           HasAt code.lines pc (subscript_code o x) → Reaches limit g code n (state pc stack here frames w) (subscript g calls x (placed o here)) w
           (λ c w. state (pc + length (subscript_code o x)) (Choice c ∷ stack) here frames w)
       subscript_follows (u.At' p x) o pc stack here w has =
           then_code (value_code o x) (line o i.Subscript ∷ []) pc has (value_follows x o pc stack here w)
-              (λ v w h. one_step limit g code n _ w _ (is_at _ _ here w (line o i.Subscript) h.0))
+          (λ v w h. one_step limit g code n _ w _ (is_at _ _ here w (line o i.Subscript) h.0))
       subscript_follows (u.Range' b p x b' q y r z) o pc stack here w has =
           let cy = limit_code b' (value_code o y) o in let cz = value_code o z ++ line o i.Triplet ∷ [] in
           then_code (limit_code b (value_code o x) o) (cy ++ cz) pc has
-              (limit_follows b (value g calls x (placed o here)) (value_code o x) o pc stack here w (value_follows x o pc stack here w)) (λ lower w h.
+          (limit_follows b (value g calls x (placed o here)) (value_code o x) o pc stack here w (value_follows x o pc stack here w)) (λ lower w h.
           then_code cy cz _ h (limit_follows b' (value g calls y (placed o here)) (value_code o y) o _ (Bound lower ∷ stack) here w
-              (value_follows y o _ (Bound lower ∷ stack) here w)) (λ upper w h.
+          (value_follows y o _ (Bound lower ∷ stack) here w)) (λ upper w h.
           then_code (value_code o z) (line o i.Triplet ∷ []) _ h (value_follows z o _ (Bound upper ∷ Bound lower ∷ stack) here w)
-              (λ v w h. one_step limit g code n _ w _ (is_at _ _ here w (line o i.Triplet) h.0))))
+          (λ v w h. one_step limit g code n _ w _ (is_at _ _ here w (line o i.Triplet) h.0))))

@@ -66,7 +66,7 @@ module _ (limit : ℕ) (g : Setting) (code : Code) (n : ℕ) (frames : List Fram
     walk_follows x follows [] o pc on r stack here w has e =
         let d = length (work_code m o x) + 2 in
         one_step limit g code n tt w _ (at_it pc (Elements [] ∷ Object r ∷ stack) here w (line o (i.WalkNext d)) has.0 ∙
-            ap (λ q. Goes [] (state q (Object r ∷ stack) here frames w)) e)
+        ap (λ q. Goes [] (state q (Object r ∷ stack) here frames w)) e)
     walk_follows x follows (p ∷ ps) o pc on r stack here w has e =
         let cx = work_code m o x in
         let d = length cx + 2 in
@@ -74,10 +74,10 @@ module _ (limit : ℕ) (g : Setting) (code : Code) (n : ℕ) (frames : List Fram
         let hd = has_back code.lines (pc + 1) cx (line o i.Drop ∷ line o (i.GoBack d) ∷ []) has.1 in
         let back : pc + 1 + length cx + 1 - d ≡ pc = omega arith in
         step_then limit g code (at_it pc (Elements (p ∷ ps) ∷ Object r ∷ stack) here w (line o (i.WalkNext d)) has.0)
-            (then_on limit g code (follows o (pc + 1) (moved r p One) under here w (has_front code.lines (pc + 1) cx _ has.1)) (λ done w.
+        (then_on limit g code (follows o (pc + 1) (moved r p One) under here w (has_front code.lines (pc + 1) cx _ has.1)) (λ done w.
         step_then limit g code (at_it (pc + 1 + length cx) (Object (moved r p One) ∷ under) here w (line o i.Drop) hd.0)
         (step_then limit g code (at_it (pc + 1 + length cx + 1) under here w (line o (i.GoBack d)) hd.1.0 ∙
-            ap (λ q. Goes [] (state q under here frames w)) back)
+        ap (λ q. Goes [] (state q under here frames w)) back)
         (walk_follows x follows ps o pc on r stack here w has e))))
 
     -- work on another object, which a line puts on top
@@ -93,24 +93,24 @@ module _ (limit : ℕ) (g : Setting) (code : Code) (n : ℕ) (frames : List Fram
         let hd = has_back code.lines (pc + 1) cx (line o i.Drop ∷ []) h in
         let len : pc + 1 + length cx + 1 ≡ pc + 1 + length (cx ++ line o i.Drop ∷ []) = omega (arith, length-append cx (line o i.Drop ∷ [])) in
         ending limit g code n frames _ _ (λ done. Object r ∷ stack) here len
-            (ends_with limit g code (follows o (pc + 1) q (Object r ∷ stack) here w (has_front code.lines (pc + 1) cx _ h))
-            (λ done w. comes_by limit g code (at_it (pc + 1 + length cx) (Object q ∷ Object r ∷ stack) here w (line o i.Drop) hd.0))))
+        (ends_with limit g code (follows o (pc + 1) q (Object r ∷ stack) here w (has_front code.lines (pc + 1) cx _ h))
+        (λ done w. comes_by limit g code (at_it (pc + 1 + length cx) (Object q ∷ Object r ∷ stack) here w (line o i.Drop) hd.0))))
 
     pub work_follows : (x : w.Work) → Follows x
     work_follows w.Rest o pc r stack here w has = no_code limit g code n frames tt pc (λ done. Object r ∷ stack) here w
     work_follows (w.And x y) o pc r stack here w has =
         then_code limit g code n frames (work_code m o x) (work_code m o y) pc has (work_follows x o pc r stack here w)
-            (λ done w h. work_follows y o _ r stack here w h)
+        (λ done w h. work_follows y o _ r stack here w h)
     work_follows (w.Lending x) o pc r stack here w has =
         let cx = work_code m o x in
         let there = lending (r ∷ []) here in
         let hu = has_back code.lines (pc + 1) cx (line o i.Unlend ∷ []) has.1 in
         let len : pc + 1 + length cx + 1 ≡ pc + length (line o i.Lend ∷ (cx ++ line o i.Unlend ∷ [])) =
-            omega (arith, length-append cx (line o i.Unlend ∷ [])) in
+        omega (arith, length-append cx (line o i.Unlend ∷ [])) in
         ending limit g code n frames _ _ (λ done. Object r ∷ stack) here len
-            (step_then limit g code (at_it pc (Object r ∷ stack) here w (line o i.Lend) has.0)
-            (ends_with limit g code (work_follows x o (pc + 1) r stack there w (has_front code.lines (pc + 1) cx _ has.1))
-            (λ done w. comes_by limit g code (at_it (pc + 1 + length cx) (Object r ∷ stack) there w (line o i.Unlend) hu.0))))
+        (step_then limit g code (at_it pc (Object r ∷ stack) here w (line o i.Lend) has.0)
+        (ends_with limit g code (work_follows x o (pc + 1) r stack there w (has_front code.lines (pc + 1) cx _ has.1))
+        (λ done w. comes_by limit g code (at_it (pc + 1 + length cx) (Object r ∷ stack) there w (line o i.Unlend) hu.0))))
     work_follows (w.Of_rank rank x y) o pc r stack here w has =
         let cx = work_code m o x in let cy = work_code m o y in
         let s = state pc (Object r ∷ stack) here frames w in
@@ -119,22 +119,22 @@ module _ (limit : ℕ) (g : Setting) (code : Code) (n : ℕ) (frames : List Fram
         let to_y : pc + 1 + (length cx + 1) ≡ pc + 1 + length cx + 1 = omega arith in
         let over : pc + 1 + length cx + 1 + length cy ≡ on = omega (arith, length-append cx (line o (i.GoOn (length cy)) ∷ cy)) in
         test_case (nat_eq rank (length (spans r.reach))) s w (Goes [] (state (pc + 1) (Object r ∷ stack) here frames w))
-            (Goes [] (state (pc + 1 + (length cx + 1)) (Object r ∷ stack) here frames w)) _ _ _
-            (at_it pc (Object r ∷ stack) here w (line o (i.SkipUnlessRank rank (length cx + 1))) has.0)
+        (Goes [] (state (pc + 1 + (length cx + 1)) (Object r ∷ stack) here frames w)) _ _ _
+        (at_it pc (Object r ∷ stack) here w (line o (i.SkipUnlessRank rank (length cx + 1))) has.0)
         (λ e. step_then limit g code e (ends_with limit g code (work_follows x o (pc + 1) r stack here w (has_front code.lines (pc + 1) cx _ has.1))
-            (λ done w. comes_by limit g code (at_it (pc + 1 + length cx) (Object r ∷ stack) here w (line o (i.GoOn (length cy))) hy.0 ∙
-            ap (λ q. Goes [] (state q (Object r ∷ stack) here frames w)) over))))
+        (λ done w. comes_by limit g code (at_it (pc + 1 + length cx) (Object r ∷ stack) here w (line o (i.GoOn (length cy))) hy.0 ∙
+        ap (λ q. Goes [] (state q (Object r ∷ stack) here frames w)) over))))
         (λ e. step_then limit g code e (starting limit g code n frames n _ _ (Object r ∷ stack) here w to_y
-            (ending limit g code n frames _ _ (λ done. Object r ∷ stack) here over (work_follows y o (pc + 1 + length cx + 1) r stack here w hy.1))))
+        (ending limit g code n frames _ _ (λ done. Object r ∷ stack) here over (work_follows y o (pc + 1 + length cx + 1) r stack here w hy.1))))
     work_follows (w.Final f) o pc r stack here w has =
         let len : pc + 1 + 1 + 1 ≡ pc + 3 = omega arith in
         let there = placed o here in
         ending limit g code n frames _ _ (λ done. Object r ∷ stack) here len
-            (step_then limit g code (at_it pc (Object r ∷ stack) here w (line o i.PassObject) has.0)
-            (then_on limit g code (follow.by f there (Lent 0 r ∷ []) (pc + 1) (Object r ∷ stack) here w
-            (at_it (pc + 1) (Argument (Lent 0 r) ∷ Object r ∷ stack) here w (line o (i.Call f 1)) has.1.0))
-            (λ v w. one_step limit g code n tt w (λ done w. state (pc + 1 + 1 + 1) (Object r ∷ stack) here frames w)
-            (at_it (pc + 1 + 1) (Datum v ∷ Object r ∷ stack) here w (line o i.Drop) has.1.1.0))))
+        (step_then limit g code (at_it pc (Object r ∷ stack) here w (line o i.PassObject) has.0)
+        (then_on limit g code (follow.by f there (Lent 0 r ∷ []) (pc + 1) (Object r ∷ stack) here w
+        (at_it (pc + 1) (Argument (Lent 0 r) ∷ Object r ∷ stack) here w (line o (i.Call f 1)) has.1.0))
+        (λ v w. one_step limit g code n tt w (λ done w. state (pc + 1 + 1 + 1) (Object r ∷ stack) here frames w)
+        (at_it (pc + 1 + 1) (Datum v ∷ Object r ∷ stack) here w (line o i.Drop) has.1.1.0))))
     work_follows (w.Routine t) o pc r stack here w has =
         by_test (nat_lt t m) refl has
       where
@@ -147,37 +147,37 @@ module _ (limit : ℕ) (g : Setting) (code : Code) (n : ℕ) (frames : List Fram
             (no_code limit g code n frames tt pc (λ done. Object r ∷ stack) here w)
     work_follows (w.Of_component k x) o pc r stack here w has =
         within x (work_follows x) o (component g k Language r) (line o (i.WorkComponent k)) pc r stack here w has
-            (λ h. at_line limit g code n frames (component g k Language r) pc (Object r ∷ stack) here w (line o (i.WorkComponent k))
-            (component_ends g k Language r) h.0 refl)
+        (λ h. at_line limit g code n frames (component g k Language r) pc (Object r ∷ stack) here w (line o (i.WorkComponent k))
+        (component_ends g k Language r) h.0 refl)
     work_follows (w.Of_elements x) o pc r stack here w has =
         let cx = work_code m o x in
         let d = length cx + 2 in
         let on : pc + 1 + 1 + d ≡ pc + length (line o i.WalkBegin ∷ line o (i.WalkNext d) ∷ (cx ++ (line o i.Drop ∷ line o (i.GoBack d) ∷ []))) =
-            omega (arith, length-append cx (line o i.Drop ∷ line o (i.GoBack d) ∷ [])) in
+        omega (arith, length-append cx (line o i.Drop ∷ line o (i.GoBack d) ∷ [])) in
         step_then limit g code (at_it pc (Object r ∷ stack) here w (line o i.WalkBegin) has.0)
-            (walk_follows x (work_follows x) (paths r) o (pc + 1) _ r stack here w has.1 on)
+        (walk_follows x (work_follows x) (paths r) o (pc + 1) _ r stack here w has.1 on)
     work_follows (w.If_allocated x) o pc r stack here w has =
         let cx = work_code m o x in
         let s = state pc (Object r ∷ stack) here frames w in
         let len : pc + 1 + length cx ≡ pc + length (line o (i.SkipUnlessAllocated (length cx)) ∷ cx) = omega arith in
         looked limit g code (λ store. is_allocated (get store r.path)) (λ b. if b then work g calls routines x r (placed o here) else gives tt)
         (test_case (is_allocated (get w.store r.path)) s w (Goes [] (state (pc + 1) (Object r ∷ stack) here frames w))
-            (Goes [] (state (pc + 1 + length cx) (Object r ∷ stack) here frames w)) _ _ _
-            (at_it pc (Object r ∷ stack) here w (line o (i.SkipUnlessAllocated (length cx))) has.0)
+        (Goes [] (state (pc + 1 + length cx) (Object r ∷ stack) here frames w)) _ _ _
+        (at_it pc (Object r ∷ stack) here w (line o (i.SkipUnlessAllocated (length cx))) has.0)
         (λ e. step_then limit g code e (ending limit g code n frames _ _ (λ done. Object r ∷ stack) here len (work_follows x o (pc + 1) r stack here w has.1)))
         (λ e. one_step limit g code n tt w _ (e ∙ ap (λ q. Goes [] (state q (Object r ∷ stack) here frames w)) len)))
     work_follows (w.Of_contents x) o pc r stack here w has =
         let cx = work_code m o x in
         let there = placed o here in
         let whole = then_code limit g code n frames (line o i.OpenContents ∷ []) (cx ++ (line o i.Drop ∷ line o i.Free ∷ [])) pc has
-            (λ h. at_line limit g code n frames (opens r there) pc (Object r ∷ stack) here w (line o i.OpenContents) (opens_end r there) h.0 refl) (λ q w h.
+        (λ h. at_line limit g code n frames (opens r there) pc (Object r ∷ stack) here w (line o i.OpenContents) (opens_end r there) h.0 refl) (λ q w h.
         then_code limit g code n frames cx (line o i.Drop ∷ line o i.Free ∷ []) (pc + 1) h (λ h. work_follows x o (pc + 1) q (Object r ∷ stack) here w h)
-            (λ done w h.
+        (λ done w h.
         let len : pc + 1 + length cx + 1 + 1 ≡ pc + 1 + length cx + 2 = omega arith in
         ending limit g code n frames _ _ (λ done. Object r ∷ stack) here len
-            (step_then limit g code (at_it (pc + 1 + length cx) (Object q ∷ Object r ∷ stack) here w (line o i.Drop) h.0)
-            (at_line limit g code n frames (set r Unallocated there) (pc + 1 + length cx + 1) (Object r ∷ stack) here w (line o i.Free)
-            (set_ends r Unallocated there) h.1.0 refl)))) in
+        (step_then limit g code (at_it (pc + 1 + length cx) (Object q ∷ Object r ∷ stack) here w (line o i.Drop) h.0)
+        (at_line limit g code n frames (set r Unallocated there) (pc + 1 + length cx + 1) (Object r ∷ stack) here w (line o i.Free)
+        (set_ends r Unallocated there) h.1.0 refl)))) in
         as_well limit g code (opens_then r there (λ q. work g calls routines x q there >>= λ done. set r Unallocated there)) whole
     work_follows w.Clear o pc r stack here w has = at_line limit g code n frames (clear r (placed o here)) pc (Object r ∷ stack) here w (line o i.Clear)
         (clear_ends r (placed o here)) has.0 refl

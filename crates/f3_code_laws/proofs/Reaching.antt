@@ -150,8 +150,10 @@ module _ (limit : ℕ) (g : Setting) (code : Code) where
       one k = ap (λ x. advance limit g code x (run limit g code k)) e
 
       by_end : (out : List Event) (end : End A) → ReachesAs n t out end next → ReachesAs (suc n) s out end next
-      by_end out (Gives x w) c = record { by = λ k. let a = c.by k
-          in (suc a.0, omega (arith, a.1), one a.0 ∙ ap (before []) a.2 ∙ before_before [] out (run limit g code k (next x w))) }
+      by_end out (Gives x w) c = record {
+        by = λ k. let a = c.by k
+            in (suc a.0, omega (arith, a.1), one a.0 ∙ ap (before []) a.2 ∙ before_before [] out (run limit g code k (next x w)));
+      }
       by_end out (Fails error place) c = (suc c.0, one c.0 ∙ ap (before []) c.1)
       by_end out (Stops number) c = (suc c.0, one c.0 ∙ ap (before []) c.1)
       by_end out Beyond c = (suc c.0, omega (arith, c.1), one c.0 ∙ ap (before []) c.2)
@@ -217,8 +219,10 @@ module _ (limit : ℕ) (g : Setting) (code : Code) where
       behind_it {t = t} out r c h = by_rest r.out r.end h
         where
           by_rest : (more : List Event) (end : End B) → ReachesAs n t more end next → ReachesAs n s (out ++ more) end next
-          by_rest more (Gives x w) h = record { by = λ k. let b = h.by k in let a =
-              c.by b.0 in (a.0, omega (arith, a.1, b.1), a.2 ∙ ap (before out) b.2 ∙ before_before out more (run limit g code k (next x w))) }
+          by_rest more (Gives x w) h = record {
+            by = λ k. let b = h.by k in let a =
+                c.by b.0 in (a.0, omega (arith, a.1, b.1), a.2 ∙ ap (before out) b.2 ∙ before_before out more (run limit g code k (next x w)));
+          }
           by_rest more (Fails error place) h = let a = c.by h.0 in (a.0, a.2 ∙ ap (before out) h.1)
           by_rest more (Stops number) h = let a = c.by h.0 in (a.0, a.2 ∙ ap (before out) h.1)
           by_rest more Beyond h = let a = c.by h.0 in (a.0, omega (arith, a.1, h.1), a.2 ∙ ap (before out) h.2)

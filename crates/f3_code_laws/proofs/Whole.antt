@@ -60,12 +60,27 @@ module _ (limit : ℕ) (g : Setting) (code : Code) where
             same = ap (λ (c : Course). c.out) a.2 ∙ ap (λ l. out ++ l) later.same;
             halt = subst (λ (c : Course). Agrees c.halt ((f x).from w).end) (sym a.2) later.halt;
           }
-      by_end out (Fails error place) ends = record { k = ends.0; turns = λ b. absurd (let e : Failing error place = b in cc); same =
-          ap (λ (c : Course). c.out) ends.1; halt = subst (λ (c : Course). Agrees c.halt (Fails error place)) (sym ends.1) (refl, refl) }
-      by_end out (Stops number) ends = record { k = ends.0; turns = λ b. absurd (let e : Stopping number = b in cc); same =
-          ap (λ (c : Course). c.out) ends.1; halt = subst (λ (c : Course). Agrees c.halt (Stops number)) (sym ends.1) refl }
-      by_end out Beyond ends = record { k = ends.0; turns = λ b. ends.1; same = ap (λ (c : Course). c.out) ends.2; halt =
-          subst (λ (c : Course). Agrees c.halt Beyond) (sym ends.2) tt }
+      by_end out (Fails error place) ends = record {
+        k = ends.0;
+        turns = λ b. absurd (let e : Failing error place = b in cc);
+        same =
+            ap (λ (c : Course). c.out) ends.1;
+        halt = subst (λ (c : Course). Agrees c.halt (Fails error place)) (sym ends.1) (refl, refl);
+      }
+      by_end out (Stops number) ends = record {
+        k = ends.0;
+        turns = λ b. absurd (let e : Stopping number = b in cc);
+        same =
+            ap (λ (c : Course). c.out) ends.1;
+        halt = subst (λ (c : Course). Agrees c.halt (Stops number)) (sym ends.1) refl;
+      }
+      by_end out Beyond ends = record {
+        k = ends.0;
+        turns = λ b. ends.1;
+        same = ap (λ (c : Course). c.out) ends.2;
+        halt =
+            subst (λ (c : Course). Agrees c.halt Beyond) (sym ends.2) tt;
+      }
 
   -- a part that the machine follows to its end
   reach_done : {n : ℕ} {s : State} {r : Ran ⊤} {w : World} {next : ⊤ → World → State} → Reaches limit g code n s r w next →
@@ -76,14 +91,34 @@ module _ (limit : ℕ) (g : Setting) (code : Code) where
       by_end out (Gives x w) comes =
           let a = comes.by 1 in
           let e = a.2 ∙ ap (before out) (ap (λ x. advance limit g code x (run limit g code 0)) (done x w)) in
-          record { k = a.0; turns = λ b. absurd (let e : Giving w = b in cc); same = ap (λ (c : Course). c.out) e ∙ append-nil out; halt =
-              subst (λ (c : Course). Agrees c.halt (Gives x w)) (sym e) tt }
-      by_end out (Fails error place) ends = record { k = ends.0; turns = λ b. absurd (let e : Failing error place = b in cc); same =
-          ap (λ (c : Course). c.out) ends.1; halt = subst (λ (c : Course). Agrees c.halt (Fails error place)) (sym ends.1) (refl, refl) }
-      by_end out (Stops number) ends = record { k = ends.0; turns = λ b. absurd (let e : Stopping number = b in cc); same =
-          ap (λ (c : Course). c.out) ends.1; halt = subst (λ (c : Course). Agrees c.halt (Stops number)) (sym ends.1) refl }
-      by_end out Beyond ends = record { k = ends.0; turns = λ b. ends.1; same = ap (λ (c : Course). c.out) ends.2; halt =
-          subst (λ (c : Course). Agrees c.halt Beyond) (sym ends.2) tt }
+          record {
+            k = a.0;
+            turns = λ b. absurd (let e : Giving w = b in cc);
+            same = ap (λ (c : Course). c.out) e ∙ append-nil out;
+            halt =
+                subst (λ (c : Course). Agrees c.halt (Gives x w)) (sym e) tt;
+          }
+      by_end out (Fails error place) ends = record {
+        k = ends.0;
+        turns = λ b. absurd (let e : Failing error place = b in cc);
+        same =
+            ap (λ (c : Course). c.out) ends.1;
+        halt = subst (λ (c : Course). Agrees c.halt (Fails error place)) (sym ends.1) (refl, refl);
+      }
+      by_end out (Stops number) ends = record {
+        k = ends.0;
+        turns = λ b. absurd (let e : Stopping number = b in cc);
+        same =
+            ap (λ (c : Course). c.out) ends.1;
+        halt = subst (λ (c : Course). Agrees c.halt (Stops number)) (sym ends.1) refl;
+      }
+      by_end out Beyond ends = record {
+        k = ends.0;
+        turns = λ b. ends.1;
+        same = ap (λ (c : Course). c.out) ends.2;
+        halt =
+            subst (λ (c : Course). Agrees c.halt Beyond) (sym ends.2) tt;
+      }
 
   -- a part first that needs no turns
   behind_first : {A : Type 0} (n : ℕ) (m : Ran A) (f : A → Ran ⊤) (w : World) (next : A → World → State) → Ends m →
@@ -94,8 +129,13 @@ module _ (limit : ℕ) (g : Setting) (code : Code) where
     where
       by_end : (out : List Event) (end : End A) → end ≢ Beyond → Matches (course limit g code (ends_so out end next)) n (go_on out end f).out
           (go_on out end f).end
-      by_end out (Gives x w) b = let later = rest x w in record { k = suc later.k; turns = λ e. (let le = later.turns e in omega (arith, le)); same =
-          ap (λ l. out ++ l) later.same; halt = later.halt }
+      by_end out (Gives x w) b = let later = rest x w in record {
+        k = suc later.k;
+        turns = λ e. (let le = later.turns e in omega (arith, le));
+        same =
+            ap (λ l. out ++ l) later.same;
+        halt = later.halt;
+      }
       by_end out (Fails error place) b = record { k = 1; turns = λ e. absurd (let e : Failing error place = e in cc); same = refl; halt = (refl, refl) }
       by_end out (Stops number) b = record { k = 1; turns = λ e. absurd (let e : Stopping number = e in cc); same = refl; halt = refl }
       by_end out Beyond b = absurd (b refl)
@@ -145,7 +185,7 @@ module _ (limit : ℕ) (p : c.Program) (n : ℕ) where
       let on_is : on ≡ on + 0 = omega arith in
       let last = has_back code.lines 0 cx (line (Some p.main.end) i.Begin ∷ line None i.Finish ∷ []) main in
       let runs = exec_follows limit g code n [] calls follow m p.routines works_so p.main.body None main_ways 0 on on on on [] here w
-          (has_front code.lines 0 cx _ main) refl on_is on_is on_is in
+      (has_front code.lines 0 cx _ main) refl on_is on_is on_is in
       reach_matches limit g code runs (λ flow w. end_matches limit g code n p.main.end on here flow w last.0 last.1.0)
 
 pub agrees_over : (h : Halt) (end : End ⊤) → end ≢ Beyond → Agrees h end → h ≢ Running
@@ -173,7 +213,7 @@ module _ (c : ℕ → Course) (so : Steady c) where
       ends : end ≢ Beyond → (out ≡ (c k).out) × Agrees (c k).halt end
       ends b =
           let same : c m.k ≡ c k = ⊎_elim (λ lt. so.longer k m.k (omega arith) over) (λ le. sym (so.longer m.k k le (agrees_over (c m.k).halt end b m.halt)))
-              (cases_lt k m.k) in
+          (cases_lt k m.k) in
           (sym m.same ∙ ap (λ (c : Course). c.out) same, subst (λ (c : Course). Agrees c.halt end) same m.halt)
 
       by_end : (e : End ⊤) → end ≡ e → (out ≡ (c k).out) × Agrees (c k).halt end
@@ -192,8 +232,11 @@ module _ (c : ℕ → Course) (so : Steady c) where
 
       ends : end ≢ Beyond → (rest : List Event) × (out ≡ (c k).out ++ rest)
       ends b = ⊎_elim (λ lt. later (omega arith)) (λ le. let same =
-          so.longer m.k k le (agrees_over (c m.k).halt end b m.halt) in ([], sym m.same ∙ ap (λ (c : Course). c.out) (sym same) ∙
-          sym (append-nil (c k).out))) (cases_lt k m.k)
+          so.longer m.k k le (agrees_over (c m.k).halt end b m.halt) in (
+            [],
+            sym m.same ∙ ap (λ (c : Course). c.out) (sym same) ∙
+                sym (append-nil (c k).out),
+          )) (cases_lt k m.k)
 
       by_end : (e : End ⊤) → end ≡ e → (rest : List Event) × (out ≡ (c k).out ++ rest)
       by_end (Gives x w) is = ends (λ b. let e : Gives x w ≡ Beyond = sym is ∙ b in cc)
@@ -209,12 +252,12 @@ module _ (limit : ℕ) (p : c.Program) (answers : ℕ → Bool) where
   unfolding core_runs
   matches n =
       let rest : ⊤ → Ran ⊤ = λ done. exec (core_setting p) n p.routines (core_calls limit p n) p.main.body (core_here p) >>= λ flow.
-          begins (at p.main.end (core_here p)) in
+      begins (at p.main.end (core_here p)) in
       let first_so = behind_first limit (core_setting p) (program_code p) n (claim (core_here p) >>= λ done. enter p.main.initial) rest
-          (core_world p answers) (λ done w. start p w) (bind_ends (claim_ends (core_here p)) (λ done. enter_ends p.main.initial))
-          (λ done w. main_matches limit p n w) in
+      (core_world p answers) (λ done w. start p w) (bind_ends (claim_ends (core_here p)) (λ done. enter_ends p.main.initial))
+      (λ done w. main_matches limit p n w) in
       subst (λ r. Matches (course limit (core_setting p) (program_code p) first) n (r.from (core_world p answers)).out (r.from (core_world p answers)).end)
-          (bind_assoc (claim (core_here p)) (λ done. enter p.main.initial) rest) first_so
+      (bind_assoc (claim (core_here p)) (λ done. enter p.main.initial) rest) first_so
 
 pub behaves : (p : c.Program) (answers : ℕ → Bool) → Behaves p (program_code p) answers
 unfolding after core_run_of
