@@ -4,8 +4,8 @@ of crates/f3_rows/stdin with a line `growths`.
 
 usage: growths.py      (after bin/f3 has built the program; gcc builds bench/refuse.c)
 f3 is crates/f3/out/f3, or what the variable F3 names. Wanted is `want of memory`, nothing else and status 5 for each growth but
-the last, and what the case expects once none is refused. The growths for the words of the command line and for the buffer of
-the output, before f3 begins, are let pass. The last line is 'N cases as expected, M not'."""
+the last, and what the case expects once none is refused. Among the first growths,
+for the words of the command line, is one that only asks for room ahead; without it f3 goes on. The last line is 'N cases as expected, M not'."""
 import os
 import subprocess
 import sys
@@ -55,14 +55,13 @@ def answer(words, folder, refuse, growth, all_behind):
 
 def unexpected(words, own, folder, refuse, all_behind):
     """The growths whose refusal is not answered as it should be, and how many there are."""
-    growth, is_begun, odd = 0, False, []
+    growth, odd = 0, []
     while True:
         growth += 1
         found, is_met = answer(words, folder, refuse, growth, all_behind)
         if not is_met:
             return odd + ([] if found == own else [(growth, found)]), growth - 1
-        is_begun = is_begun or found == MEMORY
-        if found != MEMORY and (is_begun or growth > MOST_BEFORE):
+        if found != MEMORY and (found != own or growth > MOST_BEFORE):
             odd.append((growth, found))
 
 

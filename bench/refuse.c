@@ -2,6 +2,7 @@
 #define _GNU_SOURCE
 #include <dlfcn.h>
 #include <errno.h>
+#include <malloc.h>
 #include <stdlib.h>
 #include <unistd.h>
 
@@ -33,7 +34,11 @@ static int is_refused(void) {
 #define REAL(name) ({ static __typeof__(&name) found; if (!found) found = dlsym(RTLD_NEXT, #name); found; })
 
 void *malloc(size_t size) { return is_refused() ? NULL : REAL(malloc)(size); }
-void *realloc(void *old, size_t size) { return is_refused() ? NULL : REAL(realloc)(old, size); }
+/* What a block has room for is no growth: a list that gives back its room asks for less. */
+void *realloc(void *old, size_t size) {
+    int grows = !old || size > malloc_usable_size(old);
+    return grows && is_refused() ? NULL : REAL(realloc)(old, size);
+}
 void *aligned_alloc(size_t align, size_t size) { return is_refused() ? NULL : REAL(aligned_alloc)(align, size); }
 
 int posix_memalign(void **to, size_t align, size_t size) {
