@@ -10,9 +10,9 @@ use Rattle.f3_tree.specs.Tree.{Tree, view}
 use Rattle.f3_parse.specs.Spells.{Spells, IsFirstFault}
 use Rattle.f3_graph.specs.declared.CheckFault.{CheckFault}
 use Rattle.f3_graph.specs.declared.CheckFault.TheVariants.{Refused, Memory}
-use Rattle.f3_graph.specs.Order.{IsOrder, IsRefusal}
-use Rattle.f3_names.specs.Tables.{AreNames}
-use Rattle.f3_types.specs.Types.{AreTypes}
+use Rattle.f3_graph.specs.Order.{IsOrder, IsRefusal, numbers_of}
+use Rattle.f3_names.specs.Tables.{AreNames, lookup_at}
+use Rattle.f3_types.specs.Types.{AreTypes, AreTypesAlong}
 use Rattle.f3_accepted.specs.declared.checked.Checked.{Checked}
 use Rattle.f3_accepted.specs.Accepted.{Breaks, Accepted}
 use Rattle.f3_accepted.specs.Checked.{program_of, order_of, names_of, types_of}
@@ -31,6 +31,7 @@ pub record IsChecked (checked : Checked) (sources : List Source) : Type 0 where
   pub ordered : IsOrder (view (program_of checked)) (order_of checked)
   pub named : AreNames (view (program_of checked)) (names_of checked)
   pub typed : AreTypes (view (program_of checked)) (types_of checked)
+  pub along : AreTypesAlong (view (program_of checked)) (lookup_at (names_of checked)) (numbers_of (order_of checked)) (types_of checked)
 
 -- what `check` answers
 abbrev pub Checks : Result Checked CheckFault → List Source → Type 0

@@ -9,6 +9,16 @@ use f3_names::table::Names;
 use f3_tree::program::Program;
 use f3_types::table::Types;
 
+/// The tree of sources that break no rule, an order of its units, what its names mean, and what its entities are.
+#[derive(Drop)]
+pub struct Parts {
+    pub program: Program,
+    pub order: UnitOrder,
+    pub names: Names,
+    pub types: Types,
+    pub ghost are_accepted: { ∥ AreAccepted (view program) order names types ∥₁ },
+}
+
 /// Sources that break no rule: their tree, an order of its units, what its names mean, and what its entities are. There are
 /// sources of which it is accepted: only `check` makes one.
 #[derive(Drop)]
@@ -49,6 +59,28 @@ impl Checked {
         ensures { result.now ≡ types_of self.now }
     {
         &self.types
+    }
+
+    /// The tree, the order of its units, what its names mean, and what its entities are.
+    pub fn parts(self) -> Parts
+        ensures program { result.program ≡ program_of self }
+        ensures order { result.order ≡ order_of self }
+        ensures names { result.names ≡ names_of self }
+        ensures types { result.types ≡ types_of self }
+    {
+        let Checked {
+            program,
+            order,
+            names,
+            types,
+            ..
+        } = self;
+        Parts {
+            program,
+            order,
+            names,
+            types,
+        }
     }
 
     /// Gives back its memory: what a crate above need not prove again of all that is in it.

@@ -1,5 +1,5 @@
 pub mod Lists
-pub mod Small
+pub mod Counted
 pub mod Contexts
 pub mod Standing
 pub mod Varying

@@ -1,5 +1,5 @@
 -- Variables that live for the whole run, dummies, and results.
-use Rattle.std.proofs.Common.{◌≡◌, ℕ, Bool, true, false, [], Option, None, Some, if◌then◌else◌, ap, sym, ◌∙◌}
+use Rattle.std.proofs.Common.{◌≡◌, ℕ, Bool, false, [], Option, None, Some, if◌then◌else◌, ap, sym, ◌∙◌}
 use Rattle.std.specs.Prelude.{slice_get}
 use Rattle.f3_kinds.specs.declared.types.Object.{Object}
 use Rattle.f3_kinds.specs.Things.{map_or, Context}
@@ -18,7 +18,7 @@ use Rattle.f3_elaboration.specs.Numbers.{Inner, Variable, kind_of}
 use Rattle.f3_elaboration.specs.Declarations.{Whole, context, declared, static}
 use Rattle.f3_elaboration.specs.Units.{declaration_of, dummy, intent_of, lower_bounds, lowers_of, plain}
 use Rattle.f3_declaration_nodes.specs.declared.whole.Whole.{Whole as Tables}
-use Rattle.f3_declaration_nodes.specs.Stands.{Stands, is_small}
+use Rattle.f3_declaration_nodes.specs.Stands.{Stands}
 use Rattle.f3_declaration_nodes.specs.Tables.{known_at}
 use Rattle.f3_declaration_nodes.specs.Variables.{dummy_by, plain_by, static_by}
 use Rattle.f3_declaration_nodes.proofs.Contexts.{context_stands}
@@ -28,10 +28,10 @@ abbrev static_with : (home : ℕ) → DeclaredNode → Bool → StaticNode
 static_with u d b = record { declared = d; home = u; is_protected = b }
 
 pub static_stands : (t : Tables) (w : Whole) (inner : Inner) (v : Variable) → Stands t w inner
-    → is_small w v.unit v.scope v.tree ≡ true → static_by t v ≡ static w v
-static_stands t w inner v h small =
+    → static_by t v ≡ static w v
+static_stands t w inner v h =
     ap (λ (d : DeclaredNode). static_with v.unit d (map_or false (λ (h : Holder). h.is_protected) (slice_get t.scenery.holders.now v.entity)))
-    (declared_stands t w inner v.unit v.scope v.tree h small)
+    (declared_stands t w inner v.unit v.scope v.tree h)
     ∙ ap (λ (z : Scene). static_with v.unit (declared w v.unit v.scope v.tree)
     (map_or false (λ (h : Holder). h.is_protected) (slice_get z.holders v.entity))) (sym h.scene)
 

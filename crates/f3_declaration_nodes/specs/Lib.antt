@@ -1,4 +1,3 @@
-pub mod Within
 pub mod Tables
 pub mod Stands
 pub mod Variables

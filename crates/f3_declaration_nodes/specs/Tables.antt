@@ -13,9 +13,8 @@ use Rattle.f3_type_rules.specs.Names.{is_given, Declared, is_private_by, object_
 use Rattle.f3_declared.specs.Scenery.{names_in}
 use Rattle.f3_numbers.specs.Table.{kind_at}
 use Rattle.f3_elaboration.specs.Nodes.{DeclaredNode, ComponentNode}
-use Rattle.f3_elaboration.specs.Declarations.{initial}
+use Rattle.f3_elaboration.specs.Declarations.{dimensions, initial}
 use Rattle.f3_declaration_nodes.specs.declared.whole.Whole.{Whole}
-use Rattle.f3_declaration_nodes.specs.Within.{dimensions_within}
 
 -- behind the specification parts
 abbrev pub place : (unit scope : ℕ) → Position
@@ -29,7 +28,7 @@ declared_by t u s x =
     let o : Object = object_of (names_in t.known.now t.scenery) s x in
     record {
       kind = kind_at t.numbers.now o;
-      dimensions = dimensions_within (known_at t u s) (shape_of x);
+      dimensions = dimensions (known_at t u s) (shape_of x);
       initial = initial (known_at t u s) o.data_type (x.1).initial;
     }
 

@@ -1,6 +1,6 @@
 //! Components of derived types (4.5.3).
 
-ghost use Rattle.std.specs.Prelude.{◌≡◌, ◌++◌, true, map, IfOk, OnOk};
+ghost use Rattle.std.specs.Prelude.{◌≡◌, ◌++◌, map, IfOk, OnOk};
 ghost use Rattle.f3_scopes.specs.Given.{accesses_of};
 ghost use Rattle.f3_tree.specs.Declarations.{declaration_view, entity_view, placed_view, type_view};
 ghost use Rattle.f3_type_rules.specs.Names.{is_private_by};
@@ -8,7 +8,7 @@ ghost use Rattle.f3_declared.specs.Declarations.{IsRead, tree_of};
 ghost use Rattle.f3_elaboration.specs.Declarations as elaborated;
 ghost use Rattle.f3_elaboration.specs.DeclaredViews.{component_view};
 ghost use Rattle.f3_elaboration.specs.Numbers.{Definition, Inner};
-ghost use Rattle.f3_declaration_nodes.specs.Stands.{Stands, are_components_small};
+ghost use Rattle.f3_declaration_nodes.specs.Stands.{Stands};
 ghost use Rattle.f3_declaration_nodes.specs.Tables.{component_by, components_by, declared_by, is_private_with};
 
 use crate::declared::make_declared;
@@ -105,7 +105,7 @@ pub fn components(
     scope: usize,
     definition: &TypeDefinition,
 ) -> Result<Vec<Component>, AllocError>
-    ensures { IfOk result (λ v. (w : elaborated.Whole) (inner : Inner) (t : Definition) → t.unit.scope ≡ scope → t.tree ≡ type_view definition.now → Stands whole.entry w inner → are_components_small w t ≡ true → map component_view v.items ≡ elaborated.components w t) }
+    ensures { IfOk result (λ v. (w : elaborated.Whole) (inner : Inner) (t : Definition) → t.unit.scope ≡ scope → t.tree ≡ type_view definition.now → Stands whole.entry w inner → map component_view v.items ≡ elaborated.components w t) }
 {
     let found = make_components(alloc, whole, scope, definition)?;
     Ok(found)

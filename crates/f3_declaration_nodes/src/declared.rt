@@ -1,12 +1,12 @@
 //! Declared objects (5.1).
 
-ghost use Rattle.std.specs.Prelude.{◌≡◌, ℕ, true, IfOk};
+ghost use Rattle.std.specs.Prelude.{◌≡◌, ℕ, IfOk};
 ghost use Rattle.f3_tree.specs.Declarations.{entity_view};
 ghost use Rattle.f3_declared.specs.Declarations.{IsRead, tree_of};
 ghost use Rattle.f3_elaboration.specs.Declarations as elaborated;
 ghost use Rattle.f3_elaboration.specs.DeclaredViews.{declared_view};
 ghost use Rattle.f3_elaboration.specs.Numbers.{Inner};
-ghost use Rattle.f3_declaration_nodes.specs.Stands.{Stands, is_small};
+ghost use Rattle.f3_declaration_nodes.specs.Stands.{Stands};
 ghost use Rattle.f3_declaration_nodes.specs.Tables.{declared_by};
 
 use crate::initial::initial;
@@ -60,7 +60,7 @@ pub fn declared(
     entity: &Entity,
 ) -> Result<Declared, AllocError>
     requires { IsRead reading.now }
-    ensures { IfOk result (λ d. (w : elaborated.Whole) (inner : Inner) → Stands whole.entry w inner → is_small w unit scope (tree_of reading.now, entity_view entity.now) ≡ true → declared_view d ≡ elaborated.declared w unit scope (tree_of reading.now, entity_view entity.now)) }
+    ensures { IfOk result (λ d. (w : elaborated.Whole) (inner : Inner) → Stands whole.entry w inner → declared_view d ≡ elaborated.declared w unit scope (tree_of reading.now, entity_view entity.now)) }
 {
     let found = make_declared(alloc, whole, unit, scope, reading, entity)?;
     Ok(found)

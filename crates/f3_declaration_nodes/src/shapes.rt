@@ -7,8 +7,7 @@ ghost use Rattle.f3_kinds.specs.Things.{map_or};
 ghost use Rattle.f3_typed_parts.specs.Known.{context_of};
 ghost use Rattle.f3_type_rules.specs.Shapes.{bounds_extent};
 ghost use Rattle.f3_extents.specs.Counts.{counted};
-ghost use Rattle.f3_elaboration.specs.Declarations.{lower_bound, whole_number};
-ghost use Rattle.f3_declaration_nodes.specs.Within.{dimension_within, dimensions_within};
+ghost use Rattle.f3_elaboration.specs.Declarations.{dimension, dimensions, lower_bound, whole_number};
 
 use f3_extents::counts::extent;
 use f3_kinds::types::Scalar;
@@ -62,12 +61,13 @@ fn extent_or_none(extent: Option<u64>) -> u64
     }
 }
 
+#[tactic(auto, using(crate::proofs::Counted::counted_or_none))]
 fn dimension(
     known: &Known<'_>,
     at: Position,
     bounds: &(Option<Expression>, Expression),
 ) -> Dimension
-    ensures { result ≡ dimension_within (context_of known.now at) (bounds_view bounds.now) }
+    ensures { result ≡ dimension (context_of known.now at) (bounds_view bounds.now) }
 {
     Dimension {
         lower: lower_bound(known, at, &bounds.0),
@@ -81,7 +81,7 @@ fn explicit(
     at: Position,
     list: &[(Option<Expression>, Expression)],
 ) -> Result<Vec<Dimension>, AllocError>
-    ensures { IfOk result (λ v. v.items ≡ map (λ b. dimension_within (context_of known.now at) (bounds_view b)) list.now) }
+    ensures { IfOk result (λ v. v.items ≡ map (λ b. dimension (context_of known.now at) (bounds_view b)) list.now) }
 {
     let mut found = Vec::new(alloc);
     for bounds in list {
@@ -96,7 +96,7 @@ fn shape_dimensions(
     at: Position,
     shape: &Shape,
 ) -> Result<Vec<Dimension>, AllocError>
-    ensures { IfOk result (λ v. v.items ≡ dimensions_within (context_of known.now at) (Some (shape_view shape.now))) }
+    ensures { IfOk result (λ v. v.items ≡ dimensions (context_of known.now at) (Some (shape_view shape.now))) }
 {
     match shape {
         Shape::Explicit(list) => {
@@ -118,7 +118,7 @@ pub fn dimensions(
     at: Position,
     shape: Option<&Shape>,
 ) -> Result<Vec<Dimension>, AllocError>
-    ensures within { IfOk result (λ v. v.items ≡ dimensions_within (context_of known.now at) (option_map (λ s. shape_view s.now) shape.entry)) }
+    ensures within { IfOk result (λ v. v.items ≡ dimensions (context_of known.now at) (option_map (λ s. shape_view s.now) shape.entry)) }
 {
     match shape {
         Some(shape) => shape_dimensions(alloc, known, at, shape),

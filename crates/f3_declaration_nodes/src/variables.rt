@@ -1,6 +1,6 @@
 //! Variables that live for the whole run, dummies, and results (5.1.2.12, 12.3.1.1, 12.5.2).
 
-ghost use Rattle.std.specs.Prelude.{◌≡◌, ℕ, true, false, Some, [], if◌then◌else◌, map, option_map, slice_get, IfOk};
+ghost use Rattle.std.specs.Prelude.{◌≡◌, ℕ, false, Some, [], if◌then◌else◌, map, option_map, slice_get, IfOk};
 ghost use Rattle.f3_tree.specs.Expressions.{expression_view};
 ghost use Rattle.f3_tree.specs.Declarations.{entity_view, shape_view};
 ghost use Rattle.f3_tree.specs.declared.expression.Name.{Name};
@@ -13,7 +13,7 @@ ghost use Rattle.f3_elaboration.specs.Declarations as elaborated;
 ghost use Rattle.f3_elaboration.specs.Units as units;
 ghost use Rattle.f3_elaboration.specs.DeclaredViews.{declared_view, dummy_view, static_view};
 ghost use Rattle.f3_elaboration.specs.Numbers.{Inner};
-ghost use Rattle.f3_declaration_nodes.specs.Stands.{Stands, is_small};
+ghost use Rattle.f3_declaration_nodes.specs.Stands.{Stands};
 ghost use Rattle.f3_declaration_nodes.specs.Variables.{dummy_by, plain_by, static_by, variable_at};
 
 use crate::declared::make_declared;
@@ -38,7 +38,12 @@ fn is_protected(whole: Whole<'_>, entity: usize) -> bool
     }
 }
 
-fn make_static(
+/// What the tables say of a variable that lives for the whole run (5.1, 5.1.2.12).
+///
+/// # Errors
+///
+/// Where memory runs out.
+pub fn make_static(
     alloc: Global,
     whole: Whole<'_>,
     number: usize,
@@ -72,7 +77,7 @@ pub fn static_variable(
     entity: &Entity,
 ) -> Result<Static, AllocError>
     requires { IsRead reading.now }
-    ensures { IfOk result (λ s. (w : elaborated.Whole) (inner : Inner) → Stands whole.entry w inner → is_small w unit scope (tree_of reading.now, entity_view entity.now) ≡ true → static_view s ≡ elaborated.static w (variable_at number unit scope (tree_of reading.now, entity_view entity.now))) }
+    ensures { IfOk result (λ s. (w : elaborated.Whole) (inner : Inner) → Stands whole.entry w inner → static_view s ≡ elaborated.static w (variable_at number unit scope (tree_of reading.now, entity_view entity.now))) }
 {
     let found = make_static(alloc, whole, number, unit, scope, reading, entity)?;
     Ok(found)
@@ -151,7 +156,12 @@ fn make_lowers(
     lower_bounds(alloc, known, at, shape)
 }
 
-fn make_dummy(
+/// What the tables say of a dummy by its declaration in a procedure (12.3.1.1).
+///
+/// # Errors
+///
+/// Where memory runs out.
+pub fn make_dummy(
     alloc: Global,
     whole: Whole<'_>,
     unit: usize,
@@ -193,7 +203,13 @@ pub fn dummy(
     Ok(found)
 }
 
-fn make_result(alloc: Global, whole: Whole<'_>, scope: usize, specifier: TypeSpecifier) -> Declared
+/// What the tables say of the result of a function whose header gives its type (12.5.2.1).
+pub fn make_result(
+    alloc: Global,
+    whole: Whole<'_>,
+    scope: usize,
+    specifier: TypeSpecifier,
+) -> Declared
     ensures { declared_view result ≡ plain_by whole.entry scope specifier }
 {
     let object = Object {

@@ -14,7 +14,7 @@ use Rattle.f3_kinds.specs.Typing.{said}
 use Rattle.f3_type_rules.specs.Shapes.{natural}
 use Rattle.f3_elaboration.specs.Nodes as n
 use Rattle.f3_elaboration.specs.Nodes.{ExpressionNode, DesignatorNode, ItemNode, BoundsNode, RequestNode, StatementNode}
-use Rattle.f3_elaboration.specs.Context.{Surroundings, base, procedure_number}
+use Rattle.f3_elaboration.specs.Context.{Surroundings, base}
 use Rattle.f3_elaboration.specs.Expressions.{number, Given, value, triplet, Part, or_one, itself, arguments_for, given_in, expression, parts, given}
 
 -- what CONTINUE does
@@ -62,7 +62,7 @@ move s _ = nothing_done
 -- ---- CALL
 
 abbrev pub called : Surroundings → Meaning → List t.ArgumentTree → StatementNode
-called s (entity e (subroutine pure ds)) list = n.call (n.reference (procedure_number s e) (arguments_for ds 0 (given s (t.arguments_of list))))
+called s (entity e (subroutine pure ds)) list = n.call (n.reference (s.procedure e) (arguments_for ds 0 (given s (t.arguments_of list))))
 called s (intrinsic MoveAlloc) list = move s list
 called s _ list = nothing_done
 

@@ -1,5 +1,5 @@
 -- What is declared of variables, components and results, and types (ISO/IEC 1539-1:2004, 4.5, 5.1).
-use Rattle.std.specs.Prelude.{ℕ, ℤ, pos, Bool, false, List, [], ◌∷◌, Option, None, Some, map, slice_get}
+use Rattle.std.specs.Prelude.{ℕ, ◌-◌, ◌^◌, min, ℤ, pos, Bool, false, List, [], ◌∷◌, Option, None, Some, map, slice_get}
 use Rattle.std.specs.List.{flat_map}
 use Rattle.f3_tree.specs.declared.expression.Name.{Name}
 use Rattle.f3_tree.specs.Expressions.{Tree, array, Trees, no_trees, trees}
@@ -45,8 +45,9 @@ whole_number _ = pos 0
 abbrev pub lower_bound : Context → Option Tree → ℤ
 lower_bound c e = map_or (pos 1) (λ (e : Tree). whole_number (value_of c e)) e
 
+-- an extent is counted to 2 ^ 64 - 1; that of an accepted array is less (own rule)
 abbrev pub dimension : Context → Bounds → Dimension
-dimension c b = record { lower = lower_bound c b.lower; extent = map_or 0 (λ n. n) (bounds_extent c b) }
+dimension c b = record { lower = lower_bound c b.lower; extent = map_or 0 (λ n. min n (2 ^ 64 - 1)) (bounds_extent c b) }
 
 abbrev pub dimensions : Context → Option ShapeTree → List Dimension
 dimensions c (Some (explicit bs)) = map (dimension c) bs

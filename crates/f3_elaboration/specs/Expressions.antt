@@ -33,7 +33,7 @@ use Rattle.f3_kinds.specs.Values.{literal_value}
 use Rattle.f3_elaboration.specs.Nodes as n
 use Rattle.f3_elaboration.specs.Nodes.{ExpressionNode, ArgumentNode, ArgumentNodes, DesignatorNode, SelectionNode, SubscriptNode, SubscriptNodes}
 use Rattle.f3_elaboration.specs.Declarations.{constant_of}
-use Rattle.f3_elaboration.specs.Context.{Surroundings, object_named, procedure_number, type_number, base}
+use Rattle.f3_elaboration.specs.Context.{Surroundings, base}
 
 -- ---- literals and operators
 
@@ -145,7 +145,7 @@ along c d o (p ∷ ps) =
     map_or d (λ (k : Component). along c (n.component d (number_of ks (p.0).symbol) (selection k.object p.1)) k.object ps) (component_of ks (p.0).symbol)
 
 abbrev pub variable_of : Surroundings → (entity : ℕ) → Object → Part → List Part → DesignatorNode
-variable_of s e o p ps = along s.context (n.name (object_named s e) (selection o p.1)) o ps
+variable_of s e o p ps = along s.context (n.name (s.object e) (selection o p.1)) o ps
 
 -- An allocatable itself, where what it holds was meant.
 abbrev pub unheld : SelectionNode → SelectionNode
@@ -239,8 +239,8 @@ given_in p = map_or [] (λ gs. gs) p.1
 abbrev pub meant : Surroundings → Option DataType → Part → List Part → Meaning → ExpressionNode
 meant s of p ps (entity e (variable o)) = n.variable (variable_of s e o p ps)
 meant s of p ps (entity e (constant o)) = n.literal (constant_of ((s.context).value e))
-meant s of p ps (entity e (function pure ds o)) = n.reference (procedure_number s e) (arguments_for ds 0 (given_in p))
-meant s of p ps (entity e (derived home ks finalizable)) = n.structure (type_number s e) (components_for ks 0 (given_in p))
+meant s of p ps (entity e (function pure ds o)) = n.reference (s.procedure e) (arguments_for ds 0 (given_in p))
+meant s of p ps (entity e (derived home ks finalizable)) = n.structure (s.type e) (components_for ks 0 (given_in p))
 meant s of p ps (entity e (subroutine pure ds)) = no_value
 meant s of p ps (intrinsic_procedure i) = intrinsic_value (base s of) i (map given_value (given_in p))
 meant s of p ps nothing = no_value

@@ -154,12 +154,15 @@ name_of whole inner e = name_by (position (nat_eq e) whole.statics) (position (n
 -- ---- types
 
 -- INTEGER where a name has no type
+abbrev pub base_by : (type : ℕ → ℕ) → Option DataType → Base
+base_by type (Some (Integer Four)) = base.Integer
+base_by type (Some (Integer Eight)) = base.Long
+base_by type (Some Logical) = base.Logical
+base_by type (Some (Derived e)) = base.Derived (type e)
+base_by type None = base.Integer
+
 abbrev pub base_of : Numbers → Option DataType → Base
-base_of whole (Some (Integer Four)) = base.Integer
-base_of whole (Some (Integer Eight)) = base.Long
-base_of whole (Some Logical) = base.Logical
-base_of whole (Some (Derived e)) = base.Derived (number_in whole.types e)
-base_of whole None = base.Integer
+base_of whole t = base_by (number_in whole.types) t
 
 abbrev pub kind_of : Numbers → Object → Kind
 kind_of whole o = record { of = base_of whole o.data_type; rank = o.rank; is_allocatable = o.is_allocatable }

@@ -1,5 +1,5 @@
 -- Procedures and the main program (ISO/IEC 1539-1:2004, 11.1, 12.5.2).
-use Rattle.std.specs.Prelude.{ℕ, ◌+◌, ℤ, nat_eq, List, [], Option, None, Some, map, if◌then◌else◌}
+use Rattle.std.specs.Prelude.{ℕ, ◌+◌, ℤ, nat_eq, List, [], Option, None, Some, map, length, if◌then◌else◌}
 use Rattle.std.specs.Map.{lookup}
 use Rattle.f3_scopes.specs.Scopes.{name_or}
 use Rattle.f3_tree.specs.declared.expression.Name.{Name}
@@ -19,7 +19,7 @@ use Rattle.f3_type_rules.specs.Names.{Declared, entries, shape_of, undeclared}
 use Rattle.f3_type_rules.specs.Natures.{dummy as dummy_nature, typed_object}
 use Rattle.f3_elaboration.specs.Nodes as n
 use Rattle.f3_elaboration.specs.Nodes.{StatementNode, DeclaredNode, DummyNode, ProcedureNode}
-use Rattle.f3_elaboration.specs.Numbers.{Inner, numbers_in_member, numbers_in_main, kind_of, main_locals, member_locals}
+use Rattle.f3_elaboration.specs.Numbers.{Inner, name_of, number_in, numbers_in_member, numbers_in_main, kind_of, main_locals, member_locals}
 use Rattle.f3_elaboration.specs.Statements.{block}
 use Rattle.f3_elaboration.specs.Context.{Surroundings}
 use Rattle.f3_elaboration.specs.Declarations.{Whole, context, lower_bound, declared, variable}
@@ -65,7 +65,14 @@ result_of w u m (Function None outcome) =
 -- ---- procedures and the main program
 
 abbrev pub surroundings : Whole → (unit scope : ℕ) → Inner → Surroundings
-surroundings w u s inner = record { context = context w u s; numbers = w.numbers; inner = inner; texts = w.texts }
+surroundings w u s inner = record {
+  context = context w u s;
+  object = name_of w.numbers inner;
+  procedure = number_in (w.numbers).procedures;
+  type = number_in (w.numbers).types;
+  lent = length inner.lent;
+  texts = w.texts;
+}
 
 abbrev pub in_member : Whole → (unit : ℕ) → Member → Surroundings
 in_member w u m = surroundings w u m.scope (numbers_in_member ((w.scene).names).look u m)

@@ -1,5 +1,5 @@
 -- What lines that are emitted stand for.
-use Rattle.std.specs.Prelude.{◌≡◌, Bool, if◌then◌else◌, List, ◌∷◌, [], ◌++◌, map, reverse, Option, Some, None}
+use Rattle.std.specs.Prelude.{◌≡◌, ◌+◌, Bool, if◌then◌else◌, List, ◌∷◌, [], ◌++◌, map, reverse, length, Option, Some, None}
 use Rattle.f3_rules.specs.declared.source.Place.{Place}
 use Rattle.f3_program.specs.declared.declarations.Base.{Base}
 use Rattle.f3_program.specs.declared.expression.Expression.{Expression}
@@ -26,6 +26,7 @@ lines_in g ls = map (line_in g) ls
 -- The new lines are the old ones with a code in front, the last line first, in whatever program.
 pub record Emitted (old new : List Line) (code : List c.Line) : Type 0 where
   pub in_front : (g : Setting) → lines_in g new ≡ lines_in g old ++ reverse code
+  pub longer : length new ≡ length old + length code
 
 -- a bound of a triplet, if there is one (ISO/IEC 1539-1:2004, 6.2.2.3.1)
 abbrev pub limit_code : Option Place → Bool → Expression → List c.Line

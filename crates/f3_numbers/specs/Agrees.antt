@@ -1,5 +1,5 @@
 -- A table of numbers that says what lists of entities say.
-use Rattle.std.specs.Prelude.{◌≡◌, ℕ, nat_eq, position, List, [], ◌∷◌, ◌++◌, Option, None, Some}
+use Rattle.std.specs.Prelude.{◌≡◌, ℕ, nat_eq, position, [], ◌∷◌, ◌++◌, Option, None, Some}
 use Rattle.std.specs.Option.{option_map}
 use Rattle.f3_program.specs.declared.expression.Name as object
 use Rattle.f3_program.specs.declared.expression.Name.TheVariants.{Static, Local, Lent}

@@ -3,15 +3,13 @@ use Rattle.std.specs.Prelude.{ℕ, nat_eq, Option, None, Some, if◌then◌else�
 use Rattle.std.specs.Map.{lookup}
 use Rattle.std.specs.Option.{option_or}
 use Rattle.f3_program.specs.declared.declarations.Base.{Base}
-use Rattle.f3_program.specs.declared.declarations.Base.TheVariants as base
 use Rattle.f3_program.specs.declared.declarations.Kind.{Kind}
 use Rattle.f3_program.specs.declared.expression.Name.{Name}
 use Rattle.f3_program.specs.declared.expression.Name.TheVariants.{Lent}
-use Rattle.f3_tree.specs.declared.expression.IntegerKind.TheVariants.{Four, Eight}
 use Rattle.f3_kinds.specs.declared.types.DataType.{DataType}
-use Rattle.f3_kinds.specs.declared.types.DataType.TheVariants.{Integer, Logical, Derived}
 use Rattle.f3_kinds.specs.declared.types.Object.{Object}
 use Rattle.f3_kinds.specs.Things.{map_or}
+use Rattle.f3_elaboration.specs.Numbers.{base_by}
 use Rattle.f3_numbers.specs.declared.numbers.Numbers.{Numbers}
 
 -- the object, the procedure and the type that an entity is, where it is there
@@ -34,13 +32,8 @@ procedure_at t e = map_or 0 (λ (n : ℕ). n) (procedure_in t e)
 abbrev pub type_at : Numbers → (entity : ℕ) → ℕ
 type_at t e = map_or 0 (λ (n : ℕ). n) (type_in t e)
 
--- INTEGER where a name has no type
 abbrev pub base_at : Numbers → Option DataType → Base
-base_at t (Some (Integer Four)) = base.Integer
-base_at t (Some (Integer Eight)) = base.Long
-base_at t (Some Logical) = base.Logical
-base_at t (Some (Derived e)) = base.Derived (type_at t e)
-base_at t None = base.Integer
+base_at t of = base_by (type_at t) of
 
 abbrev pub kind_at : Numbers → Object → Kind
 kind_at t o = record { of = base_at t o.data_type; rank = o.rank; is_allocatable = o.is_allocatable }

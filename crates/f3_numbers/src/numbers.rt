@@ -55,6 +55,21 @@ fn add_name(
     Ok(true)
 }
 
+/// Exchanges what an entity is as an object, or is not; answers what it was.
+fn exchange_name(
+    objects: &mut IndexMap<usize, Name>,
+    entity: usize,
+    name: Option<Name>,
+) -> Result<Option<Name>, AllocError>
+    ensures before { IfOk result (λ k. k ≡ lookup (nat_eq entity) objects.old.entries) }
+    ensures after { OnOk result ((e : ℕ) → lookup (nat_eq e) objects.new.entries ≡ (if nat_eq entity e then name else lookup (nat_eq e) objects.old.entries)) }
+{
+    match name {
+        Some(name) => Ok(objects.insert(entity, name)?),
+        None => Ok(objects.swap_remove(&entity)),
+    }
+}
+
 impl Numbers {
     /// No numbers.
     pub fn new(alloc: Global) -> Self
@@ -146,6 +161,23 @@ impl Numbers {
         ensures types { (e : ℕ) → type_in self.new e ≡ type_in self.old e }
     {
         self.objects.swap_remove(&entity);
+    }
+
+    /// Exchanges what an entity is as an object, or is not; answers what it was. Inside of an ASSOCIATE construct its names are other
+    /// objects than outside (ISO/IEC 1539-1:2004, 16.3).
+    ///
+    /// `AllocError` where memory runs out.
+    pub fn exchange_object(
+        &mut self,
+        entity: usize,
+        name: Option<Name>,
+    ) -> Result<Option<Name>, AllocError>
+        ensures before { IfOk result (λ k. k ≡ object_in self.old entity) }
+        ensures objects { OnOk result ((e : ℕ) → object_in self.new e ≡ (if nat_eq entity e then name else object_in self.old e)) }
+        ensures procedures { OnOk result ((e : ℕ) → procedure_in self.new e ≡ procedure_in self.old e) }
+        ensures types { OnOk result ((e : ℕ) → type_in self.new e ≡ type_in self.old e) }
+    {
+        exchange_name(&mut self.objects, entity, name)
     }
 
     /// Adds a procedure where the entity is none; whether it was none.

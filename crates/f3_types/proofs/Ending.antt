@@ -25,7 +25,7 @@ use Rattle.f3_unit_bodies.specs.Bodies.{anywhere, unit_widths, units_rows}
 use Rattle.f3_unit_bodies.proofs.Linking.{units_link}
 use Rattle.f3_unit_bodies.proofs.Widths.{unit_wide, units_wide}
 use Rattle.f3_types.specs.Breaks.{Means, TypeBreaks}
-use Rattle.f3_types.specs.Parts.{scene_in, declared_along, AreTypesOf}
+use Rattle.f3_types.specs.Parts.{scene_in, declared_along, AreTypesOf, AreAlong}
 use Rattle.f3_types.specs.Inner.Rows.{part_rows, body_rows}
 use Rattle.f3_types.specs.Inner.Scenes.{Knows}
 use Rattle.f3_types.proofs.Begun.{IsBegun, begun}
@@ -81,6 +81,15 @@ typed t look order p q cells means ordered h same cells_are = record {
   order = order;
   means = means;
   ordered = ordered;
+  natures = same_natures p q same ∙ h.natures;
+  values = λ e. ap (λ (s : Site). (s.context).value e) same ∙ h.value e;
+  cells = cells_are;
+}
+
+pub typed_along : (t : Tree) (look : ℕ → ℕ → Lookup) (order : List ℕ) (p q : Place) (cells : List (Option ℕ))
+    → IsBegun (scene_in t look) (declared_along t look order).values p → anywhere (site_of q) ≡ anywhere (site_of p) → HasCells cells (declared_along t look order)
+    → AreAlong t look order q.known.things.items q.known.values.items cells
+typed_along t look order p q cells h same cells_are = record {
   natures = same_natures p q same ∙ h.natures;
   values = λ e. ap (λ (s : Site). (s.context).value e) same ∙ h.value e;
   cells = cells_are;

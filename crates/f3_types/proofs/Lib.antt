@@ -1,7 +1,7 @@
-mod Begun
-mod Counting
-mod One
-mod Fitting
-mod Scenes
-mod Standing
-mod Ending
+pub mod Begun
+pub mod Counting
+pub mod One
+pub mod Fitting
+pub mod Scenes
+pub mod Standing
+pub mod Ending

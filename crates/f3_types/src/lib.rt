@@ -2,8 +2,8 @@
 //! (ISO/IEC 1539-1:2004, 4 to 7, 12 and 13).
 #![tactic(auto)]
 
-mod beginning;
+pub mod beginning;
 mod declaring;
-mod naming;
+pub mod naming;
 pub mod table;
 pub mod typed;

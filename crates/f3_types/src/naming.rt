@@ -42,7 +42,7 @@ pub struct Start<'a> {
 }
 
 /// What is known of the names of a program before what its entities are.
-fn namings<'a>(
+pub fn namings<'a>(
     alloc: Global,
     program: &Program,
     names: &'a Names,

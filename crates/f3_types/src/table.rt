@@ -40,6 +40,15 @@ impl Types {
         }
     }
 
+    /// The tables: what each entity is, and the value of each that is a named constant, by their numbers.
+    pub fn tables(self) -> (Vec<Thing>, Vec<Option<Scalar>>)
+        ensures things { result.0.items ≡ self.things.items }
+        ensures values { result.1.items ≡ self.values.items }
+    {
+        let Types { things, values, .. } = self;
+        (things, values)
+    }
+
     /// The cells of a derived type, by its entity.
     pub fn cells(&self, entity: EntityId) -> Option<u64>
         ensures { result ≡ cells_in self.now entity }

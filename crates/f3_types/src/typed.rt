@@ -13,7 +13,7 @@ ghost use Rattle.f3_extents.specs.Cells.{HasCells};
 ghost use Rattle.f3_types.specs.Answers.{TypesAnswer};
 ghost use Rattle.f3_types.specs.Breaks.{TypeBreaks};
 ghost use Rattle.f3_types.specs.Parts.{scene_in, declared_along};
-ghost use Rattle.f3_types.specs.Types.{AreTypes};
+ghost use Rattle.f3_types.specs.Types.{AreTypes, AreTypesAlong};
 ghost use Rattle.f3_types.specs.Inner.Rows.{body_rows};
 ghost use Rattle.f3_types.specs.Inner.Scenes.{Knows};
 
@@ -56,6 +56,7 @@ fn define(
     requires holders { holders.now ≡ (scene_in (view program.now) (lookup_of names.now.tables)).holders }
     ensures noted { OnOk result (first.new ≡ noted first.old (body_rows (view program.now) (lookup_of names.now.tables) (numbers_of order.now))) }
     ensures types { IfOk result (λ types. AreTypes (view program.now) types) }
+    ensures along { IfOk result (λ types. AreTypesAlong (view program.now) (lookup_of names.now.tables) (numbers_of order.now) types) }
 {
     let Declared { known, cells } = declared;
     let mut site = site(alloc, known, holders)?;
@@ -80,6 +81,7 @@ fn examine(
     requires order { IsOrder (view program.now) order.now }
     requires unbroken { (b : Break) → BreaksOfNames (view program.now) b → ⊥ }
     ensures types { IfOk result (λ found. AreTypes (view program.now) found.types) }
+    ensures along { IfOk result (λ found. AreTypesAlong (view program.now) (lookup_of names.now.tables) (numbers_of order.now) found.types) }
     ensures first { IfOk result (λ found. Least found.first (TypeBreaks (view program.now))) }
 {
     let Start {
@@ -111,7 +113,8 @@ pub fn typed(
     requires names { AreNames (view program.now) names.now }
     requires order { IsOrder (view program.now) order.now }
     requires unbroken { (b : Break) → BreaksOfNames (view program.now) b → ⊥ }
-    ensures { TypesAnswer (view program.now) result }
+    ensures answer { TypesAnswer (view program.now) result }
+    ensures along { IfOk result (λ types. AreTypesAlong (view program.now) (lookup_of names.now.tables) (numbers_of order.now) types) }
 {
     let Found { types, first } = examine(alloc, program, order, names)?;
     match first {

@@ -13,6 +13,7 @@ invariant_of-result c = record {
     c.in-Ok-named.ensures.0,
     c.in-Ok-named.ensures.1,
     c.in-Ok-named.ensures.2,
+    c.in-Ok-named.ensures.4,
   ) ∣₁;
 }
 
@@ -24,6 +25,7 @@ returns-in-Ok-named c = record {
   ordered = c.in-Ok-named.ensures.0;
   named = c.in-Ok-named.ensures.1;
   typed = c.in-Ok-named.ensures.2;
+  along = c.in-Ok-named.ensures.4;
 }
 
 pub returns-in-Err-named : goal.returns-in-Err-named

@@ -17,9 +17,10 @@ pub returns-in-Ok : goal.returns-in-Ok
 returns-in-Ok c = (
   c.in_ok-order.ensures.0,
   c.in_ok-names.ensures.0,
-  c.in-Ok.ensures.0,
-  nothing_broken (view c.args.program.now) c.in_ok-order.ensures.1 c.in_ok-names.ensures.1 c.in-Ok.ensures.1,
+  c.in-Ok.ensures.answer.0,
+  nothing_broken (view c.args.program.now) c.in_ok-order.ensures.1 c.in_ok-names.ensures.1 c.in-Ok.ensures.answer.1,
+  c.in-Ok.ensures.along,
 )
 
 pub returns-in-Err : goal.returns-in-Err
-returns-in-Err c = types_refused (view c.args.program.now) c.in_ok-order.ensures.1 c.in_ok-names.ensures.1 c.in-Err.fault c.in-Err.ensures
+returns-in-Err c = types_refused (view c.args.program.now) c.in_ok-order.ensures.1 c.in_ok-names.ensures.1 c.in-Err.fault c.in-Err.ensures.answer

@@ -5,5 +5,5 @@ use Rattle.f3_declaration_nodes.proofs.Standing.{declared_stands}
 use Rattle.f3_declaration_nodes.proofs.declared.declared.Goals as goal
 
 pub returns : goal.returns
-returns c = λ w inner h small.
-    c.in_ok-found.ensures ∙ declared_stands c.args.whole w inner c.args.unit c.args.scope (tree_of c.args.reading.now, entity_view c.args.entity.now) h small
+returns c = λ w inner h.
+    c.in_ok-found.ensures ∙ declared_stands c.args.whole w inner c.args.unit c.args.scope (tree_of c.args.reading.now, entity_view c.args.entity.now) h

@@ -6,7 +6,7 @@ use Rattle.f3_declaration_nodes.proofs.Varying.{static_stands}
 use Rattle.f3_declaration_nodes.proofs.variables.static_variable.Goals as goal
 
 pub returns : goal.returns
-returns c = λ w inner h small.
+returns c = λ w inner h.
     c.in_ok-found.ensures
     ∙ static_stands c.args.whole w inner
-    (variable_at c.args.number c.args.unit c.args.scope (tree_of c.args.reading.now, entity_view c.args.entity.now)) h small
+    (variable_at c.args.number c.args.unit c.args.scope (tree_of c.args.reading.now, entity_view c.args.entity.now)) h

@@ -1,5 +1,3 @@
-use Rattle.std.proofs.Common.{◌≡◌, ◌∙◌, ◌++◌, ◌∷◌, [], sym, ap, length}
-use Rattle.f3_code.specs.State.{line}
 use Rattle.f3_gen_values.proofs.Emitting.{emitted_then, then_ok}
 use Rattle.f3_gen_values.proofs.Rows.{array_kept, structure_kept, call_kept, elements_kept, elements_of_kept}
 use Rattle.f3_gen_values.proofs.value.+value.Goals as goal

@@ -8,7 +8,7 @@ use Rattle.f3_unit_bodies.specs.Bodies.{unit_widths, units_rows}
 use Rattle.f3_types.specs.Parts.{scene_in, declared_along}
 use Rattle.f3_types.proofs.Counting.{settled}
 use Rattle.f3_types.proofs.Standing.{scopes_fit, things_long}
-use Rattle.f3_types.proofs.Ending.{begun_with, bodies_noted, typed, widths_fit}
+use Rattle.f3_types.proofs.Ending.{begun_with, bodies_noted, typed, typed_along, widths_fit}
 use Rattle.f3_types.proofs.typed.define.Goals as goal
 
 pub bodies-requires-clause-settled : goal.bodies-requires-clause-settled
@@ -39,6 +39,7 @@ returns c =
           ∙ ap (λ us. noted c.args.first.now (units_rows (site_of p) 0 us)) (ap (map unit_view) c.deref.ensures.value)
           ∙ ap (noted c.args.first.now) (bodies_noted t look order p h);
       types = typed t look order p c.bodies.new.site _ c.requires.names.tables.resolves c.requires.order h c.in_ok-bodies.ensures.site c.requires.cells;
+      along = typed_along t look order p c.bodies.new.site _ h c.in_ok-bodies.ensures.site c.requires.cells;
     }
 
 pub invariant_of-result : goal.invariant_of-result

@@ -1,0 +1,6 @@
+mod Chosen
+mod Members
+mod Nodes
+mod Placing
+mod Walks
+mod Whole

@@ -1,0 +1,2 @@
+pub mod Knows
+pub mod Units

@@ -1,0 +1,3 @@
+pub mod ForProgram
+pub mod Placed
+pub mod Whole

@@ -1,0 +1,2 @@
+pub mod EmittedFor
+pub mod Emission

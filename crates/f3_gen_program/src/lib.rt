@@ -1,0 +1,6 @@
+//! Code of programs.
+#![tactic(auto)]
+
+pub mod places;
+pub mod procedures;
+pub mod program;

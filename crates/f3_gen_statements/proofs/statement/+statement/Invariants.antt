@@ -1,0 +1,42 @@
+use Rattle.std.proofs.Common.{◌+◌, ◌*◌, ◌≤◌, max, length, drop}
+use Rattle.f3_program.specs.declared.statement.Statement.{size-Statement}
+use Rattle.f3_code.specs.Code.{code_of}
+use Rattle.f3_gen_work.specs.EmittedIn.{EmittedIn}
+use Rattle.f3_gen_statements.specs.Leading.{lowered_list, ways_from}
+use Rattle.f3_gen_statements.proofs.statement.+statement.Given as goal
+
+abbrev pub invariant-emit_block-loop-i : goal.invariant-emit_block-loop-i
+invariant-emit_block-loop-i l = record {
+  within : l.i ≤ length l.list;
+  emitted : EmittedIn l.site.types.now l.fn.code.items l.code.items (λ g. code_of (length l.site.types.now) l.site.place (lowered_list g (drop l.i l.list)) (ways_from l.fn.code.items l.site.exits));
+}
+
+abbrev pub decreases-emit_block-loop-i : goal.decreases-emit_block-loop-i
+decreases-emit_block-loop-i l = l.i
+
+abbrev pub decreases-emit_statement : goal.decreases-emit_statement
+decreases-emit_statement l = 2 * size-Statement l.statement.now
+
+abbrev pub decreases-emit_at : goal.decreases-emit_at
+decreases-emit_at l = 2 * size-Statement l.inner.now + 1
+
+abbrev pub decreases-emit_block : goal.decreases-emit_block
+decreases-emit_block l = 2 * goal.size-emit_block l + 1
+
+abbrev pub decreases-emit_if : goal.decreases-emit_if
+decreases-emit_if l = 2 * max (size-Statement l.then.now) (size-Statement l.other.now) + 1
+
+abbrev pub decreases-emit_case : goal.decreases-emit_case
+decreases-emit_case l = 2 * max (size-Statement l.then.now) (size-Statement l.other.now) + 1
+
+abbrev pub decreases-emit_while : goal.decreases-emit_while
+decreases-emit_while l = 2 * size-Statement l.body.now + 1
+
+abbrev pub decreases-emit_count : goal.decreases-emit_count
+decreases-emit_count l = 2 * size-Statement l.body.now + 1
+
+abbrev pub decreases-emit_select : goal.decreases-emit_select
+decreases-emit_select l = 2 * size-Statement l.cases.now + 1
+
+abbrev pub decreases-emit_associate : goal.decreases-emit_associate
+decreases-emit_associate l = 2 * size-Statement l.body.now + 1

@@ -1,0 +1,7 @@
+//! Code of statements: actions, blocks and constructs, with the ways out of them.
+#![tactic(auto)]
+
+pub mod leaving;
+pub mod parts;
+pub mod site;
+pub mod statement;

@@ -1,0 +1,10 @@
+pub mod Positions
+pub mod Walking
+pub mod Owned
+pub mod Choosing
+pub mod Same
+pub mod Room
+pub mod Ordered
+pub mod Whole
+pub mod Entry
+pub mod Standing

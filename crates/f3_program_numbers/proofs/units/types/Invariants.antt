@@ -1,0 +1,15 @@
+use Rattle.std.proofs.Common.{◌≡◌, List, map, take}
+use Rattle.std.specs.List.{flat_map}
+use Rattle.f3_graph.specs.declared.UnitId.{UnitId}
+use Rattle.f3_scopes.specs.Outlines.{Scope}
+use Rattle.f3_tree.specs.Tree.{unit_view}
+use Rattle.f3_type_rules.specs.Members.{units_from}
+use Rattle.f3_part_rules.specs.Members.{AreFirsts}
+use Rattle.f3_unit_rules.specs.Units.{AreNumbers}
+use Rattle.f3_program_numbers.specs.Walks.{types_by, at_unit}
+use Rattle.f3_program_numbers.proofs.units.types.Given as goal
+
+abbrev pub invariant-loop-unit : goal.invariant-loop-unit
+invariant-loop-unit l =
+    (scopes : List Scope) → AreFirsts scopes l.firsts → AreNumbers scopes l.numbers (map unit_view l.list)
+    → l.found.items ≡ flat_map (λ (x : UnitId). at_unit types_by (units_from scopes 0 (map unit_view l.list)) x.number) (take l.unit-index l.unit-items)

@@ -1,0 +1,6 @@
+mod Arms
+mod Entered
+mod Exchanged
+mod Folds
+mod Same
+mod Walk

@@ -1,0 +1,59 @@
+//! Cases of a CASE construct.
+
+ghost use Rattle.std.specs.Prelude.{◌≡◌, map, IfOk};
+ghost use Rattle.f3_tree.specs.Statements.{selector_view};
+ghost use Rattle.f3_typed_parts.specs.Known.{context_of};
+ghost use Rattle.f3_elaboration.specs.Nodes.{StatementNode};
+ghost use Rattle.f3_elaboration.specs.Views.{statement_view};
+ghost use Rattle.f3_statement_nodes.specs.Inner.Nested.{case_of, chosen, case_before};
+
+use crate::nodes::case;
+use f3_action_nodes::constructs::ranges;
+use f3_program::statement::{Range, Statement};
+use f3_tree::statement::Selector;
+use f3_typed_parts::known::{Known, Position};
+use std::alloc::{AllocError, Global};
+
+/// A case that is no DEFAULT, with its block.
+#[derive(Drop)]
+pub struct Case {
+    pub ranges: Vec<Range>,
+    pub block: Statement,
+}
+
+/// Adds a case, or takes its block for what is done where none is met; answers what is done then.
+pub fn add_case(
+    alloc: Global,
+    known: &Known<'_>,
+    at: Position,
+    found: &mut Vec<Case>,
+    selector: &Selector,
+    block: Statement,
+    otherwise: Statement,
+) -> Result<Statement, AllocError>
+    ensures { IfOk result (λ s. (others : StatementNode → StatementNode) → chosen (map case_of found.new.items) (others (statement_view s)) ≡ chosen (map case_of found.old.items) (case_before (context_of known.now at) (selector_view selector.now) (statement_view block) others (statement_view otherwise))) }
+{
+    match selector {
+        Selector::Values(values) => {
+            let ranges = ranges(alloc, known, at, values)?;
+            found.push(Case { ranges, block })?;
+            Ok(otherwise)
+        }
+        Selector::Default => Ok(block),
+    }
+}
+
+/// Cases, and what is done where none is met.
+pub fn chosen(
+    alloc: Global,
+    mut list: Vec<Case>,
+    otherwise: Statement,
+) -> Result<Statement, AllocError>
+    ensures { IfOk result (λ s. statement_view s ≡ chosen (map case_of list.items) (statement_view otherwise)) }
+{
+    let mut node = otherwise;
+    while let Some(last) = list.pop() {
+        node = case(alloc, last.ranges, last.block, node)?;
+    }
+    Ok(node)
+}

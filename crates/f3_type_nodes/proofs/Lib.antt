@@ -1,0 +1,4 @@
+mod Ranking
+mod Walks
+mod Fitting
+mod Here

@@ -1,0 +1,4 @@
+pub mod Locals
+pub mod Walk
+pub mod Headers
+pub mod Dummies
