@@ -1,0 +1,4 @@
+//! Scalars as PRINT writes them.
+#![tactic(auto)]
+
+pub mod scalar;
