@@ -1,8 +1,8 @@
 //! The text that shows the code of a program.
 #![tactic(auto)]
 
-mod listing;
+mod lines;
 mod operation;
 mod table;
 
-//pub use listing::listing;
+pub use lines::listing;

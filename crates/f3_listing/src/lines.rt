@@ -6,6 +6,8 @@ ghost use Rattle.f3_listing.specs.Listing.{operation, operand_text, line_text, l
 ghost use Rattle.f3_listing.specs.Inner.Shown.{numbers};
 
 use crate::operation::Operands;
+use crate::table::shown;
+use f3_gen_values::line::Line;
 use std::alloc::{AllocError, Global};
 
 /// Adds a count as an operand.
@@ -39,4 +41,29 @@ fn add_operands(text: &mut String, operands: Operands) -> Result<(), AllocError>
             add_integer(text, second)
         }
     }
+}
+
+/// Adds the line of an instruction of this number.
+fn add_line(text: &mut String, number: usize, line: &Line) -> Result<(), AllocError>
+    ensures { OnOk result (string_bytes text.new ≡ string_bytes text.old ++ line_text number (operation line.now.act)) }
+{
+    let shown = shown(line.act);
+    let name = shown.name;
+    let ending = shown.ending;
+    write!(text, "{number} {name}{ending}")?;
+    add_operands(text, shown.operands)?;
+    writeln!(text)
+}
+
+/// The text that shows code: a line for each instruction, with its number from 0, its name and its operands.
+///
+/// AllocError: a growth of the host's memory was refused.
+pub fn listing(alloc: Global, lines: &[Line]) -> Result<String, AllocError>
+    ensures { IfOk result (λ text. string_bytes text ≡ listing_text lines.now) }
+{
+    let mut text = String::new(alloc);
+    for (number, line) in lines.iter().enumerate() {
+        add_line(&mut text, number, line)?;
+    }
+    Ok(text)
 }
