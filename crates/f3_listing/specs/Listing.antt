@@ -1,7 +1,8 @@
 -- The text that shows code (own rule).
-use Rattle.std.specs.Prelude.{ℕ, ℤ, pos, List, [], ◌∷◌, ◌++◌, true, false, None, Some, map, codes, decimal}
+use Rattle.std.specs.Prelude.{ℕ, ℤ, pos, List, [], ◌∷◌, ◌++◌, true, false, Option, None, Some, map, codes, decimal}
 use Rattle.std.specs.Fmt.{signed_decimal}
 use Rattle.std.specs.List.{flat_map, enumerate_from}
+use Rattle.f3_rules.specs.declared.source.Place.{Place}
 use Rattle.f3_program.specs.declared.declarations.Base.{Base}
 use Rattle.f3_program.specs.declared.declarations.Base.TheVariants.{Integer, Long, Logical, Derived}
 use Rattle.f3_program.specs.declared.declarations.Constant.{Constant}
@@ -173,10 +174,24 @@ operation i.Finish = counts (codes "finish") []
 abbrev pub operand_text : ℤ → List ℕ
 operand_text z = codes " " ++ signed_decimal z
 
--- the line of an instruction of this number
-abbrev pub line_text : ℕ → Operation → List ℕ
-line_text number o = decimal number ++ (codes " " ++ (o.name ++ (flat_map operand_text o.operands ++ codes "\n")))
+abbrev pub operation_text : Operation → List ℕ
+operation_text o = o.name ++ flat_map operand_text o.operands
 
--- a line for each instruction, with its number from 0
+-- the type whose initial value a line takes, if it takes one
+abbrev pub initial_text : Option Base → List ℕ
+initial_text None = []
+initial_text (Some base) = codes " " ++ operation_text (typed (codes "initial") base)
+
+-- the place that a line's errors tell, where it has one of its own
+abbrev pub place_text : Option Place → List ℕ
+place_text None = []
+place_text (Some p) = codes " at " ++ (decimal p.file ++ (codes ":" ++ (decimal p.line ++ (codes ":" ++ decimal p.column))))
+
+-- a line of code and its number
+abbrev pub line_text : ℕ → Line → List ℕ
+line_text number l =
+    decimal number ++ (codes " " ++ (operation_text (operation l.act) ++ (initial_text l.initial ++ (place_text l.place ++ codes "\n"))))
+
+-- the lines in order, numbered from 0
 abbrev pub listing_text : List Line → List ℕ
-listing_text lines = flat_map (λ l. line_text l.0 (operation l.1.act)) (enumerate_from 0 lines)
+listing_text lines = flat_map (λ l. line_text l.0 l.1) (enumerate_from 0 lines)

@@ -5,7 +5,9 @@ ghost use Rattle.f3_code.specs.declared.instruction.Instruction.TheVariants as i
 ghost use Rattle.f3_listing.specs.Listing.{operation};
 ghost use Rattle.f3_listing.specs.Inner.Shown.{operation_of};
 
-use crate::operation::{Operands, Shown, alone, binary_word, constant, one, two, typed, unary_word};
+use crate::operation::{
+    Operands, Shown, alone, binary_word, constant, one, two, typed, unary_word,
+};
 use f3_code::instruction::{Instruction, Way};
 use f3_program::expression::{Name, Query};
 use f3_program::statement::Range;
@@ -39,7 +41,11 @@ fn refer(name: Name) -> Shown
 fn select(of_contents: bool, subscripts: usize) -> Shown
     ensures { operation_of result ≡ operation (instruction.Select of_contents subscripts) }
 {
-    let name = if of_contents { "select_contents" } else { "select" };
+    let name = if of_contents {
+        "select_contents"
+    } else {
+        "select"
+    };
     one(name, subscripts)
 }
 
@@ -48,7 +54,11 @@ fn select(of_contents: bool, subscripts: usize) -> Shown
 fn select_of(of_contents: bool, first: usize, second: usize) -> Shown
     ensures { operation_of result ≡ operation (instruction.SelectOf of_contents first second) }
 {
-    let name = if of_contents { "select_contents_of" } else { "select_of" };
+    let name = if of_contents {
+        "select_contents_of"
+    } else {
+        "select_of"
+    };
     two(name, first, second)
 }
 

@@ -1,5 +1,5 @@
 -- What is shown of an instruction, as the functions hold it.
-use Rattle.std.specs.Prelude.{◌≡◌, ℤ, pos, List, [], ◌∷◌, ◌++◌}
+use Rattle.std.specs.Prelude.{ℤ, pos, List, [], ◌∷◌, ◌++◌}
 use Rattle.f3_listing.specs.declared.operation.Operands.{Operands}
 use Rattle.f3_listing.specs.declared.operation.Operands.TheVariants.{None, Count, Counts, Integer, Integers}
 use Rattle.f3_listing.specs.declared.operation.Shown.{Shown}
