@@ -2,7 +2,6 @@
 use Rattle.std.specs.Prelude.{ℕ, ℤ, pos, List, [], ◌∷◌, ◌++◌, true, false, Option, None, Some, map, codes, decimal}
 use Rattle.std.specs.Fmt.{signed_decimal}
 use Rattle.std.specs.List.{flat_map, enumerate_from}
-use Rattle.f3_rules.specs.declared.source.Place.{Place}
 use Rattle.f3_program.specs.declared.declarations.Base.{Base}
 use Rattle.f3_program.specs.declared.declarations.Base.TheVariants.{Integer, Long, Logical, Derived}
 use Rattle.f3_program.specs.declared.declarations.Constant.{Constant}
@@ -177,20 +176,18 @@ operand_text z = codes " " ++ signed_decimal z
 abbrev pub operation_text : Operation → List ℕ
 operation_text o = o.name ++ flat_map operand_text o.operands
 
--- the type whose initial value a line takes, if it takes one
-abbrev pub initial_text : Option Base → List ℕ
-initial_text None = []
-initial_text (Some base) = codes " " ++ operation_text (typed (codes "initial") base)
+-- both names, then the operands of both
+abbrev pub joined : Operation → Operation → Operation
+joined o p = record { name = o.name ++ p.name; operands = o.operands ++ p.operands }
 
--- the place that a line's errors tell, where it has one of its own
-abbrev pub place_text : Option Place → List ℕ
-place_text None = []
-place_text (Some p) = codes " at " ++ (decimal p.file ++ (codes ":" ++ (decimal p.line ++ (codes ":" ++ decimal p.column))))
+-- the name goes on with the type whose initial value a line takes, if it takes one
+abbrev pub with_initial : Operation → Option Base → Operation
+with_initial o None = o
+with_initial o (Some base) = joined o (typed (codes "_initial") base)
 
 -- a line of code and its number
 abbrev pub line_text : ℕ → Line → List ℕ
-line_text number l =
-    decimal number ++ (codes " " ++ (operation_text (operation l.act) ++ (initial_text l.initial ++ (place_text l.place ++ codes "\n"))))
+line_text number l = decimal number ++ (codes " " ++ (operation_text (with_initial (operation l.act) l.initial) ++ codes "\n"))
 
 -- the lines in order, numbered from 0
 abbrev pub listing_text : List Line → List ℕ

@@ -2,14 +2,12 @@
 
 ghost use Rattle.std.specs.Prelude.{◌≡◌, ◌++◌, pos, OnOk, IfOk, string_bytes};
 ghost use Rattle.std.specs.List.{flat_map};
-ghost use Rattle.f3_listing.specs.Listing.{operand_text, operation_text, initial_text, place_text, line_text, listing_text};
+ghost use Rattle.f3_listing.specs.Listing.{operand_text, operation, operation_text, joined, with_initial, line_text, listing_text};
 ghost use Rattle.f3_listing.specs.Inner.Shown.{numbers, operation_of};
 
 use crate::operation::{Operands, Shown, typed};
 use crate::table::shown;
 use f3_gen_values::line::Line;
-use f3_program::declarations::Base;
-use f3_rules::source::Place;
 use std::alloc::{AllocError, Global};
 
 /// Adds a count as an operand.
@@ -55,28 +53,29 @@ fn add_shown(text: &mut String, shown: &Shown) -> Result<(), AllocError>
     add_operands(text, shown.operands)
 }
 
-/// Adds the type whose initial value a line takes.
-fn add_initial(text: &mut String, initial: Option<Base>) -> Result<(), AllocError>
-    ensures { OnOk result (string_bytes text.new ≡ string_bytes text.old ++ initial_text initial) }
+/// Adds what is shown of two as one: both names, then the operands of both.
+fn add_both(text: &mut String, first: &Shown, second: &Shown) -> Result<(), AllocError>
+    ensures { OnOk result (string_bytes text.new ≡ string_bytes text.old ++ operation_text (joined (operation_of first.now) (operation_of second.now))) }
 {
-    let Some(base) = initial else {
-        return Ok(());
-    };
-    write!(text, " ")?;
-    add_shown(text, &typed("initial", base))
+    let name = first.name;
+    let ending = first.ending;
+    write!(text, "{name}{ending}")?;
+    let name = second.name;
+    let ending = second.ending;
+    write!(text, "{name}{ending}")?;
+    add_operands(text, first.operands)?;
+    add_operands(text, second.operands)
 }
 
-/// Adds the place that a line's errors tell.
-fn add_place(text: &mut String, place: Option<Place>) -> Result<(), AllocError>
-    ensures { OnOk result (string_bytes text.new ≡ string_bytes text.old ++ place_text place) }
+/// Adds what a line does.
+fn add_operation(text: &mut String, line: &Line) -> Result<(), AllocError>
+    ensures { OnOk result (string_bytes text.new ≡ string_bytes text.old ++ operation_text (with_initial (operation line.now.act) line.now.initial)) }
 {
-    let Some(place) = place else {
-        return Ok(());
-    };
-    let file = place.file;
-    let line = place.line;
-    let column = place.column;
-    write!(text, " at {file}:{line}:{column}")
+    let shown = shown(line.act);
+    match line.initial {
+        None => add_shown(text, &shown),
+        Some(base) => add_both(text, &shown, &typed("_initial", base)),
+    }
 }
 
 /// Adds a line and its number.
@@ -84,15 +83,13 @@ fn add_line(text: &mut String, number: usize, line: &Line) -> Result<(), AllocEr
     ensures { OnOk result (string_bytes text.new ≡ string_bytes text.old ++ line_text number line.now) }
 {
     write!(text, "{number} ")?;
-    add_shown(text, &shown(line.act))?;
-    add_initial(text, line.initial)?;
-    add_place(text, line.place)?;
+    add_operation(text, line)?;
     writeln!(text)
 }
 
-/// The text that shows code (own rule): a line for each instruction, in order: its number from 0, its name and its
-/// operands, the type whose initial value it takes, where it takes one, and its place, where it has one of its own.
-/// It takes time linear in its length.
+/// The text that shows code (own rule): a line for each instruction, in order: its number from 0, its name, and its operands
+/// in decimal, a blank before each. The type whose initial value a line takes is a part of the name; the places that errors
+/// tell are not shown. It takes time linear in the length of the text.
 ///
 /// AllocError: a growth of the host's memory was refused.
 pub fn listing(alloc: Global, lines: &[Line]) -> Result<String, AllocError>
