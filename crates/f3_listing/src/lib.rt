@@ -4,5 +4,7 @@
 mod lines;
 mod operation;
 mod table;
+#[cfg(test)]
+mod tests;
 
 pub use lines::listing;
