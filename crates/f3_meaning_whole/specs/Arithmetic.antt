@@ -21,12 +21,12 @@ fits_below m (pos n) = nat_lt n m
 fits_below m (negsuc n) = nat_lt n m
 
 -- whether a whole number is one of the type: -2147483648 to 2147483647, at kind 8 -9223372036854775808 to
--- 9223372036854775807 (own rule for ISO/IEC 1539-1:2004, 4.4.1)
+-- 9223372036854775807 (own rule for ISO/IEC 1539-1:2004, 4.4.1). No number is of another type; storage has 64 bits for each.
 abbrev pub fits : Base → ℤ → Bool
 fits base.Integer z = fits_below (2 ^ 31) z
 fits base.Long z = fits_below (2 ^ 63) z
-fits base.Logical z = true
-fits (base.Derived t) z = true
+fits base.Logical z = fits_below (2 ^ 63) z
+fits (base.Derived t) z = fits_below (2 ^ 63) z
 
 -- whether each scalar of a value fits
 abbrev pub all_fit : Base → Values → Bool

@@ -1,0 +1,6 @@
+//! What a run holds in memory: values, stores, paths and references.
+#![tactic(auto)]
+
+pub mod reference;
+pub mod store;
+pub mod value;
