@@ -1,0 +1,4 @@
+pub mod Cells
+pub mod States
+pub mod Follows
+pub mod Popped

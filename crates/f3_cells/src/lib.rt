@@ -1,0 +1,7 @@
+//! The states of the machine that runs code, in memory.
+#![tactic(auto)]
+
+pub mod cell;
+pub mod scene;
+pub mod stacks;
+pub mod state;

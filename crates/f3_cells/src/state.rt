@@ -1,0 +1,57 @@
+//! States, and how a run ends.
+
+use crate::cell::{Cell, Here, Passed};
+use f3_data::store::Store;
+use f3_meaning_whole::run_error::RunError;
+use f3_rules::source::Place;
+use std::alloc::AllocError;
+
+/// What a procedure goes back to: the line, the cells and the activation of its caller, the place where it was called, its
+/// arguments, and the level of the values that are held for it.
+#[derive(Drop)]
+pub struct Frame {
+    pub pc: usize,
+    pub stack: Vec<Cell>,
+    pub here: Here,
+    pub caller: Place,
+    pub arguments: Vec<Passed>,
+    pub level: usize,
+}
+
+/// A state: the number of the next line, from 0 on, the cells of the activation, the one on top at the end, the activation,
+/// the frames of its callers, the latest at the end, and the store.
+#[derive(Drop)]
+pub struct State {
+    pub pc: usize,
+    pub stack: Vec<Cell>,
+    pub here: Here,
+    pub frames: Vec<Frame>,
+    pub store: Store,
+}
+
+/// Why a machine stops.
+#[derive(Clone, Copy, PartialEq, Eq, Debug)]
+pub enum Stop {
+    /// The program ended.
+    Done,
+    /// A STOP, with its number (ISO/IEC 1539-1:2004, 8.4).
+    Stopped(Option<u32>),
+    /// An error at the place of the line.
+    Failed(RunError),
+    /// The cells are not those that the instruction takes, which no code of a program comes to.
+    Stuck,
+    /// A jump leads to where there is no line, which no code of a program does.
+    Lost,
+    /// The output refused bytes.
+    Refused,
+    /// A growth of the host's memory was refused.
+    Memory,
+}
+
+impl From<AllocError> for Stop {
+    fn from(_: AllocError) -> Stop
+        ensures { result ≡ Memory }
+    {
+        Stop::Memory
+    }
+}
