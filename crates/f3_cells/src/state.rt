@@ -1,5 +1,7 @@
 //! States, and how a run ends.
 
+ghost use Rattle.std.specs.Prelude.{◌≡◌};
+
 use crate::cell::{Cell, Here, Passed};
 use f3_data::store::Store;
 use f3_meaning_whole::run_error::RunError;
