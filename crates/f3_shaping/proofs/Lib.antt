@@ -4,3 +4,4 @@ pub mod Spans
 pub mod Spreads
 pub mod Takes
 pub mod Trees
+pub mod Texts
