@@ -5,3 +5,4 @@ pub mod Spreads
 pub mod Takes
 pub mod Trees
 pub mod Texts
+pub mod Prints

@@ -1,8 +1,10 @@
 //! Values as PRINT writes them.
 
-ghost use Rattle.std.specs.Prelude.{OnOk, OnErr, flat_map};
+ghost use Rattle.std.specs.Prelude.{◌≡◌, OnOk, OnErr, flat_map};
 ghost use Rattle.f3_output.specs.Output.{state_of, Wrote, Faulted};
-ghost use Rattle.f3_meaning_whole.specs.Exec.{text_of};
+ghost use Rattle.f3_meaning_whole.specs.Value as m;
+ghost use Rattle.f3_meaning_whole.specs.Ran.{prints_bytes};
+ghost use Rattle.f3_meaning_whole.specs.Exec.{text_of, print_value};
 ghost use Rattle.f3_data.specs.Values.{value_of, values_of};
 ghost use Rattle.f3_shaping.specs.Results.{value_text};
 
@@ -48,3 +50,9 @@ pub fn print_value<W: Write>(output: &mut Output<W>, value: &Value) -> Result<()
         _ => print_element(output, value),
     }
 }
+
+/// A law: what the meaning prints of a value, part by part, are the bytes of `value_text`.
+#[tactic(auto, using(crate::proofs::Prints::prints_text))]
+pub fn bytes_are_printed()
+    ensures { (v : m.Value) → print_value v ≡ prints_bytes (value_text v) }
+{}
