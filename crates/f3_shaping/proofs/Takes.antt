@@ -19,16 +19,19 @@ pub failed_then : {A B : Type 0} (r : Ran A) (error : RunError) (place : Place) 
 unfolding ◌>>=◌ fails
 failed_then r error place f e = ap (λ m. m >>= f) e
 
-pub takes_held : (d : Declared) (v : m.Value) (here : Here) (r : Ran m.Value) → d.kind.is_allocatable ≡ true → r ≡ held_ran d.kind.of v here.place → r ≡ fitted d v here
+pub takes_held : (d : Declared) (v : m.Value) (here : Here) (r : Ran m.Value) → d.kind.is_allocatable ≡ true → r ≡ held_ran d.kind.of v here.place →
+    r ≡ fitted d v here
 unfolding fitted
 takes_held d v here r h e = rw h e
 
-pub takes_laid : (d : Declared) (v : m.Value) (here : Here) (r : Ran m.Value) → d.kind.is_allocatable ≡ false → conforms (spans_declared d.dimensions.items) v ≡ true →
-    r ≡ laid_ran d.kind.of d.kind.rank (spans_declared d.dimensions.items) v here.place → r ≡ fitted d v here
+pub takes_laid : (d : Declared) (v : m.Value) (here : Here) (r : Ran m.Value) → d.kind.is_allocatable ≡ false →
+    conforms (spans_declared d.dimensions.items) v ≡ true →
+    r ≡ laid_ran d (spans_declared d.dimensions.items) v here.place → r ≡ fitted d v here
 unfolding fitted
 takes_laid d v here r h k e = rw (h, k) e
 
-pub differs : (d : Declared) (v : m.Value) (here : Here) → d.kind.is_allocatable ≡ false → conforms (spans_declared d.dimensions.items) v ≡ false → fails ShapesDiffer here.place ≡ fitted d v here
+pub differs : (d : Declared) (v : m.Value) (here : Here) → d.kind.is_allocatable ≡ false → conforms (spans_declared d.dimensions.items) v ≡ false →
+    fails ShapesDiffer here.place ≡ fitted d v here
 unfolding fitted
 differs d v here h k = rw (h, k) refl
 

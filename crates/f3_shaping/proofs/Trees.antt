@@ -13,7 +13,8 @@ use Rattle.f3_meaning_whole.specs.Shape.{Shape, Whole, Record, parts_in, shapes_
 
 lengths : (ss : List Shape) (ts : List Derived) → length (shapes_from ss ts) ≡ length ss + length ts
 lengths ss [] = omega arith
-lengths ss (t ∷ ts) = let h : length (shapes_from (ss ++ Record (length ss) (parts_in ss t.components.items) ∷ []) ts) ≡ length (ss ++ Record (length ss) (parts_in ss t.components.items) ∷ []) + length ts = lengths _ ts in
+lengths ss (t ∷ ts) = let h : length (shapes_from (ss ++ Record (length ss) (parts_in ss t.components.items) ∷ []) ts) ≡ length (ss ++ Record (length
+    ss) (parts_in ss t.components.items) ∷ []) + length ts = lengths _ ts in
     omega (arith, length-append ss (Record (length ss) (parts_in ss t.components.items) ∷ []))
 
 pub number_past : (ts : List Derived) (t : ℕ) → length ts ≤ t → m.Number (pos 0) ≡ initial_of (shape_in (shapes_of ts) (base.Derived t))
@@ -31,7 +32,8 @@ tree_at ss [] k n x d h l e = absurd (omega arith)
 tree_at ss (t ∷ ts) zero n x d h l e =
     let r : Shape = Record (length ss) (parts_in ss t.components.items) in
     let same : n ≡ length ss = omega arith in
-    rw same (kept (ss ++ r ∷ []) ts (length ss) (omega (arith, length-append ss (r ∷ []))) ∙ get_or-append_seam ss r [] Whole ∙ ap (λ (y : Derived). Record (length ss) (parts_in ss y.components.items)) (sym e))
+    rw same (kept (ss ++ r ∷ []) ts (length ss) (omega (arith, length-append ss (r ∷ []))) ∙ get_or-append_seam ss r [] Whole ∙ ap (λ (y : Derived).
+        Record (length ss) (parts_in ss y.components.items)) (sym e))
 tree_at ss (t ∷ ts) (suc k) n x d h l e =
     let r : Shape = Record (length ss) (parts_in ss t.components.items) in
     tree_at (ss ++ r ∷ []) ts k n x d (omega (arith, length-append ss (r ∷ []))) (omega arith) e

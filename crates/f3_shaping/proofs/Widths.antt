@@ -54,7 +54,8 @@ unary_at Negate of c v place n t = rw n (converted_at of _ place)
 unary_at Absolute of c v place n t = rw n (converted_at of _ place)
 unary_at Not of c v place n t = rw t refl
 
-pub binary_at : (op : BinaryOperator) (of : Base) (c d v w : m.Value) (place : Place) → (op ≡ o.Max → ⊥) → (op ≡ o.Min → ⊥) → number_of c ≡ number_of v → truth_of c ≡ truth_of v →
+pub binary_at : (op : BinaryOperator) (of : Base) (c d v w : m.Value) (place : Place) → (op ≡ o.Max → ⊥) → (op ≡ o.Min → ⊥) →
+    number_of c ≡ number_of v → truth_of c ≡ truth_of v →
     number_of d ≡ number_of w → truth_of d ≡ truth_of w → apply op (base_of (width_of of)) c d place ≡ apply op of v w place
 binary_at o.Add of c d v w place j k n t p q = rw (n, p) (converted_at of _ place)
 binary_at o.Subtract of c d v w place j k n t p q = rw (n, p) (converted_at of _ place)

@@ -10,7 +10,10 @@ use Rattle.f3_meaning_whole.specs.Arithmetic.{fits, converted}
 use Rattle.f3_meaning_whole.specs.Ran.{Ran, ◌>>=◌, gives, fails}
 use Rattle.f3_meaning_whole.specs.declared.run_error.RunError.{RunError}
 use Rattle.f3_program.specs.declared.declarations.Component.{Component}
-use Rattle.f3_meaning_whole.specs.Shape.{Shape, shape_in, initial_of, initial_declared}
+use Rattle.f3_program.specs.declared.declarations.Constant.{Constant}
+use Rattle.f3_program.specs.declared.declarations.Declared.{Declared}
+use Rattle.f3_program.specs.declared.declarations.Dimension.{Dimension}
+use Rattle.f3_meaning_whole.specs.Shape.{Shape, shape_in, initial_of, initial_declared, spans_declared, initialized}
 use Rattle.f3_meaning_whole.specs.Act.{laid_out}
 use Rattle.f3_meaning_whole.specs.Exec.{text_of}
 use Rattle.f3_data.specs.declared.value.Value.{Value}
@@ -46,8 +49,8 @@ is_array v = false
 abbrev pub held_ran : Base → m.Value → Place → Ran m.Value
 held_ran t v place = converted t v place >>= λ v. gives (m.Allocated v)
 
-abbrev pub laid_ran : Base → ℕ → List m.Span → m.Value → Place → Ran m.Value
-laid_ran t rank ss v place = converted t v place >>= λ v. gives (laid_out rank ss v)
+abbrev pub laid_ran : Declared → List m.Span → m.Value → Place → Ran m.Value
+laid_ran d ss v place = converted d.kind.of v place >>= λ v. gives (laid_out d.kind.rank ss v)
 
 -- the initial value of a component
 abbrev pub component_value : List Shape → Component → m.Value
@@ -57,3 +60,7 @@ component_value shapes c = initial_declared c.declared (initial_of (shape_in sha
 abbrev pub value_text : m.Value → List ℕ
 value_text (m.Array ss vs) = flat_map text_of (m.listed vs)
 value_text v = text_of v
+
+-- the initial value of an array of dimensions
+abbrev pub array_value : List Dimension → List Constant → m.Value → m.Value
+array_value ds cs v = m.Array (spans_declared ds) (m.joined (initialized (m.count (spans_declared ds)) cs v))

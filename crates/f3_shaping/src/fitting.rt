@@ -47,7 +47,7 @@ fn converted_out(
     spans: Vec<Span>,
     value: Value,
 ) -> Result<Result<Value, RunError>, AllocError>
-    ensures { IfOk result (λ r. (place : Place) → value_ran r place ≡ laid_ran declared.now.kind.of declared.now.kind.rank (spans_of spans.items) (value_of value) place) }
+    ensures { IfOk result (λ r. (place : Place) → value_ran r place ≡ laid_ran declared.now (spans_of spans.items) (value_of value) place) }
 {
     match converted(declared.kind.of, value) {
         Ok(value) => Ok(Ok(laid_out(alloc, declared.kind.rank, spans, value)?)),

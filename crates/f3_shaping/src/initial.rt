@@ -1,11 +1,11 @@
 //! The values with which objects begin. What allocates answers `AllocError` where the host has no memory for it.
 
 ghost use Rattle.std.specs.Prelude.{◌≡◌, IfOk, map};
-ghost use Rattle.f3_meaning_whole.specs.Value as m;
-ghost use Rattle.f3_meaning_whole.specs.Value.{joined, count};
+ghost use Rattle.f3_meaning_whole.specs.Value.{joined};
 ghost use Rattle.f3_meaning_whole.specs.Arithmetic.{constant_value};
 ghost use Rattle.f3_meaning_whole.specs.Shape.{shapes_of, shape_in, parts_in, spans_declared, initialized, initial_of, initial_parts, initial_declared};
 ghost use Rattle.f3_meaning_whole.specs.Exec.{vacant};
+ghost use Rattle.f3_shaping.specs.Results.{array_value};
 ghost use Rattle.f3_data.specs.Values.{spans_of, value_of, values_of};
 
 use crate::elements::{element_count, repeated};
@@ -64,7 +64,7 @@ fn array(
     constants: &[Constant],
     element: &Value,
 ) -> Result<Value, AllocError>
-    ensures { IfOk result (λ r. value_of r ≡ m.Array (spans_declared dimensions.now) (joined (initialized (count (spans_declared dimensions.now)) constants.now (value_of element.now)))) }
+    ensures { IfOk result (λ r. value_of r ≡ array_value dimensions.now constants.now (value_of element.now)) }
 {
     let spans = spans_declared(alloc, dimensions)?;
     let values = initialized(alloc, element_count(&spans)?, constants, element)?;
