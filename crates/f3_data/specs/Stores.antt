@@ -1,5 +1,5 @@
 -- Stores in memory, as the meaning has them.
-use Rattle.std.specs.Prelude.{◌≡◌, ℕ, List, map, Option, MatchOption, slice_index_or, slice_set}
+use Rattle.std.specs.Prelude.{◌≡◌, ℕ, List, [], map, Option, MatchOption, slice_index_or, slice_set}
 use denote.Ref.{Bor}
 use Rattle.std.specs.declared.alloc.Global.{Global}
 use Rattle.std.specs.Prelude.{Vec}
@@ -46,3 +46,6 @@ LeadsTo f o = (way : List m.Step) → MatchOption o (f way ≡ m'.Unallocated) (
 -- another value in a part of an object of a level
 abbrev pub replaced : List m'.Value → ℕ → List m.Step → m'.Value → List m'.Value
 replaced vs i way x = slice_set vs i (m.with_part (slice_index_or vs i m'.Unallocated) way x)
+
+abbrev pub replaced_in_level : List (List m'.Value) → ℕ → ℕ → List m.Step → m'.Value → List (List m'.Value)
+replaced_in_level levels level i way x = slice_set levels level (replaced (slice_index_or levels level []) i way x)

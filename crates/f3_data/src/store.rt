@@ -1,12 +1,12 @@
 //! Stores, and paths into them.
 
-ghost use Rattle.std.specs.Prelude.{◌≡◌, ◌∷◌, [], OnOk, slice_index_or, slice_set};
+ghost use Rattle.std.specs.Prelude.{◌≡◌, ◌∷◌, [], OnOk, slice_index_or};
 ghost use Rattle.f3_meaning_whole.specs.Value as m;
 ghost use Rattle.f3_meaning_whole.specs.Value.{joined};
 ghost use Rattle.f3_meaning_whole.specs.Store.{part, part_at, with_part, with_part_at, at_root, get, put};
 ghost use Rattle.f3_meaning_whole.specs.Ran.{Entered, Ended, effect};
 ghost use Rattle.f3_data.specs.Values.{value_of, values_of};
-ghost use Rattle.f3_data.specs.Stores.{step_of, steps_of, root_of, path_of, levels_of, store_of, Found, LeadsTo, replaced};
+ghost use Rattle.f3_data.specs.Stores.{step_of, steps_of, root_of, path_of, levels_of, store_of, Found, LeadsTo, replaced, replaced_in_level};
 
 use crate::value::Value;
 use std::alloc::AllocError;
@@ -146,7 +146,7 @@ fn replace_in_level(
     steps: &[Step],
     new: Value,
 )
-    ensures { levels_of levels.new.items ≡ slice_set (levels_of levels.old.items) level (replaced (slice_index_or (levels_of levels.old.items) level []) i (steps_of steps.now) (value_of new)) }
+    ensures { levels_of levels.new.items ≡ replaced_in_level (levels_of levels.old.items) level i (steps_of steps.now) (value_of new) }
 {
     if level < levels.len() {
         replace_in(&mut levels[level], i, steps, new);

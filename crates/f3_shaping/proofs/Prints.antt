@@ -5,7 +5,7 @@ use Rattle.std.proofs.lemmas.List.{map-append}
 use Rattle.std.proofs.Math.Path.{fun_ext}
 use Rattle.f3_meaning_whole.specs.Value as m
 use Rattle.f3_meaning_whole.specs.Store.{Store}
-use Rattle.f3_meaning_whole.specs.Ran.{Event, Printed, World, End, Gives, Outcome, Ran, replayed, ◌>>=◌, gives, does, prints_bytes, each}
+use Rattle.f3_meaning_whole.specs.Ran.{Event, Printed, World, Gives, Outcome, Ran, replayed, ◌>>=◌, gives, does, prints_bytes, each}
 use Rattle.f3_meaning_whole.specs.Exec.{text_of, print_value}
 use Rattle.f3_shaping.specs.Results.{value_text}
 
@@ -21,8 +21,8 @@ unfolding ◌>>=◌ prints_bytes does ended
 prints_both a b =
     let P : (World → Outcome ⊤) → Ran ⊤ = λ h. record { from = h } in
     ap P (fun_ext (λ (w : World).
-        ap (ended (map Printed a ++ map Printed b) w.answers) (quiet b (replayed (map Printed a) w.store) ∙ quiet a w.store ∙ sym (quiet (a ++ b) w.store))
-        ∙ ap (λ out. ended out w.answers (replayed (map Printed (a ++ b)) w.store)) (sym (map-append Printed a b))))
+    ap (ended (map Printed a ++ map Printed b) w.answers) (quiet b (replayed (map Printed a) w.store) ∙ quiet a w.store ∙ sym (quiet (a ++ b) w.store))
+    ∙ ap (λ out. ended out w.answers (replayed (map Printed (a ++ b)) w.store)) (sym (map-append Printed a b))))
 
 prints_none : gives tt ≡ prints_bytes []
 unfolding gives prints_bytes does

@@ -1,6 +1,6 @@
 -- Bounds that are changed one by one.
-use Rattle.std.proofs.Common.{◌≡◌, ℕ, zero, suc, ◌+◌, add-one, ◌<◌, ◌≤◌, ℤ, pos, List, []}
-use Rattle.std.proofs.Common.{◌∷◌, ◌++◌, length, map, take, drop, refl, sym, ap, ◌∙◌, arith, get_or}
+use Rattle.std.proofs.Common.{◌≡◌, ℕ, zero, suc, ◌+◌, add-one, ◌<◌, ◌≤◌, pos, List, []}
+use Rattle.std.proofs.Common.{◌∷◌, ◌++◌, length, map, take, drop, refl, ap, ◌∙◌, arith, get_or}
 use Rattle.std.specs.Prelude.{slice_set, nat_eq, if◌then◌else◌}
 use Rattle.f3_meaning_whole.specs.Value.{from_one, shown}
 use Rattle.f3_data.specs.declared.value.Span.{Span}

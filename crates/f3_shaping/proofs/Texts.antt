@@ -1,8 +1,7 @@
 -- What PRINT writes of values.
-use Rattle.std.proofs.Common.{◌≡◌, ℕ, zero, suc, ◌+◌, ◌<◌, List, [], ◌∷◌, ◌++◌, length, take, drop}
-use Rattle.std.proofs.Common.{refl, sym, ap, ◌∙◌, arith, get_or, append_assoc, Vec, Global, OnErr, Result, Ok, Err}
+use Rattle.std.proofs.Common.{◌≡◌, ℕ, zero, suc, ◌<◌, List, [], ◌∷◌, ◌++◌, length, take, drop}
+use Rattle.std.proofs.Common.{sym, ap, ◌∙◌, arith, get_or, append_assoc, Vec, Global, OnErr, Result, Ok, Err}
 use Rattle.std.specs.Prelude.{flat_map}
-use Rattle.f3_meaning_whole.specs.Value as m
 use Rattle.f3_meaning_whole.specs.Exec.{text_of}
 use Rattle.f3_output.specs.Output.{State, Wrote, Faulted}
 use Rattle.f3_output.proofs.Outputs.{faulted_before, faulted_behind}

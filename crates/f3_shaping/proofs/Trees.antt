@@ -33,7 +33,7 @@ tree_at ss (t ∷ ts) zero n x d h l e =
     let r : Shape = Record (length ss) (parts_in ss t.components.items) in
     let same : n ≡ length ss = omega arith in
     rw same (kept (ss ++ r ∷ []) ts (length ss) (omega (arith, length-append ss (r ∷ []))) ∙ get_or-append_seam ss r [] Whole ∙ ap (λ (y : Derived).
-        Record (length ss) (parts_in ss y.components.items)) (sym e))
+    Record (length ss) (parts_in ss y.components.items)) (sym e))
 tree_at ss (t ∷ ts) (suc k) n x d h l e =
     let r : Shape = Record (length ss) (parts_in ss t.components.items) in
     tree_at (ss ++ r ∷ []) ts k n x d (omega (arith, length-append ss (r ∷ []))) (omega arith) e

@@ -1,5 +1,5 @@
 -- Operations on values are those on scalars, at the width of the type.
-use Rattle.std.proofs.Common.{◌≡◌, ℕ, zero, suc, ℤ, pos, negsuc, refl, sym, ap, ◌∙◌, Bool, true, false, cond}
+use Rattle.std.proofs.Common.{◌≡◌, zero, suc, ℤ, pos, negsuc, refl, ap, Bool, true, false, cond}
 use Rattle.f3_rules.specs.declared.source.Place.{Place}
 use Rattle.f3_program.specs.declared.declarations.Base.{Base}
 use Rattle.f3_program.specs.declared.declarations.Base.TheVariants as base
@@ -12,7 +12,7 @@ use Rattle.f3_program.specs.declared.statement.Range.{Range}
 use Rattle.f3_program.specs.declared.statement.Range.TheVariants as range
 use Rattle.f3_meaning_whole.specs.Value as m
 use Rattle.f3_meaning_whole.specs.Value.{number_of, truth_of}
-use Rattle.f3_meaning_whole.specs.Ran.{Ran, gives, fails}
+use Rattle.f3_meaning_whole.specs.Ran.{gives, fails}
 use Rattle.f3_meaning_whole.specs.declared.run_error.RunError.TheVariants.{Overflow}
 use Rattle.f3_meaning_whole.specs.Arithmetic.{converted, divided, power, apply, change_of, meets, value_fits}
 use Rattle.f3_arithmetic.specs.Scalars.{base_of}

@@ -5,8 +5,10 @@ use Rattle.f3_data.specs.Values.{value_of}
 use Rattle.f3_data.specs.Stores.{steps_of}
 use Rattle.f3_data.proofs.Rows.{composite_is, array_is, with_part_past, with_part_within, array_put, composite_kept, array_kept}
 use Rattle.f3_data.proofs.store.+replacing.Goals as goal
-use Rattle.f3_data.proofs.store.+replacing.Goals.{replace-in-Composite-Component, replace-in-Array-Element, replace-in-Allocated-Contents, replace-in_default-2, replace-in_default-2-via-in-Composite+in_default}
-use Rattle.f3_data.proofs.store.+replacing.Goals.{replace-in_default-2-via-in-Array+in_default, replace-in_default-2-via-in-Allocated+in_default, replace-in-Number-default, replace-in-Number-2, replace-in-Truth-1, replace-in-Unallocated-1}
+use Rattle.f3_data.proofs.store.+replacing.Goals.{replace-in-Composite-Component, replace-in-Array-Element, replace-in-Allocated-Contents}
+use Rattle.f3_data.proofs.store.+replacing.Goals.{replace-in_default-2, replace-in_default-2-via-in-Composite+in_default}
+use Rattle.f3_data.proofs.store.+replacing.Goals.{replace-in_default-2-via-in-Array+in_default, replace-in_default-2-via-in-Allocated+in_default}
+use Rattle.f3_data.proofs.store.+replacing.Goals.{replace-in-Number-default, replace-in-Number-2, replace-in-Truth-1, replace-in-Unallocated-1}
 
 pub replace-returns : goal.replace-returns
 replace-returns t c = elim c.match-value.branch [

@@ -1,4 +1,4 @@
-use Rattle.std.proofs.Common.{◌≡◌, ◌∙◌, ap, sym, arith, take, map}
+use Rattle.std.proofs.Common.{◌∙◌, ap, sym, arith, take, map}
 use Rattle.std.proofs.lemmas.List.{take_all}
 use Rattle.f3_meaning_whole.specs.Shape.{shapes_of, parts_in, initial_parts}
 use Rattle.f3_program.specs.declared.declarations.Derived.{Derived}
