@@ -40,7 +40,7 @@ from_end cs k = elim (cases_lt (length cs) k) [ inl h ↦ from_end_past cs k h |
 pub dropped : (p : Program) (cs : List Cell) (k : ℕ) → cells_of p (take (length cs - k) cs) ≡ drop k (cells_of p cs)
 dropped p cs k = ap (map (cell_of p)) (from_end cs k) ∙ sym (drop-map (cell_of p) k (reverse cs))
 
-pub shows : {X Y : Type 0} (on : List s.Cell → (Y → List s.Cell → Next) → Next) (view : X → Y) (r : Option X) (cs : List Cell) (k : ℕ) (cell : Cell)
-    → HasCell cs k cell → MatchOption r (HoldsNone on cell) (λ x. Holds on cell (view x)) → MatchOption r (ShowsNone on cs k) (λ x. Shows on cs k (view x))
+pub shows : {X Y : Type 0} (on : List s.Cell → (Y → List s.Cell → Next) → Next) (view : X → s.Cell) (r : Option X) (cs : List Cell) (k : ℕ) (cell : Cell)
+    → HasCell cs k cell → MatchOption r (HoldsNone on cell) (λ x. Holds cell (view x)) → MatchOption r (ShowsNone on cs k) (λ x. Shows cs k (view x))
 shows on view None cs k cell h seen = λ p f. ap (λ xs. on xs f) (h p) ∙ seen p (drop (suc k) (cells_of p cs)) f
-shows on view (Some x) cs k cell h seen = λ p f. ap (λ xs. on xs f) (h p) ∙ seen p (drop (suc k) (cells_of p cs)) f
+shows on view (Some x) cs k cell h seen = λ p. h p ∙ ap (λ y. y ∷ drop (suc k) (cells_of p cs)) (seen p)

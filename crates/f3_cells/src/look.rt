@@ -3,6 +3,7 @@
 ghost use Rattle.std.specs.Prelude.{MatchOption};
 ghost use Rattle.f3_data.specs.Values.{value_of};
 ghost use Rattle.f3_data.specs.References.{reference_of};
+ghost use Rattle.f3_code.specs.State as s;
 ghost use Rattle.f3_code.specs.Machine.{on_datum, on_object};
 ghost use Rattle.f3_cells.specs.Popped.{HasCell, HasNone, Shows, ShowsNone, Holds, HoldsNone};
 
@@ -23,7 +24,7 @@ pub fn cell_at(stack: &Vec<Cell>, depth: usize) -> Option<&Cell>
 
 /// The value in a cell.
 fn datum_in(cell: &Cell) -> Option<&Value>
-    ensures { MatchOption result (HoldsNone on_datum cell.now) (λ x. Holds on_datum cell.now (value_of x.now)) }
+    ensures { MatchOption result (HoldsNone on_datum cell.now) (λ x. Holds cell.now (s.Datum (value_of x.now))) }
 {
     match cell {
         Cell::Datum(it) => Some(it),
@@ -33,7 +34,7 @@ fn datum_in(cell: &Cell) -> Option<&Value>
 
 /// The value below so many cells.
 pub fn datum_at(stack: &Vec<Cell>, depth: usize) -> Option<&Value>
-    ensures { MatchOption result (ShowsNone on_datum stack.now.items depth) (λ x. Shows on_datum stack.now.items depth (value_of x.now)) }
+    ensures { MatchOption result (ShowsNone on_datum stack.now.items depth) (λ x. Shows stack.now.items depth (s.Datum (value_of x.now))) }
 {
     match cell_at(stack, depth) {
         Some(cell) => datum_in(cell),
@@ -43,7 +44,7 @@ pub fn datum_at(stack: &Vec<Cell>, depth: usize) -> Option<&Value>
 
 /// The object in a cell.
 fn object_in(cell: &Cell) -> Option<&Reference>
-    ensures { MatchOption result (HoldsNone on_object cell.now) (λ x. Holds on_object cell.now (reference_of x.now)) }
+    ensures { MatchOption result (HoldsNone on_object cell.now) (λ x. Holds cell.now (s.Object (reference_of x.now))) }
 {
     match cell {
         Cell::Object(it) => Some(it),
@@ -53,7 +54,7 @@ fn object_in(cell: &Cell) -> Option<&Reference>
 
 /// The object below so many cells.
 pub fn object_at(stack: &Vec<Cell>, depth: usize) -> Option<&Reference>
-    ensures { MatchOption result (ShowsNone on_object stack.now.items depth) (λ x. Shows on_object stack.now.items depth (reference_of x.now)) }
+    ensures { MatchOption result (ShowsNone on_object stack.now.items depth) (λ x. Shows stack.now.items depth (s.Object (reference_of x.now))) }
 {
     match cell_at(stack, depth) {
         Some(cell) => object_in(cell),
