@@ -2,6 +2,9 @@
 #![tactic(auto)]
 
 pub mod cell;
+pub mod copies;
+pub mod look;
+pub mod many;
 pub mod scene;
 pub mod stacks;
 pub mod state;
