@@ -4,3 +4,5 @@ pub mod Spans
 pub mod Spreads
 pub mod Takes
 pub mod Trees
+pub mod Texts
+pub mod Prints

@@ -1,5 +1,5 @@
 -- What operations on values answer.
-use Rattle.std.specs.Prelude.{ℕ, List, Bool, true, false, Result, Ok, Err}
+use Rattle.std.specs.Prelude.{ℕ, List, flat_map, Bool, true, false, Result, Ok, Err}
 use Rattle.f3_rules.specs.declared.source.Place.{Place}
 use Rattle.f3_program.specs.declared.declarations.Base.{Base}
 use Rattle.f3_program.specs.declared.declarations.Base.TheVariants as base
@@ -12,6 +12,7 @@ use Rattle.f3_meaning_whole.specs.declared.run_error.RunError.{RunError}
 use Rattle.f3_program.specs.declared.declarations.Component.{Component}
 use Rattle.f3_meaning_whole.specs.Shape.{Shape, shape_in, initial_of, initial_declared}
 use Rattle.f3_meaning_whole.specs.Act.{laid_out}
+use Rattle.f3_meaning_whole.specs.Exec.{text_of}
 use Rattle.f3_data.specs.declared.value.Value.{Value}
 use Rattle.f3_data.specs.Values.{value_of}
 
@@ -51,3 +52,8 @@ laid_ran t rank ss v place = converted t v place >>= λ v. gives (laid_out rank 
 -- the initial value of a component
 abbrev pub component_value : List Shape → Component → m.Value
 component_value shapes c = initial_declared c.declared (initial_of (shape_in shapes c.declared.kind.of))
+
+-- the bytes of a value: those of the elements of an array
+abbrev pub value_text : m.Value → List ℕ
+value_text (m.Array ss vs) = flat_map text_of (m.listed vs)
+value_text v = text_of v

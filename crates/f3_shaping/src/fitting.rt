@@ -5,9 +5,9 @@ ghost use Rattle.std.specs.Prelude.{◌≡◌, IfOk};
 ghost use Rattle.f3_rules.specs.declared.source.Place.{Place};
 ghost use Rattle.f3_meaning_whole.specs.Act.{Here, fitted, fitted_contents, laid_out};
 ghost use Rattle.f3_data.specs.Values.{spans_of, value_of};
-ghost use Rattle.f3_shaping.specs.Results.{value_ran, shown_value, held_ran, laid_ran};
+ghost use Rattle.f3_shaping.specs.Results.{value_ran, held_ran, laid_ran};
 
-use crate::bounds::{conforms, show};
+use crate::bounds::{conforms, shown};
 use crate::elements::spread_over;
 use crate::initial::spans_declared;
 use crate::operators::converted;
@@ -76,19 +76,6 @@ pub fn fitted(
     drop(spans);
     drop(value);
     Ok(Err(RunError::ShapesDiffer))
-}
-
-/// A value with the bounds that LBOUND and UBOUND tell (13.7.60).
-fn shown(value: Value) -> Value
-    ensures { value_of result ≡ shown_value (value_of value) }
-{
-    match value {
-        Value::Array(mut spans, values) => {
-            show(&mut spans);
-            Value::Array(spans, values)
-        }
-        other => other,
-    }
 }
 
 /// A component takes what a whole allocatable holds; where that is unallocated, so is the component (4.5.9).

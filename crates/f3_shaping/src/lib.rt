@@ -6,3 +6,4 @@ pub mod elements;
 pub mod fitting;
 pub mod initial;
 pub mod operators;
+pub mod printing;
