@@ -1,0 +1,6 @@
+//! Instructions that make values of values, and print them.
+#![tactic(auto)]
+
+mod finish;
+pub mod operations;
+pub mod printing;
