@@ -5,3 +5,4 @@ pub mod dummies;
 pub mod elements;
 pub mod pins;
 pub mod reaches;
+pub mod subscripts;
