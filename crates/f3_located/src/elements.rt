@@ -1,6 +1,6 @@
 //! The elements that a reference means.
 
-ghost use Rattle.std.specs.Prelude.{◌≡◌, IfOk, MatchOption, length, None, Some, slice_get};
+ghost use Rattle.std.specs.Prelude.{◌≡◌, ◌<◌, IfOk, MatchOption, length, None, Some, slice_get};
 ghost use Rattle.f3_meaning_whole.specs.Reference.{paths};
 ghost use Rattle.f3_data.specs.Stores.{steps_of, path_of};
 ghost use Rattle.f3_data.specs.References.{element_path, numbers_of, reference_of};
@@ -34,6 +34,18 @@ pub fn number_at(numbers: &Numbers, k: usize) -> Option<usize>
             }
         }
         Numbers::Listed(listed) => listed.get(k).copied(),
+    }
+}
+
+/// The place of an element that there is.
+#[tactic(auto, using(crate::proofs::Arrays::counted_at))]
+pub fn place_at(numbers: &Numbers, k: usize) -> usize
+    requires { k < length (numbers_of numbers.now) }
+    ensures { slice_get (numbers_of numbers.now) k ≡ Some result }
+{
+    match numbers {
+        Numbers::First(_) => k,
+        Numbers::Listed(listed) => listed[k],
     }
 }
 

@@ -8,19 +8,36 @@ ghost use Rattle.f3_data.specs.Values.{span_of};
 use f3_data::value::Span;
 use std::alloc::{AllocError, Global};
 
+/// The last subscript of a triplet, or of the dimension where it has none.
+fn last_of(span: Span, upper: Option<i64>) -> i128
+    ensures value { result ≡ unwrap_or upper (end_of (span_of span) -ℤ pos 1) }
+    ensures low { neg_ℤ (pos (2 ^ 66)) ≤ℤ result }
+    ensures high { result ≤ℤ pos (2 ^ 66) }
+{
+    match upper {
+        Some(upper) => upper as i128,
+        None => span.lower as i128 + span.extent as i128 - 1,
+    }
+}
+
+/// How often a number goes from one to another by a step.
+fn turns(first: i64, last: i128, step: i64) -> u128
+    requires step { step ≢ pos 0 }
+    requires low { neg_ℤ (pos (2 ^ 66)) ≤ℤ last }
+    requires high { last ≤ℤ pos (2 ^ 66) }
+    ensures { result ≡ a.trips first last step }
+{
+    let turns = (last - first as i128 + step as i128) / step as i128;
+    if turns > 0 { turns as u128 } else { 0 }
+}
+
 /// How many subscripts a triplet has, in a dimension whose bounds stand for those that are absent (ISO/IEC 1539-1:2004,
 /// 6.2.2.3.1).
 pub fn trips(span: Span, lower: Option<i64>, upper: Option<i64>, step: i64) -> u128
     requires { step ≢ pos 0 }
-    ensures { result ≡ a.trips (unwrap_or lower (span_of span).lower) (unwrap_or upper (end_of (span_of span) -ℤ pos 1)) step }
+    ensures { result ≡ a.trips (unwrap_or lower span.lower) (unwrap_or upper (end_of (span_of span) -ℤ pos 1)) step }
 {
-    let first = lower.unwrap_or(span.lower) as i128;
-    let last = match upper {
-        Some(upper) => upper as i128,
-        None => span.lower as i128 + span.extent as i128 - 1,
-    };
-    let turns = (last - first + step as i128) / step as i128;
-    if turns > 0 { turns as u128 } else { 0 }
+    turns(lower.unwrap_or(span.lower), last_of(span, upper), step)
 }
 
 /// How far a subscript is from the lower bound of a dimension: none, where it is out of bounds.
