@@ -1,0 +1,12 @@
+use Rattle.std.proofs.Common.{◌≡◌, drop, map, length}
+use Rattle.std.specs.Vec.Iter.{into_iter_items}
+use Rattle.f3_meaning_whole.specs.Store.{put_all}
+use Rattle.f3_data.specs.Values.{values_of}
+use Rattle.f3_data.specs.Stores.{steps_of, path_of, store_of}
+use Rattle.f3_data.specs.References.{element_path, numbers_of}
+use Rattle.f3_located.proofs.changes.put_each.Given as goal
+
+abbrev pub invariant-loop-k : goal.invariant-loop-k
+invariant-loop-k l =
+    put_all (map (element_path (path_of l.array) (steps_of l.tail)) (drop l.k-iterator.count (numbers_of l.numbers))) (values_of (into_iter_items l.k-iterator.iter)) (store_of l.store)
+    ≡ put_all (map (element_path (path_of l.array) (steps_of l.tail)) (numbers_of l.numbers)) (values_of l.fn.values.items) (store_of l.fn.store)
