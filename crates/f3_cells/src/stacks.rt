@@ -1,20 +1,25 @@
 //! What stands on top.
 
-ghost use Rattle.f3_data.specs.Values.{value_of};
-ghost use Rattle.f3_data.specs.References.{reference_of};
-ghost use Rattle.f3_code.specs.Machine.{on_datum, on_object};
-ghost use Rattle.f3_cells.specs.Popped.{Popped};
+ghost use Rattle.std.specs.Prelude.{◌≡◌, ◌∷◌, map, reverse};
+ghost use Rattle.f3_data.specs.Values.{value_of, spans_of};
+ghost use Rattle.f3_data.specs.References.{reference_of, references_of};
+ghost use Rattle.f3_arithmetic.specs.Turns.{turns_of};
+ghost use Rattle.f3_code.specs.Machine.{on_datum, on_object, on_bound, on_bounds, on_status, on_turns, on_objects, on_to, on_level, on_going, on_any};
+ghost use Rattle.f3_cells.specs.Cells.{flow_of, passed_of};
+ghost use Rattle.f3_cells.specs.Popped.{Popped, PoppedPair, same};
 
-use crate::cell::Cell;
+use crate::cell::{Cell, Flow};
 use f3_data::reference::Reference;
-use f3_data::value::Value;
+use f3_data::value::{Span, Value};
+use f3_meaning_whole::run_error::RunError;
+use f3_rules::source::Place;
 
 /// The value on top, which is taken.
 pub fn pop_datum(stack: &mut Vec<Cell>) -> Option<Value>
     ensures { Popped value_of on_datum result stack.old.items stack.new.items }
 {
     match stack.pop() {
-        Some(Cell::Datum(value)) => Some(value),
+        Some(Cell::Datum(it)) => Some(it),
         _ => None,
     }
 }
@@ -24,7 +29,87 @@ pub fn pop_object(stack: &mut Vec<Cell>) -> Option<Reference>
     ensures { Popped reference_of on_object result stack.old.items stack.new.items }
 {
     match stack.pop() {
-        Some(Cell::Object(reference)) => Some(reference),
+        Some(Cell::Object(it)) => Some(it),
+        _ => None,
+    }
+}
+
+/// The bound of a triplet on top, which is taken.
+pub fn pop_bound(stack: &mut Vec<Cell>) -> Option<Option<i64>>
+    ensures { Popped same on_bound result stack.old.items stack.new.items }
+{
+    match stack.pop() {
+        Some(Cell::Bound(it)) => Some(it),
+        _ => None,
+    }
+}
+
+/// How an ALLOCATE or DEALLOCATE ended, which is taken.
+pub fn pop_status(stack: &mut Vec<Cell>) -> Option<Option<RunError>>
+    ensures { Popped same on_status result stack.old.items stack.new.items }
+{
+    match stack.pop() {
+        Some(Cell::Status(it)) => Some(it),
+        _ => None,
+    }
+}
+
+/// How a construct was left, which is taken.
+pub fn pop_going(stack: &mut Vec<Cell>) -> Option<Flow>
+    ensures { Popped flow_of on_going result stack.old.items stack.new.items }
+{
+    match stack.pop() {
+        Some(Cell::Going(it)) => Some(it),
+        _ => None,
+    }
+}
+
+/// The bounds of an array on top, which are taken.
+pub fn pop_bounds(stack: &mut Vec<Cell>) -> Option<Vec<Span>>
+    ensures { Popped (λ ss. spans_of ss.items) on_bounds result stack.old.items stack.new.items }
+{
+    match stack.pop() {
+        Some(Cell::Bounds(it)) => Some(it),
+        _ => None,
+    }
+}
+
+/// The objects that are left, the next one at the end, which are taken.
+pub fn pop_objects(stack: &mut Vec<Cell>) -> Option<Vec<Reference>>
+    ensures { Popped (λ rs. references_of (reverse rs.items)) on_objects result stack.old.items stack.new.items }
+{
+    match stack.pop() {
+        Some(Cell::Objects(it)) => Some(it),
+        _ => None,
+    }
+}
+
+/// The turns of a DO that are left, and its step, which are taken.
+pub fn pop_turns(stack: &mut Vec<Cell>) -> Option<(Option<u64>, i64)>
+    ensures { PoppedPair turns_of same on_turns result stack.old.items stack.new.items }
+{
+    match stack.pop() {
+        Some(Cell::Turns(turns, step)) => Some((turns, step)),
+        _ => None,
+    }
+}
+
+/// Where a routine goes back to, and the place there, which are taken.
+pub fn pop_to(stack: &mut Vec<Cell>) -> Option<(usize, Place)>
+    ensures { PoppedPair same same on_to result stack.old.items stack.new.items }
+{
+    match stack.pop() {
+        Some(Cell::To(line, place)) => Some((line, place)),
+        _ => None,
+    }
+}
+
+/// The level of the values that an ASSOCIATE holds, and its objects, which are taken.
+pub fn pop_level(stack: &mut Vec<Cell>) -> Option<(usize, Vec<Reference>)>
+    ensures { PoppedPair same (λ rs. references_of rs.items) on_level result stack.old.items stack.new.items }
+{
+    match stack.pop() {
+        Some(Cell::Level(level, objects)) => Some((level, objects)),
         _ => None,
     }
 }

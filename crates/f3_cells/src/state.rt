@@ -1,10 +1,13 @@
 //! States, and how a run ends.
 
+ghost use Rattle.std.specs.Prelude.{◌≡◌};
+ghost use Rattle.f3_cells.specs.declared.state.Stop.TheVariants.{Memory};
+
 use crate::cell::{Cell, Here, Passed};
 use f3_data::store::Store;
 use f3_meaning_whole::run_error::RunError;
 use f3_rules::source::Place;
-use std::alloc::AllocError;
+use std::alloc::{AllocError, AllocFailed};
 
 /// What a procedure goes back to: the line, the cells and the activation of its caller, the place where it was called, its
 /// arguments, and the level of the values that are held for it.
@@ -49,9 +52,17 @@ pub enum Stop {
 }
 
 impl From<AllocError> for Stop {
-    fn from(_: AllocError) -> Stop
-        ensures { result ≡ Memory }
-    {
+    ghost from_gives = { λ _ e. e ≡ Memory };
+
+    fn from(_error: AllocError) -> Self {
+        Stop::Memory
+    }
+}
+
+impl<T: Drop> From<AllocFailed<T>> for Stop {
+    ghost from_gives = { λ _ e. e ≡ Memory };
+
+    fn from(_error: AllocFailed<T>) -> Self {
         Stop::Memory
     }
 }
