@@ -92,3 +92,7 @@ copied_more f p tail ns k n vs ws x h e i =
 pub put_nothing : (ps : List s.Path) (store : s.Store) → put_all ps [] store ≡ store
 put_nothing [] store = refl
 put_nothing (p ∷ ps) store = refl
+
+pub none_of : {A : Type 0} (xs : List A) → length xs ≡ 0 → xs ≡ []
+none_of [] h = refl
+none_of (x ∷ xs) h = absurd (omega arith)

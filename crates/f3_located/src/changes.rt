@@ -49,6 +49,7 @@ fn put_at(
 }
 
 /// A part of elements of an array takes these values, each its own.
+#[tactic(auto, using(crate::proofs::Spreading::put_nothing))]
 fn put_each(
     alloc: Global,
     store: &mut Store,
@@ -59,8 +60,10 @@ fn put_each(
 ) -> Result<(), AllocError>
     ensures { OnOk result (store_of store.new ≡ put_all (map (element_path (path_of array.now) (steps_of tail.now)) (numbers_of numbers.now)) (values_of values.items) (store_of store.old)) }
 {
-    for (k, value) in values.into_iter().enumerate() {
+    let mut k = 0;
+    for value in values {
         put_at(alloc, store, array, numbers, tail, k, value)?;
+        k += 1;
     }
     Ok(())
 }
