@@ -1,0 +1,6 @@
+pub mod Arrays
+pub mod Lending
+pub mod Declaring
+pub mod Parting
+pub mod Spreading
+pub mod Stepping
