@@ -2,7 +2,6 @@
 use Rattle.std.specs.Prelude.{ℕ, zero, suc, List, [], ◌∷◌, ◌++◌, map}
 use Rattle.f3_meaning_whole.specs.Store as s
 use Rattle.f3_meaning_whole.specs.Reference as m
-use Rattle.f3_data.specs.declared.store.Step.{Step}
 use Rattle.f3_data.specs.declared.reference.Right.{Right}
 use Rattle.f3_data.specs.declared.reference.Right.TheVariants as right
 use Rattle.f3_data.specs.declared.reference.Maker.{Maker}

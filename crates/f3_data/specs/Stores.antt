@@ -2,6 +2,7 @@
 use Rattle.std.specs.Prelude.{List, map}
 use Rattle.std.specs.declared.alloc.Global.{Global}
 use Rattle.std.specs.Prelude.{Vec}
+use Rattle.f3_meaning_whole.specs.Value as m'
 use Rattle.f3_meaning_whole.specs.Store as m
 use Rattle.f3_data.specs.declared.store.Root.{Root}
 use Rattle.f3_data.specs.declared.store.Root.TheVariants as root
@@ -27,5 +28,8 @@ steps_of ss = map step_of ss
 abbrev pub path_of : Path → m.Path
 path_of p = record { root = root_of p.root; steps = steps_of p.steps.items }
 
+abbrev pub levels_of : List (Vec Value Global) → List (List m'.Value)
+levels_of vs = map (λ (v : Vec Value Global). values_of v.items) vs
+
 abbrev pub store_of : Store → m.Store
-store_of s = record { statics = values_of s.statics.items; levels = map (λ (vs : Vec Value Global). values_of vs.items) s.levels.items }
+store_of s = record { statics = values_of s.statics.items; levels = levels_of s.levels.items }

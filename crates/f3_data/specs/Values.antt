@@ -1,5 +1,5 @@
 -- Values in memory, as the meaning has them.
-use Rattle.std.specs.Prelude.{List, [], ◌∷◌, map}
+use Rattle.std.specs.Prelude.{List, map}
 use Rattle.f3_meaning_whole.specs.Value as m
 use Rattle.f3_data.specs.declared.value.Span.{Span}
 use Rattle.f3_data.specs.declared.value.Value as v

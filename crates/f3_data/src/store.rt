@@ -1,12 +1,16 @@
 //! Stores, and paths into them.
 
-ghost use Rattle.std.specs.Prelude.{◌≡◌, IfSome, Option, None};
+ghost use Rattle.std.specs.Prelude.{◌≡◌, MatchOption, List, ◌∷◌, [], OnOk, slice_index_or, slice_set};
 ghost use Rattle.f3_meaning_whole.specs.Value as m;
-ghost use Rattle.f3_meaning_whole.specs.Store.{part, with_part};
-ghost use Rattle.f3_data.specs.Values.{value_of};
-ghost use Rattle.f3_data.specs.Stores.{steps_of};
+ghost use Rattle.f3_meaning_whole.specs.Value.{joined};
+ghost use Rattle.f3_meaning_whole.specs.Store as s;
+ghost use Rattle.f3_meaning_whole.specs.Store.{part, part_at, with_part, with_part_at, at_root, get, put};
+ghost use Rattle.f3_meaning_whole.specs.Ran.{Entered, Ended, effect};
+ghost use Rattle.f3_data.specs.Values.{value_of, values_of};
+ghost use Rattle.f3_data.specs.Stores.{step_of, steps_of, root_of, path_of, levels_of, store_of};
 
 use crate::value::Value;
+use std::alloc::AllocError;
 
 /// An object that is part of no other: a variable that lives for the whole run, by its number; or, by its number on a level,
 /// a variable of an activation or a value that is held for a call or an ASSOCIATE.
@@ -39,41 +43,166 @@ pub struct Store {
     pub levels: Vec<Vec<Value>>,
 }
 
-/// A part of a value.
-pub fn part<'a>(value: &'a Value, steps: &[Step]) -> Option<&'a Value>
-    ensures { IfSome result (λ v. value_of v.now ≡ part (value_of value.now) (steps_of steps.now)) }
+/// A component or an element.
+fn at(values: &[Value], k: usize) -> Option<&Value>
+    ensures { (way : List s.Step) → MatchOption result (part_at (joined (values_of values.now)) k way ≡ m.Unallocated) (λ v. part (value_of v.now) way ≡ part_at (joined (values_of values.now)) k way) }
 {
-    let [step, rest @ ..] = steps else {
-        return Some(value);
-    };
+    match values.get(k) {
+        Some(value) => Some(value),
+        None => None,
+    }
+}
+
+/// What a step leads to, in a value.
+fn inner(value: &Value, step: Step) -> Option<&Value>
+    ensures { (way : List s.Step) → MatchOption result (part (value_of value.now) (step_of step ∷ way) ≡ m.Unallocated) (λ v. part (value_of v.now) way ≡ part (value_of value.now) (step_of step ∷ way)) }
+{
     match (value, step) {
-        (Value::Composite(values), Step::Component(k)) => part(values.get(*k)?, rest),
-        (Value::Array(_, values), Step::Element(k)) => part(values.get(*k)?, rest),
-        (Value::Allocated(held), Step::Contents) => part(held, rest),
+        (Value::Composite(values), Step::Component(k)) => at(values, k),
+        (Value::Array(_, values), Step::Element(k)) => at(values, k),
+        (Value::Allocated(held), Step::Contents) => Some(held),
         _ => None,
     }
 }
 
+/// A part of a value: none where there is none.
+pub fn part<'a>(value: &'a Value, steps: &[Step]) -> Option<&'a Value>
+    ensures { MatchOption result (part (value_of value.now) (steps_of steps.now) ≡ m.Unallocated) (λ v. value_of v.now ≡ part (value_of value.now) (steps_of steps.now)) }
+{
+    let Some((step, rest)) = steps.split_first() else {
+        return Some(value);
+    };
+    match inner(value, *step) {
+        Some(held) => part(held, rest),
+        None => None,
+    }
+}
+
+/// A component or an element takes another value in a part of it.
+#[cycle(replacing)]
+fn replace_at(values: &mut Vec<Value>, k: usize, rest: &[Step], new: Value)
+    ensures { joined (values_of values.new.items) ≡ with_part_at (joined (values_of values.old.items)) k (steps_of rest.now) (value_of new) }
+{
+    if k < values.len() {
+        replace(&mut values[k], rest, new);
+    } else {
+        drop(new);
+    }
+}
+
 /// The part takes another value; nothing happens where there is no such part.
+#[cycle(replacing)]
 pub fn replace(value: &mut Value, steps: &[Step], new: Value)
     ensures { value_of value.new ≡ with_part (value_of value.old) (steps_of steps.now) (value_of new) }
 {
-    let [step, rest @ ..] = steps else {
+    let Some((step, rest)) = steps.split_first() else {
         *value = new;
         return;
     };
     match (value, step) {
-        (Value::Composite(values), Step::Component(k)) => {
-            if let Some(inner) = values.get_mut(*k) {
-                replace(inner, rest, new);
-            }
-        }
-        (Value::Array(_, values), Step::Element(k)) => {
-            if let Some(inner) = values.get_mut(*k) {
-                replace(inner, rest, new);
-            }
-        }
+        (Value::Composite(values), Step::Component(k)) => replace_at(values, *k, rest, new),
+        (Value::Array(_, values), Step::Element(k)) => replace_at(values, *k, rest, new),
         (Value::Allocated(held), Step::Contents) => replace(held, rest, new),
-        _ => (),
+        (Value::Number(_) | Value::Truth(_) | Value::Unallocated, _) => drop(new),
+        _ => drop(new),
+    }
+}
+
+/// An object among those of a level, or of the whole run.
+fn object(values: &[Value], i: usize) -> Option<&Value>
+    ensures { MatchOption result (slice_index_or (values_of values.now) i m.Unallocated ≡ m.Unallocated) (λ v. value_of v.now ≡ slice_index_or (values_of values.now) i m.Unallocated) }
+{
+    match values.get(i) {
+        Some(value) => Some(value),
+        None => None,
+    }
+}
+
+/// The objects of a level: none where there is no such level.
+fn objects(levels: &[Vec<Value>], level: usize) -> &[Value]
+    ensures { values_of result.now ≡ slice_index_or (levels_of levels.now) level [] }
+{
+    match levels.get(level) {
+        Some(values) => values,
+        None => &[],
+    }
+}
+
+/// An object of a level takes another value in a part of it; nothing happens where there is no such object.
+fn replace_in(values: &mut Vec<Value>, i: usize, steps: &[Step], new: Value)
+    ensures { values_of values.new.items ≡ slice_set (values_of values.old.items) i (with_part (slice_index_or (values_of values.old.items) i m.Unallocated) (steps_of steps.now) (value_of new)) }
+{
+    if i < values.len() {
+        replace(&mut values[i], steps, new);
+    } else {
+        drop(new);
+    }
+}
+
+/// The same, in the levels.
+fn replace_in_level(
+    levels: &mut Vec<Vec<Value>>,
+    level: usize,
+    i: usize,
+    steps: &[Step],
+    new: Value,
+)
+    ensures { levels_of levels.new.items ≡ slice_set (levels_of levels.old.items) level (slice_set (slice_index_or (levels_of levels.old.items) level []) i (with_part (slice_index_or (slice_index_or (levels_of levels.old.items) level []) i m.Unallocated) (steps_of steps.now) (value_of new))) }
+{
+    if level < levels.len() {
+        replace_in(&mut levels[level], i, steps, new);
+    } else {
+        drop(new);
+    }
+}
+
+impl Store {
+    /// An object that is part of no other: none where there is none.
+    pub fn object(&self, root: Root) -> Option<&Value>
+        ensures { MatchOption result (at_root (store_of self.now) (root_of root) ≡ m.Unallocated) (λ v. value_of v.now ≡ at_root (store_of self.now) (root_of root)) }
+    {
+        match root {
+            Root::Static(i) => object(&self.statics, i),
+            Root::Local(level, i) => object(objects(&self.levels, level), i),
+        }
+    }
+
+    /// What stands at a path: none where there is no such object or part.
+    pub fn get(&self, path: &Path) -> Option<&Value>
+        ensures { MatchOption result (get (store_of self.now) (path_of path.now) ≡ m.Unallocated) (λ v. value_of v.now ≡ get (store_of self.now) (path_of path.now)) }
+    {
+        match self.object(path.root) {
+            Some(value) => part(value, &path.steps),
+            None => None,
+        }
+    }
+
+    /// The part at a path takes another value; nothing happens where there is no such object or part.
+    pub fn put(&mut self, path: &Path, new: Value)
+        ensures { store_of self.new ≡ put (store_of self.old) (path_of path.now) (value_of new) }
+    {
+        match path.root {
+            Root::Static(i) => replace_in(&mut self.statics, i, &path.steps, new),
+            Root::Local(level, i) => {
+                replace_in_level(&mut self.levels, level, i, &path.steps, new);
+            }
+        }
+    }
+
+    /// A level with these values begins.
+    ///
+    /// `AllocError` where the host has no memory for it.
+    pub fn enter(&mut self, values: Vec<Value>) -> Result<(), AllocError>
+        ensures { OnOk result (store_of self.new ≡ effect (Entered (values_of values.items)) (store_of self.old)) }
+    {
+        self.levels.push(values)?;
+        Ok(())
+    }
+
+    /// A level and all behind it end.
+    pub fn leave(&mut self, level: usize)
+        ensures { store_of self.new ≡ effect (Ended level) (store_of self.old) }
+    {
+        self.levels.truncate(level);
     }
 }
