@@ -1,18 +1,30 @@
 //! What stands on top.
 
-ghost use Rattle.std.specs.Prelude.{◌≡◌, ◌∷◌, map, reverse};
+ghost use Rattle.std.specs.Prelude.{◌≡◌, ◌∷◌, drop, map, reverse};
 ghost use Rattle.f3_data.specs.Values.{value_of, spans_of};
 ghost use Rattle.f3_data.specs.References.{reference_of, references_of};
 ghost use Rattle.f3_arithmetic.specs.Turns.{turns_of};
-ghost use Rattle.f3_code.specs.Machine.{on_datum, on_object, on_bound, on_bounds, on_status, on_turns, on_objects, on_to, on_level, on_going, on_any};
+ghost use Rattle.f3_code.specs.Machine.{on_datum, on_object, on_bound, on_bounds, on_status, on_turns, on_objects, on_to, on_level, on_going, on_outside};
 ghost use Rattle.f3_cells.specs.Cells.{flow_of, passed_of};
-ghost use Rattle.f3_cells.specs.Popped.{Popped, PoppedPair, same};
+ghost use Rattle.f3_cells.specs.Popped.{Popped, PoppedCell, PoppedElements, PoppedOutside, PoppedPair, same};
 
-use crate::cell::{Cell, Flow};
+use crate::cell::{Cell, Flow, Here};
 use f3_data::reference::Reference;
 use f3_data::value::{Span, Value};
 use f3_meaning_whole::run_error::RunError;
 use f3_rules::source::Place;
+
+/// The cell on top, which is taken.
+pub fn pop_any(stack: &mut Vec<Cell>) -> Option<Cell>
+    ensures { PoppedCell result stack.old.items stack.new.items }
+{
+    stack.pop()
+}
+
+/// A cell goes.
+fn let_go(cell: Cell) {
+    drop(cell);
+}
 
 /// The value on top, which is taken.
 pub fn pop_datum(stack: &mut Vec<Cell>) -> Option<Value>
@@ -20,7 +32,11 @@ pub fn pop_datum(stack: &mut Vec<Cell>) -> Option<Value>
 {
     match stack.pop() {
         Some(Cell::Datum(it)) => Some(it),
-        _ => None,
+        Some(other) => {
+            let_go(other);
+            None
+        }
+        None => None,
     }
 }
 
@@ -30,7 +46,11 @@ pub fn pop_object(stack: &mut Vec<Cell>) -> Option<Reference>
 {
     match stack.pop() {
         Some(Cell::Object(it)) => Some(it),
-        _ => None,
+        Some(other) => {
+            let_go(other);
+            None
+        }
+        None => None,
     }
 }
 
@@ -40,7 +60,11 @@ pub fn pop_bound(stack: &mut Vec<Cell>) -> Option<Option<i64>>
 {
     match stack.pop() {
         Some(Cell::Bound(it)) => Some(it),
-        _ => None,
+        Some(other) => {
+            let_go(other);
+            None
+        }
+        None => None,
     }
 }
 
@@ -50,7 +74,11 @@ pub fn pop_status(stack: &mut Vec<Cell>) -> Option<Option<RunError>>
 {
     match stack.pop() {
         Some(Cell::Status(it)) => Some(it),
-        _ => None,
+        Some(other) => {
+            let_go(other);
+            None
+        }
+        None => None,
     }
 }
 
@@ -60,7 +88,11 @@ pub fn pop_going(stack: &mut Vec<Cell>) -> Option<Flow>
 {
     match stack.pop() {
         Some(Cell::Going(it)) => Some(it),
-        _ => None,
+        Some(other) => {
+            let_go(other);
+            None
+        }
+        None => None,
     }
 }
 
@@ -70,7 +102,11 @@ pub fn pop_bounds(stack: &mut Vec<Cell>) -> Option<Vec<Span>>
 {
     match stack.pop() {
         Some(Cell::Bounds(it)) => Some(it),
-        _ => None,
+        Some(other) => {
+            let_go(other);
+            None
+        }
+        None => None,
     }
 }
 
@@ -80,7 +116,11 @@ pub fn pop_objects(stack: &mut Vec<Cell>) -> Option<Vec<Reference>>
 {
     match stack.pop() {
         Some(Cell::Objects(it)) => Some(it),
-        _ => None,
+        Some(other) => {
+            let_go(other);
+            None
+        }
+        None => None,
     }
 }
 
@@ -90,7 +130,11 @@ pub fn pop_turns(stack: &mut Vec<Cell>) -> Option<(Option<u64>, i64)>
 {
     match stack.pop() {
         Some(Cell::Turns(turns, step)) => Some((turns, step)),
-        _ => None,
+        Some(other) => {
+            let_go(other);
+            None
+        }
+        None => None,
     }
 }
 
@@ -100,7 +144,11 @@ pub fn pop_to(stack: &mut Vec<Cell>) -> Option<(usize, Place)>
 {
     match stack.pop() {
         Some(Cell::To(line, place)) => Some((line, place)),
-        _ => None,
+        Some(other) => {
+            let_go(other);
+            None
+        }
+        None => None,
     }
 }
 
@@ -110,6 +158,38 @@ pub fn pop_level(stack: &mut Vec<Cell>) -> Option<(usize, Vec<Reference>)>
 {
     match stack.pop() {
         Some(Cell::Level(level, objects)) => Some((level, objects)),
-        _ => None,
+        Some(other) => {
+            let_go(other);
+            None
+        }
+        None => None,
+    }
+}
+
+/// The elements of an object from a number on, which are taken.
+pub fn pop_elements(stack: &mut Vec<Cell>) -> Option<(Reference, usize)>
+    ensures { PoppedElements result stack.old.items stack.new.items }
+{
+    match stack.pop() {
+        Some(Cell::Elements(object, number)) => Some((object, number)),
+        Some(other) => {
+            let_go(other);
+            None
+        }
+        None => None,
+    }
+}
+
+/// What was around a SELECT CASE or an ASSOCIATE, which is taken.
+pub fn pop_outside(stack: &mut Vec<Cell>) -> Option<Here>
+    ensures { PoppedOutside result stack.old.items stack.new.items }
+{
+    match stack.pop() {
+        Some(Cell::Outside(it)) => Some(it),
+        Some(other) => {
+            let_go(other);
+            None
+        }
+        None => None,
     }
 }
