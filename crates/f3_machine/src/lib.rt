@@ -4,3 +4,4 @@
 pub mod machine;
 pub mod start;
 mod step;
+mod table;
