@@ -1,0 +1,90 @@
+-- Elements of arrays, in memory and in the meaning.
+use Rattle.std.proofs.Common.{get_or, append_assoc, ◌≡◌, add-one, drop, ℕ, zero, suc, ◌+◌, ◌<◌, ◌≤◌, List, [], ◌∷◌, ◌++◌, length, refl, sym, ap, ◌∙◌, rules, arith, Vec, Global, map, Option, None, Some}
+use Rattle.std.specs.Prelude.{slice_get}
+use Rattle.f3_meaning_whole.specs.Value as m
+use Rattle.f3_meaning_whole.specs.Value.{joined}
+use Rattle.f3_meaning_whole.specs.Store.{Path, Step, Element, within}
+use Rattle.f3_meaning_whole.specs.Reference as r
+use Rattle.f3_data.specs.declared.value.Span.{Span}
+use Rattle.f3_data.specs.declared.store.Step as t
+use Rattle.f3_data.specs.declared.value.Value as v
+use Rattle.f3_data.specs.Values.{value_of, values_of, row_of, spans_of}
+use Rattle.f3_data.specs.declared.reference.Numbers.{Numbers}
+use Rattle.f3_data.specs.declared.reference.Numbers.TheVariants as numbers
+use Rattle.f3_data.specs.Stores.{step_of, steps_of}
+use Rattle.f3_data.specs.References.{counted, numbers_of, element_path}
+
+-- rows of values in memory
+pub row_is : {n : _} (k : v.Row_of-Value n) → row_of k ≡ joined (values_of (v.items-the_row-Value n k))
+row_is v.end_of-Value = refl
+row_is (v.more_of-Value x rest) = ap (m.more (value_of x)) (row_is rest)
+
+pub array_is : (ss : Vec Span Global) (vs : Vec v.Value Global) → value_of (v.Array ss vs) ≡ m.Array (spans_of ss.items) (joined (values_of vs.items))
+array_is ss vs = search (rules, v.the_lemmas, row_is)
+
+-- so many numbers
+pub counted_length : (i n : ℕ) → length (counted i n) ≡ n
+counted_length i zero = refl
+counted_length i (suc n) = ap suc (counted_length (suc i) n)
+
+pub counted_from : (i n k : ℕ) → k < n → slice_get (counted i n) k ≡ Some (i + k)
+counted_from i zero k h = absurd (omega arith)
+counted_from i (suc n) zero h = ap Some (omega arith)
+counted_from i (suc n) (suc k) h = counted_from (suc i) n k (omega arith) ∙ ap Some (omega arith)
+
+pub counted_at : (n k : ℕ) → k < n → slice_get (counted 0 n) k ≡ Some k
+counted_at n k h = counted_from 0 n k h ∙ ap Some (omega arith)
+
+pub counted_past_from : (i n k : ℕ) → n ≤ k → slice_get (counted i n) k ≡ None
+counted_past_from i zero k h = refl
+counted_past_from i (suc n) zero h = absurd (omega arith)
+counted_past_from i (suc n) (suc k) h = counted_past_from (suc i) n k (omega arith)
+
+pub counted_past : (n k : ℕ) → n ≤ k → slice_get (counted 0 n) k ≡ None
+counted_past n k h = counted_past_from 0 n k h
+
+pub mapped_length : {A B : Type 0} (f : A → B) (xs : List A) → length (map f xs) ≡ length xs
+mapped_length f [] = refl
+mapped_length f (x ∷ xs) = ap suc (mapped_length f xs)
+
+-- the elements of a whole array
+pub elements_are : (i : ℕ) (p : Path) (vs : List v.Value) → map (element_path p []) (counted i (length vs)) ≡ r.elements_from i p (joined (values_of vs))
+elements_are i p [] = refl
+elements_are i p (x ∷ vs) = ap (λ ps. element_path p [] i ∷ ps) (elements_are (suc i) p vs)
+
+pub whole_array : (p : Path) (ss : Vec Span Global) (vs : Vec v.Value Global) → r.reach_of p (value_of (v.Array ss vs)) ≡ r.Many (spans_of ss.items) (map (element_path p []) (counted 0 (length vs.items)))
+whole_array p ss vs = ap (r.reach_of p) (array_is ss vs) ∙ ap (r.Many (spans_of ss.items)) (sym (elements_are 0 p vs.items))
+
+-- the same of lists that are equal to those
+pub whole_array_by : (p : Path) (value : v.Value) (ss : Vec Span Global) (vs : Vec v.Value Global) (spans : List Span) (tail : List t.Step) (n : ℕ) → value ≡ v.Array ss vs → spans ≡ ss.items → tail ≡ [] → n ≡ length vs.items →
+    r.Many (spans_of spans) (map (element_path p (steps_of tail)) (counted 0 n)) ≡ r.reach_of p (value_of value)
+whole_array_by p value ss vs spans tail n a b t l = rw (a, b, t, l) (sym (whole_array p ss vs))
+
+-- one of a list, and those behind it
+pub drop_at : (k : ℕ) (ns : List ℕ) (n : ℕ) → slice_get ns k ≡ Some n → drop k ns ≡ n ∷ drop (k + 1) ns
+drop_at k [] n h = cc
+drop_at zero (x ∷ ns) n h = let e : x ≡ n = cc in rw e refl
+drop_at (suc k) (x ∷ ns) n h = drop_at k ns n h ∙ ap (λ i. n ∷ drop i (x ∷ ns)) (let e : suc (k + 1) ≡ suc k + 1 = omega arith in e)
+
+got_at : (k : ℕ) (ns : List ℕ) (d : ℕ) → k < length ns → slice_get ns k ≡ Some (get_or ns k d)
+got_at k [] d h = absurd (omega arith)
+got_at zero (x ∷ ns) d h = refl
+got_at (suc k) (x ∷ ns) d h = got_at k ns d (omega arith)
+
+pub first_at : (ns : Numbers) (n k : ℕ) → ns ≡ numbers.First n → k < length (numbers_of ns) → slice_get (numbers_of ns) k ≡ Some k
+first_at ns n k e h = ap (λ x. slice_get (numbers_of x) k) e ∙ counted_at n k (omega (arith, counted_length 0 n, ap (λ x. length (numbers_of x)) e))
+
+pub listed_at : (ns : Numbers) (v : Vec ℕ Global) (k d : ℕ) → ns ≡ numbers.Listed v → d ≡ get_or v.items k d → k < length (numbers_of ns) → slice_get (numbers_of ns) k ≡ Some d
+listed_at ns v k d e r h = ap (λ x. slice_get (numbers_of x) k) e ∙ got_at k v.items d (omega (arith, ap (λ x. length (numbers_of x)) e)) ∙ ap Some (sym r)
+
+-- one more step in each
+within_each : (p : Path) (tail : List t.Step) (k : t.Step) (n : ℕ) → element_path p (steps_of (tail ++ k ∷ [])) n ≡ within (element_path p (steps_of tail) n) (step_of k)
+within_each p tail k n = ap (λ way. record { root = p.root; steps = way }) (ap (λ way. p.steps ++ Element n ∷ way) (steps_append tail (k ∷ [])) ∙ sym (append_assoc p.steps (Element n ∷ steps_of tail) (step_of k ∷ [])))
+  where
+    steps_append : (xs ys : List t.Step) → steps_of (xs ++ ys) ≡ steps_of xs ++ steps_of ys
+    steps_append [] ys = refl
+    steps_append (x ∷ xs) ys = ap (λ zs. step_of x ∷ zs) (steps_append xs ys)
+
+pub all_within : (p : Path) (tail : List t.Step) (k : t.Step) (ns : List ℕ) → map (element_path p (steps_of (tail ++ k ∷ []))) ns ≡ map (λ q. within q (step_of k)) (map (element_path p (steps_of tail)) ns)
+all_within p tail k [] = refl
+all_within p tail k (n ∷ ns) = rw (within_each p tail k n) (ap (λ qs. within (element_path p (steps_of tail) n) (step_of k) ∷ qs) (all_within p tail k ns))

@@ -1,0 +1,4 @@
+pub mod Arrays
+pub mod Lending
+pub mod Declaring
+pub mod Parting

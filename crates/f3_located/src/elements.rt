@@ -1,0 +1,74 @@
+//! The elements that a reference means.
+
+ghost use Rattle.std.specs.Prelude.{◌≡◌, ◌<◌, IfOk, MatchOption, length, None, Some, slice_get};
+ghost use Rattle.f3_meaning_whole.specs.Reference.{paths};
+ghost use Rattle.f3_data.specs.Stores.{steps_of, path_of};
+ghost use Rattle.f3_data.specs.References.{element_path, numbers_of, reference_of};
+
+use f3_data::reference::{Numbers, Reach, Reference};
+use f3_data::store::{Path, Step};
+use std::alloc::{AllocError, Global};
+
+/// How many elements there are.
+#[tactic(auto, using(crate::proofs::Arrays::counted_length))]
+pub fn length_of(numbers: &Numbers) -> usize
+    ensures { result ≡ length (numbers_of numbers.now) }
+{
+    match numbers {
+        Numbers::First(count) => *count,
+        Numbers::Listed(listed) => listed.len(),
+    }
+}
+
+/// The place of an element, by its number among those that are meant, from 0 on.
+#[tactic(auto, using(crate::proofs::Arrays::counted_at, crate::proofs::Arrays::counted_past))]
+pub fn number_at(numbers: &Numbers, k: usize) -> Option<usize>
+    ensures { result ≡ slice_get (numbers_of numbers.now) k }
+{
+    match numbers {
+        Numbers::First(count) => {
+            if k < *count {
+                Some(k)
+            } else {
+                None
+            }
+        }
+        Numbers::Listed(listed) => listed.get(k).copied(),
+    }
+}
+
+/// The place of an element that there is.
+#[tactic(auto, using(crate::proofs::Arrays::counted_at))]
+pub fn place_at(numbers: &Numbers, k: usize) -> usize
+    requires { k < length (numbers_of numbers.now) }
+    ensures { slice_get (numbers_of numbers.now) k ≡ Some result }
+{
+    match numbers {
+        Numbers::First(_) => k,
+        Numbers::Listed(listed) => listed[k],
+    }
+}
+
+/// How many objects are meant.
+#[tactic(auto, using(crate::proofs::Arrays::mapped_length))]
+pub fn count(reference: &Reference) -> usize
+    ensures { result ≡ length (paths (reference_of reference.now)) }
+{
+    match &reference.reach {
+        Reach::One => 1,
+        Reach::Many(_, numbers, _) => length_of(numbers),
+    }
+}
+
+/// The way to a part of an element of the array at a path.
+pub fn element_path(alloc: Global, array: &Path, place: usize, tail: &[Step]) -> Result<Path, AllocError>
+    ensures { IfOk result (λ p. path_of p ≡ element_path (path_of array.now) (steps_of tail.now) place) }
+{
+    let mut steps = Vec::from_slice(alloc, &array.steps)?;
+    steps.push(Step::Element(place))?;
+    steps.extend_from_slice(tail)?;
+    Ok(Path {
+        root: array.root,
+        steps,
+    })
+}
