@@ -2,6 +2,8 @@
 #![tactic(auto)]
 
 pub mod cell;
+pub mod look;
+pub mod many;
 pub mod scene;
 pub mod stacks;
 pub mod state;

@@ -1,14 +1,15 @@
 //! What stands on top.
 
-ghost use Rattle.std.specs.Prelude.{◌≡◌, ◌∷◌, drop, map, reverse};
+ghost use Rattle.std.specs.Prelude.{◌≡◌, ◌∷◌, MatchResult, reverse};
 ghost use Rattle.f3_data.specs.Values.{value_of, spans_of};
 ghost use Rattle.f3_data.specs.References.{reference_of, references_of};
 ghost use Rattle.f3_arithmetic.specs.Turns.{turns_of};
 ghost use Rattle.f3_code.specs.Machine.{on_datum, on_object, on_bound, on_bounds, on_status, on_turns, on_objects, on_to, on_level, on_going, on_outside};
 ghost use Rattle.f3_cells.specs.Cells.{flow_of, passed_of};
-ghost use Rattle.f3_cells.specs.Popped.{Popped, PoppedCell, PoppedElements, PoppedOutside, PoppedPair, same};
+ghost use Rattle.f3_cells.specs.Popped.{Dropped, Pushed, Popped, PoppedCell, PoppedElements, PoppedOutside, PoppedPair, same};
 
 use crate::cell::{Cell, Flow, Here};
+use crate::state::Stop;
 use f3_data::reference::Reference;
 use f3_data::value::{Span, Value};
 use f3_meaning_whole::run_error::RunError;
@@ -21,8 +22,23 @@ pub fn pop_any(stack: &mut Vec<Cell>) -> Option<Cell>
     stack.pop()
 }
 
+/// One more cell on top.
+pub fn push(stack: &mut Vec<Cell>, cell: Cell) -> Result<(), Stop>
+    ensures { MatchResult result (λ done. Pushed cell stack.old.items stack.new.items) (λ e. e ≡ Stop.Memory) }
+{
+    stack.push(cell)?;
+    Ok(())
+}
+
+/// So many cells go, or as many as there are.
+pub fn drop_cells(stack: &mut Vec<Cell>, count: usize)
+    ensures { Dropped count stack.old.items stack.new.items }
+{
+    stack.truncate(stack.len().saturating_sub(count));
+}
+
 /// A cell goes.
-fn let_go(cell: Cell) {
+pub fn let_go(cell: Cell) {
     drop(cell);
 }
 

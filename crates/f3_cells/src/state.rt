@@ -1,9 +1,11 @@
 //! States, and how a run ends.
 
-ghost use Rattle.std.specs.Prelude.{◌≡◌};
+ghost use Rattle.std.specs.Prelude.{◌≡◌, ◌+◌, ◌<◌, ◌^◌};
+ghost use Rattle.f3_cells.specs.Moves.{Moved, WentAhead, WentOn};
 ghost use Rattle.f3_cells.specs.declared.state.Stop.TheVariants.{Memory};
 
 use crate::cell::{Cell, Here, Passed};
+use crate::stacks::push;
 use f3_data::store::Store;
 use f3_meaning_whole::run_error::RunError;
 use f3_rules::source::Place;
@@ -64,5 +66,39 @@ impl<T: Drop> From<AllocFailed<T>> for Stop {
 
     fn from(_error: AllocFailed<T>) -> Self {
         Stop::Memory
+    }
+}
+
+impl State {
+    /// The next line comes after this one.
+    pub fn advance(&mut self)
+        requires { self.old.pc < 2 ^ 63 }
+        ensures { Moved (self.old.pc + 1) self.old self.new }
+    {
+        self.pc += 1;
+    }
+
+    /// So far on from the next line, where there are so many lines. `Stop::Lost` where no line is there; the state stays.
+    pub fn ahead(&mut self, distance: usize, total: usize) -> Result<(), Stop>
+        requires { self.old.pc < 2 ^ 63 }
+        ensures { WentAhead distance total result self.old self.new }
+    {
+        let next = self.pc + 1;
+        if total.saturating_sub(next) > distance {
+            self.pc = next + distance;
+            Ok(())
+        } else {
+            Err(Stop::Lost)
+        }
+    }
+
+    /// One more cell on top, and the next line comes after this one.
+    pub fn go_on_with(&mut self, cell: Cell) -> Result<(), Stop>
+        requires { self.old.pc < 2 ^ 63 }
+        ensures { WentOn cell result self.old self.new }
+    {
+        push(&mut self.stack, cell)?;
+        self.advance();
+        Ok(())
     }
 }
