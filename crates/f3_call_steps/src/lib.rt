@@ -3,5 +3,8 @@
 
 pub mod activations;
 mod arguments;
+pub mod associates;
+pub mod calls;
+mod frames;
 mod heres;
 pub mod returns;
