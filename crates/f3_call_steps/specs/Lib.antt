@@ -1,0 +1,3 @@
+pub mod Returned
+pub mod Entering
+pub mod Associating

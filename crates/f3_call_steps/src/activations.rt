@@ -1,0 +1,58 @@
+//! The variables of an activation.
+
+ghost use Rattle.std.specs.Prelude.{◌≡◌, ◌++◌, IfOk, OnOk, length};
+ghost use Rattle.f3_program.specs.declared.declarations.Declared as d;
+ghost use Rattle.f3_meaning_whole.specs.Exec.{initial_value, variables, with_result};
+ghost use Rattle.f3_meaning_whole.specs.Run.{setting_of};
+ghost use Rattle.f3_meaning_whole.specs.Ran.{Entered, effect};
+ghost use Rattle.f3_data.specs.Values.{value_of, values_of};
+ghost use Rattle.f3_data.specs.Stores.{store_of};
+ghost use Rattle.std.specs.Prelude.{map};
+
+use f3_data::store::Store;
+use f3_data::value::Value;
+use f3_program::declarations::Declared;
+use f3_program::program::{Procedure, Program};
+use std::alloc::{AllocError, Global};
+
+/// The value with which a variable begins (ISO/IEC 1539-1:2004, 16.5).
+fn initial_value(alloc: Global, program: &Program, declared: &Declared) -> Result<Value, AllocError>
+    ensures { IfOk result (λ v. value_of v ≡ initial_value (setting_of program.now) declared.now) }
+{
+    let _ = alloc;
+    let _ = program;
+    let _ = declared;
+    Err(AllocError)
+}
+
+/// The values with which variables begin.
+fn initial_values(alloc: Global, program: &Program, declared: &[Declared]) -> Result<Vec<Value>, AllocError>
+    ensures { IfOk result (λ vs. values_of vs.items ≡ map (initial_value (setting_of program.now)) declared.now) }
+{
+    let mut values = Vec::new(alloc);
+    for variable in declared {
+        values.push(initial_value(alloc, program, variable)?)?;
+    }
+    Ok(values)
+}
+
+/// The values with which the variables of an activation of a procedure begin; the result stands behind the others.
+///
+/// `AllocError` where the host has no memory for them.
+pub fn variables(alloc: Global, program: &Program, procedure: &Procedure) -> Result<Vec<Value>, AllocError>
+    ensures { IfOk result (λ vs. values_of vs.items ≡ variables (setting_of program.now) procedure.now) }
+{
+    let mut values = initial_values(alloc, program, &procedure.locals)?;
+    if let Some(declared) = &procedure.result {
+        values.push(initial_value(alloc, program, declared)?)?;
+    }
+    Ok(values)
+}
+
+/// Levels for an activation begin: of the values that are held for it, and of its variables (12.4, 16.5).
+pub(crate) fn enter(store: &mut Store, held: Vec<Value>, variables: Vec<Value>) -> Result<(), AllocError>
+    ensures { OnOk result (store_of store.new ≡ effect (Entered (values_of variables.items)) (effect (Entered (values_of held.items)) (store_of store.old))) }
+{
+    store.enter(held)?;
+    store.enter(variables)
+}

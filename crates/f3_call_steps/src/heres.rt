@@ -1,0 +1,92 @@
+//! Where statements are executed within a procedure or an ASSOCIATE.
+
+ghost use Rattle.std.specs.Prelude.{◌≡◌, ◌++◌, Some, IfOk, OnOk, reverse};
+ghost use Rattle.f3_program.specs.declared.program.Program.{Program};
+ghost use Rattle.f3_meaning_whole.specs.Value as m;
+ghost use Rattle.f3_meaning_whole.specs.Act.{associating};
+ghost use Rattle.f3_data.specs.References.{references_of};
+ghost use Rattle.f3_cells.specs.Cells.{here_of, variables_of};
+
+use f3_cells::cell::Here;
+use f3_data::copies;
+use f3_data::reference::Reference;
+use f3_data::value::Value;
+use f3_rules::source::Place;
+use std::alloc::{AllocError, Global};
+
+/// Copies of references in the other order, behind others.
+fn add_in_reverse(alloc: Global, lent: &mut Vec<Reference>, objects: &[Reference]) -> Result<(), AllocError>
+    ensures { OnOk result (references_of (reverse lent.new.items) ≡ references_of objects.now ++ references_of (reverse lent.old.items)) }
+{
+    let mut i = objects.len();
+    while i > 0 {
+        i -= 1;
+        lent.push(copies::reference(alloc, &objects[i])?)?;
+    }
+    Ok(())
+}
+
+/// What is lent where these objects are lent too.
+#[tactic(auto, using(crate::proofs::Holding::lent_more))]
+fn lending(alloc: Global, lent: &[Reference], objects: &[Reference]) -> Result<Vec<Reference>, AllocError>
+    ensures { IfOk result (λ rs. references_of (reverse rs.items) ≡ references_of objects.now ++ references_of (reverse lent.now)) }
+{
+    let mut all = copies::references(alloc, lent)?;
+    add_in_reverse(alloc, &mut all, objects)?;
+    Ok(all)
+}
+
+/// Within a procedure of a number, on a level, with these objects of its dummies, which are lent (12.4).
+pub(crate) fn within_procedure(
+    alloc: Global,
+    outer: &Here,
+    place: Place,
+    unit: usize,
+    level: usize,
+    procedure: usize,
+    names: Vec<Reference>,
+) -> Result<Here, AllocError>
+    ensures { IfOk result (λ h. (p : Program) → here_of p h ≡ record {
+        place = place; unit = unit; level = level; variables = variables_of p (Some procedure); names = references_of names.items;
+        lent = references_of names.items ++ references_of (reverse outer.now.lent.items); selected = m.Unallocated }) }
+{
+    let lent = lending(alloc, &outer.lent, &names)?;
+    Ok(Here {
+        place,
+        unit,
+        level,
+        procedure: Some(procedure),
+        names,
+        lent,
+        selected: Value::Unallocated,
+    })
+}
+
+/// Within an ASSOCIATE with these objects of its names, which are lent (8.1.4).
+pub(crate) fn within_associate(alloc: Global, outer: &Here, objects: &[Reference]) -> Result<Here, AllocError>
+    ensures { IfOk result (λ h. (p : Program) → here_of p h ≡ associating (references_of objects.now) (here_of p outer.now)) }
+{
+    let lent = lending(alloc, &outer.lent, objects)?;
+    let names = joined(alloc, &outer.names, objects)?;
+    let selected = copies::value(alloc, &outer.selected)?;
+    Ok(Here {
+        place: outer.place,
+        unit: outer.unit,
+        level: outer.level,
+        procedure: outer.procedure,
+        names,
+        lent,
+        selected,
+    })
+}
+
+/// Copies of references, and of others behind them.
+fn joined(alloc: Global, first: &[Reference], second: &[Reference]) -> Result<Vec<Reference>, AllocError>
+    ensures { IfOk result (λ rs. references_of rs.items ≡ references_of first.now ++ references_of second.now) }
+{
+    let mut all = copies::references(alloc, first)?;
+    for reference in second {
+        all.push(copies::reference(alloc, reference)?)?;
+    }
+    Ok(all)
+}

@@ -1,0 +1,23 @@
+//! Ends of runs.
+
+use f3_meaning_whole::run_error::RunError;
+use f3_rules::source::Place;
+
+/// How a run of the machine ended.
+#[derive(Clone, Copy, PartialEq, Eq, Debug)]
+pub enum Ended {
+    /// The END of the main program (ISO/IEC 1539-1:2004, 11.1).
+    Done,
+    /// A STOP, with its number (8.4).
+    Stopped(Option<u32>),
+    /// An error, and the place of the statement.
+    Failed(RunError, Place),
+    /// All instructions that it might take were taken.
+    StepLimit,
+    /// The output refused bytes.
+    WriteFault,
+    /// A growth of the host's memory was refused.
+    Memory,
+    /// An instruction did not find what it takes, which no code of a program comes to.
+    Stuck,
+}
