@@ -1,9 +1,11 @@
 -- How instructions end.
-use Rattle.std.specs.Prelude.{⊤, ◌≡◌, ℕ, List, [], ◌∷◌, Result, Ok, Err}
+use Rattle.std.specs.Prelude.{⊤, ◌≡◌, ℕ, pos, List, [], ◌∷◌, length, Result, Ok, Err}
 use Rattle.f3_rules.specs.declared.source.Place.{Place}
 use Rattle.f3_program.specs.declared.program.Program.{Program}
 use Rattle.f3_meaning_whole.specs.Value as m
+use Rattle.f3_meaning_whole.specs.Ran.{◌>>=◌}
 use Rattle.f3_meaning_whole.specs.Act.{Setting, Here, at}
+use Rattle.f3_meaning_whole.specs.Eval.{built}
 use Rattle.f3_meaning_whole.specs.declared.run_error.RunError.{RunError}
 use Rattle.f3_code.specs.declared.instruction.Instruction.{Instruction}
 use Rattle.f3_code.specs.State.{Code, Next, Datum}
@@ -25,6 +27,12 @@ abbrev pub Finishes : Result Value RunError → Result ⊤ Stop → State → St
 Finishes given result old new = (p : Program) (code : Code) (place : Place) → Follows code
     (performs (value_ran given place) (world_of old.store) (λ y. on (state_of p old) (Datum y ∷ cells_of p old.stack.items))) result (state_of p new) place
 
+-- the same of what takes storage as it is built
+abbrev pub FinishesBuilt : Result Value RunError → Result ⊤ Stop → State → State → Type 0
+FinishesBuilt given result old new = (p : Program) (code : Code) (here : Here) → Follows code
+    (performs (value_ran given here.place >>= λ x. built x here) (world_of old.store) (λ y. on (state_of p old) (Datum y ∷ cells_of p old.stack.items))) result
+    (state_of p new) here.place
+
 -- An instruction does so where the state is, in whatever program, at whatever place and with whatever value of its line.
 abbrev pub DoesHere : Instruction → Result ⊤ Stop → State → State → Type 0
 DoesHere i result old new = (p : Program) (limit : ℕ) (g : Setting) (code : Code) (v : m.Value) (place : Place)
@@ -45,3 +53,7 @@ Performs code next (Err stop.Lost) to place a b = StopsBy code next stop.Lost pl
 abbrev pub Prints : Instruction → Result ⊤ Stop → State → State → o.State → o.State → Type 0
 Prints i result old new a b = (p : Program) (limit : ℕ) (g : Setting) (code : Code) (v : m.Value) (here : Here)
     → Performs code (act limit g code i v here (state_of p old)) result (state_of p new) here.place a b
+
+-- an array of rank 1 with these elements, from 1 on
+abbrev pub vector_of : List m.Value → m.Value
+vector_of vs = m.Array (record { lower = pos 1; extent = length vs } ∷ []) (m.joined vs)
