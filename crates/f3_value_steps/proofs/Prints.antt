@@ -37,7 +37,7 @@ printed next p mid new bytes a b h e w = (
   (
     map Printed bytes,
     e ∙ performs_prints bytes (world_of mid.store) (λ done. on (state_of p mid) (cells_of p mid.stack.items))
-        ∙ ap (λ t. Goes (map Printed bytes) (state_of p t)) (sym h),
+        ∙ ap (λ t. Goes (map Printed bytes) (state_of p t)) (sym h.is),
     output_printed bytes,
   ),
   w,

@@ -15,12 +15,13 @@ use Rattle.f3_output.specs.Output as o
 use Rattle.f3_output.specs.Output.{Wrote, Faulted}
 use Rattle.f3_data.specs.declared.value.Value.{Value}
 use Rattle.f3_shaping.specs.Results.{value_ran}
+use Rattle.f3_cells.specs.declared.scene.Scene.{Scene}
 use Rattle.f3_cells.specs.declared.state.State.{State}
 use Rattle.f3_cells.specs.declared.state.Stop.{Stop}
 use Rattle.f3_cells.specs.declared.state.Stop.TheVariants as stop
 use Rattle.f3_cells.specs.Cells.{here_of, cells_of}
 use Rattle.f3_cells.specs.Follows.{GoesOn, StopsBy, Follows}
-use Rattle.f3_cells.specs.States.{state_of, world_of}
+use Rattle.f3_cells.specs.States.{state_of, world_of, setting}
 
 -- what an operation gave goes on top of the stack, or its error ends the run at a place
 abbrev pub Finishes : Result Value RunError → Result ⊤ Stop → State → State → Type 0
@@ -37,6 +38,11 @@ FinishesBuilt given result old new = (p : Program) (code : Code) (here : Here) �
 abbrev pub DoesHere : Instruction → Result ⊤ Stop → State → State → Type 0
 DoesHere i result old new = (p : Program) (limit : ℕ) (g : Setting) (code : Code) (v : m.Value) (place : Place)
     → Follows code (act limit g code i v (at place (here_of p old.here)) (state_of p old)) result (state_of p new) place
+
+-- An instruction of a program does so in whatever code, at whatever place and with whatever value of its line.
+abbrev pub DoesOf : Scene → Instruction → Result ⊤ Stop → State → State → Type 0
+DoesOf x i result old new = (limit : ℕ) (code : Code) (v : m.Value) (here : Here)
+    → Follows code (act limit (setting x.program.now) code i v here (state_of x.program.now old)) result (state_of x.program.now new) here.place
 
 -- an instruction at a place did this in memory, and with the output before and now: what it prints was written
 abbrev pub Performs : Code → Next → Result ⊤ Stop → s.State → Place → o.State → o.State → Type 0

@@ -1,6 +1,6 @@
 //! Array and structure constructors.
 
-ghost use Rattle.std.specs.Prelude.{◌≡◌, ◌<◌, ◌^◌, IfOk, map};
+ghost use Rattle.std.specs.Prelude.{◌≡◌, ◌<◌, ◌^◌, [], ◌∷◌, ◌++◌, IfOk, OnOk, map};
 ghost use Rattle.f3_meaning_whole.specs.Act.{given};
 ghost use Rattle.f3_code.specs.declared.instruction.Instruction.TheVariants as instruction;
 ghost use Rattle.f3_data.specs.Values.{value_of, values_of};
@@ -15,15 +15,29 @@ use f3_cells::state::{State, Stop};
 use f3_data::value::{self, Span, Value};
 use std::alloc::{AllocError, Global};
 
+/// The value of an argument comes behind values; an object does not.
+fn push_given(values: &mut Vec<Value>, argument: Passed) -> Result<(), AllocError>
+    ensures { OnOk result (values_of values.new.items ≡ values_of values.old.items ++ given (passed_of argument ∷ [])) }
+{
+    match argument {
+        Passed::Given(_, value) => {
+            values.push(value)?;
+            Ok(())
+        }
+        Passed::Lent(_, object) => {
+            drop(object);
+            Ok(())
+        }
+    }
+}
+
 /// The values among arguments, in their order.
 fn given(alloc: Global, passed: Vec<Passed>) -> Result<Vec<Value>, AllocError>
     ensures { IfOk result (λ vs. values_of vs.items ≡ given (map passed_of passed.items)) }
 {
     let mut values = Vec::new(alloc);
     for argument in passed {
-        if let Passed::Given(_, value) = argument {
-            values.push(value)?;
-        }
+        push_given(&mut values, argument)?;
     }
     Ok(values)
 }
@@ -45,7 +59,11 @@ pub fn array(alloc: Global, state: &mut State, count: usize) -> Result<(), Stop>
     requires { state.old.pc < 2 ^ 63 }
     ensures { Does (instruction.Array count) result state.old state.new }
 {
-    let passed = pop_arguments(alloc, &mut state.stack, count)?;
+    let passed = match pop_arguments(alloc, &mut state.stack, count) {
+        Ok(passed) => passed,
+        Err(stop) => return Err(stop),
+    };
     let values = given(alloc, passed)?;
-    finish_built(state, Ok(vector(alloc, values)?))
+    let value = vector(alloc, values)?;
+    finish_built(state, Ok(value))
 }

@@ -7,3 +7,4 @@ pub mod operations;
 pub mod printing;
 pub mod queries;
 pub mod results;
+pub mod structures;

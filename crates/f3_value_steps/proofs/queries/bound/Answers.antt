@@ -8,10 +8,10 @@ use Rattle.f3_value_steps.proofs.Ends.{finished}
 use Rattle.f3_value_steps.proofs.queries.bound.Goals as goal
 
 pub returns-in_default : goal.returns-in_default
-returns-in_default c = λ p limit g code v here. is_stuck _ (c.in_default.ensures p _)
+returns-in_default c = λ p limit g code v here. is_stuck (c.in_default.ensures p _)
 
 pub returns-in_default-pop_bounds : goal.returns-in_default-pop_bounds
-returns-in_default-pop_bounds c = λ p limit g code v here. rw (c.in-Some.ensures p) (is_stuck _ (c.in_default-pop_bounds.ensures p _))
+returns-in_default-pop_bounds c = λ p limit g code v here. rw (c.in-Some.ensures p) (is_stuck (c.in_default-pop_bounds.ensures p _))
 
 pub returns : goal.returns
 returns c = λ p limit g code v here.

@@ -8,7 +8,7 @@ use Rattle.f3_value_steps.proofs.Ends.{finished}
 use Rattle.f3_value_steps.proofs.queries.size.Goals as goal
 
 pub returns-in_default : goal.returns-in_default
-returns-in_default c = λ p limit g code v here. is_stuck _ (c.in_default.ensures p _)
+returns-in_default c = λ p limit g code v here. is_stuck (c.in_default.ensures p _)
 
 pub returns : goal.returns
 returns c = λ p limit g code v here. finished code _ c.size_of-given.result (converted Integer (Number (pos (count (spans_of c.in-Some.spans.items)))) here.place)

@@ -4,7 +4,7 @@ use Rattle.f3_value_steps.proofs.Ends.{finished_built}
 use Rattle.f3_value_steps.proofs.results.result.Goals as goal
 
 pub returns-in_default : goal.returns-in_default
-returns-in_default c = λ p limit g code v here. is_stuck _ (c.in_default.ensures p _)
+returns-in_default c = λ p limit g code v here. is_stuck (c.in_default.ensures p _)
 
 pub returns : goal.returns
 returns c = λ p limit g code v here. finished_built code _ c.result_of.result _ c.finish_built.result here p
