@@ -1,20 +1,22 @@
 -- Components one by one.
 use Rattle.std.proofs.Common.{◌≡◌, ℕ, zero, suc, ◌+◌, ◌<◌, ◌≤◌, add-one, List, [], ◌∷◌, ◌++◌, length, take, drop, map, Option, None, Some, Result, Ok, Err, Bool, true, false, cond, eq-eqb, get_or, refl, sym, ap, ◌∙◌, arith}
-use Rattle.std.specs.Prelude.{⊤, nat_eq, if◌then◌else◌, slice_index_or}
+use Rattle.std.specs.Prelude.{⊤, IfOk, nat_eq, if◌then◌else◌, slice_index_or}
 use Rattle.std.proofs.Math.Seq.{drop-cons, get_or-append_seam}
 use Rattle.std.proofs.lemmas.List.{append-nil, drop_all, get_or_past, length-append, get_or_append_left}
 use Rattle.std.proofs.lemmas.Bool.{ne_eqb}
 use Rattle.f3_cells.specs.declared.cell.Passed as c
 use Rattle.f3_cells.specs.Cells.{passed_of}
 use Rattle.f3_program.specs.declared.declarations.Component.{Component}
+use Rattle.f3_program.specs.declared.declarations.Declared.{Declared}
 use Rattle.f3_program.specs.declared.declarations.Derived.{Derived}
 use Rattle.f3_meaning_whole.specs.Value as m
 use Rattle.f3_meaning_whole.specs.Value.{joined, none, more}
-use Rattle.f3_meaning_whole.specs.Store.{Store}
+use Rattle.f3_meaning_whole.specs.Store.{Store, get}
+use Rattle.f3_meaning_whole.specs.Reference.{Reference}
 use Rattle.f3_meaning_whole.specs.declared.run_error.RunError.{RunError}
-use Rattle.f3_meaning_whole.specs.Ran.{Event, World, End, Gives, Fails, Stops, Beyond, Outcome, Ran, after, ◌>>=◌, gives, fails, asks}
+use Rattle.f3_meaning_whole.specs.Ran.{Event, World, End, Gives, Fails, Stops, Beyond, Outcome, Ran, after, ◌>>=◌, gives, fails, looks, asks}
 use Rattle.f3_meaning_whole.specs.Shape.{Shape, Whole, Record, Parts, nothing, and, parts_in, shapes_from, shapes_of, shape_in, initial_of, initial_declared}
-use Rattle.f3_meaning_whole.specs.Act.{Here, Passed, Given, Lent, claim, claim_for, needs_storage, passed_at, fitted_argument, structure, components_of}
+use Rattle.f3_meaning_whole.specs.Act.{fitted_contents, Here, Passed, Given, Lent, claim, claim_for, needs_storage, passed_at, fitted_argument, structure, components_of}
 use Rattle.f3_code.specs.State.{State, Next, Goes, Stays, Failed}
 use Rattle.f3_code.specs.Machine.{ends_so, performs}
 use Rattle.f3_data.specs.declared.value.Value.{Value}
@@ -37,9 +39,9 @@ further_at k (Lent i r) ps h = ap (λ (b : Bool). cond b (Some (Lent i r)) (pass
 -- the argument of a number is not among those before
 pub still : (k i : ℕ) (ps : List c.Passed) (x d : c.Passed) → i < length ps → x ≡ get_or ps i d → (number_in (passed_of x) ≡ k → ⊥)
     → passed_at k (map passed_of (drop i ps)) ≡ passed_at k (map passed_of (drop (suc i) ps))
-still k i ps x d h e no =
+still k i ps x d h e other =
     ap (λ xs. passed_at k (map passed_of xs)) (drop-cons ps i d h)
-    ∙ further_at k (passed_of (get_or ps i d)) (map passed_of (drop (suc i) ps)) (λ n. no (ap (λ y. number_in (passed_of y)) e ∙ n))
+    ∙ further_at k (passed_of (get_or ps i d)) (map passed_of (drop (suc i) ps)) (λ n. other (ap (λ y. number_in (passed_of y)) e ∙ n))
 
 pub found_at : (k i : ℕ) (ps : List c.Passed) (x d : c.Passed) → i < length ps → x ≡ get_or ps i d → number_in (passed_of x) ≡ k
     → passed_at k (map passed_of (drop i ps)) ≡ Some (passed_of x)
@@ -186,3 +188,21 @@ of_none ts t v ps store h is = λ here f.
     ∙ performs_gives none (world_with store) (λ vs. f (m.Composite vs))
     ∙ ap (λ x. Goes [] (f x (world_with store))) (sym is)
     ∙ sym (performs_gives (value_of v) (world_with store) f)
+
+-- an object is read from the store
+pub takes_lent : {X : Type 0} (types : List Derived) (d : Declared) (ps : List Passed) (k : ℕ) (store : Store) (r : Result (Result Value RunError) X) (n : ℕ) (object : Reference) (v : m.Value)
+    → passed_at k ps ≡ Some (Lent n object) → v ≡ get store object.path → IfOk r (λ x. (here : Here) → value_ran x here.place ≡ fitted_contents d v here)
+    → IfOk r (λ x. Takes types d ps k store x)
+unfolding ◌>>=◌ looks
+takes_lent types d ps k store (Err x) n object v e f h = tt
+takes_lent types d ps k store (Ok x) n object v e f h = λ here.
+    let initial : m.Value = initial_declared d (initial_of (shape_in (shapes_of types) d.kind.of)) in
+    ap (λ (o : Option Passed). (fitted_argument d initial o here).from (world_with store)) e
+    ∙ ap (λ (u : m.Value). (fitted_contents d u here).from (world_with store)) (sym f)
+    ∙ ap (λ (m : Ran m.Value). m.from (world_with store)) (sym (h here))
+
+pub of_type_if : {X : Type 0} (ts : List Derived) (t : ℕ) (x d : Derived) (cs : List Component) (ps : List Passed) (store : Store) (r : Result (Result Value RunError) X) → t < length ts
+    → x ≡ get_or ts t d → cs ≡ x.components.items → IfOk r (λ b. Builds (parts_in (shapes_of (take t ts)) cs) ps store b)
+    → IfOk r (λ b. Builds (components_of (slice_index_or (shapes_of ts) t Whole)) ps store b)
+of_type_if ts t x d cs ps store (Err e) h i c b = tt
+of_type_if ts t x d cs ps store (Ok r) h i c b = of_type ts t x d cs ps store r h i c b

@@ -71,7 +71,11 @@ fn taken(
 {
     match argument_at(passed, number) {
         Some(Passed::Given(_, value)) => fitted(alloc, declared, copies::value(alloc, value)?),
-        Some(Passed::Lent(_, object)) => fitted_contents(alloc, declared, stored(alloc, store, &object.path)?),
+        Some(Passed::Lent(_, object)) => fitted_contents(
+            alloc,
+            declared,
+            stored(alloc, store, &object.path)?,
+        ),
         None => Ok(Ok(initial_declared(alloc, types, declared)?)),
     }
 }
@@ -90,7 +94,14 @@ fn built_of(
 {
     let mut values = Vec::new(alloc);
     for number in 0..components.len() {
-        match taken(alloc, types, &components[number].declared, passed, number, store)? {
+        match taken(
+            alloc,
+            types,
+            &components[number].declared,
+            passed,
+            number,
+            store,
+        )? {
             Ok(value) => values.push(value)?,
             Err(error) => return Ok(Err(error)),
         }
