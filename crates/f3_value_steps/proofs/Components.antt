@@ -1,6 +1,7 @@
 -- Components one by one.
-use Rattle.std.proofs.Common.{◌≡◌, ℕ, zero, suc, ◌+◌, ◌<◌, ◌≤◌, add-one, List, [], ◌∷◌, ◌++◌, length, take, drop, map, Option, None, Some, Result, Ok, Err, Bool, true, false, cond, eq-eqb, get_or, refl, sym, ap, ◌∙◌, arith}
-use Rattle.std.specs.Prelude.{⊤, IfOk, nat_eq, if◌then◌else◌, slice_index_or}
+use Rattle.std.proofs.Common.{◌≡◌, ℕ, zero, suc, ◌+◌, ◌<◌, ◌≤◌, add-one, List, [], ◌∷◌, ◌++◌, length, take, drop, map}
+use Rattle.std.proofs.Common.{Option, Some, Result, Ok, Err, Bool, true, false, cond, eq-eqb, get_or, refl, sym, ap, ◌∙◌, arith}
+use Rattle.std.specs.Prelude.{IfOk, if◌then◌else◌, slice_index_or}
 use Rattle.std.proofs.Math.Seq.{drop-cons, get_or-append_seam}
 use Rattle.std.proofs.lemmas.List.{append-nil, drop_all, get_or_past, length-append, get_or_append_left}
 use Rattle.std.proofs.lemmas.Bool.{ne_eqb}
@@ -15,9 +16,10 @@ use Rattle.f3_meaning_whole.specs.Store.{Store, get}
 use Rattle.f3_meaning_whole.specs.Reference.{Reference}
 use Rattle.f3_meaning_whole.specs.declared.run_error.RunError.{RunError}
 use Rattle.f3_meaning_whole.specs.Ran.{Event, World, End, Gives, Fails, Stops, Beyond, Outcome, Ran, after, ◌>>=◌, gives, fails, looks, asks}
-use Rattle.f3_meaning_whole.specs.Shape.{Shape, Whole, Record, Parts, nothing, and, parts_in, shapes_from, shapes_of, shape_in, initial_of, initial_declared}
-use Rattle.f3_meaning_whole.specs.Act.{fitted_contents, Here, Passed, Given, Lent, claim, claim_for, needs_storage, passed_at, fitted_argument, structure, components_of}
-use Rattle.f3_code.specs.State.{State, Next, Goes, Stays, Failed}
+use Rattle.f3_meaning_whole.specs.Shape.{Shape, Whole, Record, parts_in, shapes_from, shapes_of, shape_in, initial_of, initial_declared}
+use Rattle.f3_meaning_whole.specs.Act.{fitted_contents, Here, Passed, Given, Lent, claim}
+use Rattle.f3_meaning_whole.specs.Act.{claim_for, needs_storage, passed_at, fitted_argument, structure, components_of}
+use Rattle.f3_code.specs.State.{State, Goes, Stays, Failed}
 use Rattle.f3_code.specs.Machine.{ends_so, performs}
 use Rattle.f3_data.specs.declared.value.Value.{Value}
 use Rattle.f3_data.specs.Values.{value_of, values_of}
@@ -53,7 +55,8 @@ found_at k i ps x d h e n =
 -- ---- what follows a component
 
 then_so : {A B : Type 0} (out : List Event) (e : End A) (h : A → B) (f : B → World → State)
-    → ends_so (after (record { out = out; end = e }) (λ x. gives (h x))).out (after (record { out = out; end = e }) (λ x. gives (h x))).end f ≡ ends_so out e (λ x. f (h x))
+    → ends_so (after (record { out = out; end = e }) (λ x. gives (h x))).out
+    (after (record { out = out; end = e }) (λ x. gives (h x))).end f ≡ ends_so out e (λ x. f (h x))
 unfolding gives
 then_so out (Gives x w) h f = ap (λ es. Goes es (f (h x) w)) (append-nil out)
 then_so out (Fails error place) h f = refl
@@ -61,7 +64,8 @@ then_so out (Stops code) h f = refl
 then_so out Beyond h f = refl
 
 claimed : (v : m.Value) (here : Here) (store : Store) (b : Bool) (r : Ran m.Values) (f : m.Values → World → State)
-    → performs ((if b then claim here else gives tt) >>= λ done. r >>= λ vs. gives (more v vs)) (world_with store) f ≡ performs r (world_with store) (λ vs. f (more v vs))
+    → performs ((if b then claim here else gives tt) >>= λ done. r >>= λ vs. gives (more v vs)) (world_with store) f ≡ performs r (world_with store)
+    (λ vs. f (more v vs))
 unfolding ◌>>=◌ gives asks fails
 claimed v here store true r f = then_so (r.from (world_with store)).out (r.from (world_with store)).end (more v) f
 claimed v here store false r f = then_so (r.from (world_with store)).out (r.from (world_with store)).end (more v) f
@@ -69,7 +73,8 @@ claimed v here store false r f = then_so (r.from (world_with store)).out (r.from
 -- a component took a value
 pub takes_one : (r : Ran m.Value) (v : m.Value) (rest : Ran m.Values) (here : Here) (store : Store) (f : m.Values → World → State)
     → r.from (world_with store) ≡ (gives v).from (world_with store)
-    → performs (r >>= λ v. claim_for v here >>= λ done. rest >>= λ vs. gives (more v vs)) (world_with store) f ≡ performs rest (world_with store) (λ vs. f (more v vs))
+    → performs (r >>= λ v. claim_for v here >>= λ done. rest >>= λ vs. gives (more v vs)) (world_with store) f ≡ performs rest (world_with store)
+    (λ vs. f (more v vs))
 unfolding ◌>>=◌ gives
 takes_one r v rest here store f e =
     let g : m.Value → Ran m.Values = λ v. claim_for v here >>= λ done. rest >>= λ vs. gives (more v vs) in
@@ -114,7 +119,8 @@ pub so_far_more : (types : List Derived) (cs : List Component) (ps : List Passed
 so_far_more types cs ps store i found c d v h e before took = λ here f.
     let shapes : List Shape = shapes_of types in
     let rest : Ran m.Values = structure (parts_in shapes (drop (suc i) cs)) (suc i) ps here in
-    let is : Component → Ran m.Value = λ c. fitted_argument c.declared (initial_declared c.declared (initial_of (shape_in shapes c.declared.kind.of))) (passed_at i ps) here in
+    let is : Component → Ran m.Value = λ c. fitted_argument c.declared (initial_declared c.declared (initial_of (shape_in shapes c.declared.kind.of)))
+    (passed_at i ps) here in
     let g : m.Values → World → State = λ vs. f (ahead (values_of found) vs) in
     before here f
     ∙ ap (λ xs. performs (structure (parts_in shapes xs) i ps here) (world_with store) g) (drop-cons cs i d h)
@@ -124,13 +130,15 @@ so_far_more types cs ps store i found c d v h e before took = λ here f.
     ∙ ap (λ (h : m.Values → m.Values). performs (structure (parts_in shapes (drop (i + 1) cs)) (i + 1) ps here) (world_with store) (λ vs. f (h vs)))
     (fun_ext (λ vs. sym (ahead_more (values_of found) (value_of v) vs) ∙ ap (λ xs. ahead xs vs) (sym (values_more found v))))
 
-pub so_far_fails : (types : List Derived) (cs : List Component) (ps : List Passed) (store : Store) (i : ℕ) (found : List Value) (c d : Component) (error : RunError)
+pub so_far_fails : (types : List Derived) (cs : List Component) (ps : List Passed) (store : Store) (i : ℕ) (found : List Value) (c d : Component)
+    (error : RunError)
     → i < length cs → c ≡ get_or cs i d → SoFar (shapes_of types) cs ps store i found → Takes types c.declared ps i store (Err error)
     → Builds (parts_in (shapes_of types) cs) ps store (Err error)
 so_far_fails types cs ps store i found c d error h e before took = λ here f.
     let shapes : List Shape = shapes_of types in
     let rest : Ran m.Values = structure (parts_in shapes (drop (suc i) cs)) (suc i) ps here in
-    let is : Component → Ran m.Value = λ c. fitted_argument c.declared (initial_declared c.declared (initial_of (shape_in shapes c.declared.kind.of))) (passed_at i ps) here in
+    let is : Component → Ran m.Value = λ c. fitted_argument c.declared (initial_declared c.declared (initial_of (shape_in shapes c.declared.kind.of)))
+    (passed_at i ps) here in
     let g : m.Values → World → State = λ vs. f (m.Composite (ahead (values_of found) vs)) in
     before here (λ vs. f (m.Composite vs))
     ∙ ap (λ xs. performs (structure (parts_in shapes xs) i ps here) (world_with store) g) (drop-cons cs i d h)
@@ -153,7 +161,8 @@ so_far_all types cs ps store i found v h before is = λ here f.
 
 lengths : (ss : List Shape) (ts : List Derived) → length (shapes_from ss ts) ≡ length ss + length ts
 lengths ss [] = omega arith
-lengths ss (t ∷ ts) = let h : length (shapes_from (ss ++ Record (length ss) (parts_in ss t.components.items) ∷ []) ts) ≡ length (ss ++ Record (length ss) (parts_in ss t.components.items) ∷ []) + length ts = lengths _ ts in
+lengths ss (t ∷ ts) = let h : length (shapes_from (ss ++ Record (length ss) (parts_in ss t.components.items) ∷ []) ts) ≡ length
+    (ss ++ Record (length ss) (parts_in ss t.components.items) ∷ []) + length ts = lengths _ ts in
     omega (arith, length-append ss (Record (length ss) (parts_in ss t.components.items) ∷ []))
 
 kept : (ss : List Shape) (ts : List Derived) (i : ℕ) → i < length ss → slice_index_or (shapes_from ss ts) i Whole ≡ slice_index_or ss i Whole
@@ -168,14 +177,17 @@ tree_at ss [] k n x d h l e = absurd (omega arith)
 tree_at ss (t ∷ ts) zero n x d h l e =
     let r : Shape = Record (length ss) (parts_in ss t.components.items) in
     let same : n ≡ length ss = omega arith in
-    rw same (kept (ss ++ r ∷ []) ts (length ss) (omega (arith, length-append ss (r ∷ []))) ∙ get_or-append_seam ss r [] Whole ∙ ap (λ (y : Derived). Record (length ss) (parts_in ss y.components.items)) (sym e))
+    rw same (kept (ss ++ r ∷ []) ts (length ss) (omega (arith, length-append ss (r ∷ []))) ∙ get_or-append_seam ss r [] Whole
+    ∙ ap (λ (y : Derived). Record (length ss) (parts_in ss y.components.items)) (sym e))
 tree_at ss (t ∷ ts) (suc k) n x d h l e =
     let r : Shape = Record (length ss) (parts_in ss t.components.items) in
     tree_at (ss ++ r ∷ []) ts k n x d (omega (arith, length-append ss (r ∷ []))) (omega arith) e
 
 -- the components of a type, among the types before it
-pub of_type : (ts : List Derived) (t : ℕ) (x d : Derived) (cs : List Component) (ps : List Passed) (store : Store) (r : Result Value RunError) → t < length ts → x ≡ get_or ts t d
-    → cs ≡ x.components.items → Builds (parts_in (shapes_of (take t ts)) cs) ps store r → Builds (components_of (slice_index_or (shapes_of ts) t Whole)) ps store r
+pub of_type : (ts : List Derived) (t : ℕ) (x d : Derived) (cs : List Component) (ps : List Passed) (store : Store) (r : Result Value RunError)
+    → t < length ts → x ≡ get_or ts t d
+    → cs ≡ x.components.items → Builds (parts_in (shapes_of (take t ts)) cs) ps store r → Builds
+    (components_of (slice_index_or (shapes_of ts) t Whole)) ps store r
 of_type ts t x d cs ps store r h e is built = λ here f.
     ap (λ (s : Shape). performs (structure (components_of s) 0 ps here) (world_with store) (λ vs. f (m.Composite vs))) (tree_at [] ts t t x d (omega arith) h e)
     ∙ ap (λ xs. performs (structure (parts_in (shapes_of (take t ts)) xs) 0 ps here) (world_with store) (λ vs. f (m.Composite vs))) (sym is)
@@ -184,13 +196,15 @@ of_type ts t x d cs ps store r h e is built = λ here f.
 pub of_none : (ts : List Derived) (t : ℕ) (v : Value) (ps : List Passed) (store : Store) → length ts ≤ t → value_of v ≡ m.Composite none
     → Builds (components_of (slice_index_or (shapes_of ts) t Whole)) ps store (Ok v)
 of_none ts t v ps store h is = λ here f.
-    ap (λ (s : Shape). performs (structure (components_of s) 0 ps here) (world_with store) (λ vs. f (m.Composite vs))) (get_or_past (shapes_of ts) t Whole (omega (arith, lengths [] ts)))
+    ap (λ (s : Shape). performs (structure (components_of s) 0 ps here) (world_with store) (λ vs. f (m.Composite vs)))
+    (get_or_past (shapes_of ts) t Whole (omega (arith, lengths [] ts)))
     ∙ performs_gives none (world_with store) (λ vs. f (m.Composite vs))
     ∙ ap (λ x. Goes [] (f x (world_with store))) (sym is)
     ∙ sym (performs_gives (value_of v) (world_with store) f)
 
 -- an object is read from the store
-pub takes_lent : {X : Type 0} (types : List Derived) (d : Declared) (ps : List Passed) (k : ℕ) (store : Store) (r : Result (Result Value RunError) X) (n : ℕ) (object : Reference) (v : m.Value)
+pub takes_lent : {X : Type 0} (types : List Derived) (d : Declared) (ps : List Passed) (k : ℕ) (store : Store) (r : Result (Result Value RunError) X)
+    (n : ℕ) (object : Reference) (v : m.Value)
     → passed_at k ps ≡ Some (Lent n object) → v ≡ get store object.path → IfOk r (λ x. (here : Here) → value_ran x here.place ≡ fitted_contents d v here)
     → IfOk r (λ x. Takes types d ps k store x)
 unfolding ◌>>=◌ looks
@@ -201,7 +215,8 @@ takes_lent types d ps k store (Ok x) n object v e f h = λ here.
     ∙ ap (λ (u : m.Value). (fitted_contents d u here).from (world_with store)) (sym f)
     ∙ ap (λ (m : Ran m.Value). m.from (world_with store)) (sym (h here))
 
-pub of_type_if : {X : Type 0} (ts : List Derived) (t : ℕ) (x d : Derived) (cs : List Component) (ps : List Passed) (store : Store) (r : Result (Result Value RunError) X) → t < length ts
+pub of_type_if : {X : Type 0} (ts : List Derived) (t : ℕ) (x d : Derived) (cs : List Component) (ps : List Passed) (store : Store)
+    (r : Result (Result Value RunError) X) → t < length ts
     → x ≡ get_or ts t d → cs ≡ x.components.items → IfOk r (λ b. Builds (parts_in (shapes_of (take t ts)) cs) ps store b)
     → IfOk r (λ b. Builds (components_of (slice_index_or (shapes_of ts) t Whole)) ps store b)
 of_type_if ts t x d cs ps store (Err e) h i c b = tt

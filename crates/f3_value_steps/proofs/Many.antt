@@ -1,6 +1,5 @@
 -- Arguments that are taken.
-use Rattle.std.proofs.Common.{◌≡◌, ℕ, List, [], ◌∷◌, ◌++◌, map, Option, Result, Ok, Err, refl, sym, ap, ◌∙◌}
-use Rattle.std.specs.Prelude.{⊤}
+use Rattle.std.proofs.Common.{◌≡◌, ℕ, List, [], ◌∷◌, ◌++◌, map, Option, Err, refl, sym, ap, ◌∙◌}
 use Rattle.std.proofs.lemmas.List.{map-append}
 use Rattle.f3_rules.specs.declared.source.Place.{Place}
 use Rattle.f3_program.specs.declared.program.Program.{Program}
@@ -24,7 +23,8 @@ use Rattle.f3_cells.specs.Follows.{Follows}
 use Rattle.f3_cells.specs.Popped.{PoppedMany}
 
 -- there are not so many of them
-pub not_popped : {X Y : Type 0} (view : X → Y) (of : s.Cell → Option Y) (k : ℕ) (e : Stop) (old new : List Cell) (code : Code) (p : Program) (f : List Y → List s.Cell → Next)
+pub not_popped : {X Y : Type 0} (view : X → Y) (of : s.Cell → Option Y) (k : ℕ) (e : Stop) (old new : List Cell) (code : Code) (p : Program)
+    (f : List Y → List s.Cell → Next)
     (to : s.State) (place : Place) → PoppedMany view of k (Err e) old new → Follows code (on_many of k [] (cells_of p old) f) (Err e) to place
 not_popped view of k stop.Stuck old new code p f to place h = ([], h p f, refl)
 not_popped view of k stop.Memory old new code p f to place h = tt
@@ -40,12 +40,15 @@ given_append (a.Given k v ∷ ps) qs = ap (λ vs. v ∷ vs) (given_append ps qs)
 given_append (a.Lent k r ∷ ps) qs = given_append ps qs
 
 -- one more argument
-pub given_more : (xs : List Passed) (x : Passed) (vs ws : List Value) → values_of vs ≡ given (map passed_of xs) → values_of ws ≡ values_of vs ++ given (passed_of x ∷ [])
+pub given_more : (xs : List Passed) (x : Passed) (vs ws : List Value) → values_of vs ≡ given (map passed_of xs)
+    → values_of ws ≡ values_of vs ++ given (passed_of x ∷ [])
     → values_of ws ≡ given (map passed_of (xs ++ x ∷ []))
 given_more xs x vs ws before more =
-    more ∙ ap (λ us. us ++ given (passed_of x ∷ [])) before ∙ sym (given_append (map passed_of xs) (passed_of x ∷ [])) ∙ ap given (sym (map-append passed_of xs (x ∷ [])))
+    more ∙ ap (λ us. us ++ given (passed_of x ∷ [])) before ∙ sym (given_append (map passed_of xs) (passed_of x ∷ []))
+    ∙ ap given (sym (map-append passed_of xs (x ∷ [])))
 
-performs_given : (v : m.Value) (here : a.Here) (w : World) (f : m.Value → World → s.State) → performs (gives v >>= λ x. built x here) w f ≡ performs (built v here) w f
+performs_given : (v : m.Value) (here : a.Here) (w : World) (f : m.Value → World → s.State) → performs (gives v >>= λ x. built x here) w f ≡ performs
+    (built v here) w f
 unfolding ◌>>=◌ gives
 performs_given v here w f = refl
 

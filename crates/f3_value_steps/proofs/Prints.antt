@@ -2,7 +2,7 @@
 use Rattle.std.proofs.Common.{◌≡◌, ℕ, ◌+◌, List, [], ◌∷◌, map, refl, sym, ap, ◌∙◌}
 use Rattle.std.specs.Prelude.{⊤}
 use Rattle.f3_program.specs.declared.program.Program.{Program}
-use Rattle.f3_meaning_whole.specs.Ran.{Event, Printed, World, replayed, does, prints_bytes}
+use Rattle.f3_meaning_whole.specs.Ran.{Printed, World, replayed, does, prints_bytes}
 use Rattle.f3_meaning_whole.specs.Store.{Store}
 use Rattle.f3_meaning_whole.specs.Run.{output}
 use Rattle.f3_output.specs.Output as o

@@ -36,7 +36,8 @@ fn number_of(argument: &Passed) -> usize
 
 /// The first argument with a number.
 fn argument_at(passed: &[Passed], number: usize) -> Option<&Passed>
-    ensures { MatchOption result (passed_at number (map passed_of passed.now) ≡ None) (λ x. passed_at number (map passed_of passed.now) ≡ Some (passed_of x.now)) }
+    ensures { MatchOption result (passed_at number (map passed_of passed.now) ≡ None)
+        (λ x. passed_at number (map passed_of passed.now) ≡ Some (passed_of x.now)) }
 {
     for argument in passed {
         if number_of(argument) == number {

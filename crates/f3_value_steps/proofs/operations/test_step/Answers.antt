@@ -15,4 +15,5 @@ returns-then-number_of-eq0 c = λ p limit g code v here.
 pub returns : goal.returns
 returns c = λ p limit g code v here.
     moved_on p c.advance.ensures
-    (step_is_none _ _ _ c.number_of.result here _ _ (c.in-Some.ensures p) c.number_of.ensures (other_is c.number_of.result (λ e. c.if-number_of-eq0.false (omega (arith, ints)))))
+    (step_is_none _ _ _ c.number_of.result here _ _ (c.in-Some.ensures p) c.number_of.ensures
+    (other_is c.number_of.result (λ e. c.if-number_of-eq0.false (omega (arith, ints)))))

@@ -18,5 +18,6 @@ returns c = λ p limit g code v here.
     let z = to_z-of_z w64 c.number_of-dimension.result (record { sfits = c.number_of-dimension.type_inv }) ∙ c.number_of-dimension.ensures in
     finished code _ c.asked-given.result (asked c.args.query (spans_of c.in-Some-pop_bounds.spans.items) (number_of (value_of c.in-Some.value)) here)
     c.finish.result here.place p (record c.args.state.now { stack = c.pop_bounds.new.stack }) c.finish.new.state c.finish.ensures
-    (c.asked-given.ensures here ∙ ap (λ ss. asked c.args.query (spans_of ss) (to_z w64 (of_z w64 c.number_of-dimension.result)) here) c.deref.ensures.value ∙ ap (λ d. asked c.args.query (spans_of c.in-Some-pop_bounds.spans.items) d here) z)
+    (c.asked-given.ensures here ∙ ap (λ ss. asked c.args.query (spans_of ss) (to_z w64 (of_z w64 c.number_of-dimension.result)) here) c.deref.ensures.value
+    ∙ ap (λ d. asked c.args.query (spans_of c.in-Some-pop_bounds.spans.items) d here) z)
     (rw (c.in-Some.ensures p, c.in-Some-pop_bounds.ensures p) refl)

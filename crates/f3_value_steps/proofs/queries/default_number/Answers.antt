@@ -1,4 +1,4 @@
-use Rattle.std.proofs.Common.{sym, ap, ◌∙◌, w64}
+use Rattle.std.proofs.Common.{ap, ◌∙◌, w64}
 use Rattle.std.specs.Int.{w128}
 use Rattle.std.proofs.lemmas.Int.{to_z-of_z}
 use Rattle.f3_program.specs.declared.declarations.Base.TheVariants.{Integer}

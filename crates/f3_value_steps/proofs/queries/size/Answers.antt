@@ -11,6 +11,7 @@ pub returns-in_default : goal.returns-in_default
 returns-in_default c = λ p limit g code v here. is_stuck (c.in_default.ensures p _)
 
 pub returns : goal.returns
-returns c = λ p limit g code v here. finished code _ c.size_of-given.result (converted Integer (Number (pos (count (spans_of c.in-Some.spans.items)))) here.place)
+returns c = λ p limit g code v here. finished code _ c.size_of-given.result
+    (converted Integer (Number (pos (count (spans_of c.in-Some.spans.items)))) here.place)
     c.finish.result here.place p (record c.args.state.now { stack = c.pop_bounds.new.stack }) c.finish.new.state c.finish.ensures
     (rw (← c.deref.ensures.value) (c.size_of-given.ensures here.place)) (rw (c.in-Some.ensures p) refl)

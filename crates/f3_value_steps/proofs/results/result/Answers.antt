@@ -8,4 +8,5 @@ returns-in_default c = λ p limit g code v here. is_stuck (c.in_default.ensures 
 
 pub returns : goal.returns
 returns c = λ p limit g code v here. finished_built code _ c.result_of.result _ c.finish_built.result here p
-    (record c.args.state.now { stack = c.pop_datum.new.stack }) c.finish_built.new.state c.finish_built.ensures (c.result_of.ensures here) (rw (c.in-Some.ensures p) refl)
+    (record c.args.state.now { stack = c.pop_datum.new.stack }) c.finish_built.new.state c.finish_built.ensures (c.result_of.ensures here)
+    (rw (c.in-Some.ensures p) refl)

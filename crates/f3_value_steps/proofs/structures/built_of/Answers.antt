@@ -23,5 +23,6 @@ loop-number-preserved c =
     (subst (λ r. Takes c.args.types.now x.declared ps c.loop-number.number (store_of c.args.store.now) r) c.in-Ok.is (c.in_ok-value.ensures {u = tt})))
 
 pub returns : goal.returns
-returns c = so_far_all c.args.types.now c.args.components.now (map passed_of c.args.passed.now) (store_of c.args.store.now) c.loop-number.number c.loop-number.values.items
+returns c = so_far_all c.args.types.now c.args.components.now (map passed_of c.args.passed.now) (store_of c.args.store.now) c.loop-number.number
+    c.loop-number.values.items
     c.composite.result (omega arith) c.loop-number.invariant c.composite.ensures

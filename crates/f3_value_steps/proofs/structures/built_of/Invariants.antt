@@ -1,4 +1,4 @@
-use Rattle.std.proofs.Common.{◌≡◌, map}
+use Rattle.std.proofs.Common.{map}
 use Rattle.f3_meaning_whole.specs.Shape.{shapes_of}
 use Rattle.f3_data.specs.Stores.{store_of}
 use Rattle.f3_cells.specs.Cells.{passed_of}

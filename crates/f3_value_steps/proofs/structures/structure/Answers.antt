@@ -1,4 +1,4 @@
-use Rattle.std.proofs.Common.{◌∷◌, map, refl, ◌∙◌}
+use Rattle.std.proofs.Common.{◌∷◌, refl, ◌∙◌}
 use Rattle.f3_code.specs.State.{Datum}
 use Rattle.f3_code.specs.Machine.{argument_of, on}
 use Rattle.f3_shaping.specs.Results.{value_ran}
@@ -9,7 +9,8 @@ use Rattle.f3_value_steps.proofs.Ends.{finished}
 use Rattle.f3_value_steps.proofs.structures.structure.Goals as goal
 
 pub returns-in-Err : goal.returns-in-Err
-returns-in-Err c = λ limit code v here. not_popped passed_of argument_of c.args.count c.in-Err.stop c.args.state.now.stack.items c.pop_arguments.new.stack.items code
+returns-in-Err c = λ limit code v here. not_popped passed_of argument_of c.args.count c.in-Err.stop c.args.state.now.stack.items
+    c.pop_arguments.new.stack.items code
     c.args.scene.now.program.now _ (state_of c.args.scene.now.program.now c.args.state.now) here.place (c.in-Err.ensures {u = tt})
 
 pub returns : goal.returns

@@ -11,5 +11,6 @@ returns-then-of-types c = of_none c.args.types.now c.args.of c.composite.result 
     (c.composite.ensures ∙ ap (λ xs. m.Composite (m.joined (values_of xs))) c.new.ensures.items)
 
 pub returns : goal.returns
-returns c = of_type_if c.args.types.now c.args.of (get_or c.args.types.now c.args.of c.index-types-of.result) c.index-types-of.result c.deref.result.now (map passed_of c.args.passed.now) (store_of c.args.store.now) c.built_of.result
+returns c = of_type_if c.args.types.now c.args.of (get_or c.args.types.now c.args.of c.index-types-of.result) c.index-types-of.result c.deref.result.now
+    (map passed_of c.args.passed.now) (store_of c.args.store.now) c.built_of.result
     (omega arith) refl c.deref.ensures.value c.built_of.ensures
