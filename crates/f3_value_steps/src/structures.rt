@@ -94,15 +94,8 @@ fn built_of(
     ensures { IfOk result (λ r. Builds (parts_in (shapes_of types.now) components.now) (map passed_of passed.now) (store_of store.now) r) }
 {
     let mut values = Vec::new(alloc);
-    for number in 0..components.len() {
-        match taken(
-            alloc,
-            types,
-            &components[number].declared,
-            passed,
-            number,
-            store,
-        )? {
+    for (number, component) in components.iter().enumerate() {
+        match taken(alloc, types, &component.declared, passed, number, store)? {
             Ok(value) => values.push(value)?,
             Err(error) => return Ok(Err(error)),
         }
