@@ -1,2 +1,4 @@
 pub mod Ends
+pub mod Many
 pub mod Prints
+pub mod Components

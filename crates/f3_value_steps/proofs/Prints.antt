@@ -2,7 +2,7 @@
 use Rattle.std.proofs.Common.{◌≡◌, ℕ, ◌+◌, List, [], ◌∷◌, map, refl, sym, ap, ◌∙◌}
 use Rattle.std.specs.Prelude.{⊤}
 use Rattle.f3_program.specs.declared.program.Program.{Program}
-use Rattle.f3_meaning_whole.specs.Ran.{Event, Printed, World, replayed, does, prints_bytes}
+use Rattle.f3_meaning_whole.specs.Ran.{Printed, World, replayed, does, prints_bytes}
 use Rattle.f3_meaning_whole.specs.Store.{Store}
 use Rattle.f3_meaning_whole.specs.Run.{output}
 use Rattle.f3_output.specs.Output as o
@@ -37,7 +37,7 @@ printed next p mid new bytes a b h e w = (
   (
     map Printed bytes,
     e ∙ performs_prints bytes (world_of mid.store) (λ done. on (state_of p mid) (cells_of p mid.stack.items))
-        ∙ ap (λ t. Goes (map Printed bytes) (state_of p t)) (sym h),
+        ∙ ap (λ t. Goes (map Printed bytes) (state_of p t)) (sym h.is),
     output_printed bytes,
   ),
   w,

@@ -6,7 +6,7 @@ use Rattle.f3_value_steps.proofs.Ends.{step_is_zero, step_is_none}
 use Rattle.f3_value_steps.proofs.operations.test_step.Goals as goal
 
 pub returns-in_default : goal.returns-in_default
-returns-in_default c = λ p limit g code v here. is_stuck _ (c.in_default.ensures p _)
+returns-in_default c = λ p limit g code v here. is_stuck (c.in_default.ensures p _)
 
 pub returns-then-number_of-eq0 : goal.returns-then-number_of-eq0
 returns-then-number_of-eq0 c = λ p limit g code v here.
@@ -14,5 +14,6 @@ returns-then-number_of-eq0 c = λ p limit g code v here.
 
 pub returns : goal.returns
 returns c = λ p limit g code v here.
-    moved_on _ p c.args.state.now _ c.advance.ensures
-    (step_is_none _ _ _ c.number_of.result here _ _ (c.in-Some.ensures p) c.number_of.ensures (other_is c.number_of.result (λ e. c.if-number_of-eq0.false (omega (arith, ints)))))
+    moved_on p c.advance.ensures
+    (step_is_none _ _ _ c.number_of.result here _ _ (c.in-Some.ensures p) c.number_of.ensures
+    (other_is c.number_of.result (λ e. c.if-number_of-eq0.false (omega (arith, ints)))))

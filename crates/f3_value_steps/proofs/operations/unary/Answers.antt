@@ -4,8 +4,9 @@ use Rattle.f3_value_steps.proofs.Ends.{finished}
 use Rattle.f3_value_steps.proofs.operations.unary.Goals as goal
 
 pub returns-in_default : goal.returns-in_default
-returns-in_default c = λ p limit g code v here. is_stuck _ (c.in_default.ensures p _)
+returns-in_default c = λ p limit g code v here. is_stuck (c.in_default.ensures p _)
 
 pub returns : goal.returns
-returns c = λ p limit g code v here. finished code _ c.unary-given.result _ c.finish.result here.place p (record c.args.state.now { stack = c.pop_datum.new.stack }) c.finish.new.state c.finish.ensures
+returns c = λ p limit g code v here. finished code _ c.unary-given.result _ c.finish.result here.place p
+    (record c.args.state.now { stack = c.pop_datum.new.stack }) c.finish.new.state c.finish.ensures
     (c.unary-given.ensures here.place) (rw (c.in-Some.ensures p) refl)

@@ -1,0 +1,17 @@
+use Rattle.std.proofs.Common.{refl, w64}
+use Rattle.std.proofs.lemmas.Int.{to_z-of_z}
+use Rattle.f3_cells.proofs.Steps.{is_stuck, went_on}
+use Rattle.f3_value_steps.proofs.queries.dimension.Goals as goal
+
+pub returns-in_default : goal.returns-in_default
+returns-in_default c = λ p limit g code v here. is_stuck (c.in_default.ensures p _)
+
+pub returns-in_default-pop_datum : goal.returns-in_default-pop_datum
+returns-in_default-pop_datum c = λ p limit g code v here. rw (c.in-Some.ensures p) (is_stuck (c.in_default-pop_datum.ensures p _))
+
+pub returns : goal.returns
+returns c = λ p limit g code v here.
+    let l = to_z-of_z w64 c.number_of-lower.result (record { sfits = c.number_of-lower.type_inv }) in
+    let u = to_z-of_z w64 c.number_of-upper.result (record { sfits = c.number_of-upper.type_inv }) in
+    went_on code here.place p c.go_on_with.ensures
+    (rw (c.in-Some.ensures p, c.in-Some-pop_datum.ensures p, c.turns.ensures, l, u, c.number_of-lower.ensures, c.number_of-upper.ensures) refl)
