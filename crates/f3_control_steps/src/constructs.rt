@@ -4,6 +4,7 @@ ghost use Rattle.std.specs.Prelude.{◌≡◌, ◌<◌, ◌^◌, IfOk};
 ghost use Rattle.f3_rules.specs.declared.source.Place.{Place};
 ghost use Rattle.f3_code.specs.declared.instruction.Instruction.TheVariants.{Begin, SetPlace, Meets, Selecting, Leave, Depart, SelectVariable, SelectValue, Associated, NextObject, CountNext, Discard, Finish};
 ghost use Rattle.f3_code.specs.declared.instruction.Instruction.TheVariants as instruction;
+ghost use Rattle.f3_arithmetic.specs.Turns.{turns_of};
 ghost use Rattle.f3_program.specs.declared.program.Program.{Program};
 ghost use Rattle.f3_meaning_whole.specs.Act.{selecting};
 ghost use Rattle.f3_data.specs.Values.{value_of};
@@ -21,7 +22,7 @@ use f3_data::value::Value;
 use f3_program::declarations::Base;
 use f3_program::statement::Range;
 use f3_rules::source::Place;
-use crate::lists::reversed;
+use crate::lists::{next_of, reversed};
 use f3_shaping::operators;
 use std::alloc::{AllocError, Global};
 use std::mem;
@@ -130,7 +131,7 @@ pub fn leave(state: &mut State, way: Way, distance: usize, total: usize) -> Resu
         return Err(Stop::Stuck);
     };
     let flow = flow_of(way, state.here.place);
-    state.here = outer;
+    drop(mem::replace(&mut state.here, outer));
     state.ahead_with(Cell::Going(flow), distance, total)
 }
 
@@ -199,11 +200,18 @@ pub fn next_object(state: &mut State, distance: usize, total: usize) -> Result<(
     let Some(mut objects) = pop_objects(&mut state.stack) else {
         return Err(Stop::Stuck);
     };
-    let Some(object) = objects.pop() else {
+    let Some(object) = next_of(&mut objects) else {
         return state.ahead_with(Cell::Objects(objects), distance, total);
     };
     push(&mut state.stack, Cell::Objects(objects))?;
     state.go_on_with(Cell::Object(object))
+}
+
+/// How many turns follow the first of so many, if there is one.
+fn fewer(turns: u64) -> Option<u64>
+    ensures { turns_of result ≡ turns }
+{
+    turns.checked_sub(1)
 }
 
 /// The next turn of a DO, or so far on where there is none (8.1.6.4.2).
@@ -215,7 +223,7 @@ pub fn count_next(state: &mut State, distance: usize, total: usize) -> Result<()
         return Err(Stop::Stuck);
     };
     match turns {
-        Some(others) => state.go_on_with(Cell::Turns(others.checked_sub(1), step)),
+        Some(others) => state.go_on_with(Cell::Turns(fewer(others), step)),
         None => state.ahead_with(Cell::Turns(None, step), distance, total),
     }
 }

@@ -1,6 +1,9 @@
 //! Where the next line is.
 
-ghost use Rattle.std.specs.Prelude.{◌<◌, ◌^◌};
+ghost use Rattle.std.specs.Prelude.{◌≡◌, ◌<◌, ◌^◌};
+ghost use Rattle.f3_meaning_whole.specs.Value.{number_of};
+ghost use Rattle.f3_meaning_whole.specs.Arithmetic.{is_zero};
+ghost use Rattle.f3_data.specs.Values.{value_of};
 ghost use Rattle.f3_code.specs.declared.instruction.Instruction.TheVariants.{GoOn, GoBack, SkipIfFalse, SkipIfTrue, SkipIfFailed, Finish, Check, NoError, TestStep, Drop, Unwind, Swap};
 ghost use Rattle.f3_cells.specs.Follows.{Does, DoesIn};
 
@@ -8,7 +11,7 @@ use f3_cells::cell::Cell;
 use f3_cells::look::datum_at;
 use f3_cells::stacks::{drop_cells, let_go, pop_any, pop_datum, pop_status, push};
 use f3_cells::state::{State, Stop};
-use f3_data::value::{number_of, truth_of};
+use f3_data::value::{Value, number_of, truth_of};
 use f3_meaning_whole::run_error::RunError;
 
 /// So far on.
@@ -105,6 +108,13 @@ pub fn check(state: &mut State) -> Result<(), Stop>
     }
 }
 
+/// Whether a value is the number 0, or none.
+fn is_zero(value: &Value) -> bool
+    ensures { result ≡ is_zero (number_of (value_of value.now)) }
+{
+    number_of(value) == 0
+}
+
 /// An error where a step is zero (own rule for 8.1.6.4.1).
 pub fn test_step(state: &mut State) -> Result<(), Stop>
     requires { state.old.pc < 2 ^ 63 }
@@ -113,7 +123,7 @@ pub fn test_step(state: &mut State) -> Result<(), Stop>
     let Some(value) = datum_at(&state.stack, 0) else {
         return Err(Stop::Stuck);
     };
-    if number_of(value) == 0 {
+    if is_zero(value) {
         return Err(Stop::Failed(RunError::StepIsZero));
     }
     state.advance();

@@ -2,6 +2,7 @@
 
 ghost use Rattle.std.specs.Prelude.{◌≡◌, IfOk, reverse};
 ghost use Rattle.f3_data.specs.References.{references_of};
+ghost use Rattle.f3_control_steps.specs.Nexts.{TakenNext};
 
 use f3_data::copies;
 use f3_data::reference::Reference;
@@ -14,4 +15,11 @@ pub(crate) fn reversed(alloc: Global, objects: &[Reference]) -> Result<Vec<Refer
     let mut all = copies::references(alloc, objects)?;
     all.reverse();
     Ok(all)
+}
+
+/// The next of some objects, the first at the end, which is taken.
+pub(crate) fn next_of(objects: &mut Vec<Reference>) -> Option<Reference>
+    ensures { TakenNext result objects.old.items objects.new.items }
+{
+    objects.pop()
 }

@@ -5,4 +5,4 @@ pub returns-in_default : goal.returns-in_default
 returns-in_default c = λ p limit g code v here. is_stuck (c.in_default.ensures p _)
 
 pub returns : goal.returns
-returns c = λ p limit g code v here. went_on code here.place p c.go_on_with.ensures (rw (c.in-Some.ensures p, c.in_ok-inner.ensures p, c.replace.ensures) ?)
+returns c = λ p limit g code v here. went_on code here.place p c.go_on_with.ensures (rw (c.in-Some.ensures p, c.in_ok-inner.ensures p) ?)

@@ -1,5 +1,5 @@
 use Rattle.std.proofs.Common.{refl}
-use Rattle.f3_cells.proofs.Steps.{is_stuck, went_on, of_memory}
+use Rattle.f3_cells.proofs.Steps.{is_stuck, went_on}
 use Rattle.f3_control_steps.proofs.jumps.swap.Goals as goal
 
 pub returns-in_default : goal.returns-in_default
@@ -7,9 +7,6 @@ returns-in_default c = λ p limit g code v here. is_stuck (c.in_default.ensures 
 
 pub returns-in_default-pop_any : goal.returns-in_default-pop_any
 returns-in_default-pop_any c = λ p limit g code v here. rw (c.in-Some.ensures p) (is_stuck (c.in_default-pop_any.ensures p _))
-
-pub returns-in_err-push : goal.returns-in_err-push
-returns-in_err-push c = λ p limit g code v here. of_memory code _ _ _ here.place c.in_err-push.ensures
 
 pub returns : goal.returns
 returns c = λ p limit g code v here. went_on code here.place p c.go_on_with.ensures (rw (c.in-Some.ensures p, c.in-Some-pop_any.ensures p, c.in_ok-push.ensures p) refl)
