@@ -2,6 +2,7 @@
 #![tactic(auto)]
 
 pub mod constructs;
+pub mod dummies;
 pub mod jumps;
 mod lists;
 pub mod values;
