@@ -12,9 +12,12 @@ ghost use Rattle.f3_code.specs.Machine as machine;
 ghost use Rattle.f3_cells.specs.Cells.{flow_of, here_of};
 ghost use Rattle.f3_cells.specs.Follows.{Does, DoesAt, DoesIn};
 
+use crate::lists::{next_of, reversed};
 use f3_cells::cell::{Association, Cell, Flow, Here};
 use f3_cells::look::{going_at, level_at};
-use f3_cells::stacks::{pop_datum, pop_going, pop_object, pop_objects, pop_outside, pop_turns, push};
+use f3_cells::stacks::{
+    pop_datum, pop_going, pop_object, pop_objects, pop_outside, pop_turns, push,
+};
 use f3_cells::state::{State, Stop};
 use f3_code::instruction::Way;
 use f3_data::copies;
@@ -22,7 +25,6 @@ use f3_data::value::Value;
 use f3_program::declarations::Base;
 use f3_program::statement::Range;
 use f3_rules::source::Place;
-use crate::lists::{next_of, reversed};
 use f3_shaping::operators;
 use std::alloc::{AllocError, Global};
 use std::mem;

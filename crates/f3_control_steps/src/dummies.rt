@@ -33,10 +33,11 @@ pub fn dummies(alloc: Global, state: &mut State) -> Result<(), Stop>
 fn latest(frames: &Vec<Frame>) -> Option<&Frame>
     ensures { MatchOption result (HasNoFrame frames.now.items) (λ f. HasLatest frames.now.items f.now) }
 {
-    if frames.is_empty() {
+    let count = frames.len();
+    if count == 0 {
         None
     } else {
-        Some(&frames[frames.len() - 1])
+        Some(&frames[count - 1])
     }
 }
 
@@ -86,7 +87,12 @@ fn is_argument_held(frames: &Vec<Frame>, number: usize) -> bool
 }
 
 /// The next of some objects where the argument of a number is a held value, else so far on.
-pub fn next_argument(state: &mut State, number: usize, distance: usize, total: usize) -> Result<(), Stop>
+pub fn next_argument(
+    state: &mut State,
+    number: usize,
+    distance: usize,
+    total: usize,
+) -> Result<(), Stop>
     requires { state.old.pc < 2 ^ 63 }
     ensures { DoesIn total (NextArgument number distance) result state.old state.new }
 {

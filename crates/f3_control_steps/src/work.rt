@@ -74,7 +74,12 @@ fn has_rank(object: &Reference, rank: usize) -> bool
 }
 
 /// So far on where the object is of another rank than this.
-pub fn skip_unless_rank(state: &mut State, rank: usize, distance: usize, total: usize) -> Result<(), Stop>
+pub fn skip_unless_rank(
+    state: &mut State,
+    rank: usize,
+    distance: usize,
+    total: usize,
+) -> Result<(), Stop>
     requires { state.old.pc < 2 ^ 63 }
     ensures { DoesIn total (SkipUnlessRank rank distance) result state.old state.new }
 {
@@ -114,7 +119,12 @@ fn routine_line(routines: &[usize], number: usize) -> Option<usize>
 }
 
 /// The routine of a type, by its number, works on the object (4.5.5.1).
-pub fn routine(scene: &Scene<'_>, state: &mut State, number: usize, place: Place) -> Result<(), Stop>
+pub fn routine(
+    scene: &Scene<'_>,
+    state: &mut State,
+    number: usize,
+    place: Place,
+) -> Result<(), Stop>
     requires { state.old.pc < 2 ^ 63 }
     ensures { (v : Value) → DoesThere scene.now (Routine number) v place result state.old state.new }
 {
