@@ -1,6 +1,6 @@
 use Rattle.std.proofs.Common.{refl}
 use Rattle.f3_cells.proofs.Steps.{is_stuck, moved_on}
-use Rattle.f3_control_steps.proofs.values.drop_top.Goals as goal
+use Rattle.f3_control_steps.proofs.jumps.drop_top.Goals as goal
 
 pub returns-in_default : goal.returns-in_default
 returns-in_default c = λ p limit g code v here. is_stuck (c.in_default.ensures p _)
