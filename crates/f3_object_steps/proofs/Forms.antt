@@ -1,8 +1,9 @@
 -- Instructions by what they take, do and leave.
 use Rattle.std.proofs.Common.{◌≡◌, ℕ, ◌+◌, List, [], ◌∷◌, refl, sym, ap, ◌∙◌, Result, Ok, Err, Option, None, Some, Vec, Global}
-use Rattle.std.specs.Prelude.{⊤}
+use Rattle.std.specs.Prelude.{⊤, ℤ}
 use Rattle.f3_rules.specs.declared.source.Place.{Place}
 use Rattle.f3_program.specs.declared.program.Program.{Program}
+use Rattle.f3_meaning_whole.specs.declared.run_error.RunError.{RunError}
 use Rattle.f3_meaning_whole.specs.Value as v
 use Rattle.f3_meaning_whole.specs.Reference as m
 use Rattle.f3_meaning_whole.specs.Ran.{World, Ran}
@@ -15,7 +16,7 @@ use Rattle.f3_data.specs.References.{reference_of}
 use Rattle.f3_code.specs.declared.instruction.Instruction.{Instruction}
 use Rattle.f3_code.specs.State.{Code, Next, Goes}
 use Rattle.f3_code.specs.State as s
-use Rattle.f3_code.specs.Machine.{act, stuck, performs, ends_so, on, on_object, on_datum}
+use Rattle.f3_code.specs.Machine.{act, stuck, performs, ends_so, on, on_object, on_datum, on_turns}
 use Rattle.f3_cells.specs.declared.cell.Cell.{Cell}
 use Rattle.f3_cells.specs.declared.state.State.{State}
 use Rattle.f3_cells.specs.declared.state.Stop.{Stop}
@@ -23,10 +24,10 @@ use Rattle.f3_cells.specs.declared.state.Stop.TheVariants as stop
 use Rattle.f3_cells.specs.Cells.{cell_of, cells_of}
 use Rattle.f3_cells.specs.States.{state_of, world_of}
 use Rattle.f3_cells.specs.Moves.{Moved, WentOn}
-use Rattle.f3_cells.specs.Popped.{Popped, PoppedPair, same}
+use Rattle.f3_cells.specs.Popped.{Popped, PoppedPair, HasCell, HasNone, Shows, ShowsNone, same}
 use Rattle.f3_cells.specs.Follows.{Follows}
-use Rattle.f3_object_steps.specs.Parts.{on_assigned}
-use Rattle.f3_object_steps.specs.Performed.{Comes, Performed}
+use Rattle.f3_object_steps.specs.Parts.{on_assigned, HoldsStep, ShowsStep, TookBounds}
+use Rattle.f3_object_steps.specs.Performed.{Comes, FailsSo, Performed}
 use Rattle.f3_object_steps.proofs.Ending.{is_stuck, pushes, moves, stops}
 
 -- ---- an object and a value are taken
@@ -80,3 +81,84 @@ module _ {A X : Type 0} (view : X → A) (left : A → s.Cell) (cell : X → Cel
   left_err next code p here old to part stack object error e h c =
       stops code next here to error view (λ (here : Here). part here (reference_of object)) old.store old.store (λ x. on (state_of p old) (left x ∷ cells_of p stack))
       (e ∙ h p (λ r st. performs (part here r) (world_of old.store) (λ x. on (state_of p old) (left x ∷ st)))) c
+
+-- ---- an object and a value are tested, and stay
+
+abbrev pub Tests : Next → Program → State → (m.Reference → v.Value → Ran ⊤) → Type 0
+Tests next p old part = next ≡ on_object (cells_of p old.stack.items) (λ r st. on_datum st (λ x st. performs (part r x) (world_of old.store) (λ done. on (state_of p old) (cells_of p old.stack.items))))
+
+abbrev tests_value : Program → State → (m.Reference → v.Value → Ran ⊤) → m.Reference → List s.Cell → Next
+tests_value p old part r st = on_datum st (λ x st. performs (part r x) (world_of old.store) (λ done. on (state_of p old) (cells_of p old.stack.items)))
+
+pub tested_none : (next : Next) (code : Code) (p : Program) (old : State) (part : m.Reference → v.Value → Ran ⊤) (to : s.State) (place : Place)
+    → Tests next p old part → ShowsNone on_object old.stack.items 0 → Follows code next (Err stop.Stuck) to place
+tested_none next code p old part to place e h = is_stuck code next to place (e ∙ h p (tests_value p old part))
+
+pub tested_stuck : (next : Next) (code : Code) (p : Program) (old : State) (part : m.Reference → v.Value → Ran ⊤) (object : m.Reference) (to : s.State) (place : Place)
+    → Tests next p old part → Shows on_object old.stack.items 0 object → ShowsNone on_datum old.stack.items 1 → Follows code next (Err stop.Stuck) to place
+tested_stuck next code p old part object to place e h k = is_stuck code next to place
+    (e ∙ h p (tests_value p old part) ∙ k p (λ x st. performs (part object x) (world_of old.store) (λ done. on (state_of p old) (cells_of p old.stack.items))))
+
+shown_part : (next : Next) (p : Program) (old : State) (part : m.Reference → v.Value → Ran ⊤) (object : m.Reference) (value : v.Value)
+    → Tests next p old part → Shows on_object old.stack.items 0 object → Shows on_datum old.stack.items 1 value
+    → next ≡ performs (part object value) (world_of old.store) (λ done. on (state_of p old) (cells_of p old.stack.items))
+shown_part next p old part object value e h k =
+    e ∙ h p (tests_value p old part) ∙ k p (λ x st. performs (part object x) (world_of old.store) (λ done. on (state_of p old) (cells_of p old.stack.items)))
+
+pub tested_ok : (next : Next) (code : Code) (p : Program) (place : Place) (old new : State) (part : m.Reference → v.Value → Ran ⊤) (object : m.Reference) (value : v.Value)
+    → Tests next p old part → Shows on_object old.stack.items 0 object → Shows on_datum old.stack.items 1 value
+    → Comes (part object value) old.store tt old.store → Moved (old.pc + 1) old new → Follows code next (Ok tt) (state_of p new) place
+tested_ok next code p place old new part object value e h k c n =
+    moves code next place p (state_of p new) (part object value) tt old.store old.store (λ done. on (state_of p old) (cells_of p old.stack.items))
+    (shown_part next p old part object value e h k) c (sym (ap (state_of p) n))
+
+pub tested_err : (next : Next) (code : Code) (p : Program) (place : Place) (old : State) (to : s.State) (part : m.Reference → v.Value → Ran ⊤) (object : m.Reference) (value : v.Value) (error : RunError)
+    → Tests next p old part → Shows on_object old.stack.items 0 object → Shows on_datum old.stack.items 1 value
+    → FailsSo (part object value) old.store error place → Follows code next (Err (stop.Failed error)) to place
+tested_err next code p place old to part object value error e h k c =
+    (c.0, shown_part next p old part object value e h k ∙ ap (λ o. ends_so o.out o.end (λ done. on (state_of p old) (cells_of p old.stack.items))) c.1, c.2)
+
+-- ---- the variable of a DO, whose turns stay
+
+abbrev counting : Program → State → (m.Reference → ℤ → Ran ⊤) → m.Reference → List s.Cell → Next
+counting p old part r st = on_turns st (λ k step rest. performs (part r step) (world_of old.store) (λ done. on (state_of p old) st))
+
+abbrev pub CountsUp : Next → Program → State → (m.Reference → ℤ → Ran ⊤) → Type 0
+CountsUp next p old part = next ≡ on_object (cells_of p old.stack.items) (counting p old part)
+
+pub counted_none : (next : Next) (code : Code) (p : Program) (old : State) (part : m.Reference → ℤ → Ran ⊤) (stack : List Cell) (to : s.State) (place : Place)
+    → CountsUp next p old part → Popped reference_of on_object None old.stack.items stack → Follows code next (Err stop.Stuck) to place
+counted_none next code p old part stack to place e h = is_stuck code next to place (e ∙ h p (counting p old part))
+
+pub counted_stuck : (next : Next) (code : Code) (p : Program) (old : State) (part : m.Reference → ℤ → Ran ⊤) (stack : List Cell) (object : Reference) (to : s.State) (place : Place)
+    → CountsUp next p old part → Popped reference_of on_object (Some object) old.stack.items stack → ShowsStep None stack → Follows code next (Err stop.Stuck) to place
+counted_stuck next code p old part stack object to place e h k = is_stuck code next to place
+    (e ∙ h p (counting p old part) ∙ k p (λ n step rest. performs (part (reference_of object) step) (world_of old.store) (λ done. on (state_of p old) (cells_of p stack))))
+
+counted_part : (next : Next) (p : Program) (old : State) (part : m.Reference → ℤ → Ran ⊤) (stack : List Cell) (object : Reference) (step : ℤ)
+    → CountsUp next p old part → Popped reference_of on_object (Some object) old.stack.items stack → ShowsStep (Some step) stack
+    → next ≡ performs (part (reference_of object) step) (world_of old.store) (λ done. on (state_of p old) (cells_of p stack))
+counted_part next p old part stack object step e h k =
+    e ∙ h p (counting p old part) ∙ k p (λ step. performs (part (reference_of object) step) (world_of old.store) (λ done. on (state_of p old) (cells_of p stack)))
+
+pub counted_ok : (next : Next) (code : Code) (p : Program) (here : Here) (old new : State) (part : Here → m.Reference → ℤ → Ran ⊤) (stack : Vec Cell Global) (store : Store) (object : Reference) (step : ℤ)
+    → CountsUp next p old (part here) → Popped reference_of on_object (Some object) old.stack.items stack.items → ShowsStep (Some step) stack.items
+    → Performed (same {X = ⊤}) (λ (here : Here). part here (reference_of object) step) (Ok tt) old.store store
+    → new ≡ record { pc = old.pc + 1; stack = stack; here = old.here; frames = old.frames; store = store } → Follows code next (Ok tt) (state_of p new) here.place
+counted_ok next code p here old new part stack store object step e h k c n =
+    moves code next here.place p (state_of p new) (part here (reference_of object) step) tt old.store store (λ done. on (state_of p old) (cells_of p stack.items))
+    (counted_part next p old (part here) stack.items object step e h k) (c here) (sym (ap (state_of p) n))
+
+pub counted_err : (next : Next) (code : Code) (p : Program) (here : Here) (old : State) (to : s.State) (part : Here → m.Reference → ℤ → Ran ⊤) (stack : List Cell) (store : Store) (object : Reference) (step : ℤ) (error : Stop)
+    → CountsUp next p old (part here) → Popped reference_of on_object (Some object) old.stack.items stack → ShowsStep (Some step) stack
+    → Performed (same {X = ⊤}) (λ (here : Here). part here (reference_of object) step) (Err error) old.store store → Follows code next (Err error) to here.place
+counted_err next code p here old to part stack store object step error e h k c =
+    stops code next here to error (same {X = ⊤}) (λ (here : Here). part here (reference_of object) step) old.store store (λ done. on (state_of p old) (cells_of p stack))
+    (counted_part next p old (part here) stack object step e h k) c
+
+pub shows_step : (r : Option ℤ) (cs : List Cell) (cell : Cell) → HasCell cs 0 cell → HoldsStep r cell → ShowsStep r cs
+shows_step None cs cell h k = λ p f. ap (λ xs. on_turns xs f) (h p) ∙ k p _ f
+shows_step (Some z) cs cell h k = λ p f. ap (λ xs. on_turns xs (λ n step rest. f step)) (h p) ∙ k p _ f
+
+pub shows_none : (cs : List Cell) → HasNone cs 0 → ShowsStep None cs
+shows_none cs h = λ p f. ap (λ xs. on_turns xs f) (h p)
