@@ -26,7 +26,8 @@ use Rattle.f3_cells.specs.States.{state_of, world_of}
 use Rattle.f3_cells.specs.Moves.{Moved, WentOn}
 use Rattle.f3_cells.specs.Popped.{Popped, PoppedPair, HasCell, HasNone, Shows, ShowsNone, same}
 use Rattle.f3_cells.specs.Follows.{Follows}
-use Rattle.f3_object_steps.specs.Parts.{on_assigned, HoldsStep, ShowsStep, TookBounds}
+use Rattle.f3_object_steps.specs.Parts.{on_assigned, HoldsStep, ShowsStep, TookLimits, on_limits, turns_between}
+use Rattle.f3_object_steps.specs.declared.counting.Limits.{Limits}
 use Rattle.f3_object_steps.specs.Performed.{Comes, FailsSo, Performed}
 use Rattle.f3_object_steps.proofs.Ending.{is_stuck, pushes, moves, stops}
 
@@ -135,30 +136,73 @@ pub counted_stuck : (next : Next) (code : Code) (p : Program) (old : State) (par
 counted_stuck next code p old part stack object to place e h k = is_stuck code next to place
     (e ∙ h p (counting p old part) ∙ k p (λ n step rest. performs (part (reference_of object) step) (world_of old.store) (λ done. on (state_of p old) (cells_of p stack))))
 
-counted_part : (next : Next) (p : Program) (old : State) (part : m.Reference → ℤ → Ran ⊤) (stack : List Cell) (object : Reference) (step : ℤ)
+counted_part : (next : Next) (p : Program) (old : State) (part : m.Reference → ℤ → Ran ⊤) (stack : List Cell) (object : Reference) (step : Value)
     → CountsUp next p old part → Popped reference_of on_object (Some object) old.stack.items stack → ShowsStep (Some step) stack
-    → next ≡ performs (part (reference_of object) step) (world_of old.store) (λ done. on (state_of p old) (cells_of p stack))
+    → next ≡ performs (part (reference_of object) (v.number_of (value_of step))) (world_of old.store) (λ done. on (state_of p old) (cells_of p stack))
 counted_part next p old part stack object step e h k =
     e ∙ h p (counting p old part) ∙ k p (λ step. performs (part (reference_of object) step) (world_of old.store) (λ done. on (state_of p old) (cells_of p stack)))
 
-pub counted_ok : (next : Next) (code : Code) (p : Program) (here : Here) (old new : State) (part : Here → m.Reference → ℤ → Ran ⊤) (stack : Vec Cell Global) (store : Store) (object : Reference) (step : ℤ)
+pub counted_ok : (next : Next) (code : Code) (p : Program) (here : Here) (old new : State) (part : Here → m.Reference → ℤ → Ran ⊤) (stack : Vec Cell Global) (store : Store) (object : Reference) (step : Value)
     → CountsUp next p old (part here) → Popped reference_of on_object (Some object) old.stack.items stack.items → ShowsStep (Some step) stack.items
-    → Performed (same {X = ⊤}) (λ (here : Here). part here (reference_of object) step) (Ok tt) old.store store
+    → Performed (same {X = ⊤}) (λ (here : Here). part here (reference_of object) (v.number_of (value_of step))) (Ok tt) old.store store
     → new ≡ record { pc = old.pc + 1; stack = stack; here = old.here; frames = old.frames; store = store } → Follows code next (Ok tt) (state_of p new) here.place
 counted_ok next code p here old new part stack store object step e h k c n =
-    moves code next here.place p (state_of p new) (part here (reference_of object) step) tt old.store store (λ done. on (state_of p old) (cells_of p stack.items))
+    moves code next here.place p (state_of p new) (part here (reference_of object) (v.number_of (value_of step))) tt old.store store (λ done. on (state_of p old) (cells_of p stack.items))
     (counted_part next p old (part here) stack.items object step e h k) (c here) (sym (ap (state_of p) n))
 
-pub counted_err : (next : Next) (code : Code) (p : Program) (here : Here) (old : State) (to : s.State) (part : Here → m.Reference → ℤ → Ran ⊤) (stack : List Cell) (store : Store) (object : Reference) (step : ℤ) (error : Stop)
+pub counted_err : (next : Next) (code : Code) (p : Program) (here : Here) (old : State) (to : s.State) (part : Here → m.Reference → ℤ → Ran ⊤) (stack : List Cell) (store : Store) (object : Reference) (step : Value) (error : Stop)
     → CountsUp next p old (part here) → Popped reference_of on_object (Some object) old.stack.items stack → ShowsStep (Some step) stack
-    → Performed (same {X = ⊤}) (λ (here : Here). part here (reference_of object) step) (Err error) old.store store → Follows code next (Err error) to here.place
+    → Performed (same {X = ⊤}) (λ (here : Here). part here (reference_of object) (v.number_of (value_of step))) (Err error) old.store store → Follows code next (Err error) to here.place
 counted_err next code p here old to part stack store object step error e h k c =
-    stops code next here to error (same {X = ⊤}) (λ (here : Here). part here (reference_of object) step) old.store store (λ done. on (state_of p old) (cells_of p stack))
+    stops code next here to error (same {X = ⊤}) (λ (here : Here). part here (reference_of object) (v.number_of (value_of step))) old.store store (λ done. on (state_of p old) (cells_of p stack))
     (counted_part next p old (part here) stack object step e h k) c
 
-pub shows_step : (r : Option ℤ) (cs : List Cell) (cell : Cell) → HasCell cs 0 cell → HoldsStep r cell → ShowsStep r cs
+pub shows_step : (r : Option Value) (cs : List Cell) (cell : Cell) → HasCell cs 0 cell → HoldsStep r cell → ShowsStep r cs
 shows_step None cs cell h k = λ p f. ap (λ xs. on_turns xs f) (h p) ∙ k p _ f
 shows_step (Some z) cs cell h k = λ p f. ap (λ xs. on_turns xs (λ n step rest. f step)) (h p) ∙ k p _ f
 
 pub shows_none : (cs : List Cell) → HasNone cs 0 → ShowsStep None cs
 shows_none cs h = λ p f. ap (λ xs. on_turns xs f) (h p)
+
+-- ---- a DO begins
+
+abbrev beginning : Program → State → (m.Reference → v.Value → Ran ⊤) → m.Reference → List s.Cell → Next
+beginning p old part r st = on_limits st (λ step last first st. performs (part r first) (world_of old.store) (λ done. on (state_of p old) (turns_between step last first ∷ st)))
+
+abbrev pub BeginsCount : Next → Program → State → (m.Reference → v.Value → Ran ⊤) → Type 0
+BeginsCount next p old part = next ≡ on_object (cells_of p old.stack.items) (beginning p old part)
+
+pub begun_none : (next : Next) (code : Code) (p : Program) (old : State) (part : m.Reference → v.Value → Ran ⊤) (stack : List Cell) (to : s.State) (place : Place)
+    → BeginsCount next p old part → Popped reference_of on_object None old.stack.items stack → Follows code next (Err stop.Stuck) to place
+begun_none next code p old part stack to place e h = is_stuck code next to place (e ∙ h p (beginning p old part))
+
+pub begun_stuck : (next : Next) (code : Code) (p : Program) (old : State) (part : m.Reference → v.Value → Ran ⊤) (mid stack : List Cell) (object : Reference) (to : s.State) (place : Place)
+    → BeginsCount next p old part → Popped reference_of on_object (Some object) old.stack.items mid → TookLimits None mid stack → Follows code next (Err stop.Stuck) to place
+begun_stuck next code p old part mid stack object to place e h k = is_stuck code next to place (e ∙ h p (beginning p old part)
+    ∙ k p (λ step last first st. performs (part (reference_of object) first) (world_of old.store) (λ done. on (state_of p old) (turns_between step last first ∷ st))))
+
+begun_part : (next : Next) (p : Program) (old : State) (part : m.Reference → v.Value → Ran ⊤) (mid stack : List Cell) (object : Reference) (x : Limits)
+    → BeginsCount next p old part → Popped reference_of on_object (Some object) old.stack.items mid → TookLimits (Some x) mid stack
+    → next ≡ performs (part (reference_of object) (value_of x.first)) (world_of old.store)
+      (λ done. on (state_of p old) (turns_between (value_of x.step) (value_of x.last) (value_of x.first) ∷ cells_of p stack))
+begun_part next p old part mid stack object x e h k = e ∙ h p (beginning p old part)
+    ∙ k p (λ step last first st. performs (part (reference_of object) first) (world_of old.store) (λ done. on (state_of p old) (turns_between step last first ∷ st)))
+
+pub begun_ok : (next : Next) (code : Code) (p : Program) (here : Here) (old new : State) (part : Here → m.Reference → v.Value → Ran ⊤) (mid : List Cell) (stack : Vec Cell Global) (store : Store) (object : Reference) (x : Limits) (cell : Cell) (r : Result ⊤ Stop)
+    → BeginsCount next p old (part here) → Popped reference_of on_object (Some object) old.stack.items mid → TookLimits (Some x) mid stack.items
+    → Performed (same {X = ⊤}) (λ (here : Here). part here (reference_of object) (value_of x.first)) (Ok tt) old.store store
+    → cell_of p cell ≡ turns_between (value_of x.step) (value_of x.last) (value_of x.first)
+    → WentOn cell r (record { pc = old.pc; stack = stack; here = old.here; frames = old.frames; store = store }) new → Follows code next r (state_of p new) here.place
+begun_ok next code p here old new part mid stack store object x cell r e h k c i w =
+    pushes code next here.place p cell r (record { pc = old.pc; stack = stack; here = old.here; frames = old.frames; store = store }) new
+    (part here (reference_of object) (value_of x.first)) tt old.store (λ done. on (state_of p old) (turns_between (value_of x.step) (value_of x.last) (value_of x.first) ∷ cells_of p stack.items))
+    (begun_part next p old (part here) mid stack.items object x e h k) (c here)
+    (ap (λ y. on (state_of p old) (y ∷ cells_of p stack.items) (world_of store)) (sym i)) w
+
+pub begun_err : (next : Next) (code : Code) (p : Program) (here : Here) (old : State) (to : s.State) (part : Here → m.Reference → v.Value → Ran ⊤) (mid stack : List Cell) (store : Store) (object : Reference) (x : Limits) (error : Stop)
+    → BeginsCount next p old (part here) → Popped reference_of on_object (Some object) old.stack.items mid → TookLimits (Some x) mid stack
+    → Performed (same {X = ⊤}) (λ (here : Here). part here (reference_of object) (value_of x.first)) (Err error) old.store store → Follows code next (Err error) to here.place
+begun_err next code p here old to part mid stack store object x error e h k c =
+    stops code next here to error (same {X = ⊤}) (λ (here : Here). part here (reference_of object) (value_of x.first)) old.store store
+    (λ done. on (state_of p old) (turns_between (value_of x.step) (value_of x.last) (value_of x.first) ∷ cells_of p stack)) (begun_part next p old (part here) mid stack object x e h k) c
+

@@ -99,12 +99,12 @@ pub fn count_up(
     store: &mut Store,
     object: Reference,
     of: Base,
-    step: i64,
+    step: Value,
 ) -> Result<(), Stop>
-    ensures { Performed same (λ (here : Here). counts of (reference_of object) step here) result store.old store.new }
+    ensures { Performed same (λ (here : Here). counts of (reference_of object) (v.number_of (value_of step)) here) result store.old store.new }
 {
     let old = number_at(store, &object.path);
-    match binary(BinaryOperator::Add, of, Value::Number(old), Value::Number(step)) {
+    match binary(BinaryOperator::Add, of, Value::Number(old), step) {
         Ok(value) => set(alloc, store, object, value),
         Err(error) => {
             drop(object);
