@@ -4,3 +4,5 @@
 pub mod acts;
 pub mod assigning;
 pub mod counting;
+pub mod locating;
+pub mod naming;
