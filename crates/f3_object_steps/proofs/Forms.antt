@@ -18,17 +18,18 @@ use Rattle.f3_code.specs.State.{Code, Next, Goes}
 use Rattle.f3_code.specs.State as s
 use Rattle.f3_code.specs.Machine.{act, stuck, performs, ends_so, on, on_object, on_datum, on_turns}
 use Rattle.f3_cells.specs.declared.cell.Cell.{Cell}
+use Rattle.f3_cells.specs.declared.cell.Cell.TheVariants as cell
 use Rattle.f3_cells.specs.declared.state.State.{State}
 use Rattle.f3_cells.specs.declared.state.Stop.{Stop}
 use Rattle.f3_cells.specs.declared.state.Stop.TheVariants as stop
 use Rattle.f3_cells.specs.Cells.{cell_of, cells_of}
 use Rattle.f3_cells.specs.States.{state_of, world_of}
 use Rattle.f3_cells.specs.Moves.{Moved, WentOn}
-use Rattle.f3_cells.specs.Popped.{Popped, PoppedPair, HasCell, HasNone, Shows, ShowsNone, same}
+use Rattle.f3_cells.specs.Popped.{Popped, PoppedPair, Pushed, HasCell, HasNone, Shows, ShowsNone, same}
 use Rattle.f3_cells.specs.Follows.{Follows}
 use Rattle.f3_object_steps.specs.Parts.{on_assigned, HoldsStep, ShowsStep, TookLimits, on_limits, turns_between}
 use Rattle.f3_object_steps.specs.declared.counting.Limits.{Limits}
-use Rattle.f3_object_steps.specs.Performed.{Comes, FailsSo, Performed}
+use Rattle.f3_object_steps.specs.Performed.{Comes, FailsSo, Performed, PerformedAt}
 use Rattle.f3_object_steps.proofs.Ending.{is_stuck, pushes, moves, stops}
 
 -- ---- an object and a value are taken
@@ -206,3 +207,53 @@ begun_err next code p here old to part mid stack store object x error e h k c =
     stops code next here to error (same {X = ⊤}) (λ (here : Here). part here (reference_of object) (value_of x.first)) old.store store
     (λ done. on (state_of p old) (turns_between (value_of x.step) (value_of x.last) (value_of x.first) ∷ cells_of p stack)) (begun_part next p old (part here) mid stack object x e h k) c
 
+
+-- ---- one more object, somewhere
+
+abbrev pub Names : Next → Program → State → Ran m.Reference → Type 0
+Names next p old part = next ≡ performs part (world_of old.store) (λ q. on (state_of p old) (s.Object q ∷ cells_of p old.stack.items))
+
+pub named_ok : (next : Next) (code : Code) (p : Program) (place : Place) (old new : State) (part : Ran m.Reference) (object : Reference) (r : Result ⊤ Stop)
+    → Names next p old part → Comes part old.store (reference_of object) old.store → WentOn (cell.Object object) r old new → Follows code next r (state_of p new) place
+named_ok next code p place old new part object r e c w =
+    pushes code next place p (cell.Object object) r old new part (reference_of object) old.store (λ q. on (state_of p old) (s.Object q ∷ cells_of p old.stack.items)) e c refl w
+
+pub named_err : (next : Next) (code : Code) (p : Program) (place : Place) (store : Store) (to : s.State) (part : Ran m.Reference) (error : Stop)
+    → PerformedAt reference_of part (Err error) store → Follows code next (Err error) to place
+named_err next code p place store to part stop.Memory h = tt
+named_err next code p place store to part stop.Done h = absurd h
+named_err next code p place store to part (stop.Stopped n) h = absurd h
+named_err next code p place store to part (stop.Failed n) h = absurd h
+named_err next code p place store to part stop.Stuck h = absurd h
+named_err next code p place store to part stop.Lost h = absurd h
+named_err next code p place store to part stop.Refused h = absurd h
+
+-- ---- one more object, of the one on top, which stays
+
+abbrev pub Adds : Next → Program → State → (m.Reference → Ran m.Reference) → Type 0
+Adds next p old part = next ≡ on_object (cells_of p old.stack.items) (λ r st. performs (part r) (world_of old.store) (λ q. on (state_of p old) (s.Object q ∷ s.Object r ∷ st)))
+
+abbrev adding : Program → State → (m.Reference → Ran m.Reference) → m.Reference → List s.Cell → Next
+adding p old part r st = performs (part r) (world_of old.store) (λ q. on (state_of p old) (s.Object q ∷ s.Object r ∷ st))
+
+pub added_none : (next : Next) (code : Code) (p : Program) (old : State) (part : m.Reference → Ran m.Reference) (stack : List Cell) (to : s.State) (place : Place)
+    → Adds next p old part → Popped reference_of on_object None old.stack.items stack → Follows code next (Err stop.Stuck) to place
+added_none next code p old part stack to place e h = is_stuck code next to place (e ∙ h p (adding p old part))
+
+pub added_ok : (next : Next) (code : Code) (p : Program) (here : Here) (old new : State) (part : Here → m.Reference → Ran m.Reference) (mid : List Cell) (stack : Vec Cell Global) (object same q : Reference) (r : Result ⊤ Stop)
+    → Adds next p old (part here) → Popped reference_of on_object (Some object) old.stack.items mid
+    → Pushed (cell.Object object) mid stack.items → reference_of same ≡ reference_of object
+    → Performed reference_of (λ (here : Here). part here (reference_of same)) (Ok q) old.store old.store
+    → WentOn (cell.Object q) r (record { pc = old.pc; stack = stack; here = old.here; frames = old.frames; store = old.store }) new → Follows code next r (state_of p new) here.place
+added_ok next code p here old new part mid stack object same q r e h k i c w =
+    pushes code next here.place p (cell.Object q) r (record { pc = old.pc; stack = stack; here = old.here; frames = old.frames; store = old.store }) new
+    (part here (reference_of same)) (reference_of q) old.store (λ q. on (state_of p old) (s.Object q ∷ cells_of p stack.items))
+    (e ∙ h p (adding p old (part here)) ∙ ap (λ st. performs (part here (reference_of object)) (world_of old.store) (λ q. on (state_of p old) (s.Object q ∷ st))) (sym (k p))
+    ∙ ap (λ o. performs (part here o) (world_of old.store) (λ q. on (state_of p old) (s.Object q ∷ cells_of p stack.items))) (sym i)) (c here) refl w
+
+pub added_err : (next : Next) (code : Code) (p : Program) (here : Here) (old : State) (to : s.State) (part : Here → m.Reference → Ran m.Reference) (mid : List Cell) (object same : Reference) (error : Stop)
+    → Adds next p old (part here) → Popped reference_of on_object (Some object) old.stack.items mid → reference_of same ≡ reference_of object
+    → Performed reference_of (λ (here : Here). part here (reference_of same)) (Err error) old.store old.store → Follows code next (Err error) to here.place
+added_err next code p here old to part mid object same error e h i c =
+    stops code next here to error reference_of (λ (here : Here). part here (reference_of same)) old.store old.store (λ q. on (state_of p old) (s.Object q ∷ s.Object (reference_of object) ∷ cells_of p mid))
+    (e ∙ h p (adding p old (part here)) ∙ ap (λ o. performs (part here o) (world_of old.store) (λ q. on (state_of p old) (s.Object q ∷ s.Object (reference_of object) ∷ cells_of p mid))) (sym i)) c

@@ -2,3 +2,4 @@ pub mod Running
 pub mod Ending
 pub mod Forms
 pub mod Turning
+pub mod Meant

@@ -1,17 +1,19 @@
 //! Instructions that locate objects.
 
-ghost use Rattle.std.specs.Prelude.{◌<◌, ◌^◌};
+ghost use Rattle.std.specs.Prelude.{◌≡◌, ◌<◌, ◌^◌, MatchResult};
 ghost use Rattle.f3_rules.specs.declared.source.Place.{Place};
 ghost use Rattle.f3_meaning_whole.specs.Value.{Value};
 ghost use Rattle.f3_code.specs.declared.instruction.Instruction.TheVariants as i;
+ghost use Rattle.f3_data.specs.References.{reference_of};
 ghost use Rattle.f3_cells.specs.Follows.{Does, DoesThere};
 
 use crate::naming;
 use f3_cells::cell::Cell;
 use f3_cells::scene::Scene;
-use f3_cells::stacks::pop_object;
+use f3_cells::stacks::{pop_object, push};
 use f3_cells::state::{State, Stop};
-use f3_data::reference::Maker;
+use f3_data::copies;
+use f3_data::reference::{Maker, Reference};
 use f3_program::expression::Name;
 use std::alloc::Global;
 
@@ -36,6 +38,38 @@ pub fn component(alloc: Global, scene: &Scene<'_>, state: &mut State, k: usize) 
     };
     let maker = Maker::Selected(state.here.unit);
     match naming::component(alloc, &scene.program.types, &state.store, object, k, maker) {
+        Ok(part) => state.go_on_with(Cell::Object(part)),
+        Err(stop) => Err(stop),
+    }
+}
+
+/// A copy of an object.
+fn copy_of(alloc: Global, object: &Reference) -> Result<Reference, Stop>
+    ensures { MatchResult result (λ r. reference_of r ≡ reference_of object.now) (λ e. e ≡ Stop.Memory) }
+{
+    match copies::reference(alloc, object) {
+        Ok(copy) => Ok(copy),
+        Err(_) => Err(Stop::Memory),
+    }
+}
+
+/// The component of a number, and the object stays beneath.
+pub fn component_of(
+    alloc: Global,
+    scene: &Scene<'_>,
+    state: &mut State,
+    k: usize,
+) -> Result<(), Stop>
+    requires { state.old.pc < 2 ^ 63 }
+    ensures { (v : Value) (place : Place) → DoesThere scene.now (i.ComponentOf k) v place result state.old state.new }
+{
+    let Some(object) = pop_object(&mut state.stack) else {
+        return Err(Stop::Stuck);
+    };
+    let copy = copy_of(alloc, &object)?;
+    push(&mut state.stack, Cell::Object(object))?;
+    let maker = Maker::Selected(state.here.unit);
+    match naming::component(alloc, &scene.program.types, &state.store, copy, k, maker) {
         Ok(part) => state.go_on_with(Cell::Object(part)),
         Err(stop) => Err(stop),
     }
