@@ -257,3 +257,29 @@ pub added_err : (next : Next) (code : Code) (p : Program) (here : Here) (old : S
 added_err next code p here old to part mid object same error e h i c =
     stops code next here to error reference_of (λ (here : Here). part here (reference_of same)) old.store old.store (λ q. on (state_of p old) (s.Object q ∷ s.Object (reference_of object) ∷ cells_of p mid))
     (e ∙ h p (adding p old (part here)) ∙ ap (λ o. performs (part here o) (world_of old.store) (λ q. on (state_of p old) (s.Object q ∷ s.Object (reference_of object) ∷ cells_of p mid))) (sym i)) c
+
+-- ---- something is done to the object on top, which stays
+
+abbrev working : Program → State → (m.Reference → Ran ⊤) → m.Reference → List s.Cell → Next
+working p old part r st = performs (part r) (world_of old.store) (λ done. on (state_of p old) (cells_of p old.stack.items))
+
+abbrev pub Works : Next → Program → State → (m.Reference → Ran ⊤) → Type 0
+Works next p old part = next ≡ on_object (cells_of p old.stack.items) (working p old part)
+
+pub worked_none : (next : Next) (code : Code) (p : Program) (old : State) (part : m.Reference → Ran ⊤) (to : s.State) (place : Place)
+    → Works next p old part → ShowsNone on_object old.stack.items 0 → Follows code next (Err stop.Stuck) to place
+worked_none next code p old part to place e h = is_stuck code next to place (e ∙ h p (working p old part))
+
+pub worked_ok : (next : Next) (code : Code) (p : Program) (here : Here) (old new : State) (part : Here → m.Reference → Ran ⊤) (store : Store) (object : m.Reference)
+    → Works next p old (part here) → Shows on_object old.stack.items 0 object
+    → Performed (same {X = ⊤}) (λ (here : Here). part here object) (Ok tt) old.store store
+    → new ≡ record { pc = old.pc + 1; stack = old.stack; here = old.here; frames = old.frames; store = store } → Follows code next (Ok tt) (state_of p new) here.place
+worked_ok next code p here old new part store object e h c n =
+    moves code next here.place p (state_of p new) (part here object) tt old.store store (λ done. on (state_of p old) (cells_of p old.stack.items))
+    (e ∙ h p (working p old (part here))) (c here) (sym (ap (state_of p) n))
+
+pub worked_err : (next : Next) (code : Code) (p : Program) (here : Here) (old : State) (to : s.State) (part : Here → m.Reference → Ran ⊤) (store : Store) (object : m.Reference) (error : Stop)
+    → Works next p old (part here) → Shows on_object old.stack.items 0 object
+    → Performed (same {X = ⊤}) (λ (here : Here). part here object) (Err error) old.store store → Follows code next (Err error) to here.place
+worked_err next code p here old to part store object error e h c =
+    stops code next here to error (same {X = ⊤}) (λ (here : Here). part here object) old.store store (λ done. on (state_of p old) (cells_of p old.stack.items)) (e ∙ h p (working p old (part here))) c

@@ -4,5 +4,6 @@
 pub mod acts;
 pub mod assigning;
 pub mod counting;
+pub mod freeing;
 pub mod locating;
 pub mod naming;

@@ -108,10 +108,12 @@ pub fn component(
 pub fn contents(alloc: Global, store: &Store, object: Reference) -> Result<Reference, Stop>
     ensures { Performed reference_of (λ (here : a.Here). a.contents (reference_of object) here) result store.now store.now }
 {
-    match parts::contents(alloc, object, store) {
-        Ok(Some(held)) => Ok(held),
-        Ok(None) => Err(Stop::Failed(RunError::NotAllocated)),
-        Err(_) => Err(Stop::Memory),
+    let Ok(found) = parts::contents(alloc, object, store) else {
+        return Err(Stop::Memory);
+    };
+    match found {
+        Some(held) => Ok(held),
+        None => Err(Stop::Failed(RunError::NotAllocated)),
     }
 }
 
