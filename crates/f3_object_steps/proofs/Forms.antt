@@ -27,32 +27,32 @@ use Rattle.f3_cells.specs.States.{state_of, world_of}
 use Rattle.f3_cells.specs.Moves.{Moved, WentOn}
 use Rattle.f3_cells.specs.Popped.{Popped, PoppedPair, Pushed, HasCell, HasNone, Shows, ShowsNone, same}
 use Rattle.f3_cells.specs.Follows.{Follows}
-use Rattle.f3_object_steps.specs.Parts.{on_assigned, HoldsStep, ShowsStep, TookLimits, on_limits, turns_between}
+use Rattle.f3_object_steps.specs.Parts.{HoldsStep, ShowsStep, TookLimits, on_limits, turns_between}
 use Rattle.f3_object_steps.specs.declared.counting.Limits.{Limits}
 use Rattle.f3_object_steps.specs.Performed.{Comes, FailsSo, Performed, PerformedAt}
 use Rattle.f3_object_steps.proofs.Ending.{is_stuck, pushes, moves, stops}
 
 -- ---- an object and a value are taken
 
-abbrev pub Assigns : Next → Program → State → (m.Reference → v.Value → Ran ⊤) → Type 0
-Assigns next p old part = next ≡ on_assigned (cells_of p old.stack.items) (λ r x st. performs (part r x) (world_of old.store) (λ done. on (state_of p old) st))
+abbrev pub Assigns : (List s.Cell → (m.Reference → v.Value → List s.Cell → Next) → Next) → Next → Program → State → (m.Reference → v.Value → Ran ⊤) → Type 0
+Assigns onp next p old part = next ≡ onp (cells_of p old.stack.items) (λ r x st. performs (part r x) (world_of old.store) (λ done. on (state_of p old) st))
 
-pub assigned_stuck : (next : Next) (code : Code) (p : Program) (old : State) (part : m.Reference → v.Value → Ran ⊤) (stack : List Cell) (to : s.State) (place : Place)
-    → Assigns next p old part → PoppedPair reference_of value_of on_assigned None old.stack.items stack → Follows code next (Err stop.Stuck) to place
-assigned_stuck next code p old part stack to place e h = is_stuck code next to place (e ∙ h p (λ r x st. performs (part r x) (world_of old.store) (λ done. on (state_of p old) st)))
+pub assigned_stuck : (onp : List s.Cell → (m.Reference → v.Value → List s.Cell → Next) → Next) (next : Next) (code : Code) (p : Program) (old : State) (part : m.Reference → v.Value → Ran ⊤) (stack : List Cell) (to : s.State) (place : Place)
+    → Assigns onp next p old part → PoppedPair reference_of value_of onp None old.stack.items stack → Follows code next (Err stop.Stuck) to place
+assigned_stuck onp next code p old part stack to place e h = is_stuck code next to place (e ∙ h p (λ r x st. performs (part r x) (world_of old.store) (λ done. on (state_of p old) st)))
 
-pub assigned_ok : (next : Next) (code : Code) (p : Program) (here : Here) (old new : State) (part : Here → m.Reference → v.Value → Ran ⊤) (stack : Vec Cell Global) (store : Store) (object : Reference) (value : Value)
-    → Assigns next p old (part here) → PoppedPair reference_of value_of on_assigned (Some (object, value)) old.stack.items stack.items
+pub assigned_ok : (onp : List s.Cell → (m.Reference → v.Value → List s.Cell → Next) → Next) (next : Next) (code : Code) (p : Program) (here : Here) (old new : State) (part : Here → m.Reference → v.Value → Ran ⊤) (stack : Vec Cell Global) (store : Store) (object : Reference) (value : Value)
+    → Assigns onp next p old (part here) → PoppedPair reference_of value_of onp (Some (object, value)) old.stack.items stack.items
     → Performed (same {X = ⊤}) (λ (here : Here). part here (reference_of object) (value_of value)) (Ok tt) old.store store
     → new ≡ record { pc = old.pc + 1; stack = stack; here = old.here; frames = old.frames; store = store } → Follows code next (Ok tt) (state_of p new) here.place
-assigned_ok next code p here old new part stack store object value e h c n =
+assigned_ok onp next code p here old new part stack store object value e h c n =
     moves code next here.place p (state_of p new) (part here (reference_of object) (value_of value)) tt old.store store (λ done. on (state_of p old) (cells_of p stack.items))
     (e ∙ h p (λ r x st. performs (part here r x) (world_of old.store) (λ done. on (state_of p old) st))) (c here) (sym (ap (state_of p) n))
 
-pub assigned_err : (next : Next) (code : Code) (p : Program) (here : Here) (old : State) (to : s.State) (part : Here → m.Reference → v.Value → Ran ⊤) (stack : List Cell) (store : Store) (object : Reference) (value : Value) (error : Stop)
-    → Assigns next p old (part here) → PoppedPair reference_of value_of on_assigned (Some (object, value)) old.stack.items stack
+pub assigned_err : (onp : List s.Cell → (m.Reference → v.Value → List s.Cell → Next) → Next) (next : Next) (code : Code) (p : Program) (here : Here) (old : State) (to : s.State) (part : Here → m.Reference → v.Value → Ran ⊤) (stack : List Cell) (store : Store) (object : Reference) (value : Value) (error : Stop)
+    → Assigns onp next p old (part here) → PoppedPair reference_of value_of onp (Some (object, value)) old.stack.items stack
     → Performed (same {X = ⊤}) (λ (here : Here). part here (reference_of object) (value_of value)) (Err error) old.store store → Follows code next (Err error) to here.place
-assigned_err next code p here old to part stack store object value error e h c =
+assigned_err onp next code p here old to part stack store object value error e h c =
     stops code next here to error (same {X = ⊤}) (λ (here : Here). part here (reference_of object) (value_of value)) old.store store (λ done. on (state_of p old) (cells_of p stack))
     (e ∙ h p (λ r x st. performs (part here r x) (world_of old.store) (λ done. on (state_of p old) st))) c
 
@@ -185,7 +185,7 @@ begun_stuck next code p old part mid stack object to place e h k = is_stuck code
 begun_part : (next : Next) (p : Program) (old : State) (part : m.Reference → v.Value → Ran ⊤) (mid stack : List Cell) (object : Reference) (x : Limits)
     → BeginsCount next p old part → Popped reference_of on_object (Some object) old.stack.items mid → TookLimits (Some x) mid stack
     → next ≡ performs (part (reference_of object) (value_of x.first)) (world_of old.store)
-      (λ done. on (state_of p old) (turns_between (value_of x.step) (value_of x.last) (value_of x.first) ∷ cells_of p stack))
+    (λ done. on (state_of p old) (turns_between (value_of x.step) (value_of x.last) (value_of x.first) ∷ cells_of p stack))
 begun_part next p old part mid stack object x e h k = e ∙ h p (beginning p old part)
     ∙ k p (λ step last first st. performs (part (reference_of object) first) (world_of old.store) (λ done. on (state_of p old) (turns_between step last first ∷ st)))
 
@@ -206,7 +206,6 @@ pub begun_err : (next : Next) (code : Code) (p : Program) (here : Here) (old : S
 begun_err next code p here old to part mid stack store object x error e h k c =
     stops code next here to error (same {X = ⊤}) (λ (here : Here). part here (reference_of object) (value_of x.first)) old.store store
     (λ done. on (state_of p old) (turns_between (value_of x.step) (value_of x.last) (value_of x.first) ∷ cells_of p stack)) (begun_part next p old (part here) mid stack object x e h k) c
-
 
 -- ---- one more object, somewhere
 
@@ -283,3 +282,30 @@ pub worked_err : (next : Next) (code : Code) (p : Program) (here : Here) (old : 
     → Performed (same {X = ⊤}) (λ (here : Here). part here object) (Err error) old.store store → Follows code next (Err error) to here.place
 worked_err next code p here old to part store object error e h c =
     stops code next here to error (same {X = ⊤}) (λ (here : Here). part here object) old.store store (λ done. on (state_of p old) (cells_of p old.stack.items)) (e ∙ h p (working p old (part here))) c
+
+-- ---- one more object, of the one on top, which stays: as the language selects it
+
+abbrev selecting : Program → State → (m.Reference → Ran m.Reference) → m.Reference → List s.Cell → Next
+selecting p old part r st = performs (part r) (world_of old.store) (λ q. on (state_of p old) (s.Object q ∷ cells_of p old.stack.items))
+
+abbrev pub Selects : Next → Program → State → (m.Reference → Ran m.Reference) → Type 0
+Selects next p old part = next ≡ on_object (cells_of p old.stack.items) (selecting p old part)
+
+pub selected_none : (next : Next) (code : Code) (p : Program) (old : State) (part : m.Reference → Ran m.Reference) (to : s.State) (place : Place)
+    → Selects next p old part → ShowsNone on_object old.stack.items 0 → Follows code next (Err stop.Stuck) to place
+selected_none next code p old part to place e h = is_stuck code next to place (e ∙ h p (selecting p old part))
+
+pub selected_ok : (next : Next) (code : Code) (p : Program) (here : Here) (old new : State) (part : Here → m.Reference → Ran m.Reference) (object : m.Reference) (same q : Reference) (r : Result ⊤ Stop)
+    → Selects next p old (part here) → Shows on_object old.stack.items 0 object → reference_of same ≡ object
+    → Performed reference_of (λ (here : Here). part here (reference_of same)) (Ok q) old.store old.store
+    → WentOn (cell.Object q) r old new → Follows code next r (state_of p new) here.place
+selected_ok next code p here old new part object same q r e h i c w =
+    pushes code next here.place p (cell.Object q) r old new (part here (reference_of same)) (reference_of q) old.store (λ q. on (state_of p old) (s.Object q ∷ cells_of p old.stack.items))
+    (e ∙ h p (selecting p old (part here)) ∙ ap (λ o. performs (part here o) (world_of old.store) (λ q. on (state_of p old) (s.Object q ∷ cells_of p old.stack.items))) (sym i)) (c here) refl w
+
+pub selected_err : (next : Next) (code : Code) (p : Program) (here : Here) (old : State) (to : s.State) (part : Here → m.Reference → Ran m.Reference) (object : m.Reference) (same : Reference) (error : Stop)
+    → Selects next p old (part here) → Shows on_object old.stack.items 0 object → reference_of same ≡ object
+    → Performed reference_of (λ (here : Here). part here (reference_of same)) (Err error) old.store old.store → Follows code next (Err error) to here.place
+selected_err next code p here old to part object same error e h i c =
+    stops code next here to error reference_of (λ (here : Here). part here (reference_of same)) old.store old.store (λ q. on (state_of p old) (s.Object q ∷ cells_of p old.stack.items))
+    (e ∙ h p (selecting p old (part here)) ∙ ap (λ o. performs (part here o) (world_of old.store) (λ q. on (state_of p old) (s.Object q ∷ cells_of p old.stack.items))) (sym i)) c

@@ -9,6 +9,7 @@ ghost use Rattle.f3_cells.specs.Follows.{Does, DoesThere};
 
 use crate::naming;
 use f3_cells::cell::Cell;
+use f3_cells::look::object_at;
 use f3_cells::scene::Scene;
 use f3_cells::stacks::{pop_object, push};
 use f3_cells::state::{State, Stop};
@@ -85,6 +86,33 @@ pub fn contents(alloc: Global, state: &mut State) -> Result<(), Stop>
     };
     match naming::contents(alloc, &state.store, object) {
         Ok(held) => state.go_on_with(Cell::Object(held)),
+        Err(stop) => Err(stop),
+    }
+}
+
+/// A component of the object on top, selected by the language.
+pub fn work_component(
+    alloc: Global,
+    scene: &Scene<'_>,
+    state: &mut State,
+    k: usize,
+) -> Result<(), Stop>
+    requires { state.old.pc < 2 ^ 63 }
+    ensures { (v : Value) (place : Place) → DoesThere scene.now (i.WorkComponent k) v place result state.old state.new }
+{
+    let Some(object) = object_at(&state.stack, 0) else {
+        return Err(Stop::Stuck);
+    };
+    let copy = copy_of(alloc, object)?;
+    match naming::component(
+        alloc,
+        &scene.program.types,
+        &state.store,
+        copy,
+        k,
+        Maker::Language,
+    ) {
+        Ok(part) => state.go_on_with(Cell::Object(part)),
         Err(stop) => Err(stop),
     }
 }
