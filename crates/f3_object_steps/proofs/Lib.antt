@@ -3,3 +3,4 @@ pub mod Ending
 pub mod Forms
 pub mod Turning
 pub mod Meant
+pub mod Stepping

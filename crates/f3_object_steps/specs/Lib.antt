@@ -1,2 +1,3 @@
 pub mod Performed
 pub mod Parts
+pub mod Walks

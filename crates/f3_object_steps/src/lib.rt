@@ -7,3 +7,4 @@ pub mod counting;
 pub mod freeing;
 pub mod locating;
 pub mod naming;
+pub mod subscripts;
