@@ -4,3 +4,4 @@ pub mod Forms
 pub mod Turning
 pub mod Meant
 pub mod Stepping
+pub mod Selecting

@@ -7,4 +7,5 @@ pub mod counting;
 pub mod freeing;
 pub mod locating;
 pub mod naming;
+pub mod places;
 pub mod subscripts;
