@@ -212,11 +212,7 @@ fn each_cleared(
 }
 
 /// What is allocated beneath the objects of a reference is freed.
-pub fn clear(
-    alloc: Global,
-    store: &mut Store,
-    reference: &Reference,
-) -> Result<(), AllocError>
+pub fn clear(alloc: Global, store: &mut Store, reference: &Reference) -> Result<(), AllocError>
     ensures { OnOk result (store_of store.new ≡ put_all (paths (reference_of reference.now)) (map (λ p. v.cleared (get (store_of store.old) p)) (paths (reference_of reference.now))) (store_of store.old)) }
 {
     match &reference.reach {

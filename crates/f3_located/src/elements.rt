@@ -26,13 +26,7 @@ pub fn number_at(numbers: &Numbers, k: usize) -> Option<usize>
     ensures { result ≡ slice_get (numbers_of numbers.now) k }
 {
     match numbers {
-        Numbers::First(count) => {
-            if k < *count {
-                Some(k)
-            } else {
-                None
-            }
-        }
+        Numbers::First(count) => { if k < *count { Some(k) } else { None } }
         Numbers::Listed(listed) => listed.get(k).copied(),
     }
 }
@@ -61,7 +55,12 @@ pub fn count(reference: &Reference) -> usize
 }
 
 /// The way to a part of an element of the array at a path.
-pub fn element_path(alloc: Global, array: &Path, place: usize, tail: &[Step]) -> Result<Path, AllocError>
+pub fn element_path(
+    alloc: Global,
+    array: &Path,
+    place: usize,
+    tail: &[Step],
+) -> Result<Path, AllocError>
     ensures { IfOk result (λ p. path_of p ≡ element_path (path_of array.now) (steps_of tail.now) place) }
 {
     let mut steps = Vec::from_slice(alloc, &array.steps)?;

@@ -1,0 +1,311 @@
+-- Instructions by what they take, do and leave.
+use Rattle.std.proofs.Common.{◌≡◌, ℕ, ◌+◌, List, [], ◌∷◌, refl, sym, ap, ◌∙◌, Result, Ok, Err, Option, None, Some, Vec, Global}
+use Rattle.std.specs.Prelude.{⊤, ℤ}
+use Rattle.f3_rules.specs.declared.source.Place.{Place}
+use Rattle.f3_program.specs.declared.program.Program.{Program}
+use Rattle.f3_meaning_whole.specs.declared.run_error.RunError.{RunError}
+use Rattle.f3_meaning_whole.specs.Value as v
+use Rattle.f3_meaning_whole.specs.Reference as m
+use Rattle.f3_meaning_whole.specs.Ran.{World, Ran}
+use Rattle.f3_meaning_whole.specs.Act.{Setting, Here}
+use Rattle.f3_data.specs.declared.value.Value.{Value}
+use Rattle.f3_data.specs.declared.store.Store.{Store}
+use Rattle.f3_data.specs.declared.reference.Reference.{Reference}
+use Rattle.f3_data.specs.Values.{value_of}
+use Rattle.f3_data.specs.References.{reference_of}
+use Rattle.f3_code.specs.declared.instruction.Instruction.{Instruction}
+use Rattle.f3_code.specs.State.{Code, Next, Goes}
+use Rattle.f3_code.specs.State as s
+use Rattle.f3_code.specs.Machine.{act, stuck, performs, ends_so, on, on_object, on_datum, on_turns}
+use Rattle.f3_cells.specs.declared.cell.Cell.{Cell}
+use Rattle.f3_cells.specs.declared.cell.Cell.TheVariants as cell
+use Rattle.f3_cells.specs.declared.state.State.{State}
+use Rattle.f3_cells.specs.declared.state.Stop.{Stop}
+use Rattle.f3_cells.specs.declared.state.Stop.TheVariants as stop
+use Rattle.f3_cells.specs.Cells.{cell_of, cells_of}
+use Rattle.f3_cells.specs.States.{state_of, world_of}
+use Rattle.f3_cells.specs.Moves.{Moved, WentOn}
+use Rattle.f3_cells.specs.Popped.{Popped, PoppedPair, Pushed, HasCell, HasNone, Shows, ShowsNone, same}
+use Rattle.f3_cells.specs.Follows.{Follows}
+use Rattle.f3_object_steps.specs.Parts.{HoldsStep, ShowsStep, TookLimits, on_limits, turns_between}
+use Rattle.f3_object_steps.specs.declared.counting.Limits.{Limits}
+use Rattle.f3_object_steps.specs.Performed.{Comes, FailsSo, Performed, PerformedAt}
+use Rattle.f3_object_steps.proofs.Ending.{is_stuck, pushes, moves, stops}
+
+-- ---- an object and a value are taken
+
+abbrev pub Assigns : (List s.Cell → (m.Reference → v.Value → List s.Cell → Next) → Next) → Next → Program → State → (m.Reference → v.Value → Ran ⊤) → Type 0
+Assigns onp next p old part = next ≡ onp (cells_of p old.stack.items) (λ r x st. performs (part r x) (world_of old.store) (λ done. on (state_of p old) st))
+
+pub assigned_stuck : (onp : List s.Cell → (m.Reference → v.Value → List s.Cell → Next) → Next) (next : Next) (code : Code) (p : Program) (old : State) (part : m.Reference → v.Value → Ran ⊤) (stack : List Cell) (to : s.State) (place : Place)
+    → Assigns onp next p old part → PoppedPair reference_of value_of onp None old.stack.items stack → Follows code next (Err stop.Stuck) to place
+assigned_stuck onp next code p old part stack to place e h = is_stuck code next to place (e ∙ h p (λ r x st. performs (part r x) (world_of old.store) (λ done. on (state_of p old) st)))
+
+pub assigned_ok : (onp : List s.Cell → (m.Reference → v.Value → List s.Cell → Next) → Next) (next : Next) (code : Code) (p : Program) (here : Here) (old new : State) (part : Here → m.Reference → v.Value → Ran ⊤) (stack : Vec Cell Global) (store : Store) (object : Reference) (value : Value)
+    → Assigns onp next p old (part here) → PoppedPair reference_of value_of onp (Some (object, value)) old.stack.items stack.items
+    → Performed (same {X = ⊤}) (λ (here : Here). part here (reference_of object) (value_of value)) (Ok tt) old.store store
+    → new ≡ record { pc = old.pc + 1; stack = stack; here = old.here; frames = old.frames; store = store } → Follows code next (Ok tt) (state_of p new) here.place
+assigned_ok onp next code p here old new part stack store object value e h c n =
+    moves code next here.place p (state_of p new) (part here (reference_of object) (value_of value)) tt old.store store (λ done. on (state_of p old) (cells_of p stack.items))
+    (e ∙ h p (λ r x st. performs (part here r x) (world_of old.store) (λ done. on (state_of p old) st))) (c here) (sym (ap (state_of p) n))
+
+pub assigned_err : (onp : List s.Cell → (m.Reference → v.Value → List s.Cell → Next) → Next) (next : Next) (code : Code) (p : Program) (here : Here) (old : State) (to : s.State) (part : Here → m.Reference → v.Value → Ran ⊤) (stack : List Cell) (store : Store) (object : Reference) (value : Value) (error : Stop)
+    → Assigns onp next p old (part here) → PoppedPair reference_of value_of onp (Some (object, value)) old.stack.items stack
+    → Performed (same {X = ⊤}) (λ (here : Here). part here (reference_of object) (value_of value)) (Err error) old.store store → Follows code next (Err error) to here.place
+assigned_err onp next code p here old to part stack store object value error e h c =
+    stops code next here to error (same {X = ⊤}) (λ (here : Here). part here (reference_of object) (value_of value)) old.store store (λ done. on (state_of p old) (cells_of p stack))
+    (e ∙ h p (λ r x st. performs (part here r x) (world_of old.store) (λ done. on (state_of p old) st))) c
+
+-- ---- an object is taken, and a cell is left
+
+module _ {A X : Type 0} (view : X → A) (left : A → s.Cell) (cell : X → Cell) where
+  abbrev pub Leaves : Next → Program → State → (m.Reference → Ran A) → Type 0
+  Leaves next p old part = next ≡ on_object (cells_of p old.stack.items) (λ r st. performs (part r) (world_of old.store) (λ x. on (state_of p old) (left x ∷ st)))
+
+  pub left_stuck : (next : Next) (code : Code) (p : Program) (old : State) (part : m.Reference → Ran A) (stack : List Cell) (to : s.State) (place : Place)
+      → Leaves next p old part → Popped reference_of on_object None old.stack.items stack → Follows code next (Err stop.Stuck) to place
+  left_stuck next code p old part stack to place e h = is_stuck code next to place (e ∙ h p (λ r st. performs (part r) (world_of old.store) (λ x. on (state_of p old) (left x ∷ st))))
+
+  pub left_ok : (next : Next) (code : Code) (p : Program) (here : Here) (old new : State) (part : Here → m.Reference → Ran A) (stack : Vec Cell Global) (object : Reference) (x : X) (r : Result ⊤ Stop)
+      → Leaves next p old (part here) → Popped reference_of on_object (Some object) old.stack.items stack.items
+      → Performed view (λ (here : Here). part here (reference_of object)) (Ok x) old.store old.store
+      → cell_of p (cell x) ≡ left (view x)
+      → WentOn (cell x) r (record { pc = old.pc; stack = stack; here = old.here; frames = old.frames; store = old.store }) new → Follows code next r (state_of p new) here.place
+  left_ok next code p here old new part stack object x r e h c k w =
+      pushes code next here.place p (cell x) r (record { pc = old.pc; stack = stack; here = old.here; frames = old.frames; store = old.store }) new
+      (part here (reference_of object)) (view x) old.store (λ x. on (state_of p old) (left x ∷ cells_of p stack.items))
+      (e ∙ h p (λ r st. performs (part here r) (world_of old.store) (λ x. on (state_of p old) (left x ∷ st)))) (c here)
+      (ap (λ y. on (state_of p old) (y ∷ cells_of p stack.items) (world_of old.store)) (sym k)) w
+
+  pub left_err : (next : Next) (code : Code) (p : Program) (here : Here) (old : State) (to : s.State) (part : Here → m.Reference → Ran A) (stack : List Cell) (object : Reference) (error : Stop)
+      → Leaves next p old (part here) → Popped reference_of on_object (Some object) old.stack.items stack
+      → Performed view (λ (here : Here). part here (reference_of object)) (Err error) old.store old.store → Follows code next (Err error) to here.place
+  left_err next code p here old to part stack object error e h c =
+      stops code next here to error view (λ (here : Here). part here (reference_of object)) old.store old.store (λ x. on (state_of p old) (left x ∷ cells_of p stack))
+      (e ∙ h p (λ r st. performs (part here r) (world_of old.store) (λ x. on (state_of p old) (left x ∷ st)))) c
+
+-- ---- an object and a value are tested, and stay
+
+abbrev pub Tests : Next → Program → State → (m.Reference → v.Value → Ran ⊤) → Type 0
+Tests next p old part = next ≡ on_object (cells_of p old.stack.items) (λ r st. on_datum st (λ x st. performs (part r x) (world_of old.store) (λ done. on (state_of p old) (cells_of p old.stack.items))))
+
+abbrev tests_value : Program → State → (m.Reference → v.Value → Ran ⊤) → m.Reference → List s.Cell → Next
+tests_value p old part r st = on_datum st (λ x st. performs (part r x) (world_of old.store) (λ done. on (state_of p old) (cells_of p old.stack.items)))
+
+pub tested_none : (next : Next) (code : Code) (p : Program) (old : State) (part : m.Reference → v.Value → Ran ⊤) (to : s.State) (place : Place)
+    → Tests next p old part → ShowsNone on_object old.stack.items 0 → Follows code next (Err stop.Stuck) to place
+tested_none next code p old part to place e h = is_stuck code next to place (e ∙ h p (tests_value p old part))
+
+pub tested_stuck : (next : Next) (code : Code) (p : Program) (old : State) (part : m.Reference → v.Value → Ran ⊤) (object : m.Reference) (to : s.State) (place : Place)
+    → Tests next p old part → Shows on_object old.stack.items 0 object → ShowsNone on_datum old.stack.items 1 → Follows code next (Err stop.Stuck) to place
+tested_stuck next code p old part object to place e h k = is_stuck code next to place
+    (e ∙ h p (tests_value p old part) ∙ k p (λ x st. performs (part object x) (world_of old.store) (λ done. on (state_of p old) (cells_of p old.stack.items))))
+
+shown_part : (next : Next) (p : Program) (old : State) (part : m.Reference → v.Value → Ran ⊤) (object : m.Reference) (value : v.Value)
+    → Tests next p old part → Shows on_object old.stack.items 0 object → Shows on_datum old.stack.items 1 value
+    → next ≡ performs (part object value) (world_of old.store) (λ done. on (state_of p old) (cells_of p old.stack.items))
+shown_part next p old part object value e h k =
+    e ∙ h p (tests_value p old part) ∙ k p (λ x st. performs (part object x) (world_of old.store) (λ done. on (state_of p old) (cells_of p old.stack.items)))
+
+pub tested_ok : (next : Next) (code : Code) (p : Program) (place : Place) (old new : State) (part : m.Reference → v.Value → Ran ⊤) (object : m.Reference) (value : v.Value)
+    → Tests next p old part → Shows on_object old.stack.items 0 object → Shows on_datum old.stack.items 1 value
+    → Comes (part object value) old.store tt old.store → Moved (old.pc + 1) old new → Follows code next (Ok tt) (state_of p new) place
+tested_ok next code p place old new part object value e h k c n =
+    moves code next place p (state_of p new) (part object value) tt old.store old.store (λ done. on (state_of p old) (cells_of p old.stack.items))
+    (shown_part next p old part object value e h k) c (sym (ap (state_of p) n))
+
+pub tested_err : (next : Next) (code : Code) (p : Program) (place : Place) (old : State) (to : s.State) (part : m.Reference → v.Value → Ran ⊤) (object : m.Reference) (value : v.Value) (error : RunError)
+    → Tests next p old part → Shows on_object old.stack.items 0 object → Shows on_datum old.stack.items 1 value
+    → FailsSo (part object value) old.store error place → Follows code next (Err (stop.Failed error)) to place
+tested_err next code p place old to part object value error e h k c =
+    (c.0, shown_part next p old part object value e h k ∙ ap (λ o. ends_so o.out o.end (λ done. on (state_of p old) (cells_of p old.stack.items))) c.1, c.2)
+
+-- ---- the variable of a DO, whose turns stay
+
+abbrev counting : Program → State → (m.Reference → ℤ → Ran ⊤) → m.Reference → List s.Cell → Next
+counting p old part r st = on_turns st (λ k step rest. performs (part r step) (world_of old.store) (λ done. on (state_of p old) st))
+
+abbrev pub CountsUp : Next → Program → State → (m.Reference → ℤ → Ran ⊤) → Type 0
+CountsUp next p old part = next ≡ on_object (cells_of p old.stack.items) (counting p old part)
+
+pub counted_none : (next : Next) (code : Code) (p : Program) (old : State) (part : m.Reference → ℤ → Ran ⊤) (stack : List Cell) (to : s.State) (place : Place)
+    → CountsUp next p old part → Popped reference_of on_object None old.stack.items stack → Follows code next (Err stop.Stuck) to place
+counted_none next code p old part stack to place e h = is_stuck code next to place (e ∙ h p (counting p old part))
+
+pub counted_stuck : (next : Next) (code : Code) (p : Program) (old : State) (part : m.Reference → ℤ → Ran ⊤) (stack : List Cell) (object : Reference) (to : s.State) (place : Place)
+    → CountsUp next p old part → Popped reference_of on_object (Some object) old.stack.items stack → ShowsStep None stack → Follows code next (Err stop.Stuck) to place
+counted_stuck next code p old part stack object to place e h k = is_stuck code next to place
+    (e ∙ h p (counting p old part) ∙ k p (λ n step rest. performs (part (reference_of object) step) (world_of old.store) (λ done. on (state_of p old) (cells_of p stack))))
+
+counted_part : (next : Next) (p : Program) (old : State) (part : m.Reference → ℤ → Ran ⊤) (stack : List Cell) (object : Reference) (step : Value)
+    → CountsUp next p old part → Popped reference_of on_object (Some object) old.stack.items stack → ShowsStep (Some step) stack
+    → next ≡ performs (part (reference_of object) (v.number_of (value_of step))) (world_of old.store) (λ done. on (state_of p old) (cells_of p stack))
+counted_part next p old part stack object step e h k =
+    e ∙ h p (counting p old part) ∙ k p (λ step. performs (part (reference_of object) step) (world_of old.store) (λ done. on (state_of p old) (cells_of p stack)))
+
+pub counted_ok : (next : Next) (code : Code) (p : Program) (here : Here) (old new : State) (part : Here → m.Reference → ℤ → Ran ⊤) (stack : Vec Cell Global) (store : Store) (object : Reference) (step : Value)
+    → CountsUp next p old (part here) → Popped reference_of on_object (Some object) old.stack.items stack.items → ShowsStep (Some step) stack.items
+    → Performed (same {X = ⊤}) (λ (here : Here). part here (reference_of object) (v.number_of (value_of step))) (Ok tt) old.store store
+    → new ≡ record { pc = old.pc + 1; stack = stack; here = old.here; frames = old.frames; store = store } → Follows code next (Ok tt) (state_of p new) here.place
+counted_ok next code p here old new part stack store object step e h k c n =
+    moves code next here.place p (state_of p new) (part here (reference_of object) (v.number_of (value_of step))) tt old.store store (λ done. on (state_of p old) (cells_of p stack.items))
+    (counted_part next p old (part here) stack.items object step e h k) (c here) (sym (ap (state_of p) n))
+
+pub counted_err : (next : Next) (code : Code) (p : Program) (here : Here) (old : State) (to : s.State) (part : Here → m.Reference → ℤ → Ran ⊤) (stack : List Cell) (store : Store) (object : Reference) (step : Value) (error : Stop)
+    → CountsUp next p old (part here) → Popped reference_of on_object (Some object) old.stack.items stack → ShowsStep (Some step) stack
+    → Performed (same {X = ⊤}) (λ (here : Here). part here (reference_of object) (v.number_of (value_of step))) (Err error) old.store store → Follows code next (Err error) to here.place
+counted_err next code p here old to part stack store object step error e h k c =
+    stops code next here to error (same {X = ⊤}) (λ (here : Here). part here (reference_of object) (v.number_of (value_of step))) old.store store (λ done. on (state_of p old) (cells_of p stack))
+    (counted_part next p old (part here) stack object step e h k) c
+
+pub shows_step : (r : Option Value) (cs : List Cell) (cell : Cell) → HasCell cs 0 cell → HoldsStep r cell → ShowsStep r cs
+shows_step None cs cell h k = λ p f. ap (λ xs. on_turns xs f) (h p) ∙ k p _ f
+shows_step (Some z) cs cell h k = λ p f. ap (λ xs. on_turns xs (λ n step rest. f step)) (h p) ∙ k p _ f
+
+pub shows_none : (cs : List Cell) → HasNone cs 0 → ShowsStep None cs
+shows_none cs h = λ p f. ap (λ xs. on_turns xs f) (h p)
+
+-- ---- a DO begins
+
+abbrev beginning : Program → State → (m.Reference → v.Value → Ran ⊤) → m.Reference → List s.Cell → Next
+beginning p old part r st = on_limits st (λ step last first st. performs (part r first) (world_of old.store) (λ done. on (state_of p old) (turns_between step last first ∷ st)))
+
+abbrev pub BeginsCount : Next → Program → State → (m.Reference → v.Value → Ran ⊤) → Type 0
+BeginsCount next p old part = next ≡ on_object (cells_of p old.stack.items) (beginning p old part)
+
+pub begun_none : (next : Next) (code : Code) (p : Program) (old : State) (part : m.Reference → v.Value → Ran ⊤) (stack : List Cell) (to : s.State) (place : Place)
+    → BeginsCount next p old part → Popped reference_of on_object None old.stack.items stack → Follows code next (Err stop.Stuck) to place
+begun_none next code p old part stack to place e h = is_stuck code next to place (e ∙ h p (beginning p old part))
+
+pub begun_stuck : (next : Next) (code : Code) (p : Program) (old : State) (part : m.Reference → v.Value → Ran ⊤) (mid stack : List Cell) (object : Reference) (to : s.State) (place : Place)
+    → BeginsCount next p old part → Popped reference_of on_object (Some object) old.stack.items mid → TookLimits None mid stack → Follows code next (Err stop.Stuck) to place
+begun_stuck next code p old part mid stack object to place e h k = is_stuck code next to place (e ∙ h p (beginning p old part)
+    ∙ k p (λ step last first st. performs (part (reference_of object) first) (world_of old.store) (λ done. on (state_of p old) (turns_between step last first ∷ st))))
+
+begun_part : (next : Next) (p : Program) (old : State) (part : m.Reference → v.Value → Ran ⊤) (mid stack : List Cell) (object : Reference) (x : Limits)
+    → BeginsCount next p old part → Popped reference_of on_object (Some object) old.stack.items mid → TookLimits (Some x) mid stack
+    → next ≡ performs (part (reference_of object) (value_of x.first)) (world_of old.store)
+    (λ done. on (state_of p old) (turns_between (value_of x.step) (value_of x.last) (value_of x.first) ∷ cells_of p stack))
+begun_part next p old part mid stack object x e h k = e ∙ h p (beginning p old part)
+    ∙ k p (λ step last first st. performs (part (reference_of object) first) (world_of old.store) (λ done. on (state_of p old) (turns_between step last first ∷ st)))
+
+pub begun_ok : (next : Next) (code : Code) (p : Program) (here : Here) (old new : State) (part : Here → m.Reference → v.Value → Ran ⊤) (mid : List Cell) (stack : Vec Cell Global) (store : Store) (object : Reference) (x : Limits) (cell : Cell) (r : Result ⊤ Stop)
+    → BeginsCount next p old (part here) → Popped reference_of on_object (Some object) old.stack.items mid → TookLimits (Some x) mid stack.items
+    → Performed (same {X = ⊤}) (λ (here : Here). part here (reference_of object) (value_of x.first)) (Ok tt) old.store store
+    → cell_of p cell ≡ turns_between (value_of x.step) (value_of x.last) (value_of x.first)
+    → WentOn cell r (record { pc = old.pc; stack = stack; here = old.here; frames = old.frames; store = store }) new → Follows code next r (state_of p new) here.place
+begun_ok next code p here old new part mid stack store object x cell r e h k c i w =
+    pushes code next here.place p cell r (record { pc = old.pc; stack = stack; here = old.here; frames = old.frames; store = store }) new
+    (part here (reference_of object) (value_of x.first)) tt old.store (λ done. on (state_of p old) (turns_between (value_of x.step) (value_of x.last) (value_of x.first) ∷ cells_of p stack.items))
+    (begun_part next p old (part here) mid stack.items object x e h k) (c here)
+    (ap (λ y. on (state_of p old) (y ∷ cells_of p stack.items) (world_of store)) (sym i)) w
+
+pub begun_err : (next : Next) (code : Code) (p : Program) (here : Here) (old : State) (to : s.State) (part : Here → m.Reference → v.Value → Ran ⊤) (mid stack : List Cell) (store : Store) (object : Reference) (x : Limits) (error : Stop)
+    → BeginsCount next p old (part here) → Popped reference_of on_object (Some object) old.stack.items mid → TookLimits (Some x) mid stack
+    → Performed (same {X = ⊤}) (λ (here : Here). part here (reference_of object) (value_of x.first)) (Err error) old.store store → Follows code next (Err error) to here.place
+begun_err next code p here old to part mid stack store object x error e h k c =
+    stops code next here to error (same {X = ⊤}) (λ (here : Here). part here (reference_of object) (value_of x.first)) old.store store
+    (λ done. on (state_of p old) (turns_between (value_of x.step) (value_of x.last) (value_of x.first) ∷ cells_of p stack)) (begun_part next p old (part here) mid stack object x e h k) c
+
+-- ---- one more object, somewhere
+
+abbrev pub Names : Next → Program → State → Ran m.Reference → Type 0
+Names next p old part = next ≡ performs part (world_of old.store) (λ q. on (state_of p old) (s.Object q ∷ cells_of p old.stack.items))
+
+pub named_ok : (next : Next) (code : Code) (p : Program) (place : Place) (old new : State) (part : Ran m.Reference) (object : Reference) (r : Result ⊤ Stop)
+    → Names next p old part → Comes part old.store (reference_of object) old.store → WentOn (cell.Object object) r old new → Follows code next r (state_of p new) place
+named_ok next code p place old new part object r e c w =
+    pushes code next place p (cell.Object object) r old new part (reference_of object) old.store (λ q. on (state_of p old) (s.Object q ∷ cells_of p old.stack.items)) e c refl w
+
+pub named_err : (next : Next) (code : Code) (p : Program) (place : Place) (store : Store) (to : s.State) (part : Ran m.Reference) (error : Stop)
+    → PerformedAt reference_of part (Err error) store → Follows code next (Err error) to place
+named_err next code p place store to part stop.Memory h = tt
+named_err next code p place store to part stop.Done h = absurd h
+named_err next code p place store to part (stop.Stopped n) h = absurd h
+named_err next code p place store to part (stop.Failed n) h = absurd h
+named_err next code p place store to part stop.Stuck h = absurd h
+named_err next code p place store to part stop.Lost h = absurd h
+named_err next code p place store to part stop.Refused h = absurd h
+
+-- ---- one more object, of the one on top, which stays
+
+abbrev pub Adds : Next → Program → State → (m.Reference → Ran m.Reference) → Type 0
+Adds next p old part = next ≡ on_object (cells_of p old.stack.items) (λ r st. performs (part r) (world_of old.store) (λ q. on (state_of p old) (s.Object q ∷ s.Object r ∷ st)))
+
+abbrev adding : Program → State → (m.Reference → Ran m.Reference) → m.Reference → List s.Cell → Next
+adding p old part r st = performs (part r) (world_of old.store) (λ q. on (state_of p old) (s.Object q ∷ s.Object r ∷ st))
+
+pub added_none : (next : Next) (code : Code) (p : Program) (old : State) (part : m.Reference → Ran m.Reference) (stack : List Cell) (to : s.State) (place : Place)
+    → Adds next p old part → Popped reference_of on_object None old.stack.items stack → Follows code next (Err stop.Stuck) to place
+added_none next code p old part stack to place e h = is_stuck code next to place (e ∙ h p (adding p old part))
+
+pub added_ok : (next : Next) (code : Code) (p : Program) (here : Here) (old new : State) (part : Here → m.Reference → Ran m.Reference) (mid : List Cell) (stack : Vec Cell Global) (object same q : Reference) (r : Result ⊤ Stop)
+    → Adds next p old (part here) → Popped reference_of on_object (Some object) old.stack.items mid
+    → Pushed (cell.Object object) mid stack.items → reference_of same ≡ reference_of object
+    → Performed reference_of (λ (here : Here). part here (reference_of same)) (Ok q) old.store old.store
+    → WentOn (cell.Object q) r (record { pc = old.pc; stack = stack; here = old.here; frames = old.frames; store = old.store }) new → Follows code next r (state_of p new) here.place
+added_ok next code p here old new part mid stack object same q r e h k i c w =
+    pushes code next here.place p (cell.Object q) r (record { pc = old.pc; stack = stack; here = old.here; frames = old.frames; store = old.store }) new
+    (part here (reference_of same)) (reference_of q) old.store (λ q. on (state_of p old) (s.Object q ∷ cells_of p stack.items))
+    (e ∙ h p (adding p old (part here)) ∙ ap (λ st. performs (part here (reference_of object)) (world_of old.store) (λ q. on (state_of p old) (s.Object q ∷ st))) (sym (k p))
+    ∙ ap (λ o. performs (part here o) (world_of old.store) (λ q. on (state_of p old) (s.Object q ∷ cells_of p stack.items))) (sym i)) (c here) refl w
+
+pub added_err : (next : Next) (code : Code) (p : Program) (here : Here) (old : State) (to : s.State) (part : Here → m.Reference → Ran m.Reference) (mid : List Cell) (object same : Reference) (error : Stop)
+    → Adds next p old (part here) → Popped reference_of on_object (Some object) old.stack.items mid → reference_of same ≡ reference_of object
+    → Performed reference_of (λ (here : Here). part here (reference_of same)) (Err error) old.store old.store → Follows code next (Err error) to here.place
+added_err next code p here old to part mid object same error e h i c =
+    stops code next here to error reference_of (λ (here : Here). part here (reference_of same)) old.store old.store (λ q. on (state_of p old) (s.Object q ∷ s.Object (reference_of object) ∷ cells_of p mid))
+    (e ∙ h p (adding p old (part here)) ∙ ap (λ o. performs (part here o) (world_of old.store) (λ q. on (state_of p old) (s.Object q ∷ s.Object (reference_of object) ∷ cells_of p mid))) (sym i)) c
+
+-- ---- something is done to the object on top, which stays
+
+abbrev working : Program → State → (m.Reference → Ran ⊤) → m.Reference → List s.Cell → Next
+working p old part r st = performs (part r) (world_of old.store) (λ done. on (state_of p old) (cells_of p old.stack.items))
+
+abbrev pub Works : Next → Program → State → (m.Reference → Ran ⊤) → Type 0
+Works next p old part = next ≡ on_object (cells_of p old.stack.items) (working p old part)
+
+pub worked_none : (next : Next) (code : Code) (p : Program) (old : State) (part : m.Reference → Ran ⊤) (to : s.State) (place : Place)
+    → Works next p old part → ShowsNone on_object old.stack.items 0 → Follows code next (Err stop.Stuck) to place
+worked_none next code p old part to place e h = is_stuck code next to place (e ∙ h p (working p old part))
+
+pub worked_ok : (next : Next) (code : Code) (p : Program) (here : Here) (old new : State) (part : Here → m.Reference → Ran ⊤) (store : Store) (object : m.Reference)
+    → Works next p old (part here) → Shows on_object old.stack.items 0 object
+    → Performed (same {X = ⊤}) (λ (here : Here). part here object) (Ok tt) old.store store
+    → new ≡ record { pc = old.pc + 1; stack = old.stack; here = old.here; frames = old.frames; store = store } → Follows code next (Ok tt) (state_of p new) here.place
+worked_ok next code p here old new part store object e h c n =
+    moves code next here.place p (state_of p new) (part here object) tt old.store store (λ done. on (state_of p old) (cells_of p old.stack.items))
+    (e ∙ h p (working p old (part here))) (c here) (sym (ap (state_of p) n))
+
+pub worked_err : (next : Next) (code : Code) (p : Program) (here : Here) (old : State) (to : s.State) (part : Here → m.Reference → Ran ⊤) (store : Store) (object : m.Reference) (error : Stop)
+    → Works next p old (part here) → Shows on_object old.stack.items 0 object
+    → Performed (same {X = ⊤}) (λ (here : Here). part here object) (Err error) old.store store → Follows code next (Err error) to here.place
+worked_err next code p here old to part store object error e h c =
+    stops code next here to error (same {X = ⊤}) (λ (here : Here). part here object) old.store store (λ done. on (state_of p old) (cells_of p old.stack.items)) (e ∙ h p (working p old (part here))) c
+
+-- ---- one more object, of the one on top, which stays: as the language selects it
+
+abbrev selecting : Program → State → (m.Reference → Ran m.Reference) → m.Reference → List s.Cell → Next
+selecting p old part r st = performs (part r) (world_of old.store) (λ q. on (state_of p old) (s.Object q ∷ cells_of p old.stack.items))
+
+abbrev pub Selects : Next → Program → State → (m.Reference → Ran m.Reference) → Type 0
+Selects next p old part = next ≡ on_object (cells_of p old.stack.items) (selecting p old part)
+
+pub selected_none : (next : Next) (code : Code) (p : Program) (old : State) (part : m.Reference → Ran m.Reference) (to : s.State) (place : Place)
+    → Selects next p old part → ShowsNone on_object old.stack.items 0 → Follows code next (Err stop.Stuck) to place
+selected_none next code p old part to place e h = is_stuck code next to place (e ∙ h p (selecting p old part))
+
+pub selected_ok : (next : Next) (code : Code) (p : Program) (here : Here) (old new : State) (part : Here → m.Reference → Ran m.Reference) (object : m.Reference) (same q : Reference) (r : Result ⊤ Stop)
+    → Selects next p old (part here) → Shows on_object old.stack.items 0 object → reference_of same ≡ object
+    → Performed reference_of (λ (here : Here). part here (reference_of same)) (Ok q) old.store old.store
+    → WentOn (cell.Object q) r old new → Follows code next r (state_of p new) here.place
+selected_ok next code p here old new part object same q r e h i c w =
+    pushes code next here.place p (cell.Object q) r old new (part here (reference_of same)) (reference_of q) old.store (λ q. on (state_of p old) (s.Object q ∷ cells_of p old.stack.items))
+    (e ∙ h p (selecting p old (part here)) ∙ ap (λ o. performs (part here o) (world_of old.store) (λ q. on (state_of p old) (s.Object q ∷ cells_of p old.stack.items))) (sym i)) (c here) refl w
+
+pub selected_err : (next : Next) (code : Code) (p : Program) (here : Here) (old : State) (to : s.State) (part : Here → m.Reference → Ran m.Reference) (object : m.Reference) (same : Reference) (error : Stop)
+    → Selects next p old (part here) → Shows on_object old.stack.items 0 object → reference_of same ≡ object
+    → Performed reference_of (λ (here : Here). part here (reference_of same)) (Err error) old.store old.store → Follows code next (Err error) to here.place
+selected_err next code p here old to part object same error e h i c =
+    stops code next here to error reference_of (λ (here : Here). part here (reference_of same)) old.store old.store (λ q. on (state_of p old) (s.Object q ∷ cells_of p old.stack.items))
+    (e ∙ h p (selecting p old (part here)) ∙ ap (λ o. performs (part here o) (world_of old.store) (λ q. on (state_of p old) (s.Object q ∷ cells_of p old.stack.items))) (sym i)) c

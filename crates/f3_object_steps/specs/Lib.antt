@@ -1,0 +1,4 @@
+pub mod Performed
+pub mod Parts
+pub mod Walks
+pub mod Selections

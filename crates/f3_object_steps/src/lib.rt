@@ -1,0 +1,11 @@
+//! Instructions on objects.
+#![tactic(auto)]
+
+pub mod acts;
+pub mod assigning;
+pub mod counting;
+pub mod freeing;
+pub mod locating;
+pub mod naming;
+pub mod places;
+pub mod subscripts;

@@ -1,0 +1,98 @@
+//! The elements that are selected of an array.
+
+ghost use Rattle.std.specs.Prelude.{◌≡◌, ◌+◌, ◌*◌, ◌++◌, ◌-ℤ◌, [], ◌∷◌, nat_abs, nat_lt, map, true, false, IfOk, OnOk, MatchOption};
+ghost use Rattle.std.specs.List.{flat_map};
+ghost use Rattle.f3_meaning_whole.specs.Act.{all_inside, is_inside, places_in, some_zero_step, spans_in, steps_by_zero, subscripts_in};
+ghost use Rattle.f3_data.specs.Values.{span_of, spans_of};
+ghost use Rattle.f3_cells.specs.Cells.{chosen_of};
+ghost use Rattle.f3_object_steps.specs.Selections.{kept, row_of, rows_of, spans_with};
+
+use crate::subscripts::offsets;
+use f3_cells::cell::Chosen;
+use f3_data::value::Span;
+use std::alloc::{AllocError, Global};
+
+/// What is selected of an array: the places of elements, and the bounds of the section, none where it is an element.
+#[derive(Drop)]
+pub struct Selected {
+    pub places: Vec<usize>,
+    pub spans: Vec<Span>,
+}
+
+/// A place in a row of elements, where there is such an element.
+fn place_of(offset: u64, extent: u64, row: usize, limit: usize) -> Option<usize>
+    ensures { MatchOption result (nat_lt (offset + extent * row) limit ≡ false) (λ p. (nat_lt (offset + extent * row) limit ≡ true) × (p ≡ offset + extent * row)) }
+{
+    let Some(start) = extent.checked_mul(row as u64) else {
+        return None;
+    };
+    let Some(place) = offset.checked_add(start) else {
+        return None;
+    };
+    if place < limit as u64 {
+        Some(place as usize)
+    } else {
+        None
+    }
+}
+
+/// The places in a row are added.
+#[tactic(auto, using(crate::proofs::Selecting::keeps, crate::proofs::Selecting::leaves))]
+fn add_row(
+    places: &mut Vec<usize>,
+    offsets: &[u64],
+    extent: u64,
+    row: usize,
+    limit: usize,
+) -> Result<(), AllocError>
+    ensures { OnOk result (places.new.items ≡ places.old.items ++ kept limit (row_of offsets.now extent row)) }
+{
+    for offset in offsets {
+        if let Some(place) = place_of(*offset, extent, row, limit) {
+            places.push(place)?;
+        }
+    }
+    Ok(())
+}
+
+/// The places in several rows.
+#[tactic(auto, using(crate::proofs::Selecting::kept_append))]
+fn rows(
+    alloc: Global,
+    offsets: &[u64],
+    extent: u64,
+    rows: &[usize],
+    limit: usize,
+) -> Result<Vec<usize>, AllocError>
+    ensures { IfOk result (λ v. v.items ≡ kept limit (flat_map (row_of offsets.now extent) rows.now)) }
+{
+    let mut places = Vec::new(alloc);
+    for row in rows {
+        add_row(&mut places, offsets, extent, *row, limit)?;
+    }
+    Ok(places)
+}
+
+/// The bounds of a section with a dimension more, where that is not one subscript.
+fn spans_with(
+    span: Span,
+    choice: Chosen,
+    count: usize,
+    mut spans: Vec<Span>,
+) -> Result<Vec<Span>, AllocError>
+    ensures { IfOk result (λ v. spans_of v.items ≡ spans_with (chosen_of choice) count (spans_of spans.items)) }
+{
+    match choice {
+        Chosen::At(_) => Ok(spans),
+        Chosen::Range(_, _, _) => {
+            spans.insert(
+                0,
+                Span {
+                    lower: 1,
+                    extent: count as u64,
+                },
+            )?;
+            Ok(spans)
+        }
+    }
+}
