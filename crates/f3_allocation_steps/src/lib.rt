@@ -1,0 +1,5 @@
+//! Instructions about what is allocated.
+#![tactic(auto)]
+
+pub mod states;
+pub mod work;
