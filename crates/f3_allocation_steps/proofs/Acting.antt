@@ -1,6 +1,6 @@
 -- What parts of runs come to as one instruction, where the heap grants each request.
 use Rattle.std.proofs.Common.{◌≡◌, ℕ, ◌+◌, Bool, true, false, nat_eq, List, [], ◌∷◌, ◌++◌, length, map, refl, sym, ap, ◌∙◌, subst, arith}
-use Rattle.std.specs.Prelude.{⊤}
+use Rattle.std.specs.Prelude.{⊤, Option, None, Some, if◌then◌else◌}
 use Rattle.std.proofs.lemmas.Grind.{common_steps}
 use Rattle.f3_rules.specs.declared.source.Place.{Place}
 use Rattle.f3_program.specs.declared.program.Program.{Program}
@@ -11,8 +11,9 @@ use Rattle.f3_meaning_whole.specs.Store as t
 use Rattle.f3_meaning_whole.specs.Reference as m
 use Rattle.f3_meaning_whole.specs.Reference.{paths}
 use Rattle.f3_meaning_whole.specs.declared.run_error.RunError.{RunError}
+use Rattle.f3_meaning_whole.specs.declared.run_error.RunError.TheVariants.{InUse, NotAllocated}
 use Rattle.f3_meaning_whole.specs.Ran.{Event, World, Ran, ◌>>=◌, gives, fails, looks, does, asks}
-use Rattle.f3_meaning_whole.specs.Act.{Here, change, claim, set, clear}
+use Rattle.f3_meaning_whole.specs.Act.{Here, change, claim, set, clear, contents}
 use Rattle.f3_meaning_whole.specs.Run.{output}
 use Rattle.f3_data.specs.declared.store.Store.{Store}
 use Rattle.f3_data.specs.declared.value.Span.{Span}
@@ -20,10 +21,11 @@ use Rattle.f3_data.specs.Values.{spans_of}
 use Rattle.f3_data.specs.Stores.{store_of}
 use Rattle.f3_code.specs.State.{Next, Goes, Stays, Failed}
 use Rattle.f3_code.specs.State as s
-use Rattle.f3_code.specs.Machine.{on, on_object, on_datum, performs, tested}
+use Rattle.f3_code.specs.Machine.{on, on_object, on_datum, performs, ends_so, tested, opens, goes, skips}
 use Rattle.f3_cells.specs.declared.state.State.{State}
 use Rattle.f3_cells.specs.Cells.{cells_of}
-use Rattle.f3_cells.specs.States.{state_of, world_of}
+use Rattle.f3_cells.specs.States.{state_of, world_of, granted}
+use Rattle.f3_located.specs.Finds.{Finds, FailsBy}
 use Rattle.f3_cells.specs.Moves.{Moved}
 use Rattle.f3_cells.specs.Follows.{GoesOn}
 
@@ -75,3 +77,34 @@ clear_then r here old new k e = ap (λ (st : t.Store). Goes (change r here (map 
 pub moved_with : {next : Next} (p : Program) {mid new : State} (out : List Event) → Moved (mid.pc + 1) mid new
     → next ≡ Goes out (on (state_of p mid) (cells_of p mid.stack.items) (world_of mid.store)) → output out ≡ [] → GoesOn next (state_of p new) []
 moved_with p out m e o = (out, e ∙ ap (λ t. Goes out (state_of p t)) (sym m.is), o)
+
+-- a part of a run that only finds something, or fails
+pub found : {A : Type 0} (n : Ran A) (store : Store) (x : A) (k : A → World → s.State) → Finds n store x → performs n (world_of store) k ≡ Goes [] (k x (world_of store))
+found n store x k h = ap (λ o. ends_so o.out o.end k) (h granted)
+
+pub missed : {A : Type 0} (n : Ran A) (store : Store) (e : RunError) (place : Place) (k : A → World → s.State) → FailsBy n store e place → performs n (world_of store) k ≡ Stays [] (Failed e place)
+missed n store e place k h = ap (λ o. ends_so o.out o.end k) (h granted)
+
+-- what an object holds, where it is in use, or not
+pub shut : (r : m.Reference) (here : Here) (w : World) (k : m.Reference → World → s.State) → m.is_pinned r.path here.lent ≡ true → performs (opens r here) w k ≡ Stays [] (Failed InUse here.place)
+shut r here w k h = rw h (failure InUse here.place w k)
+  where
+  failure : {A : Type 0} (e : RunError) (place : Place) (w : World) (k : A → World → s.State) → performs (fails e place) w k ≡ Stays [] (Failed e place)
+  unfolding fails
+  failure e place w k = refl
+
+pub unshut : (r : m.Reference) (here : Here) (w : World) (k : m.Reference → World → s.State) → m.is_pinned r.path here.lent ≡ false → performs (opens r here) w k ≡ performs (contents r here) w k
+unshut r here w k h = rw h refl
+
+-- why an object may not be deallocated
+pub hindered : (b c : Bool) (d : ℕ) (t : s.State) (st : List s.Cell) (error : RunError) → Some error ≡ (if b then (if c then Some InUse else None) else Some NotAllocated)
+    → (if b then (if c then skips t d (s.Status (Some InUse) ∷ st) else goes t t.stack) else skips t d (s.Status (Some NotAllocated) ∷ st)) ≡ skips t d (s.Status (Some error) ∷ st)
+hindered true true d t st error h = ap (λ x. skips t d (s.Status x ∷ st)) (sym h)
+hindered true false d t st error h = cc
+hindered false c d t st error h = ap (λ x. skips t d (s.Status x ∷ st)) (sym h)
+
+pub unhindered : (b c : Bool) (d : ℕ) (t : s.State) (st : List s.Cell) → None ≡ (if b then (if c then Some InUse else None) else Some NotAllocated)
+    → (if b then (if c then skips t d (s.Status (Some InUse) ∷ st) else goes t t.stack) else skips t d (s.Status (Some NotAllocated) ∷ st)) ≡ goes t t.stack
+unhindered true true d t st h = cc
+unhindered true false d t st h = refl
+unhindered false c d t st h = cc

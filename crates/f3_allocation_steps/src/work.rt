@@ -109,3 +109,59 @@ pub fn work_component(
     )?;
     state.go_on_with(Cell::Object(part))
 }
+
+/// The path of an object that is meant, by its number, from 0 on.
+#[tactic(auto, using(crate::proofs::Walking::only_path, crate::proofs::Walking::mapped_at))]
+fn path_at(alloc: Global, whole: &Reference, k: usize) -> Result<Path, AllocError>
+    requires { k < length (paths (reference_of whole.now)) }
+    ensures { IfOk result (λ p. slice_get (paths (reference_of whole.now)) k ≡ Some (path_of p)) }
+{
+    match &whole.reach {
+        Reach::One => copies::path(alloc, &whole.path),
+        Reach::Many(_, numbers, tail) => {
+            element_path(alloc, &whole.path, place_at(numbers, k), tail)
+        }
+    }
+}
+
+/// An object at a path, by the same root and components as another of its type.
+fn element_at(alloc: Global, object: &Reference, path: Path) -> Result<Reference, AllocError>
+    ensures { IfOk result (λ q. reference_of q ≡ moved (reference_of object.now) (path_of path) r.One) }
+{
+    let makers = Vec::from_slice(alloc, &object.makers)?;
+    Ok(Reference {
+        path,
+        reach: Reach::One,
+        of: object.of,
+        right: object.right,
+        origin: object.origin,
+        makers,
+    })
+}
+
+/// The next of the elements of the object, or so far on where there is none (6.2.2.2).
+pub fn walk_next(
+    alloc: Global,
+    state: &mut State,
+    distance: usize,
+    total: usize,
+) -> Result<(), Stop>
+    requires { state.old.pc < 2 ^ 63 }
+    ensures { DoesIn total (i.WalkNext distance) result state.old state.new }
+{
+    let Some((whole, k)) = pop_elements(&mut state.stack) else {
+        return Err(Stop::Stuck);
+    };
+    let Some(object) = object_at(&state.stack, 0) else {
+        drop(whole);
+        return Err(Stop::Stuck);
+    };
+    if k >= count(&whole) {
+        drop(whole);
+        return state.ahead(distance, total);
+    }
+    let path = path_at(alloc, &whole, k)?;
+    let element = element_at(alloc, object, path)?;
+    push(&mut state.stack, Cell::Elements(whole, k + 1))?;
+    state.go_on_with(Cell::Object(element))
+}
