@@ -21,7 +21,7 @@ use Rattle.f3_data.specs.Values.{spans_of}
 use Rattle.f3_data.specs.Stores.{store_of}
 use Rattle.f3_code.specs.State.{Next, Goes, Stays, Failed}
 use Rattle.f3_code.specs.State as s
-use Rattle.f3_code.specs.Machine.{on, on_object, on_datum, performs, ends_so, tested, opens, goes, skips}
+use Rattle.f3_code.specs.Machine.{on, on_object, on_datum, on_status, on_elements, performs, ends_so, tested, opens, goes, skips}
 use Rattle.f3_cells.specs.declared.state.State.{State}
 use Rattle.f3_cells.specs.Cells.{cells_of}
 use Rattle.f3_cells.specs.States.{state_of, world_of, granted}
@@ -85,13 +85,13 @@ found n store x k h = ap (λ o. ends_so o.out o.end k) (h granted)
 pub missed : {A : Type 0} (n : Ran A) (store : Store) (e : RunError) (place : Place) (k : A → World → s.State) → FailsBy n store e place → performs n (world_of store) k ≡ Stays [] (Failed e place)
 missed n store e place k h = ap (λ o. ends_so o.out o.end k) (h granted)
 
+failure : {A : Type 0} (e : RunError) (place : Place) (w : World) (k : A → World → s.State) → performs (fails e place) w k ≡ Stays [] (Failed e place)
+unfolding fails
+failure e place w k = refl
+
 -- what an object holds, where it is in use, or not
 pub shut : (r : m.Reference) (here : Here) (w : World) (k : m.Reference → World → s.State) → m.is_pinned r.path here.lent ≡ true → performs (opens r here) w k ≡ Stays [] (Failed InUse here.place)
 shut r here w k h = rw h (failure InUse here.place w k)
-  where
-  failure : {A : Type 0} (e : RunError) (place : Place) (w : World) (k : A → World → s.State) → performs (fails e place) w k ≡ Stays [] (Failed e place)
-  unfolding fails
-  failure e place w k = refl
 
 pub unshut : (r : m.Reference) (here : Here) (w : World) (k : m.Reference → World → s.State) → m.is_pinned r.path here.lent ≡ false → performs (opens r here) w k ≡ performs (contents r here) w k
 unshut r here w k h = rw h refl
@@ -108,3 +108,21 @@ pub unhindered : (b c : Bool) (d : ℕ) (t : s.State) (st : List s.Cell) → Non
 unhindered true true d t st h = cc
 unhindered true false d t st h = refl
 unhindered false c d t st h = cc
+
+-- the same of a value that is equal
+pub set_as : (r : m.Reference) (x y : v.Value) (here : Here) (old new : Store) (k : ⊤ → World → s.State) → y ≡ x
+    → store_of new ≡ put_all (paths r) (spread (length (paths r)) y) (store_of old)
+    → performs (set r x here) (world_of old) k ≡ Goes (change r here (spread (length (paths r)) x)) (k tt (world_of new))
+set_as r x y here old new k e h = set_then r x here old new k (subst (λ z. store_of new ≡ put_all (paths r) (spread (length (paths r)) z) (store_of old)) e h)
+
+-- storage is granted
+pub claimed_then : {A : Type 0} (here : Here) (store : Store) (f : ⊤ → Ran A) (k : A → World → s.State) → performs (claim here >>= f) (world_of store) k ≡ performs (f tt) (world_of store) k
+unfolding ◌>>=◌ asks gives
+claimed_then here store f k = refl
+
+-- what goes on with how an ALLOCATE or DEALLOCATE ended, or with elements, on top
+pub at_status : {cells rest : List s.Cell} {x : Option RunError} (f : Option RunError → List s.Cell → Next) → cells ≡ s.Status x ∷ rest → on_status cells f ≡ f x rest
+at_status f e = rw e refl
+
+pub at_elements : {cells rest : List s.Cell} {ps : List t.Path} (f : List t.Path → List s.Cell → Next) → cells ≡ s.Elements ps ∷ rest → on_elements cells f ≡ f ps rest
+at_elements f e = rw e refl
