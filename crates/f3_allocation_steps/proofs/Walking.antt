@@ -2,6 +2,10 @@
 use Rattle.std.proofs.Common.{◌≡◌, ℕ, zero, suc, ◌+◌, ◌<◌, ◌≤◌, List, [], ◌∷◌, length, map, drop, refl, sym, ap, ◌∙◌, arith}
 use Rattle.std.specs.Prelude.{Option, Some, None, slice_get}
 use Rattle.f3_meaning_whole.specs.Store.{Path}
+use Rattle.f3_meaning_whole.specs.Reference.{Reference, One}
+use Rattle.f3_meaning_whole.specs.Act.{moved}
+use Rattle.f3_code.specs.State as s
+use Rattle.f3_code.specs.Machine.{next_element, goes, skips}
 
 -- the only one of a list
 pub only_path : (p : Path) (k : ℕ) → k < length (p ∷ []) → slice_get (p ∷ []) k ≡ Some p
@@ -30,3 +34,17 @@ drop_past [] zero h = refl
 drop_past [] (suc k) h = refl
 drop_past (x ∷ ps) zero h = absurd (omega arith)
 drop_past (x ∷ ps) (suc k) h = drop_past ps k (omega arith)
+
+-- the next element, on top of those behind it
+pub walked : (mid top : List s.Cell) (ps : List Path) (k : ℕ) (p : Path) (d : ℕ) (t : s.State) (r q : Reference) → slice_get ps k ≡ Some p → q ≡ moved r p One
+    → mid ≡ s.Object r ∷ drop 1 mid → top ≡ s.Elements (drop (k + 1) ps) ∷ mid → next_element (drop k ps) d r t (drop 1 mid) ≡ goes t (s.Object q ∷ top)
+walked mid top ps k p d t r q h e m o =
+    ap (λ ps. next_element ps d r t (drop 1 mid)) (drop_one ps k p h)
+    ∙ ap (λ x. goes t (s.Object x ∷ s.Elements (drop (k + 1) ps) ∷ s.Object r ∷ drop 1 mid)) (sym e)
+    ∙ ap (λ st. goes t (s.Object q ∷ s.Elements (drop (k + 1) ps) ∷ st)) (sym m)
+    ∙ ap (λ st. goes t (s.Object q ∷ st)) (sym o)
+
+-- there is none
+pub walked_past : (mid : List s.Cell) (ps : List Path) (k : ℕ) (d : ℕ) (t : s.State) (r : Reference) → length ps ≤ k
+    → mid ≡ s.Object r ∷ drop 1 mid → next_element (drop k ps) d r t (drop 1 mid) ≡ skips t d mid
+walked_past mid ps k d t r h m = ap (λ ps. next_element ps d r t (drop 1 mid)) (drop_past ps k h) ∙ ap (λ st. skips t d st) (sym m)

@@ -18,4 +18,4 @@ returns c =
     let st = c.args.state.now in
     λ place. went_on _ place p c.go_on_with.ensures (at_object _ (c.in-Some.ensures p)
     ∙ ap (λ (q : Reference). performs (component (setting p) c.args.number Language q) (world_of st.store) (λ q. on (state_of p st) (s.Object q ∷ cells_of p st.stack.items))) (sym c.in_ok-whole.ensures)
-    ∙ found _ st.store _ (λ q. on (state_of p st) (s.Object q ∷ cells_of p st.stack.items)) (c.in_ok-part.ensures (setting p) refl))
+    ∙ found _ st.store _ (λ q. on (state_of p st) (s.Object q ∷ cells_of p st.stack.items)) (c.in_ok-part.ensures (setting p) (sym c.deref.ensures.value)))
