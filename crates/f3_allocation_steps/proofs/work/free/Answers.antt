@@ -1,0 +1,13 @@
+use Rattle.std.proofs.Common.{refl, ◌∙◌}
+use Rattle.f3_meaning_whole.specs.Value as m
+use Rattle.f3_data.specs.References.{reference_of}
+use Rattle.f3_cells.proofs.Steps.{is_stuck}
+use Rattle.f3_allocation_steps.proofs.Acting.{at_object, set_then, moved_with}
+use Rattle.f3_allocation_steps.proofs.work.free.Goals as goal
+
+pub returns-in_default : goal.returns-in_default
+returns-in_default c = λ p limit g code v here. is_stuck (c.in_default.ensures p _)
+
+pub returns : goal.returns
+returns c = λ p limit g code v here. moved_with p _ c.advance.ensures
+    (at_object _ (c.in-Some.ensures p) ∙ set_then (reference_of c.in-Some.object.now) m.Unallocated here c.args.state.now.store c.set.new.store _ c.in_ok-set.ensures) refl

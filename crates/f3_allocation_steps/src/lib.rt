@@ -1,0 +1,6 @@
+//! Instructions about what is allocated.
+#![tactic(auto)]
+
+pub mod allocating;
+pub mod states;
+pub mod work;
