@@ -29,39 +29,47 @@ part_past (x ∷ vs) zero way h = absurd (omega arith)
 part_past (x ∷ vs) (suc i) way h = part_past vs i way (omega arith)
 
 -- a part of one of them
-pub part_within : (vs : List v.Value) (i : ℕ) (way : List Step) (d : v.Value) → i < length vs → part_at (joined (values_of vs)) i way ≡ part (value_of (get_or vs i d)) way
+pub part_within : (vs : List v.Value) (i : ℕ) (way : List Step) (d : v.Value) → i < length vs →
+    part_at (joined (values_of vs)) i way ≡ part (value_of (get_or vs i d)) way
 part_within [] i way d h = absurd (omega arith)
 part_within (x ∷ vs) zero way d h = refl
 part_within (x ∷ vs) (suc i) way d h = part_within vs i way d (omega arith)
 
 -- the same of another value there
-pub part_stands : (vs : List v.Value) (i : ℕ) (way : List Step) (x : v.Value) → i < length vs → x ≡ get_or vs i x → part_at (joined (values_of vs)) i way ≡ part (value_of x) way
+pub part_stands : (vs : List v.Value) (i : ℕ) (way : List Step) (x : v.Value) → i < length vs → x ≡ get_or vs i x →
+    part_at (joined (values_of vs)) i way ≡ part (value_of x) way
 part_stands vs i way x h e = part_within vs i way x h ∙ ap (λ y. part (value_of y) way) (sym e)
 
-pub with_part_past : (vs : List v.Value) (i : ℕ) (way : List Step) (x : m.Value) → length vs ≤ i → with_part_at (joined (values_of vs)) i way x ≡ joined (values_of vs)
+pub with_part_past : (vs : List v.Value) (i : ℕ) (way : List Step) (x : m.Value) → length vs ≤ i →
+    with_part_at (joined (values_of vs)) i way x ≡ joined (values_of vs)
 with_part_past [] i way x h = refl
 with_part_past (y ∷ vs) zero way x h = absurd (omega arith)
 with_part_past (y ∷ vs) (suc i) way x h = ap (m.more (value_of y)) (with_part_past vs i way x (omega arith))
 
-pub with_part_within : (vs : List v.Value) (i : ℕ) (way : List Step) (x : m.Value) (d y : v.Value) → i < length vs → value_of y ≡ with_part (value_of (get_or vs i d)) way x →
+pub with_part_within : (vs : List v.Value) (i : ℕ) (way : List Step) (x : m.Value) (d y : v.Value) → i < length vs →
+    value_of y ≡ with_part (value_of (get_or vs i d)) way x →
     joined (values_of (slice_set vs i y)) ≡ with_part_at (joined (values_of vs)) i way x
 with_part_within [] i way x d y h e = absurd (omega arith)
 with_part_within (z ∷ vs) zero way x d y h e = ap (λ u. m.more u (joined (values_of vs))) e
 with_part_within (z ∷ vs) (suc i) way x d y h e = ap (m.more (value_of z)) (with_part_within vs i way x d y (omega arith) e)
 
 -- values in which parts of one component or element are others
-pub array_put : (ss : Vec Span Global) (vs ws : Vec v.Value Global) (k : ℕ) (s : n.Step) (rest steps : List n.Step) (x : m.Value) → s ≡ step.Element k → steps ≡ s ∷ rest →
-    joined (values_of ws.items) ≡ with_part_at (joined (values_of vs.items)) k (steps_of rest) x → value_of (v.Array ss ws) ≡ with_part (value_of (v.Array ss vs)) (steps_of steps) x
+pub array_put : (ss : Vec Span Global) (vs ws : Vec v.Value Global) (k : ℕ) (s : n.Step) (rest steps : List n.Step) (x : m.Value) →
+    s ≡ step.Element k → steps ≡ s ∷ rest →
+    joined (values_of ws.items) ≡ with_part_at (joined (values_of vs.items)) k (steps_of rest) x →
+    value_of (v.Array ss ws) ≡ with_part (value_of (v.Array ss vs)) (steps_of steps) x
 array_put ss vs ws k s rest steps x e f h = rw (array_is, array_is, f, e) (ap (m.Array (spans_of ss.items)) h)
 
 -- steps that lead nowhere
 
-composite_stays : (vs : Vec v.Value Global) (s : n.Step) (way : List Step) (x : m.Value) → ((k : ℕ) → s ≡ step.Component k → ⊥) → value_of (v.Composite vs) ≡ with_part (value_of (v.Composite vs)) (step_of s ∷ way) x
+composite_stays : (vs : Vec v.Value Global) (s : n.Step) (way : List Step) (x : m.Value) → ((k : ℕ) → s ≡ step.Component k → ⊥) →
+    value_of (v.Composite vs) ≡ with_part (value_of (v.Composite vs)) (step_of s ∷ way) x
 composite_stays vs (step.Component k) way x h = absurd (h k refl)
 composite_stays vs (step.Element k) way x h = refl
 composite_stays vs step.Contents way x h = refl
 
-array_stays : (ss : Vec Span Global) (vs : Vec v.Value Global) (s : n.Step) (way : List Step) (x : m.Value) → ((k : ℕ) → s ≡ step.Element k → ⊥) → value_of (v.Array ss vs) ≡ with_part (value_of (v.Array ss vs)) (step_of s ∷ way) x
+array_stays : (ss : Vec Span Global) (vs : Vec v.Value Global) (s : n.Step) (way : List Step) (x : m.Value) → ((k : ℕ) → s ≡ step.Element k → ⊥) →
+    value_of (v.Array ss vs) ≡ with_part (value_of (v.Array ss vs)) (step_of s ∷ way) x
 array_stays ss vs (step.Component k) way x h = refl
 array_stays ss vs (step.Element k) way x h = absurd (h k refl)
 array_stays ss vs step.Contents way x h = refl
@@ -70,7 +78,8 @@ pub composite_kept : (vs : Vec v.Value Global) (s : n.Step) (rest steps : List n
     value_of (v.Composite vs) ≡ with_part (value_of (v.Composite vs)) (steps_of steps) x
 composite_kept vs s rest steps x e h = rw e (composite_stays vs s (steps_of rest) x h)
 
-pub array_kept : (ss : Vec Span Global) (vs : Vec v.Value Global) (s : n.Step) (rest steps : List n.Step) (x : m.Value) → steps ≡ s ∷ rest → ((k : ℕ) → s ≡ step.Element k → ⊥) →
+pub array_kept : (ss : Vec Span Global) (vs : Vec v.Value Global) (s : n.Step) (rest steps : List n.Step) (x : m.Value) → steps ≡ s ∷ rest →
+    ((k : ℕ) → s ≡ step.Element k → ⊥) →
     value_of (v.Array ss vs) ≡ with_part (value_of (v.Array ss vs)) (steps_of steps) x
 array_kept ss vs s rest steps x e h = rw e (array_stays ss vs s (steps_of rest) x h)
 
@@ -94,30 +103,39 @@ level_past [] i h = refl
 level_past (x ∷ vs) zero h = absurd (omega arith)
 level_past (x ∷ vs) (suc i) h = level_past vs i (omega arith)
 
-pub level_within : (vs : List (Vec v.Value Global)) (i : ℕ) (d : Vec v.Value Global) → i < length vs → slice_index_or (levels_of vs) i [] ≡ values_of (get_or vs i d).items
+pub level_within : (vs : List (Vec v.Value Global)) (i : ℕ) (d : Vec v.Value Global) → i < length vs →
+    slice_index_or (levels_of vs) i [] ≡ values_of (get_or vs i d).items
 level_within [] i d h = absurd (omega arith)
 level_within (x ∷ vs) zero d h = refl
 level_within (x ∷ vs) (suc i) d h = level_within vs i d (omega arith)
 
-pub level_stands : (vs : List (Vec v.Value Global)) (i : ℕ) (x : Vec v.Value Global) → i < length vs → x ≡ get_or vs i x → values_of x.items ≡ slice_index_or (levels_of vs) i []
+pub level_stands : (vs : List (Vec v.Value Global)) (i : ℕ) (x : Vec v.Value Global) → i < length vs → x ≡ get_or vs i x →
+    values_of x.items ≡ slice_index_or (levels_of vs) i []
 level_stands vs i x h e = ap (λ (u : Vec v.Value Global). values_of u.items) e ∙ sym (level_within vs i x h)
 
-pub array_part : (x : v.Value) (ss : Vec Span Global) (vs : Vec v.Value Global) (s : n.Step) (k : ℕ) (way : List Step) → x ≡ v.Array ss vs → s ≡ step.Element k →
+pub array_part : (x : v.Value) (ss : Vec Span Global) (vs : Vec v.Value Global) (s : n.Step) (k : ℕ) (way : List Step) → x ≡ v.Array ss vs →
+    s ≡ step.Element k →
     part (value_of x) (step_of s ∷ way) ≡ part_at (joined (values_of vs.items)) k way
 array_part x ss vs s k way e f = rw (e, f, array_is) refl
 
 -- one object of a list is another
 
-pub object_put : (vs : List v.Value) (i : ℕ) (steps : List Step) (x : m.Value) (d y : v.Value) → i < length vs → d ≡ get_or vs i d → value_of y ≡ with_part (value_of d) steps x →
+pub object_put : (vs : List v.Value) (i : ℕ) (steps : List Step) (x : m.Value) (d y : v.Value) → i < length vs → d ≡ get_or vs i d →
+    value_of y ≡ with_part (value_of d) steps x →
     values_of (slice_set vs i y) ≡ slice_set (values_of vs) i (with_part (slice_index_or (values_of vs) i m.Unallocated) steps x)
 object_put vs i steps x d y h e f = map-set value_of vs i y ∙ ap (slice_set (values_of vs) i) (f ∙ ap (λ u. with_part u steps x) (object_stands vs i d h e))
 
 pub level_put : (vs : List (Vec v.Value Global)) (l i : ℕ) (steps : List Step) (x : m.Value) (d y : Vec v.Value Global) → l < length vs → d ≡ get_or vs l d →
     values_of y.items ≡ slice_set (values_of d.items) i (with_part (slice_index_or (values_of d.items) i m.Unallocated) steps x) →
-    levels_of (slice_set vs l y) ≡ slice_set (levels_of vs) l (slice_set (slice_index_or (levels_of vs) l []) i (with_part (slice_index_or (slice_index_or (levels_of vs) l []) i m.Unallocated) steps x))
-level_put vs l i steps x d y h e f = map-set (λ (u : Vec v.Value Global). values_of u.items) vs l y ∙ ap (slice_set (levels_of vs) l) (f ∙ ap (λ u. slice_set u i (with_part (slice_index_or u i m.Unallocated) steps x)) (level_stands vs l d h e))
+    levels_of (slice_set vs l y) ≡ slice_set (levels_of vs) l (slice_set (slice_index_or (levels_of vs) l []) i (with_part (slice_index_or
+    (slice_index_or (levels_of vs) l []) i m.Unallocated) steps x))
+level_put vs l i steps x d y h e f = map-set (λ (u : Vec v.Value Global). values_of u.items) vs l y
+    ∙ ap (slice_set (levels_of vs) l) (f ∙ ap (λ u. slice_set u i (with_part (slice_index_or u i m.Unallocated) steps x)) (level_stands vs l d h e))
 
 -- a copy of an array
-pub array_copied : (x : v.Value) (ss ts : Vec Span Global) (vs ws : Vec v.Value Global) (bounds : List Span) (values : List v.Value) → x ≡ v.Array ss vs → ts.items ≡ bounds → bounds ≡ ss.items → values_of ws.items ≡ values_of values → values ≡ vs.items →
+pub array_copied : (x : v.Value) (ss ts : Vec Span Global) (vs ws : Vec v.Value Global) (bounds : List Span) (values : List v.Value) →
+    x ≡ v.Array ss vs → ts.items ≡ bounds → bounds ≡ ss.items → values_of ws.items ≡ values_of values → values ≡ vs.items →
     value_of (v.Array ts ws) ≡ value_of x
 array_copied x ss ts vs ws bounds values e f g h i = rw (e, array_is, array_is, f, g, h, i) refl
+
+pub ruleset rows = (composite_is, array_is, part_past, part_stands, object_past, object_stands, level_past, level_stands)

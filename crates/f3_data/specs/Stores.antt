@@ -1,5 +1,6 @@
 -- Stores in memory, as the meaning has them.
-use Rattle.std.specs.Prelude.{List, map}
+use Rattle.std.specs.Prelude.{◌≡◌, ℕ, List, [], map, Option, MatchOption, slice_index_or, slice_set}
+use denote.Ref.{Bor}
 use Rattle.std.specs.declared.alloc.Global.{Global}
 use Rattle.std.specs.Prelude.{Vec}
 use Rattle.f3_meaning_whole.specs.Value as m'
@@ -11,7 +12,7 @@ use Rattle.f3_data.specs.declared.store.Step.TheVariants as step
 use Rattle.f3_data.specs.declared.store.Path.{Path}
 use Rattle.f3_data.specs.declared.store.Store.{Store}
 use Rattle.f3_data.specs.declared.value.Value.{Value}
-use Rattle.f3_data.specs.Values.{values_of}
+use Rattle.f3_data.specs.Values.{value_of, values_of}
 
 abbrev pub root_of : Root → m.Root
 root_of (root.Static i) = m.Static i
@@ -33,3 +34,18 @@ levels_of vs = map (λ (v : Vec Value Global). values_of v.items) vs
 
 abbrev pub store_of : Store → m.Store
 store_of s = record { statics = values_of s.statics.items; levels = levels_of s.levels.items }
+
+-- what was found: a value, and nothing only where the meaning has an unallocated one
+abbrev pub Found : m'.Value → Option (Bor Value) → Type 0
+Found x o = MatchOption o (x ≡ m'.Unallocated) (λ v. value_of v.now ≡ x)
+
+-- the same of what steps lead to: a value that they go on from
+abbrev pub LeadsTo : (List m.Step → m'.Value) → Option (Bor Value) → Type 0
+LeadsTo f o = (way : List m.Step) → MatchOption o (f way ≡ m'.Unallocated) (λ v. m.part (value_of v.now) way ≡ f way)
+
+-- another value in a part of an object of a level
+abbrev pub replaced : List m'.Value → ℕ → List m.Step → m'.Value → List m'.Value
+replaced vs i way x = slice_set vs i (m.with_part (slice_index_or vs i m'.Unallocated) way x)
+
+abbrev pub replaced_in_level : List (List m'.Value) → ℕ → ℕ → List m.Step → m'.Value → List (List m'.Value)
+replaced_in_level levels level i way x = slice_set levels level (replaced (slice_index_or levels level []) i way x)

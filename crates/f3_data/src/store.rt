@@ -1,13 +1,12 @@
 //! Stores, and paths into them.
 
-ghost use Rattle.std.specs.Prelude.{◌≡◌, MatchOption, List, ◌∷◌, [], OnOk, slice_index_or, slice_set};
+ghost use Rattle.std.specs.Prelude.{◌≡◌, ◌∷◌, [], OnOk, slice_index_or};
 ghost use Rattle.f3_meaning_whole.specs.Value as m;
 ghost use Rattle.f3_meaning_whole.specs.Value.{joined};
-ghost use Rattle.f3_meaning_whole.specs.Store as s;
 ghost use Rattle.f3_meaning_whole.specs.Store.{part, part_at, with_part, with_part_at, at_root, get, put};
 ghost use Rattle.f3_meaning_whole.specs.Ran.{Entered, Ended, effect};
 ghost use Rattle.f3_data.specs.Values.{value_of, values_of};
-ghost use Rattle.f3_data.specs.Stores.{step_of, steps_of, root_of, path_of, levels_of, store_of};
+ghost use Rattle.f3_data.specs.Stores.{step_of, steps_of, root_of, path_of, levels_of, store_of, Found, LeadsTo, replaced, replaced_in_level};
 
 use crate::value::Value;
 use std::alloc::AllocError;
@@ -45,7 +44,7 @@ pub struct Store {
 
 /// A component or an element.
 fn at(values: &[Value], k: usize) -> Option<&Value>
-    ensures { (way : List s.Step) → MatchOption result (part_at (joined (values_of values.now)) k way ≡ m.Unallocated) (λ v. part (value_of v.now) way ≡ part_at (joined (values_of values.now)) k way) }
+    ensures { LeadsTo (part_at (joined (values_of values.now)) k) result }
 {
     match values.get(k) {
         Some(value) => Some(value),
@@ -55,7 +54,7 @@ fn at(values: &[Value], k: usize) -> Option<&Value>
 
 /// What a step leads to, in a value.
 fn inner(value: &Value, step: Step) -> Option<&Value>
-    ensures { (way : List s.Step) → MatchOption result (part (value_of value.now) (step_of step ∷ way) ≡ m.Unallocated) (λ v. part (value_of v.now) way ≡ part (value_of value.now) (step_of step ∷ way)) }
+    ensures { LeadsTo (λ way. part (value_of value.now) (step_of step ∷ way)) result }
 {
     match (value, step) {
         (Value::Composite(values), Step::Component(k)) => at(values, k),
@@ -67,7 +66,7 @@ fn inner(value: &Value, step: Step) -> Option<&Value>
 
 /// A part of a value: none where there is none.
 pub fn part<'a>(value: &'a Value, steps: &[Step]) -> Option<&'a Value>
-    ensures { MatchOption result (part (value_of value.now) (steps_of steps.now) ≡ m.Unallocated) (λ v. value_of v.now ≡ part (value_of value.now) (steps_of steps.now)) }
+    ensures { Found (part (value_of value.now) (steps_of steps.now)) result }
 {
     let Some((step, rest)) = steps.split_first() else {
         return Some(value);
@@ -110,7 +109,7 @@ pub fn replace(value: &mut Value, steps: &[Step], new: Value)
 
 /// An object among those of a level, or of the whole run.
 fn object(values: &[Value], i: usize) -> Option<&Value>
-    ensures { MatchOption result (slice_index_or (values_of values.now) i m.Unallocated ≡ m.Unallocated) (λ v. value_of v.now ≡ slice_index_or (values_of values.now) i m.Unallocated) }
+    ensures { Found (slice_index_or (values_of values.now) i m.Unallocated) result }
 {
     match values.get(i) {
         Some(value) => Some(value),
@@ -130,7 +129,7 @@ fn objects(levels: &[Vec<Value>], level: usize) -> &[Value]
 
 /// An object of a level takes another value in a part of it; nothing happens where there is no such object.
 fn replace_in(values: &mut Vec<Value>, i: usize, steps: &[Step], new: Value)
-    ensures { values_of values.new.items ≡ slice_set (values_of values.old.items) i (with_part (slice_index_or (values_of values.old.items) i m.Unallocated) (steps_of steps.now) (value_of new)) }
+    ensures { values_of values.new.items ≡ replaced (values_of values.old.items) i (steps_of steps.now) (value_of new) }
 {
     if i < values.len() {
         replace(&mut values[i], steps, new);
@@ -147,7 +146,7 @@ fn replace_in_level(
     steps: &[Step],
     new: Value,
 )
-    ensures { levels_of levels.new.items ≡ slice_set (levels_of levels.old.items) level (slice_set (slice_index_or (levels_of levels.old.items) level []) i (with_part (slice_index_or (slice_index_or (levels_of levels.old.items) level []) i m.Unallocated) (steps_of steps.now) (value_of new))) }
+    ensures { levels_of levels.new.items ≡ replaced_in_level (levels_of levels.old.items) level i (steps_of steps.now) (value_of new) }
 {
     if level < levels.len() {
         replace_in(&mut levels[level], i, steps, new);
@@ -159,7 +158,7 @@ fn replace_in_level(
 impl Store {
     /// An object that is part of no other: none where there is none.
     pub fn object(&self, root: Root) -> Option<&Value>
-        ensures { MatchOption result (at_root (store_of self.now) (root_of root) ≡ m.Unallocated) (λ v. value_of v.now ≡ at_root (store_of self.now) (root_of root)) }
+        ensures { Found (at_root (store_of self.now) (root_of root)) result }
     {
         match root {
             Root::Static(i) => object(&self.statics, i),
@@ -169,7 +168,7 @@ impl Store {
 
     /// What stands at a path: none where there is no such object or part.
     pub fn get(&self, path: &Path) -> Option<&Value>
-        ensures { MatchOption result (get (store_of self.now) (path_of path.now) ≡ m.Unallocated) (λ v. value_of v.now ≡ get (store_of self.now) (path_of path.now)) }
+        ensures { Found (get (store_of self.now) (path_of path.now)) result }
     {
         match self.object(path.root) {
             Some(value) => part(value, &path.steps),

@@ -2,11 +2,11 @@
 
 ghost use Rattle.std.specs.Prelude.{◌≡◌};
 ghost use Rattle.f3_meaning_whole.specs.Value as m;
-ghost use Rattle.f3_meaning_whole.specs.Value.{number_of, truth_of, is_allocated, spans_of};
+ghost use Rattle.f3_meaning_whole.specs.Value.{joined, number_of, truth_of, is_allocated, spans_of};
 ghost use Rattle.f3_meaning_whole.specs.Act.{needs_storage};
 ghost use Rattle.f3_meaning_whole.specs.Arithmetic.{constant_value};
 ghost use Rattle.f3_data.specs.Values as view;
-ghost use Rattle.f3_data.specs.Values.{value_of};
+ghost use Rattle.f3_data.specs.Values.{value_of, values_of};
 
 use f3_program::declarations::Constant;
 
@@ -27,6 +27,20 @@ pub enum Value {
     Array(Vec<Span>, Vec<Value>),
     Unallocated,
     Allocated(Box<Value>),
+}
+
+/// The value of a derived type with these components.
+pub fn composite(components: Vec<Value>) -> Value
+    ensures { value_of result ≡ m.Composite (joined (values_of components.items)) }
+{
+    Value::Composite(components)
+}
+
+/// An array of bounds with these elements.
+pub fn array(spans: Vec<Span>, elements: Vec<Value>) -> Value
+    ensures { value_of result ≡ m.Array (view.spans_of spans.items) (joined (values_of elements.items)) }
+{
+    Value::Array(spans, elements)
 }
 
 /// The number that a value is, or 0.

@@ -1,5 +1,6 @@
 -- Bounds that are changed one by one.
-use Rattle.std.proofs.Common.{◌≡◌, ℕ, zero, suc, ◌+◌, add-one, ◌<◌, ◌≤◌, ℤ, pos, List, [], ◌∷◌, ◌++◌, length, map, take, drop, refl, sym, ap, ◌∙◌, arith, get_or}
+use Rattle.std.proofs.Common.{◌≡◌, ℕ, zero, suc, ◌+◌, add-one, ◌<◌, ◌≤◌, pos, List, []}
+use Rattle.std.proofs.Common.{◌∷◌, ◌++◌, length, map, take, drop, refl, ap, ◌∙◌, arith, get_or}
 use Rattle.std.specs.Prelude.{slice_set, nat_eq, if◌then◌else◌}
 use Rattle.f3_meaning_whole.specs.Value.{from_one, shown}
 use Rattle.f3_data.specs.declared.value.Span.{Span}
@@ -45,5 +46,7 @@ pub shown_ones : (xs : List Span) → spans_of (map shown_one xs) ≡ shown (spa
 shown_ones [] = refl
 shown_ones (x ∷ xs) = ap (λ us. record { lower = if nat_eq x.extent 0 then pos 1 else x.lower; extent = x.extent } ∷ us) (shown_ones xs)
 
-pub changed_at : (g : Span → Span) (xs ys : List Span) (i : ℕ) (d y : Span) → ys ≡ changed g i xs → i < length xs → y ≡ g (get_or ys i d) → slice_set ys i y ≡ changed g (i + 1) xs
-changed_at g xs ys i d y e h f = rw (e, add-one) (changed_next g xs i (get_or (changed g i xs) i d) y h (get_or-same (changed g i xs) i d (changed_length g xs i h)) (f ∙ ap (λ us. g (get_or us i d)) e))
+pub changed_at : (g : Span → Span) (xs ys : List Span) (i : ℕ) (d y : Span) → ys ≡ changed g i xs → i < length xs → y ≡ g (get_or ys i d) →
+    slice_set ys i y ≡ changed g (i + 1) xs
+changed_at g xs ys i d y e h f = rw (e, add-one) (changed_next g xs i (get_or (changed g i xs) i d) y h (get_or-same (changed g i xs) i d
+    (changed_length g xs i h)) (f ∙ ap (λ us. g (get_or us i d)) e))

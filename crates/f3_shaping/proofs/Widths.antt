@@ -1,5 +1,5 @@
 -- Operations on values are those on scalars, at the width of the type.
-use Rattle.std.proofs.Common.{◌≡◌, ℕ, zero, suc, ℤ, pos, negsuc, refl, sym, ap, ◌∙◌, Bool, true, false, cond}
+use Rattle.std.proofs.Common.{◌≡◌, zero, suc, ℤ, pos, negsuc, refl, ap, Bool, true, false, cond}
 use Rattle.f3_rules.specs.declared.source.Place.{Place}
 use Rattle.f3_program.specs.declared.declarations.Base.{Base}
 use Rattle.f3_program.specs.declared.declarations.Base.TheVariants as base
@@ -12,7 +12,7 @@ use Rattle.f3_program.specs.declared.statement.Range.{Range}
 use Rattle.f3_program.specs.declared.statement.Range.TheVariants as range
 use Rattle.f3_meaning_whole.specs.Value as m
 use Rattle.f3_meaning_whole.specs.Value.{number_of, truth_of}
-use Rattle.f3_meaning_whole.specs.Ran.{Ran, gives, fails}
+use Rattle.f3_meaning_whole.specs.Ran.{gives, fails}
 use Rattle.f3_meaning_whole.specs.declared.run_error.RunError.TheVariants.{Overflow}
 use Rattle.f3_meaning_whole.specs.Arithmetic.{converted, divided, power, apply, change_of, meets, value_fits}
 use Rattle.f3_arithmetic.specs.Scalars.{base_of}
@@ -54,7 +54,8 @@ unary_at Negate of c v place n t = rw n (converted_at of _ place)
 unary_at Absolute of c v place n t = rw n (converted_at of _ place)
 unary_at Not of c v place n t = rw t refl
 
-pub binary_at : (op : BinaryOperator) (of : Base) (c d v w : m.Value) (place : Place) → (op ≡ o.Max → ⊥) → (op ≡ o.Min → ⊥) → number_of c ≡ number_of v → truth_of c ≡ truth_of v →
+pub binary_at : (op : BinaryOperator) (of : Base) (c d v w : m.Value) (place : Place) → (op ≡ o.Max → ⊥) → (op ≡ o.Min → ⊥) →
+    number_of c ≡ number_of v → truth_of c ≡ truth_of v →
     number_of d ≡ number_of w → truth_of d ≡ truth_of w → apply op (base_of (width_of of)) c d place ≡ apply op of v w place
 binary_at o.Add of c d v w place j k n t p q = rw (n, p) (converted_at of _ place)
 binary_at o.Subtract of c d v w place j k n t p q = rw (n, p) (converted_at of _ place)

@@ -4,6 +4,7 @@ ghost use Rattle.std.specs.Prelude.{◌≡◌, ◌≤◌, ◌^◌, MatchOption, 
 ghost use Rattle.f3_meaning_whole.specs.Value.{shown, from_one, plain, same_extents, conforms, count};
 ghost use Rattle.f3_meaning_whole.specs.Exec.{too_many};
 ghost use Rattle.f3_data.specs.Values.{spans_of, value_of};
+ghost use Rattle.f3_shaping.specs.Results.{shown_value};
 
 use f3_data::value::{Span, Value};
 
@@ -102,6 +103,19 @@ pub fn plain(value: Value) -> Value
     match value {
         Value::Array(mut spans, values) => {
             begin_at_one(&mut spans);
+            Value::Array(spans, values)
+        }
+        other => other,
+    }
+}
+
+/// A value with the bounds that LBOUND and UBOUND tell (13.7.60).
+pub fn shown(value: Value) -> Value
+    ensures { value_of result ≡ shown_value (value_of value) }
+{
+    match value {
+        Value::Array(mut spans, values) => {
+            show(&mut spans);
             Value::Array(spans, values)
         }
         other => other,

@@ -2,4 +2,8 @@
 #![tactic(auto)]
 
 pub mod bounds;
+pub mod elements;
+pub mod fitting;
+pub mod initial;
 pub mod operators;
+pub mod printing;

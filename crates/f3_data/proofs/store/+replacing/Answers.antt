@@ -5,12 +5,17 @@ use Rattle.f3_data.specs.Values.{value_of}
 use Rattle.f3_data.specs.Stores.{steps_of}
 use Rattle.f3_data.proofs.Rows.{composite_is, array_is, with_part_past, with_part_within, array_put, composite_kept, array_kept}
 use Rattle.f3_data.proofs.store.+replacing.Goals as goal
-use Rattle.f3_data.proofs.store.+replacing.Goals.{replace-in-Composite-Component, replace-in-Array-Element, replace-in-Allocated-Contents, replace-in_default-2, replace-in_default-2-via-in-Composite+in_default, replace-in_default-2-via-in-Array+in_default, replace-in_default-2-via-in-Allocated+in_default, replace-in-Number-default, replace-in-Number-2, replace-in-Truth-1, replace-in-Unallocated-1}
+use Rattle.f3_data.proofs.store.+replacing.Goals.{replace-in-Composite-Component, replace-in-Array-Element, replace-in-Allocated-Contents}
+use Rattle.f3_data.proofs.store.+replacing.Goals.{replace-in_default-2, replace-in_default-2-via-in-Composite+in_default}
+use Rattle.f3_data.proofs.store.+replacing.Goals.{replace-in_default-2-via-in-Array+in_default, replace-in_default-2-via-in-Allocated+in_default}
+use Rattle.f3_data.proofs.store.+replacing.Goals.{replace-in-Number-default, replace-in-Number-2, replace-in-Truth-1, replace-in-Unallocated-1}
 
 pub replace-returns : goal.replace-returns
 replace-returns t c = elim c.match-value.branch [
   | replace-in-Composite-Component w ↦ search (rules, composite_is, array_is)
-  | replace-in-Array-Element w ↦ rw (w.value-is, w.in-Array-Element.is-0) (simp v.the_lemmas (array_put w.in-Array-Element.field-0-0 w.in-Array-Element.values w.replace_at-in-Array-Element.new.values w.in-Array-Element.k c.in-Some.step.now c.in-Some.rest.now c.args.steps.now (value_of c.args.new) w.in-Array-Element.is-1 c.in-Some.ensures.cases.0 (let e = w.replace_at-in-Array-Element.ensures in search rules)))
+  | replace-in-Array-Element w ↦ rw (w.value-is, w.in-Array-Element.is-0) (simp v.the_lemmas (array_put w.in-Array-Element.field-0-0
+      w.in-Array-Element.values w.replace_at-in-Array-Element.new.values w.in-Array-Element.k c.in-Some.step.now c.in-Some.rest.now c.args.steps.now
+      (value_of c.args.new) w.in-Array-Element.is-1 c.in-Some.ensures.cases.0 (let e = w.replace_at-in-Array-Element.ensures in search rules)))
   | replace-in-Allocated-Contents w ↦ search (rules, composite_is, array_is)
   | replace-in-Number-default w ↦ elim w.in-Number-default-1.branch [
     | replace-in-Number-2 w' ↦ search (rules, composite_is, array_is)
@@ -18,8 +23,11 @@ replace-returns t c = elim c.match-value.branch [
     | replace-in-Unallocated-1 w' ↦ search (rules, composite_is, array_is)
   ]
   | replace-in_default-2 w ↦ elim w.in_default-2.branch [
-    | replace-in_default-2-via-in-Composite+in_default w' ↦ rw (w.value-is, w'.in_default-2.is-0) (composite_kept w'.in_default-2.field-0-0 c.in-Some.step.now c.in-Some.rest.now c.args.steps.now (value_of c.args.new) c.in-Some.ensures.cases.0 w'.in_default-2.not-Component-1)
-    | replace-in_default-2-via-in-Array+in_default w' ↦ rw (w.value-is, w'.in_default-2.is-0) (array_kept w'.in_default-2.field-0-0 w'.in_default-2.field-1-0 c.in-Some.step.now c.in-Some.rest.now c.args.steps.now (value_of c.args.new) c.in-Some.ensures.cases.0 w'.in_default-2.not-Element-1)
+    | replace-in_default-2-via-in-Composite+in_default w' ↦ rw (w.value-is, w'.in_default-2.is-0) (composite_kept w'.in_default-2.field-0-0
+        c.in-Some.step.now c.in-Some.rest.now c.args.steps.now (value_of c.args.new) c.in-Some.ensures.cases.0 w'.in_default-2.not-Component-1)
+    | replace-in_default-2-via-in-Array+in_default w' ↦ rw (w.value-is, w'.in_default-2.is-0) (array_kept w'.in_default-2.field-0-0
+        w'.in_default-2.field-1-0 c.in-Some.step.now c.in-Some.rest.now c.args.steps.now (value_of c.args.new) c.in-Some.ensures.cases.0
+        w'.in_default-2.not-Element-1)
     | replace-in_default-2-via-in-Allocated+in_default w' ↦ search (rules, composite_is, array_is)
   ]
 ]
