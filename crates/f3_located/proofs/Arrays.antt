@@ -19,6 +19,9 @@ pub row_is : {n : _} (k : v.Row_of-Value n) → row_of k ≡ joined (values_of (
 row_is v.end_of-Value = refl
 row_is (v.more_of-Value x rest) = ap (m.more (value_of x)) (row_is rest)
 
+pub composite_is : (vs : Vec v.Value Global) → value_of (v.Composite vs) ≡ m.Composite (joined (values_of vs.items))
+composite_is vs = search (rules, v.the_lemmas, row_is)
+
 pub array_is : (ss : Vec Span Global) (vs : Vec v.Value Global) → value_of (v.Array ss vs) ≡ m.Array (spans_of ss.items) (joined (values_of vs.items))
 array_is ss vs = search (rules, v.the_lemmas, row_is)
 

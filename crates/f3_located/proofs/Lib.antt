@@ -2,3 +2,5 @@ pub mod Arrays
 pub mod Lending
 pub mod Declaring
 pub mod Parting
+pub mod Spreading
+pub mod Stepping

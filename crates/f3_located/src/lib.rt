@@ -9,4 +9,3 @@ pub mod parts;
 pub mod pins;
 pub mod reaches;
 pub mod reads;
-pub mod subscripts;

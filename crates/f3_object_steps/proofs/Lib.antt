@@ -1,0 +1,4 @@
+pub mod Running
+pub mod Ending
+pub mod Forms
+pub mod Turning
