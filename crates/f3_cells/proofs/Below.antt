@@ -9,7 +9,7 @@ use Rattle.f3_code.specs.State as s
 use Rattle.f3_program.specs.declared.program.Program.{Program}
 use Rattle.f3_cells.specs.declared.cell.Cell.{Cell}
 use Rattle.f3_cells.specs.Cells.{cell_of, cells_of}
-use Rattle.f3_cells.specs.Popped.{HasCell, Holds, HoldsNone, Shows, ShowsNone}
+use Rattle.f3_cells.specs.Popped.{HasCell, Holds, HoldsNone, HoldsNoPair, Shows, ShowsNone, ShowsNoPair}
 
 pub below : (p : Program) (cs : List Cell) (k : ℕ) (x : Cell) → k < length cs → x ≡ get_or cs (length cs - 1 - k) x
     → drop k (cells_of p cs) ≡ cell_of p x ∷ drop (suc k) (cells_of p cs)
@@ -40,7 +40,12 @@ from_end cs k = elim (cases_lt (length cs) k) [ inl h ↦ from_end_past cs k h |
 pub dropped : (p : Program) (cs : List Cell) (k : ℕ) → cells_of p (take (length cs - k) cs) ≡ drop k (cells_of p cs)
 dropped p cs k = ap (map (cell_of p)) (from_end cs k) ∙ sym (drop-map (cell_of p) k (reverse cs))
 
-pub shows : {X Y : Type 0} (on : List s.Cell → (Y → List s.Cell → Next) → Next) (view : X → Y) (r : Option X) (cs : List Cell) (k : ℕ) (cell : Cell)
-    → HasCell cs k cell → MatchOption r (HoldsNone on cell) (λ x. Holds on cell (view x)) → MatchOption r (ShowsNone on cs k) (λ x. Shows on cs k (view x))
+pub shows : {X Y : Type 0} (on : List s.Cell → (Y → List s.Cell → Next) → Next) (view : X → s.Cell) (r : Option X) (cs : List Cell) (k : ℕ) (cell : Cell)
+    → HasCell cs k cell → MatchOption r (HoldsNone on cell) (λ x. Holds cell (view x)) → MatchOption r (ShowsNone on cs k) (λ x. Shows cs k (view x))
 shows on view None cs k cell h seen = λ p f. ap (λ xs. on xs f) (h p) ∙ seen p (drop (suc k) (cells_of p cs)) f
-shows on view (Some x) cs k cell h seen = λ p f. ap (λ xs. on xs f) (h p) ∙ seen p (drop (suc k) (cells_of p cs)) f
+shows on view (Some x) cs k cell h seen = λ p. h p ∙ ap (λ y. y ∷ drop (suc k) (cells_of p cs)) (seen p)
+
+pub shows_pair : {X Y Z : Type 0} (on : List s.Cell → (Y → Z → List s.Cell → Next) → Next) (view : X → s.Cell) (r : Option X) (cs : List Cell) (k : ℕ) (cell : Cell)
+    → HasCell cs k cell → MatchOption r (HoldsNoPair on cell) (λ x. Holds cell (view x)) → MatchOption r (ShowsNoPair on cs k) (λ x. Shows cs k (view x))
+shows_pair on view None cs k cell h seen = λ p f. ap (λ xs. on xs f) (h p) ∙ seen p (drop (suc k) (cells_of p cs)) f
+shows_pair on view (Some x) cs k cell h seen = λ p. h p ∙ ap (λ y. y ∷ drop (suc k) (cells_of p cs)) (seen p)

@@ -1,2 +1,4 @@
 pub mod Below
 pub mod SoFar
+pub mod Steps
+pub mod Reversed

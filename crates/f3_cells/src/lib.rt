@@ -2,6 +2,7 @@
 #![tactic(auto)]
 
 pub mod cell;
+pub mod copies;
 pub mod look;
 pub mod many;
 pub mod scene;

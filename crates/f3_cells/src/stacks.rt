@@ -1,12 +1,14 @@
 //! What stands on top.
 
-ghost use Rattle.std.specs.Prelude.{◌≡◌, ◌∷◌, MatchResult, reverse};
+ghost use Rattle.std.specs.Prelude.{◌≡◌, ◌∷◌, drop, MatchResult, reverse};
 ghost use Rattle.f3_data.specs.Values.{value_of, spans_of};
 ghost use Rattle.f3_data.specs.References.{reference_of, references_of};
 ghost use Rattle.f3_arithmetic.specs.Turns.{turns_of};
-ghost use Rattle.f3_code.specs.Machine.{on_datum, on_object, on_bound, on_bounds, on_status, on_turns, on_objects, on_to, on_level, on_going, on_outside};
+ghost use Rattle.f3_meaning_whole.specs.Reference.{paths};
+ghost use Rattle.f3_code.specs.State as s;
+ghost use Rattle.f3_code.specs.Machine.{on_datum, on_object, on_bound, on_bounds, on_status, on_turns, on_objects, on_to, on_level, on_going, on_elements};
 ghost use Rattle.f3_cells.specs.Cells.{flow_of, passed_of};
-ghost use Rattle.f3_cells.specs.Popped.{Dropped, Pushed, Popped, PoppedCell, PoppedElements, PoppedOutside, PoppedPair, same};
+ghost use Rattle.f3_cells.specs.Popped.{Dropped, Pushed, Popped, PoppedCell, PoppedOutside, PoppedPair};
 
 use crate::cell::{Cell, Flow, Here};
 use crate::state::Stop;
@@ -44,7 +46,7 @@ pub fn let_go(cell: Cell) {
 
 /// The value on top, which is taken.
 pub fn pop_datum(stack: &mut Vec<Cell>) -> Option<Value>
-    ensures { Popped value_of on_datum result stack.old.items stack.new.items }
+    ensures { Popped (λ x. s.Datum (value_of x)) on_datum result stack.old.items stack.new.items }
 {
     match stack.pop() {
         Some(Cell::Datum(it)) => Some(it),
@@ -58,7 +60,7 @@ pub fn pop_datum(stack: &mut Vec<Cell>) -> Option<Value>
 
 /// The object on top, which is taken.
 pub fn pop_object(stack: &mut Vec<Cell>) -> Option<Reference>
-    ensures { Popped reference_of on_object result stack.old.items stack.new.items }
+    ensures { Popped (λ x. s.Object (reference_of x)) on_object result stack.old.items stack.new.items }
 {
     match stack.pop() {
         Some(Cell::Object(it)) => Some(it),
@@ -72,7 +74,7 @@ pub fn pop_object(stack: &mut Vec<Cell>) -> Option<Reference>
 
 /// The bound of a triplet on top, which is taken.
 pub fn pop_bound(stack: &mut Vec<Cell>) -> Option<Option<i64>>
-    ensures { Popped same on_bound result stack.old.items stack.new.items }
+    ensures { Popped s.Bound on_bound result stack.old.items stack.new.items }
 {
     match stack.pop() {
         Some(Cell::Bound(it)) => Some(it),
@@ -86,7 +88,7 @@ pub fn pop_bound(stack: &mut Vec<Cell>) -> Option<Option<i64>>
 
 /// How an ALLOCATE or DEALLOCATE ended, which is taken.
 pub fn pop_status(stack: &mut Vec<Cell>) -> Option<Option<RunError>>
-    ensures { Popped same on_status result stack.old.items stack.new.items }
+    ensures { Popped s.Status on_status result stack.old.items stack.new.items }
 {
     match stack.pop() {
         Some(Cell::Status(it)) => Some(it),
@@ -100,7 +102,7 @@ pub fn pop_status(stack: &mut Vec<Cell>) -> Option<Option<RunError>>
 
 /// How a construct was left, which is taken.
 pub fn pop_going(stack: &mut Vec<Cell>) -> Option<Flow>
-    ensures { Popped flow_of on_going result stack.old.items stack.new.items }
+    ensures { Popped (λ x. s.Going (flow_of x)) on_going result stack.old.items stack.new.items }
 {
     match stack.pop() {
         Some(Cell::Going(it)) => Some(it),
@@ -114,7 +116,7 @@ pub fn pop_going(stack: &mut Vec<Cell>) -> Option<Flow>
 
 /// The bounds of an array on top, which are taken.
 pub fn pop_bounds(stack: &mut Vec<Cell>) -> Option<Vec<Span>>
-    ensures { Popped (λ ss. spans_of ss.items) on_bounds result stack.old.items stack.new.items }
+    ensures { Popped (λ ss. s.Bounds (spans_of ss.items)) on_bounds result stack.old.items stack.new.items }
 {
     match stack.pop() {
         Some(Cell::Bounds(it)) => Some(it),
@@ -128,7 +130,7 @@ pub fn pop_bounds(stack: &mut Vec<Cell>) -> Option<Vec<Span>>
 
 /// The objects that are left, the next one at the end, which are taken.
 pub fn pop_objects(stack: &mut Vec<Cell>) -> Option<Vec<Reference>>
-    ensures { Popped (λ rs. references_of (reverse rs.items)) on_objects result stack.old.items stack.new.items }
+    ensures { Popped (λ rs. s.Objects (references_of (reverse rs.items))) on_objects result stack.old.items stack.new.items }
 {
     match stack.pop() {
         Some(Cell::Objects(it)) => Some(it),
@@ -142,7 +144,7 @@ pub fn pop_objects(stack: &mut Vec<Cell>) -> Option<Vec<Reference>>
 
 /// The turns of a DO that are left, and its step, which are taken.
 pub fn pop_turns(stack: &mut Vec<Cell>) -> Option<(Option<u64>, i64)>
-    ensures { PoppedPair turns_of same on_turns result stack.old.items stack.new.items }
+    ensures { PoppedPair (λ x. s.Turns (turns_of (x.0)) (x.1)) on_turns result stack.old.items stack.new.items }
 {
     match stack.pop() {
         Some(Cell::Turns(turns, step)) => Some((turns, step)),
@@ -156,7 +158,7 @@ pub fn pop_turns(stack: &mut Vec<Cell>) -> Option<(Option<u64>, i64)>
 
 /// Where a routine goes back to, and the place there, which are taken.
 pub fn pop_to(stack: &mut Vec<Cell>) -> Option<(usize, Place)>
-    ensures { PoppedPair same same on_to result stack.old.items stack.new.items }
+    ensures { PoppedPair (λ x. s.To (x.0) (x.1)) on_to result stack.old.items stack.new.items }
 {
     match stack.pop() {
         Some(Cell::To(line, place)) => Some((line, place)),
@@ -170,7 +172,7 @@ pub fn pop_to(stack: &mut Vec<Cell>) -> Option<(usize, Place)>
 
 /// The level of the values that an ASSOCIATE holds, and its objects, which are taken.
 pub fn pop_level(stack: &mut Vec<Cell>) -> Option<(usize, Vec<Reference>)>
-    ensures { PoppedPair same (λ rs. references_of rs.items) on_level result stack.old.items stack.new.items }
+    ensures { PoppedPair (λ x. s.Level (x.0) (references_of (x.1).items)) on_level result stack.old.items stack.new.items }
 {
     match stack.pop() {
         Some(Cell::Level(level, objects)) => Some((level, objects)),
@@ -184,7 +186,7 @@ pub fn pop_level(stack: &mut Vec<Cell>) -> Option<(usize, Vec<Reference>)>
 
 /// The elements of an object from a number on, which are taken.
 pub fn pop_elements(stack: &mut Vec<Cell>) -> Option<(Reference, usize)>
-    ensures { PoppedElements result stack.old.items stack.new.items }
+    ensures { Popped (λ x. s.Elements (drop (x.1) (paths (reference_of (x.0))))) on_elements result stack.old.items stack.new.items }
 {
     match stack.pop() {
         Some(Cell::Elements(object, number)) => Some((object, number)),

@@ -1,7 +1,7 @@
 //! States, and how a run ends.
 
 ghost use Rattle.std.specs.Prelude.{◌≡◌, ◌+◌, ◌<◌, ◌^◌};
-ghost use Rattle.f3_cells.specs.Moves.{Moved, WentAhead, WentOn};
+ghost use Rattle.f3_cells.specs.Moves.{Moved, WentAhead, WentAheadWith, WentOn};
 ghost use Rattle.f3_cells.specs.declared.state.Stop.TheVariants.{Memory};
 
 use crate::cell::{Cell, Here, Passed};
@@ -90,6 +90,15 @@ impl State {
         } else {
             Err(Stop::Lost)
         }
+    }
+
+    /// One more cell on top, and so far on from the next line, where there are so many lines. `Stop::Lost` where no line is there.
+    pub fn ahead_with(&mut self, cell: Cell, distance: usize, total: usize) -> Result<(), Stop>
+        requires { self.old.pc < 2 ^ 63 }
+        ensures { WentAheadWith cell distance total result self.old self.new }
+    {
+        push(&mut self.stack, cell)?;
+        self.ahead(distance, total)
     }
 
     /// One more cell on top, and the next line comes after this one.
