@@ -13,7 +13,7 @@ use Rattle.f3_meaning_whole.specs.Exec as x
 use Rattle.f3_code.specs.declared.instruction.Instruction.TheVariants.{Associate, EndAssociate}
 use Rattle.f3_code.specs.State.{Next, Goes}
 use Rattle.f3_code.specs.State as s
-use Rattle.f3_code.specs.Machine.{on, on_many, on_objects, on_going, on_level, selector_of, performs}
+use Rattle.f3_code.specs.Machine.{on, on_many, on_objects, on_going, on_level, selector_of, performs, stuck}
 use Rattle.f3_data.specs.Stores.{store_of}
 use Rattle.f3_cells.specs.declared.cell.Association.{Association}
 use Rattle.f3_cells.specs.declared.cell.Cell.{Cell}
@@ -26,7 +26,7 @@ use Rattle.f3_cells.specs.declared.state.Stop.TheVariants as stop
 use Rattle.f3_cells.specs.Cells.{cells_of, here_of, association_of, flow_of}
 use Rattle.f3_cells.specs.States.{state_of, world_of, granted}
 use Rattle.f3_cells.specs.Follows.{Follows, Does, DoesThere}
-use Rattle.f3_cells.specs.Moves.{WentOn}
+use Rattle.f3_cells.specs.Moves.{OnWith}
 use Rattle.f3_cells.specs.Popped.{PoppedMany}
 use Rattle.f3_call_steps.specs.Associating.{Associates, within, LeftWith}
 
@@ -38,7 +38,7 @@ unfolding does
 left_is level store next = refl
 
 pub left_so : (level : ℕ) (flow : Flow) (r : Result ⊤ Stop) (old mid new : State) → mid ≡ record old { store = mid.store }
-    → store_of mid.store ≡ effect (Ended level) (store_of old.store) → WentOn (c.Going flow) r mid new → LeftWith level flow r old new
+    → store_of mid.store ≡ effect (Ended level) (store_of old.store) → OnWith (c.Going flow) r mid new → LeftWith level flow r old new
 left_so level flow (Ok done) old mid new same store went = λ p code place. (
   Ended level ∷ [],
   left_is level (store_of old.store) (λ done. on (state_of p old) (s.Going (flow_of flow) ∷ cells_of p old.stack.items))
@@ -55,17 +55,31 @@ left_so level flow (Err stop.Stuck) old mid new same store went = absurd went
 left_so level flow (Err stop.Lost) old mid new same store went = absurd went
 left_so level flow (Err stop.Refused) old mid new same store went = absurd went
 
-module _ (old : State) (one : Vec Cell Global) (rs : List r.Reference)
-    (objects : (p : Program) (f : List r.Reference → List s.Cell → Next) → on_objects (cells_of p old.stack.items) f ≡ f rs (cells_of p one.items)) where
-  module _ (two : Vec Cell Global) (flow : Flow)
-      (going : (p : Program) (f : x.Flow → List s.Cell → Next) → on_going (cells_of p one.items) f ≡ f (flow_of flow) (cells_of p two.items)) where
+-- what the instruction does
+abbrev ending : Program → State → List s.Cell → Next
+ending p old cells = on_objects cells (λ rs st. on_going st (λ flow st. on_level st (λ level rs st. performs (leave level) (world_of old.store)
+    (λ done. on (state_of p old) (s.Going flow ∷ st)))))
+
+abbrev leaving : Program → State → x.Flow → List s.Cell → Next
+leaving p old flow cells = on_level cells (λ level rs st. performs (leave level) (world_of old.store) (λ done. on (state_of p old) (s.Going flow ∷ st)))
+
+module _ (old : State) (one : Vec Cell Global) (rs : List r.Reference) (objects : (p : Program) → cells_of p old.stack.items ≡ s.Objects rs ∷ cells_of p one.items) where
+  pub no_flow : (new : State) → ((p : Program) (f : x.Flow → List s.Cell → Next) → on_going (cells_of p one.items) f ≡ stuck) → Does EndAssociate (Err stop.Stuck) old new
+  no_flow new none = λ p limit g code v here. ([], ap (ending p old) (objects p) ∙ none p (leaving p old), refl)
+
+  module _ (two : Vec Cell Global) (flow : Flow) (going : (p : Program) → cells_of p one.items ≡ s.Going (flow_of flow) ∷ cells_of p two.items) where
+    there : (p : Program) → ending p old (cells_of p old.stack.items) ≡ leaving p old (flow_of flow) (cells_of p two.items)
+    there p = ap (ending p old) (objects p) ∙ ap (λ cells. on_going cells (leaving p old)) (going p)
+
+    pub no_level : (new : State) → ((p : Program) (f : ℕ → List r.Reference → List s.Cell → Next) → on_level (cells_of p two.items) f ≡ stuck) → Does EndAssociate (Err stop.Stuck) old new
+    no_level new none = λ p limit g code v here. ([], there p
+        ∙ none p (λ level rs st. performs (leave level) (world_of old.store) (λ done. on (state_of p old) (s.Going (flow_of flow) ∷ st))), refl)
+
     pub ends : (three : Vec Cell Global) (level : ℕ) (qs : List r.Reference) (result : Result ⊤ Stop) (new : State)
-        → ((p : Program) (f : ℕ → List r.Reference → List s.Cell → Next) → on_level (cells_of p two.items) f ≡ f level qs (cells_of p three.items))
+        → ((p : Program) → cells_of p two.items ≡ s.Level level qs ∷ cells_of p three.items)
         → LeftWith level flow result (record old { stack = three }) new → Does EndAssociate result old new
     ends three level qs result new levels left = λ p limit g code v here.
-        subst (λ next. Follows code next result (state_of p new) here.place)
-        (sym (objects p _ ∙ going p _ ∙ levels p (λ level rs st. performs (leave level) (world_of old.store) (λ done. on (state_of p old) (s.Going (flow_of flow) ∷ st)))))
-        (left p code here.place)
+        subst (λ next. Follows code next result (state_of p new) here.place) (sym (there p ∙ ap (leaving p old (flow_of flow)) (levels p))) (left p code here.place)
 
 -- ---- the beginning
 

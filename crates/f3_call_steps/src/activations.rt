@@ -13,16 +13,14 @@ use f3_data::store::Store;
 use f3_data::value::Value;
 use f3_program::declarations::Declared;
 use f3_program::program::{Procedure, Program};
+use f3_shaping::initial::initial_declared;
 use std::alloc::{AllocError, Global};
 
 /// The value with which a variable begins (ISO/IEC 1539-1:2004, 16.5).
 fn initial_value(alloc: Global, program: &Program, declared: &Declared) -> Result<Value, AllocError>
     ensures { IfOk result (λ v. value_of v ≡ initial_value (setting_of program.now) declared.now) }
 {
-    let _ = alloc;
-    let _ = program;
-    let _ = declared;
-    Err(AllocError)
+    initial_declared(alloc, &program.types, declared)
 }
 
 /// The values with which variables begin.
