@@ -64,7 +64,7 @@ no_line g (x ∷ qs) (y ∷ ks) (suc f) is = no_line g qs ks f is
 begun_is : (ps : List a.Passed) (initial : List m.Value) (here : a.Here) (store : st.Store) (next : ℕ → World → s.State)
     → performs (begun ps initial here) (record { store = store; answers = granted }) next
     ≡ Goes (Entered (held ps) ∷ Entered initial ∷ []) (next (length store.levels)
-        (record { store = effect (Entered initial) (effect (Entered (held ps)) store); answers = granted }))
+    (record { store = effect (Entered initial) (effect (Entered (held ps)) store); answers = granted }))
 unfolding ◌>>=◌ asks gives looks does
 begun_is ps initial here store next = refl
 
@@ -73,12 +73,13 @@ pub entered_so : (x : Scene) (f : ℕ) (q : Procedure) (line : ℕ) (ps : List P
 entered_so x f q line ps place old new is entered_at =
     let p = x.program.now in
     let e = entry_in (setting_of p) q line in
-    let here = at place (here_of p old.here) in
-    (Entered (held (map passed_of ps)) ∷ Entered (variables (setting_of p) q) ∷ [],
-    ap (λ o. called_at o (state_of p old) (cells_of p old.stack.items) here (map passed_of ps)) is.1
-    ∙ begun_is (map passed_of ps) e.initial here (store_of old.store) (entered (state_of p old) (cells_of p old.stack.items) here e (map passed_of ps))
-    ∙ ap (Goes (Entered (held (map passed_of ps)) ∷ Entered (variables (setting_of p) q) ∷ [])) (sym entered_at),
-    refl)
+    let here = at place (here_of p old.here) in (
+      Entered (held (map passed_of ps)) ∷ Entered (variables (setting_of p) q) ∷ [],
+      ap (λ o. called_at o (state_of p old) (cells_of p old.stack.items) here (map passed_of ps)) is.1
+          ∙ begun_is (map passed_of ps) e.initial here (store_of old.store) (entered (state_of p old) (cells_of p old.stack.items) here e (map passed_of ps))
+          ∙ ap (Goes (Entered (held (map passed_of ps)) ∷ Entered (variables (setting_of p) q) ∷ [])) (sym entered_at),
+      refl,
+    )
 
 -- ---- the instruction
 
@@ -111,11 +112,13 @@ module _ (x : Scene) (f k : ℕ) (place : Place) (v : m.Value) (old : State) whe
       → on_many argument_of k [] (cells_of p old.stack.items) f ≡ f (map passed_of args) (cells_of p stack)) where
     pub too_deep : (new : State) → 1000 ≤ length old.frames.items → DoesThere x (Call f k) v place (Err (stop.Failed CallsTooDeep)) old new
     too_deep new deep =
-        let no : nat_lt (length (state_of x.program.now old).frames) 1000 ≡ false = le-ltb _ _ (subst (λ n. 1000 ≤ n) (sym (frames_are x.program.now old)) deep) in
-        ([], popped x.program.now follows
-        ∙ ap (λ b. if b then called_at (slice_get (code_of x).procedures f) (state_of x.program.now old) (cells_of x.program.now stack)
-            (at place (here_of x.program.now old.here)) (map passed_of args) else Stays [] (Failed CallsTooDeep place)) no,
-        refl)
+        let no : nat_lt (length (state_of x.program.now old).frames) 1000 ≡ false = le-ltb _ _ (subst (λ n. 1000 ≤ n) (sym (frames_are x.program.now old)) deep) in (
+          [],
+          popped x.program.now follows
+              ∙ ap (λ b. if b then called_at (slice_get (code_of x).procedures f) (state_of x.program.now old) (cells_of x.program.now stack)
+              (at place (here_of x.program.now old.here)) (map passed_of args) else Stays [] (Failed CallsTooDeep place)) no,
+          refl,
+        )
 
     pub calls : (mid new : State) (result : Result ⊤ Stop) → length old.frames.items < 1000 → mid ≡ record old { stack = mid.stack } → mid.stack.items ≡ stack
         → CalledWith x f args place result mid new → DoesThere x (Call f k) v place result old new
@@ -124,10 +127,10 @@ module _ (x : Scene) (f k : ℕ) (place : Place) (v : m.Value) (old : State) whe
         subst (λ next. Follows (code_of x) next result (state_of x.program.now new) place)
         (sym (popped x.program.now follows
         ∙ ap (λ b. if b then called_at (slice_get (code_of x).procedures f) (state_of x.program.now old) (cells_of x.program.now stack)
-            (at place (here_of x.program.now old.here)) (map passed_of args) else Stays [] (Failed CallsTooDeep place)) yes
+        (at place (here_of x.program.now old.here)) (map passed_of args) else Stays [] (Failed CallsTooDeep place)) yes
         ∙ alike (slice_get (code_of x).procedures f) old mid x.program.now (cells_of x.program.now stack) (at place (here_of x.program.now old.here)) (map passed_of args) same
         ∙ ap (λ cs. called_at (slice_get (code_of x).procedures f) (state_of x.program.now mid) (cells_of x.program.now cs) (at place (here_of x.program.now old.here))
-            (map passed_of args)) (sym cells)
+        (map passed_of args)) (sym cells)
         ∙ ap (λ (h : memory.Here). called_at (slice_get (code_of x).procedures f) (state_of x.program.now mid) (cells_of x.program.now mid.stack.items)
-            (at place (here_of x.program.now h)) (map passed_of args)) (sym (ap (λ (t : State). t.here) same))))
+        (at place (here_of x.program.now h)) (map passed_of args)) (sym (ap (λ (t : State). t.here) same))))
         m

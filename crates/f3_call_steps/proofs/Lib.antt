@@ -1,3 +1,4 @@
 pub mod Holding
 pub mod Returning
 pub mod Calling
+pub mod Associations

@@ -13,20 +13,22 @@ use f3_data::store::Store;
 use f3_data::value::Value;
 use f3_program::declarations::Declared;
 use f3_program::program::{Procedure, Program};
+use f3_shaping::initial::initial_declared;
 use std::alloc::{AllocError, Global};
 
 /// The value with which a variable begins (ISO/IEC 1539-1:2004, 16.5).
 fn initial_value(alloc: Global, program: &Program, declared: &Declared) -> Result<Value, AllocError>
     ensures { IfOk result (λ v. value_of v ≡ initial_value (setting_of program.now) declared.now) }
 {
-    let _ = alloc;
-    let _ = program;
-    let _ = declared;
-    Err(AllocError)
+    initial_declared(alloc, &program.types, declared)
 }
 
 /// The values with which variables begin.
-fn initial_values(alloc: Global, program: &Program, declared: &[Declared]) -> Result<Vec<Value>, AllocError>
+fn initial_values(
+    alloc: Global,
+    program: &Program,
+    declared: &[Declared],
+) -> Result<Vec<Value>, AllocError>
     ensures { IfOk result (λ vs. values_of vs.items ≡ map (initial_value (setting_of program.now)) declared.now) }
 {
     let mut values = Vec::new(alloc);
@@ -39,7 +41,11 @@ fn initial_values(alloc: Global, program: &Program, declared: &[Declared]) -> Re
 /// The values with which the variables of an activation of a procedure begin; the result stands behind the others.
 ///
 /// `AllocError` where the host has no memory for them.
-pub fn variables(alloc: Global, program: &Program, procedure: &Procedure) -> Result<Vec<Value>, AllocError>
+pub fn variables(
+    alloc: Global,
+    program: &Program,
+    procedure: &Procedure,
+) -> Result<Vec<Value>, AllocError>
     ensures { IfOk result (λ vs. values_of vs.items ≡ variables (setting_of program.now) procedure.now) }
 {
     let mut values = initial_values(alloc, program, &procedure.locals)?;
@@ -50,7 +56,11 @@ pub fn variables(alloc: Global, program: &Program, procedure: &Procedure) -> Res
 }
 
 /// Levels for an activation begin: of the values that are held for it, and of its variables (12.4, 16.5).
-pub(crate) fn enter(store: &mut Store, held: Vec<Value>, variables: Vec<Value>) -> Result<(), AllocError>
+pub(crate) fn enter(
+    store: &mut Store,
+    held: Vec<Value>,
+    variables: Vec<Value>,
+) -> Result<(), AllocError>
     ensures { OnOk result (store_of store.new ≡ effect (Entered (values_of variables.items)) (effect (Entered (values_of held.items)) (store_of store.old))) }
 {
     store.enter(held)?;

@@ -34,12 +34,26 @@ fn argument_at(
     ensures { IfOk result (λ r. reference_of r ≡ argument_at number of (map passed_of arguments.now) level slot unit) }
 {
     let Some((first, others)) = arguments.split_first() else {
-        return to_value(alloc, Root::Local(level + 1, 0), of, Right::Define, unit, &Value::Unallocated);
+        return to_value(
+            alloc,
+            Root::Local(level + 1, 0),
+            of,
+            Right::Define,
+            unit,
+            &Value::Unallocated,
+        );
     };
     match first {
         Passed::Given(i, value) => {
             if *i == number {
-                to_value(alloc, Root::Local(level, slot), of, Right::Read, unit, value)
+                to_value(
+                    alloc,
+                    Root::Local(level, slot),
+                    of,
+                    Right::Read,
+                    unit,
+                    value,
+                )
             } else {
                 argument_at(alloc, number, of, others, level, slot + 1, unit)
             }

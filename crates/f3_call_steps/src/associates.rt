@@ -77,7 +77,14 @@ fn add_objects(
     };
     match first {
         Association::Holds(of, value) => {
-            objects.push(to_value(alloc, Root::Local(level, slot), *of, Right::Read, unit, value)?)?;
+            objects.push(to_value(
+                alloc,
+                Root::Local(level, slot),
+                *of,
+                Right::Read,
+                unit,
+                value,
+            )?)?;
             add_objects(alloc, objects, others, level, slot + 1, unit)
         }
         Association::Means(object) => {
@@ -88,7 +95,12 @@ fn add_objects(
 }
 
 /// On within an ASSOCIATE: what was around it, and its objects, are kept.
-fn go_within(state: &mut State, inner: Here, level: usize, objects: Vec<Reference>) -> Result<(), AllocError>
+fn go_within(
+    state: &mut State,
+    inner: Here,
+    level: usize,
+    objects: Vec<Reference>,
+) -> Result<(), AllocError>
     requires { state.old.pc < 2 ^ 63 }
     ensures { OnOk result (Within inner level objects.items state.old state.new) }
 {
@@ -100,7 +112,11 @@ fn go_within(state: &mut State, inner: Here, level: usize, objects: Vec<Referenc
 }
 
 /// An ASSOCIATE with these selectors begins.
-fn begin_associate(alloc: Global, state: &mut State, selectors: Vec<Association>) -> Result<(), AllocError>
+fn begin_associate(
+    alloc: Global,
+    state: &mut State,
+    selectors: Vec<Association>,
+) -> Result<(), AllocError>
     requires { state.old.pc < 2 ^ 63 }
     ensures { OnOk result (Associates selectors.items state.old state.new) }
 {

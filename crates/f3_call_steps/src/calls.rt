@@ -65,7 +65,16 @@ fn begin_call(
 {
     match entry(scene, number) {
         Some((procedure, line)) => {
-            enter_procedure(alloc, scene.program, state, number, procedure, line, arguments, place)?;
+            enter_procedure(
+                alloc,
+                scene.program,
+                state,
+                number,
+                procedure,
+                line,
+                arguments,
+                place,
+            )?;
             Ok(())
         }
         None => {

@@ -31,13 +31,25 @@ fn activation(
     requires levels { level < 2 ^ 63 }
     requires arguments { length arguments.now < 2 ^ 63 }
     ensures { IfOk result (λ h. (p : Program) → here_of p h ≡ record {
-        place = place; unit = procedure.now.unit; level = suc level; variables = variables_of p (Some number);
-        names = x.dummies 0 procedure.now.dummies.items (map passed_of arguments.now) level outer.now.unit;
-        lent = x.dummies 0 procedure.now.dummies.items (map passed_of arguments.now) level outer.now.unit ++ references_of (reverse outer.now.lent.items);
-        selected = m.Unallocated }) }
+      place = place;
+      unit = procedure.now.unit;
+      level = suc level;
+      variables = variables_of p (Some number);
+      names = x.dummies 0 procedure.now.dummies.items (map passed_of arguments.now) level outer.now.unit;
+      lent = x.dummies 0 procedure.now.dummies.items (map passed_of arguments.now) level outer.now.unit ++ references_of (reverse outer.now.lent.items);
+      selected = m.Unallocated;
+    }) }
 {
     let names = dummies(alloc, &procedure.dummies, arguments, level, outer.unit)?;
-    within_procedure(alloc, outer, place, procedure.unit, level + 1, number, names)
+    within_procedure(
+        alloc,
+        outer,
+        place,
+        procedure.unit,
+        level + 1,
+        number,
+        names,
+    )
 }
 
 /// One more frame, and on within a procedure at its first line.
@@ -83,7 +95,15 @@ pub(crate) fn enter_procedure(
     ensures { OnOk result (EnteredAt program.now procedure.now line arguments.items place state.old state.new) }
 {
     let level = state.store.levels.len();
-    let inner = activation(alloc, &state.here, number, procedure, &arguments, level, place)?;
+    let inner = activation(
+        alloc,
+        &state.here,
+        number,
+        procedure,
+        &arguments,
+        level,
+        place,
+    )?;
     let held = held(alloc, &arguments)?;
     let begun = variables(alloc, program, procedure)?;
     enter(&mut state.store, held, begun)?;

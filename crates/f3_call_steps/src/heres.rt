@@ -15,7 +15,11 @@ use f3_rules::source::Place;
 use std::alloc::{AllocError, Global};
 
 /// Copies of references in the other order, behind others.
-fn add_in_reverse(alloc: Global, lent: &mut Vec<Reference>, objects: &[Reference]) -> Result<(), AllocError>
+fn add_in_reverse(
+    alloc: Global,
+    lent: &mut Vec<Reference>,
+    objects: &[Reference],
+) -> Result<(), AllocError>
     ensures { OnOk result (references_of (reverse lent.new.items) ≡ references_of objects.now ++ references_of (reverse lent.old.items)) }
 {
     let mut i = objects.len();
@@ -28,7 +32,11 @@ fn add_in_reverse(alloc: Global, lent: &mut Vec<Reference>, objects: &[Reference
 
 /// What is lent where these objects are lent too.
 #[tactic(auto, using(crate::proofs::Holding::lent_more))]
-fn lending(alloc: Global, lent: &[Reference], objects: &[Reference]) -> Result<Vec<Reference>, AllocError>
+fn lending(
+    alloc: Global,
+    lent: &[Reference],
+    objects: &[Reference],
+) -> Result<Vec<Reference>, AllocError>
     ensures { IfOk result (λ rs. references_of (reverse rs.items) ≡ references_of objects.now ++ references_of (reverse lent.now)) }
 {
     let mut all = copies::references(alloc, lent)?;
@@ -47,8 +55,14 @@ pub(crate) fn within_procedure(
     names: Vec<Reference>,
 ) -> Result<Here, AllocError>
     ensures { IfOk result (λ h. (p : Program) → here_of p h ≡ record {
-        place = place; unit = unit; level = level; variables = variables_of p (Some procedure); names = references_of names.items;
-        lent = references_of names.items ++ references_of (reverse outer.now.lent.items); selected = m.Unallocated }) }
+      place = place;
+      unit = unit;
+      level = level;
+      variables = variables_of p (Some procedure);
+      names = references_of names.items;
+      lent = references_of names.items ++ references_of (reverse outer.now.lent.items);
+      selected = m.Unallocated;
+    }) }
 {
     let lent = lending(alloc, &outer.lent, &names)?;
     Ok(Here {
@@ -63,7 +77,11 @@ pub(crate) fn within_procedure(
 }
 
 /// Within an ASSOCIATE with these objects of its names, which are lent (8.1.4).
-pub(crate) fn within_associate(alloc: Global, outer: &Here, objects: &[Reference]) -> Result<Here, AllocError>
+pub(crate) fn within_associate(
+    alloc: Global,
+    outer: &Here,
+    objects: &[Reference],
+) -> Result<Here, AllocError>
     ensures { IfOk result (λ h. (p : Program) → here_of p h ≡ associating (references_of objects.now) (here_of p outer.now)) }
 {
     let lent = lending(alloc, &outer.lent, objects)?;
@@ -81,7 +99,11 @@ pub(crate) fn within_associate(alloc: Global, outer: &Here, objects: &[Reference
 }
 
 /// Copies of references, and of others behind them.
-fn joined(alloc: Global, first: &[Reference], second: &[Reference]) -> Result<Vec<Reference>, AllocError>
+fn joined(
+    alloc: Global,
+    first: &[Reference],
+    second: &[Reference],
+) -> Result<Vec<Reference>, AllocError>
     ensures { IfOk result (λ rs. references_of rs.items ≡ references_of first.now ++ references_of second.now) }
 {
     let mut all = copies::references(alloc, first)?;

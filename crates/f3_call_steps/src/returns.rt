@@ -17,7 +17,12 @@ use f3_data::value::Value;
 use std::alloc::{AllocError, Global};
 
 /// The value of a variable on a level, by its number, and some value where there is none.
-fn result_value(alloc: Global, store: &Store, level: usize, variable: Option<usize>) -> Result<Value, AllocError>
+fn result_value(
+    alloc: Global,
+    store: &Store,
+    level: usize,
+    variable: Option<usize>,
+) -> Result<Value, AllocError>
     ensures { IfOk result (λ v. value_of v ≡ result_at variable level (store_of store.now)) }
 {
     let Some(number) = variable else {

@@ -15,6 +15,8 @@ returns-in_default-line_at c = no_line (setting_of c.args.scene.now.program.now)
 pub returns : goal.returns
 returns c =
     let procedure = ap (λ l. slice_get l c.args.number) (sym c.deref.ensures.value) ∙ c.in-Some.ensures in
-    let line = ap (λ l. slice_get l c.args.number) (sym c.deref-2.ensures.value) ∙ sym c.in-Some-line_at.ensures in
-    (procedure, entry_there (setting_of c.args.scene.now.program.now) c.args.scene.now.program.now.procedures.items c.args.scene.now.emission.now.procedures.items
-    c.args.number c.in-Some.procedure.now c.in-Some-line_at.line procedure line)
+    let line = ap (λ l. slice_get l c.args.number) (sym c.deref-2.ensures.value) ∙ sym c.in-Some-line_at.ensures in (
+      procedure,
+      entry_there (setting_of c.args.scene.now.program.now) c.args.scene.now.program.now.procedures.items c.args.scene.now.emission.now.procedures.items
+          c.args.number c.in-Some.procedure.now c.in-Some-line_at.line procedure line,
+    )
