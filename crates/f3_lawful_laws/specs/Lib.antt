@@ -1,0 +1,3 @@
+pub mod Nodes
+pub mod Written
+pub mod Agreement

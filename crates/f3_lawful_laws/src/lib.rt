@@ -1,0 +1,4 @@
+//! What is accepted is lawful.
+#![tactic(auto)]
+
+pub mod laws {}
