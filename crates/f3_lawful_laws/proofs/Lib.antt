@@ -13,6 +13,8 @@ mod Intrinsics
 mod Meant
 mod Chains
 mod Expressions
+mod Defining
+mod Variables
 mod Primed
 mod SeenExpressions
 mod SeenStatements
