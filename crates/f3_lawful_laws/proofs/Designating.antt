@@ -59,14 +59,8 @@ pub record Reached (r : Reach) : Type 0 where
   pub fit : r.is_fit ≡ true
   pub known : is_known (r.object).data_type ≡ true
 
--- one part more is entered, and is this object
-pub record Enters (bounds : Bool) (r : Reach) (o : Object) (b : Option (List Given)) : Type 0 where
-  pub reach : Reach
-  pub is : enter bounds r o b ≡ Some reach
-  pub object : reach.object ≡ o
-  pub fit : reach.is_fit ≡ true
-
-abbrev entered : Bool → Reach → Object → Option (List Given) → Reach
+-- what is reached by it
+abbrev pub entered : Bool → Reach → Object → Option (List Given) → Reach
 entered bounds r o b = record {
   object = o;
   is_fit = r.is_fit && are_fit b;
@@ -74,6 +68,14 @@ entered bounds r o b = record {
   offends = r.offends || (not (r.rank == 0) && (o.is_allocatable || not (rank_left bounds o b == 0)));
   is_allocatable = o.is_allocatable && (is_bare b || bounds);
 }
+
+-- one part more is entered, and is this object
+pub record Enters (bounds : Bool) (r : Reach) (o : Object) (b : Option (List Given)) : Type 0 where
+  pub reach : Reach
+  pub is : enter bounds r o b ≡ Some reach
+  pub reach_is : reach ≡ entered bounds r o b
+  pub object : reach.object ≡ o
+  pub fit : reach.is_fit ≡ true
 
 free : (a b : Bool) → b ≡ true → (a && not b) ≡ false
 free true true e = refl
@@ -87,6 +89,7 @@ enters bounds r o p f t e =
     record {
       reach = entered bounds r o p.1;
       is = when_false _ _ _ (free (are_fit p.1) _ counted);
+      reach_is = refl;
       object = refl;
       fit = both _ _ f fitting;
     }

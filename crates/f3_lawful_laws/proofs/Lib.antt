@@ -15,6 +15,7 @@ mod Chains
 mod Expressions
 mod Defining
 mod Variables
+mod Bounded
 mod Primed
 mod SeenExpressions
 mod SeenStatements

@@ -49,7 +49,7 @@ pub record Has_all (form : Form) (u : Role) (r : Reach) : Type 0 where
   pub form_is : has.form ≡ form
   pub type_is : has.data_type ≡ (r.object).data_type
 
-role_holds : (u : Role) (n : Name) (r : Reach) → r.is_fit ≡ true → reach_rows u n (Some r) ≡ [] → (not r.offends && role_fits u r) ≡ true
+pub role_holds : (u : Role) (n : Name) (r : Reach) → r.is_fit ≡ true → reach_rows u n (Some r) ≡ [] → (not r.offends && role_fits u r) ≡ true
 role_holds u n r fit e = go r.offends (sym (when_true r.is_fit _ _ fit) ∙ e)
   where
     go : (b : Bool) → (if b then at_place 6 T7 n.place ∷ [] else unless (role_fits u r) (at_name 6 T9 n)) ≡ [] → (not b && role_fits u r) ≡ true
