@@ -1,5 +1,5 @@
 -- What empty lists and true conjunctions say.
-use Rattle.std.proofs.Common.{◌≡◌, ℕ, Bool, true, false, ◌&&◌, ◌||◌, not, List, [], ◌∷◌, ◌++◌, Option, Some, None, refl, sym, ap, ◌∙◌, if◌then◌else◌}
+use Rattle.std.proofs.Common.{◌≡◌, ℕ, Bool, true, false, ◌&&◌, ◌||◌, not, List, [], ◌∷◌, ◌++◌, map, Option, Some, None, refl, sym, ap, ◌∙◌, if◌then◌else◌}
 use Rattle.std.specs.List.{flat_map}
 use Rattle.std.proofs.lemmas.Bool.{true≢false}
 use Rattle.f3_rules.specs.declared.breaks.Break.{Break}
@@ -78,3 +78,23 @@ or_given x (Some y) = y
 
 pub same : {A : Type 0} {x y : A} → Some x ≡ Some y → x ≡ y
 same {A} {x} {y} e = ap (or_given x) e
+
+-- ---- lists that are joined or mapped
+
+joined_nil : {B : Type 0} (xs ys : List B) → xs ≡ [] → ys ≡ [] → xs ++ ys ≡ []
+joined_nil xs ys e f = ap (λ z. z ++ ys) e ∙ f
+
+flat_joined : {A B : Type 0} (f : A → List B) (xs ys : List A) → flat_map f (xs ++ ys) ≡ [] → flat_map f xs ≡ []
+flat_joined f [] ys e = refl
+flat_joined f (x ∷ xs) ys e = joined_nil (f x) (flat_map f xs) (first (f x) _ e) (flat_joined f xs ys (second (f x) _ e))
+
+pub none_before : {A B : Type 0} (f : A → List B) (xs ys : List A) → flat_map f (xs ++ ys) ≡ [] → flat_map f xs ≡ []
+none_before f xs ys e = flat_joined f xs ys e
+
+pub none_behind : {A B : Type 0} (f : A → List B) (xs ys : List A) → flat_map f (xs ++ ys) ≡ [] → flat_map f ys ≡ []
+none_behind f [] ys e = e
+none_behind f (x ∷ xs) ys e = none_behind f xs ys (second (f x) _ e)
+
+pub none_mapped : {A B C : Type 0} (f : B → List C) (g : A → B) (xs : List A) → flat_map f (map g xs) ≡ [] → Each (λ (x : A). f (g x) ≡ []) xs
+none_mapped f g [] e = tt
+none_mapped f g (x ∷ xs) e = (first (f (g x)) _ e, none_mapped f g xs (second (f (g x)) _ e))

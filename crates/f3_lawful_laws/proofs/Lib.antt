@@ -16,6 +16,7 @@ mod Expressions
 mod Defining
 mod Variables
 mod Bounded
+mod Requests
 mod Primed
 mod SeenExpressions
 mod SeenStatements

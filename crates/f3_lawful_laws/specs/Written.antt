@@ -1,8 +1,10 @@
 -- Expressions that a source may spell: each designator has a name, and each array constructor a value (docs/LANGUAGE.md).
-use Rattle.std.specs.Prelude.{⊤, List, [], ◌∷◌}
+use Rattle.std.specs.Prelude.{⊤, Option, None, Some}
 use Rattle.f3_tree.specs.Expressions.{Tree, integer, truth, text, designator, group, array, signed, negation, comparison, chain, Rest, no_more, more}
 use Rattle.f3_tree.specs.Expressions.{Trees, no_trees, trees, Parts, no_parts, parts, Behind, bare, within, Arguments, no_arguments, arguments}
-use Rattle.f3_tree.specs.Expressions.{ArgumentTree, value, triplet, Perhaps, absent, present}
+use Rattle.f3_tree.specs.Expressions.{ArgumentTree, value, triplet, Perhaps, absent, present, arguments_of}
+use Rattle.f3_tree.specs.Statements.{Act, assign, call, allocate, deallocate, print}
+use Rattle.f3_meaning_whole.specs.Permitted.{Each}
 
 abbrev pub HasName : Parts → Type 0
 HasName no_parts = ⊥
@@ -52,3 +54,20 @@ abbrev mutual
   pub IsPerhapsWritten : Perhaps → Type 0
   IsPerhapsWritten absent = ⊤
   IsPerhapsWritten (present e) = IsWritten e
+
+-- ---- actions
+
+abbrev pub IsVariableWritten : Parts → Type 0
+IsVariableWritten v = HasName v × ArePartsWritten v
+
+abbrev pub IsStatWritten : Option Parts → Type 0
+IsStatWritten None = ⊤
+IsStatWritten (Some v) = IsVariableWritten v
+
+abbrev pub IsActWritten : Act → Type 0
+IsActWritten (assign v e) = IsVariableWritten v × IsWritten e
+IsActWritten (call n list) = AreArgumentsWritten (arguments_of list)
+IsActWritten (allocate vs stat) = Each IsVariableWritten vs × IsStatWritten stat
+IsActWritten (deallocate vs stat) = Each IsVariableWritten vs × IsStatWritten stat
+IsActWritten (print es) = Each IsWritten es
+IsActWritten _ = ⊤
