@@ -17,6 +17,7 @@ mod Defining
 mod Variables
 mod Bounded
 mod Requests
+mod Moving
 mod Primed
 mod SeenExpressions
 mod SeenStatements
