@@ -18,6 +18,7 @@ mod Variables
 mod Bounded
 mod Requests
 mod Moving
+mod Actions
 mod Primed
 mod SeenExpressions
 mod SeenStatements

@@ -149,7 +149,7 @@ module _ (p : Program) (scope : Scope) (s : Surroundings) (agrees : Agrees p sco
   kind_same None = refl
   kind_same (Some h) = refl
 
-  two_move : (l1 : Option Name) (e : t.Tree) (l2 : Option Name) (f : t.Tree) → IsOf p scope s (expression s e) (said s.context e).has
+  pub two_move : (l1 : Option Name) (e : t.Tree) (l2 : Option Name) (f : t.Tree) → IsOf p scope s (expression s e) (said s.context e).has
       → IsOf p scope s (expression s f) (said s.context f).has
       → argument_rows (moving_dummies (s.context).moving (Value l1 (said s.context e) ∷ Value l2 (said s.context f) ∷ [])) 0
       (Value l1 (said s.context e) ∷ Value l2 (said s.context f) ∷ []) no_match ≡ []
