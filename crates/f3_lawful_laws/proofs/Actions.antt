@@ -26,6 +26,7 @@ use Rattle.f3_kinds.specs.Calls.{Matched, no_match, match_next, argument_fits, a
 use Rattle.f3_kinds.specs.Typing.{said, said_arguments, breaks, breaks_arguments, designator_at, designator_breaks}
 use Rattle.f3_meaning_whole.specs.Permitted.{Scope, Each, names_in}
 use Rattle.f3_type_rules.specs.Statements.{act_breaks, called_rows, item_breaks, item_rows, number_defined}
+use Rattle.f3_type_rules.specs.declared.definition.Holder.{Holder}
 use Rattle.f3_type_rules.specs.Definitions.{Site, definition_rows, defined, call_defined, arguments_defined, is_defining, value_given}
 use Rattle.f3_elaboration.specs.Nodes as n
 use Rattle.f3_elaboration.specs.Context.{Surroundings}
@@ -46,7 +47,7 @@ use Rattle.f3_lawful_laws.proofs.Bounded.{IsHeap}
 use Rattle.f3_lawful_laws.proofs.Requests.{request_may}
 use Rattle.f3_lawful_laws.proofs.Moving.{two_move}
 
-module _ (p : Program) (scope : Scope) (s : Surroundings) (agrees : Agrees p scope s) (site : Site) (allows : Allows p scope s site) where
+module _ (p : Program) (scope : Scope) (s : Surroundings) (agrees : Agrees p scope s) (site : Site) (held : ℕ → Option Holder) (allows : Allows p scope s site held) where
   pub may_value : (e : t.Tree) → IsWritten e → breaks s.context e ≡ [] → NodeValue p scope (expression s e)
   may_value e w b = may_of p scope s (expression s e) (said s.context e).has (expression_is p scope s agrees e w b)
 
@@ -58,7 +59,7 @@ module _ (p : Program) (scope : Scope) (s : Surroundings) (agrees : Agrees p sco
   one_changes ds j (x.value l e) (Value k y) m h fits free number d place there defining =
       let found : is_defining (map_or None (at_place_of ds) (place_for ds j (Value k y))) ≡ true =
           ap (λ o. is_defining (map_or None (at_place_of ds) o)) place ∙ ap (λ o. is_defining (map_or None (λ (z : ℕ × Dummy). Some z.1) o)) there ∙ defining in
-      changes p scope s site allows y e h.1
+      changes p scope s site held allows y e h.1
       (first _ _ (subst (λ b. flat_map (definition_rows site) (if b then y ∷ [] else []) ≡ []) found free))
   one_changes ds j (x.value l e) (Triplet q a b c) m h fits free number d place there defining = absurd h
   one_changes ds j (x.triplet a b c) (Value l y) m h fits free number d place there defining = absurd h
@@ -96,7 +97,7 @@ module _ (p : Program) (scope : Scope) (s : Surroundings) (agrees : Agrees p sco
   moves m (t.value l e ∷ t.triplet q a b c ∷ list) h rows free = tt
   moves m (t.value l e ∷ t.value k f ∷ g ∷ list) h rows free = tt
   moves m (t.value l e ∷ t.value k f ∷ []) h rows free =
-      two_move p scope s agrees site allows l e k f h.0.1 h.1.0.1 (first _ _ rows) (first _ _ free) (first _ _ (second (definition_rows site (said s.context e)) _ free))
+      two_move p scope s agrees site held allows l e k f h.0.1 h.1.0.1 (first _ _ rows) (first _ _ free) (first _ _ (second (definition_rows site (said s.context e)) _ free))
 
   -- ---- by what the name means
 
@@ -158,7 +159,7 @@ module _ (p : Program) (scope : Scope) (s : Surroundings) (agrees : Agrees p sco
       → flat_map (definition_rows site) (map (designator_at s.context u) vs) ≡ [] → Each (NodeRequest p scope) (map (request s) vs)
   requests_may u heap [] w b free = tt
   requests_may u heap (v ∷ vs) w b free = (
-    request_may p scope s agrees site allows u heap v w.0 (first _ _ b) (first _ _ free),
+    request_may p scope s agrees site held allows u heap v w.0 (first _ _ b) (first _ _ free),
     requests_may u heap vs w.1 (second (designator_breaks s.context u v) _ b) (second (definition_rows site (designator_at s.context u v)) _ free),
   )
 
@@ -166,12 +167,12 @@ module _ (p : Program) (scope : Scope) (s : Surroundings) (agrees : Agrees p sco
       → flat_map (definition_rows site) (map_or [] (λ (v : t.Parts). designator_at s.context role.Variable v ∷ []) stat) ≡ []
       → NodeStat p scope (option_map (named s) stat)
   stat_may None w b free = tt
-  stat_may (Some v) w b free = (variable_defines p scope s agrees site allows v w.0 w.1 (first _ _ b) (first _ _ free)).0
+  stat_may (Some v) w b free = (variable_defines p scope s agrees site held allows v w.0 w.1 (first _ _ b) (first _ _ free)).0
 
   pub action_runs : (act : a.Act) → IsActWritten act → act_breaks s.context act ≡ [] → flat_map (definition_rows site) (defined s.context act) ≡ []
       → NodeRuns p (action s act) scope
   action_runs (a.assign v e) w b free =
-      let made = variable_defines p scope s agrees site allows v w.0.0 w.0.1 (first _ _ b) (first _ _ free) in
+      let made = variable_defines p scope s agrees site held allows v w.0.0 w.0.1 (first _ _ b) (first _ _ free) in
       (
         (itself_defines p scope s agrees (named s v) made.0, itself_typed p scope s agrees (named s v) _ made.1),
         may_value e w.1 (first _ _ (second (designator_breaks s.context role.Variable v) _ b)),

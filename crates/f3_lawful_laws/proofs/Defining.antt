@@ -25,22 +25,38 @@ use Rattle.f3_kinds.specs.Rows.{has_type, unless, at_name}
 use Rattle.f3_kinds.specs.Designators.{Part, parts_typed, is_of_heap, reach_has, object_reach, object_rows}
 use Rattle.f3_kinds.specs.Typing.{Sense, unmeant, object, called, sense_of, sense_entity, sense_has, sense_rows, named_said, sense_parts}
 use Rattle.f3_meaning_whole.specs.Permitted.{Scope, name_of}
-use Rattle.f3_type_rules.specs.Definitions.{Site, link_rows, form_rows, definition_rows}
+use Rattle.f3_type_rules.specs.declared.definition.Holder.{Holder}
+use Rattle.f3_type_rules.specs.Definitions.{Site, link_rows, form_rows, definition_rows, active_rows, holder_rows, protected_rows, intent_rows}
 use Rattle.f3_elaboration.specs.Nodes as n
 use Rattle.f3_elaboration.specs.Nodes.{ExpressionNode, DesignatorNode}
 use Rattle.f3_elaboration.specs.Context.{Surroundings, base}
 use Rattle.f3_lawful_laws.specs.Nodes.{designated}
-use Rattle.f3_lawful_laws.specs.Agreement.{Agrees, Allows, Knows}
+use Rattle.f3_lawful_laws.specs.Agreement.{Agrees, Allows, Knows, lend_rows}
 use Rattle.f3_lawful_laws.proofs.Facts.{no, not_nil, first, second, holds, nothing as none_there, same}
 use Rattle.f3_lawful_laws.proofs.Alike.{IsSeen, HasRoot, IsNoVariable, HasAs, IsOf}
 use Rattle.f3_lawful_laws.proofs.Reaching.{object_typed}
 use Rattle.f3_lawful_laws.proofs.Passing.{MayChange}
 
-module _ (p : Program) (scope : Scope) (s : Surroundings) (site : Site) (allows : Allows p scope s site) where
+module _ (p : Program) (scope : Scope) (s : Surroundings) (site : Site) (held : ℕ → Option Holder) (allows : Allows p scope s site held) where
+  joined : (xs ys zs : List Break) → xs ++ (ys ++ zs) ≡ [] → xs ++ ys ≡ []
+  joined xs ys zs e = ap (λ z. z ++ ys) (first xs _ e) ∙ first ys zs (second xs _ e)
+
+  lend_free : (x : Said) (o : Option Holder) → map_or [] (holder_rows site x) o ≡ [] → lend_rows site x o ≡ []
+  lend_free x None e = refl
+  lend_free x (Some h) e = joined (protected_rows site x h) (intent_rows x h) _ e
+
+  links_free : (x : Said) (ls : List ℕ) → flat_map (link_rows site x) ls ≡ [] → flat_map (λ l. lend_rows site x (held l)) ls ≡ []
+  links_free x [] e = refl
+  links_free x (l ∷ ls) e =
+      ap (λ z. z ++ flat_map (λ l. lend_rows site x (held l)) ls)
+      (allows.holders x l (lend_free x (site.holder l) (second (active_rows site x l) _ (first (link_rows site x l) _ e))))
+      ∙ links_free x ls (second (link_rows site x l) _ e)
+
   -- a variable whose definition no rule forbids
   root_may : (x : Said) (e : ℕ) → IsSeen p scope s e → form_rows site x (Variable e) ≡ [] → (name_of p scope (s.object e)).may_define ≡ true
   root_may x e seen rows =
-      allows.defines seen.symbol e seen.object x seen.looked seen.nature (holds _ _ (first _ _ rows)) (second (unless (site.chain e).ends _) _ rows)
+      allows.defines seen.symbol e seen.object x seen.looked seen.nature (holds _ _ (first _ _ rows))
+      (links_free x (site.chain e).links (second (unless (site.chain e).ends _) _ rows))
 
   by_form : (x : Said) (d : DesignatorNode) (f : Form) → form_rows site x f ≡ [] → HasRoot p scope s d f → (designated p scope d).may_define ≡ true
   by_form x d (Variable e) rows root = root.1 ∙ root_may x e root.0 rows

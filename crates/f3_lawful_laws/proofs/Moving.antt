@@ -20,6 +20,7 @@ use Rattle.f3_kinds.specs.Calls.{Matched, no_match, match_next, added, argument_
 use Rattle.f3_kinds.specs.Typing.{said}
 use Rattle.f3_meaning_whole.specs.Permitted.{Scope, same_type}
 use Rattle.f3_type_rules.specs.Statements.{allocatable_as, two_dummies, has_of, given_at, moving_dummies}
+use Rattle.f3_type_rules.specs.declared.definition.Holder.{Holder}
 use Rattle.f3_type_rules.specs.Definitions.{Site, definition_rows, value_given}
 use Rattle.f3_elaboration.specs.Nodes as n
 use Rattle.f3_elaboration.specs.Nodes.{ExpressionNode, DesignatorNode}
@@ -137,7 +138,7 @@ module _ (type : ℕ → ℕ) (names : ℕ × ℕ) (l1 : Option Name) (y1 : Said
 
 -- ---- the statement
 
-module _ (p : Program) (scope : Scope) (s : Surroundings) (agrees : Agrees p scope s) (site : Site) (allows : Allows p scope s site) where
+module _ (p : Program) (scope : Scope) (s : Surroundings) (agrees : Agrees p scope s) (site : Site) (held : ℕ → Option Holder) (allows : Allows p scope s site held) where
   -- a variable that may change, as it is named
   named_defines : (e : ExpressionNode) (o : Option Has) → IsOf p scope s e o → MayChange p scope s e
       → NodeDefines p scope (named_by e) × ((designated p scope (named_by e)).of ≡ base s (type_in o))
@@ -156,8 +157,8 @@ module _ (p : Program) (scope : Scope) (s : Surroundings) (agrees : Agrees p sco
       → definition_rows site (said s.context e) ≡ [] → definition_rows site (said s.context f) ≡ []
       → NodeDefinesAs p scope (kind s e) (allocatable s e) × NodeDefinesAs p scope (kind s e) (allocatable s f)
   two_move l1 e l2 f h k rows free1 free2 =
-      let he = named_defines (expression s e) (said s.context e).has h (changes p scope s site allows (said s.context e) (expression s e) h free1) in
-      let hf = named_defines (expression s f) (said s.context f).has k (changes p scope s site allows (said s.context f) (expression s f) k free2) in
+      let he = named_defines (expression s e) (said s.context e).has h (changes p scope s site held allows (said s.context e) (expression s e) h free1) in
+      let hf = named_defines (expression s f) (said s.context f).has k (changes p scope s site held allows (said s.context f) (expression s f) k free2) in
       let types : base s (type_in (said s.context e).has) ≡ base s (type_in (said s.context f).has) =
           moved_types s.type (s.context).moving l1 (said s.context e) l2 (said s.context f) (typed_of p scope s (expression s e) (said s.context e).has h)
           (typed_of p scope s (expression s f) (said s.context f).has k) (holds _ _ (first _ _ rows))

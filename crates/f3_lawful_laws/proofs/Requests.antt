@@ -16,6 +16,7 @@ use Rattle.f3_kinds.specs.Things.{Context, variable, look_here}
 use Rattle.f3_kinds.specs.Designators.{Part, object_rows, parts_typed}
 use Rattle.f3_kinds.specs.Typing.{said, said_parts, said_behind, breaks_parts, breaks_behind, designator_at, designator_breaks, called}
 use Rattle.f3_meaning_whole.specs.Permitted.{Scope, Each, name_of, same_type}
+use Rattle.f3_type_rules.specs.declared.definition.Holder.{Holder}
 use Rattle.f3_type_rules.specs.Definitions.{Site, definition_rows}
 use Rattle.f3_elaboration.specs.Context.{Surroundings}
 use Rattle.f3_elaboration.specs.Expressions as x
@@ -71,7 +72,7 @@ module _ (p : Program) (scope : Scope) (s : Surroundings) (agrees : Agrees p sco
   unbounded_are (t.parts m g t.no_parts) h = (refl, tt, tt)
   unbounded_are (t.parts m g (t.parts k b ps)) h = (refl, h.1, unbounded_are (t.parts k b ps) h.2)
 
-  module _ (site : Site) (allows : Allows p scope s site) (u : Role) (heap : IsHeap u) where
+  module _ (site : Site) (held : ℕ → Option Holder) (allows : Allows p scope s site held) (u : Role) (heap : IsHeap u) where
     never_called : (qs : List Part) (b : Option (List Given)) → called u qs b ≡ None
     never_called qs b = go u heap
       where
@@ -109,8 +110,8 @@ module _ (p : Program) (scope : Scope) (s : Surroundings) (agrees : Agrees p sco
         let own = first (breaks_parts s.context (t.parts m g ps)) _ b in
         let all = parts_are p scope s agrees (t.parts m g ps) w.1 own in
         let qs : List Part = said_parts s.context ps in
-        let at : Defined p scope s site allows u m (said_behind s.context g) qs =
-            defined_by p scope s site allows agrees.known u m (said_behind s.context g) qs
+        let at : Defined p scope s site held allows u m (said_behind s.context g) qs =
+            defined_by p scope s site held allows agrees.known u m (said_behind s.context g) qs
             (both _ _ (behind_typed p scope s (behind s g) (said_behind s.context g) all.1) (all_parts_typed p scope s (parts s ps) qs all.2))
             (subst (λ z. Typing.sense_rows s.context u (m, said_behind s.context g) qs (Typing.sense_of (s.context).unit u m (Things.meaning_of s.context m.symbol) z) ≡ [])
             (never_called qs (said_behind s.context g)) (second (breaks_parts s.context (t.parts m g ps)) _ b))

@@ -18,6 +18,7 @@ use Rattle.f3_kinds.specs.Operands.{type_in}
 use Rattle.f3_kinds.specs.Typing.{said, said_parts, said_behind, breaks_parts, breaks_behind, designator_rows, designator_at, designator_breaks, sense_of, sense_has, called}
 use Rattle.f3_meaning_whole.specs.Permitted as Permitted
 use Rattle.f3_meaning_whole.specs.Permitted.{Scope, same_type}
+use Rattle.f3_type_rules.specs.declared.definition.Holder.{Holder}
 use Rattle.f3_type_rules.specs.Definitions.{Site, definition_rows}
 use Rattle.f3_elaboration.specs.Nodes as n
 use Rattle.f3_elaboration.specs.Nodes.{DesignatorNode}
@@ -92,7 +93,7 @@ module _ (p : Program) (scope : Scope) (s : Surroundings) (agrees : Agrees p sco
   pub itself_typed : (d : DesignatorNode) (t : _) → same_type (designated p scope d).of t ≡ true → same_type (designated p scope (itself d)).of t ≡ true
   itself_typed d t h = ap (λ z. same_type z.of t) (itself_same p scope s d) ∙ h
 
-  module _ (site : Site) (allows : Allows p scope s site) where
+  module _ (site : Site) (held : ℕ → Option Holder) (allows : Allows p scope s site held) where
     -- a variable that is defined
     pub variable_defines : (v : t.Parts) → HasName v → ArePartsWritten v → designator_breaks s.context role.Variable v ≡ []
         → definition_rows site (designator_at s.context role.Variable v) ≡ []
@@ -102,8 +103,8 @@ module _ (p : Program) (scope : Scope) (s : Surroundings) (agrees : Agrees p sco
         let own = first (breaks_parts s.context (t.parts m g ps)) _ b in
         let given = behind_is p scope s agrees g ws.0 (first _ _ own) in
         let others = parts_are p scope s agrees ps ws.1 (second (breaks_behind s.context g) _ own) in
-        let at : Defined p scope s site allows role.Variable m (said_behind s.context g) (said_parts s.context ps) =
-            defined_by p scope s site allows agrees.known role.Variable m (said_behind s.context g) (said_parts s.context ps)
+        let at : Defined p scope s site held allows role.Variable m (said_behind s.context g) (said_parts s.context ps) =
+            defined_by p scope s site held allows agrees.known role.Variable m (said_behind s.context g) (said_parts s.context ps)
             (both _ _ (behind_typed p scope s (behind s g) (said_behind s.context g) given) (all_parts_typed p scope s (parts s ps) (said_parts s.context ps) others))
             (second (breaks_parts s.context (t.parts m g ps)) _ b) free in
         let h : Target m g ps at.root at.object = target m g ps at.root at.object at.looked at.nature given others at.rows in

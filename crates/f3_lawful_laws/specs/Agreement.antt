@@ -1,18 +1,22 @@
 -- What the rules on types know where a statement stands, and what its elaborated program says there, are of the same entities.
-use Rattle.std.specs.Prelude.{◌≡◌, ⊤, ℕ, Bool, true, false, not, List, [], ◌∷◌, Option, None, Some, map, slice_get}
+use Rattle.std.specs.Prelude.{◌≡◌, ⊤, ℕ, ◌<◌, Bool, true, false, List, [], ◌∷◌, ◌++◌, length, Option, Some, map, slice_get}
 use Rattle.std.specs.List.{flat_map}
 use Rattle.f3_access.specs.declared.table.Lookup.TheVariants.{One}
+use Rattle.f3_rules.specs.declared.breaks.Break.{Break}
 use Rattle.f3_program.specs.declared.declarations.Derived.{Derived}
 use Rattle.f3_program.specs.declared.declarations.Component as program
+use Rattle.f3_program.specs.declared.expression.Name.{Name}
+use Rattle.f3_program.specs.declared.expression.Name.TheVariants.{Static, Local, Lent}
 use Rattle.f3_program.specs.declared.program.Program.{Program}
 use Rattle.f3_kinds.specs.declared.said.Said.{Said}
 use Rattle.f3_kinds.specs.declared.things.Component.{Component}
 use Rattle.f3_kinds.specs.declared.things.Dummy.{Dummy}
 use Rattle.f3_kinds.specs.declared.types.Object.{Object}
 use Rattle.f3_kinds.specs.Rows.{is_known}
-use Rattle.f3_kinds.specs.Things.{Nature, constant, variable, derived, subroutine, function, Context, look_here}
+use Rattle.f3_kinds.specs.Things.{map_or, Nature, constant, variable, derived, subroutine, function, Context, look_here}
 use Rattle.f3_meaning_whole.specs.Permitted.{Lendable, Scope, names_in, name_of}
-use Rattle.f3_type_rules.specs.Definitions.{Site, is_defining, link_rows}
+use Rattle.f3_type_rules.specs.declared.definition.Holder.{Holder}
+use Rattle.f3_type_rules.specs.Definitions.{Site, is_defining, protected_rows, intent_rows}
 use Rattle.f3_elaboration.specs.Context.{Surroundings, base}
 
 -- ---- every type that is declared is known
@@ -72,9 +76,29 @@ pub record Agrees (p : Program) (scope : Scope) (s : Surroundings) : Type 0 wher
   pub variables : (symbol e : ℕ) (o : Object) → look_here s.context symbol ≡ One e → (s.context).nature e ≡ Some (variable o)
       → (name_of p scope (s.object e)).of ≡ base s o.data_type
 
--- where no rule forbids the definition of a variable it is one that may be defined
-pub record Allows (p : Program) (scope : Scope) (s : Surroundings) (site : Site) : Type 0 where
+-- ---- definitions
+
+-- what is asked of a link of a chain: D1 and D2
+abbrev pub lend_rows : Site → Said → Option Holder → List Break
+lend_rows site x o = map_or [] (λ (h : Holder). protected_rows site x h ++ intent_rows x h) o
+
+-- Where no rule forbids the definition of a variable it is one that may be defined. What is asked of a declared variable is told by a
+-- function that is the same in all scopes of a body.
+pub record Allows (p : Program) (scope : Scope) (s : Surroundings) (site : Site) (held : ℕ → Option Holder) : Type 0 where
   pub here : site.context ≡ s.context
+  pub holders : (x : Said) (l : ℕ) → lend_rows site x (site.holder l) ≡ [] → lend_rows site x (held l) ≡ []
   pub defines : (symbol e : ℕ) (o : Object) (x : Said) → look_here s.context symbol ≡ One e → (s.context).nature e ≡ Some (variable o)
-      → (site.chain e).ends ≡ true → flat_map (link_rows site x) (site.chain e).links ≡ []
+      → (site.chain e).ends ≡ true → flat_map (λ l. lend_rows site x (held l)) (site.chain e).links ≡ []
       → (name_of p scope (s.object e)).may_define ≡ true
+
+-- ---- what is lent
+
+abbrev pub IsWithin : (count : ℕ) → Name → Type 0
+IsWithin count (Lent i) = i < count
+IsWithin count (Static i) = ⊤
+IsWithin count (Local i) = ⊤
+
+-- as many objects are lent as names are known, and each name that is lent is one of them
+pub record Lends (scope : Scope) (s : Surroundings) : Type 0 where
+  pub count : s.lent ≡ length scope.names
+  pub within : (symbol e : ℕ) (o : Object) → look_here s.context symbol ≡ One e → (s.context).nature e ≡ Some (variable o) → IsWithin s.lent (s.object e)
