@@ -19,6 +19,8 @@ mod Bounded
 mod Requests
 mod Moving
 mod Actions
+mod Naming
+mod Inside
 mod Primed
 mod SeenExpressions
 mod SeenStatements

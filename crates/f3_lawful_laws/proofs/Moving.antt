@@ -146,7 +146,7 @@ module _ (p : Program) (scope : Scope) (s : Surroundings) (agrees : Agrees p sco
   named_defines (n.variable d) (Some y) h may = ((h.1, may), h.2.0)
   named_defines e (Some y) h may = absurd may
 
-  kind_same : (o : Option Has) → base s (type_in o) ≡ (kind_by s o).of
+  pub kind_same : (o : Option Has) → base s (type_in o) ≡ (kind_by s o).of
   kind_same None = refl
   kind_same (Some h) = refl
 

@@ -1,3 +1,4 @@
 pub mod Nodes
 pub mod Written
 pub mod Agreement
+pub mod Blocks
