@@ -21,6 +21,7 @@ mod Moving
 mod Actions
 mod Naming
 mod Inside
+mod Statements
 mod Primed
 mod SeenExpressions
 mod SeenStatements
