@@ -22,6 +22,7 @@ mod Actions
 mod Naming
 mod Inside
 mod Statements
+mod Whole
 mod Primed
 mod SeenExpressions
 mod SeenStatements

@@ -23,7 +23,7 @@ use Rattle.f3_lawful_laws.specs.Nodes.{NodeDefines, NodeDefinesAs, NodeStat, Nod
 use Rattle.f3_lawful_laws.proofs.Primed as is
 use Rattle.f3_lawful_laws.proofs.SeenExpressions.{designated_seen, value_seen, locate_seen}
 
-each_seen : {A B : Type 0} (P : B → Type 0) (Q : A → Type 0) (f : A → B) → ((x : A) → P (f x) → Q x) → (xs : List A) → Each P (map f xs) → Each Q xs
+pub each_seen : {A B : Type 0} (P : B → Type 0) (Q : A → Type 0) (f : A → B) → ((x : A) → P (f x) → Q x) → (xs : List A) → Each P (map f xs) → Each Q xs
 each_seen P Q f g [] h = tt
 each_seen P Q f g (x ∷ xs) h = (g x h.0, each_seen P Q f g xs h.1)
 

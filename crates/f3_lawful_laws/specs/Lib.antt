@@ -2,3 +2,4 @@ pub mod Nodes
 pub mod Written
 pub mod Agreement
 pub mod Blocks
+pub mod Entities

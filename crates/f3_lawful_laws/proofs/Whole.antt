@@ -1,0 +1,106 @@
+-- The bodies of a program that breaks no rule may run.
+use Rattle.std.proofs.Common.{◌≡◌, ℕ, ◌+◌, Bool, true, false, List, [], ◌∷◌, ◌++◌, map, filter, cond, Option, None, Some, Contains, refl, sym, ap, ◌∙◌}
+use Rattle.std.specs.Prelude.{⊤, slice_get}
+use Rattle.std.specs.List.{flat_map}
+use mathlib.Core.Path.{subst}
+use Rattle.f3_access.specs.declared.table.Lookup.{Lookup}
+use Rattle.f3_rules.specs.declared.breaks.Break.{Break}
+use Rattle.f3_scopes.specs.Scopes.{scopes_of}
+use Rattle.f3_tree.specs.Statements.{Block}
+use Rattle.f3_tree.specs.Tree.{Tree}
+use Rattle.f3_program.specs.declared.program.Procedure.{Procedure}
+use Rattle.f3_program.specs.declared.program.Program.{Program}
+use Rattle.f3_kinds.specs.Things.{map_or}
+use Rattle.f3_meaning_whole.specs.Permitted.{Each, Scope, scope_of, MayExec, MayRun}
+use Rattle.f3_type_rules.specs.Bodies.{block_breaks}
+use Rattle.f3_type_rules.specs.Definitions.{Site}
+use Rattle.f3_type_rules.specs.Declarations.{unit_rows, unit_next, spot_of}
+use Rattle.f3_type_rules.specs.Members.{Member, Numbered}
+use Rattle.f3_type_rules.specs.Program.{body_breaks, member_breaks, unit_breaks, units_in, nothing_known, program_breaks}
+use Rattle.f3_type_rules.specs.Scene.{site_in}
+use Rattle.f3_type_rules.specs.Walks.{along}
+use Rattle.f3_elaboration.specs.Nodes as n
+use Rattle.f3_elaboration.specs.Nodes.{ProcedureNode, ProgramNode, StatementNode}
+use Rattle.f3_elaboration.specs.Context.{Surroundings}
+use Rattle.f3_elaboration.specs.Statements.{block}
+use Rattle.f3_elaboration.specs.Declarations.{Whole}
+use Rattle.f3_elaboration.specs.DeclaredViews.{procedure_view, program_view}
+use Rattle.f3_elaboration.specs.Program.{elaborated, is_main, main_unit, nothing_done}
+use Rattle.f3_elaboration.specs.Units.{procedure, main, in_member, in_main}
+use Rattle.f3_elaboration.specs.Views.{statement_view}
+use Rattle.f3_lawful_laws.specs.Nodes.{NodeRuns}
+use Rattle.f3_lawful_laws.specs.Blocks.{IsBlockPlaced}
+use Rattle.f3_lawful_laws.specs.Entities.{units_of, whole_of, AreAlike, main_scope, MemberAgrees, UnitAgrees, EntitiesAgree}
+use Rattle.f3_lawful_laws.proofs.Facts.{not_nil, first, second, nothing, same}
+use Rattle.f3_lawful_laws.proofs.SeenStatements.{each_seen, statement_seen}
+use Rattle.f3_lawful_laws.proofs.Statements.{Here, block_runs}
+
+module _ (p : Program) (w : Whole) where
+  -- a body
+  body_may : (scope : Scope) (s : Surroundings) (site : Site) (next : ℕ) (b : Block) → AreAlike p w scope s site
+      → IsBlockPlaced (s.context).look (λ l. slice_get (w.scene).holders l) (s.context).scope next b → block_breaks site next b ≡ []
+      → (x : _) → statement_view x ≡ n.block (block s next b) → MayExec p x scope
+  body_may scope s site next b alike placed free x seen =
+      statement_seen p x scope
+      (subst (λ (y : StatementNode). NodeRuns p y scope) (sym seen)
+      (block_runs p (λ l. slice_get (w.scene).holders l) b scope s site next
+      (record { agrees = alike.agrees; lends = alike.lends; allows = alike.allows }) placed free))
+
+  -- a procedure in memory runs as its data does
+  abbrev RunsAs : ProcedureNode → Type 0
+  RunsAs node = (q : Procedure) → procedure_view q ≡ node → MayRun p q
+
+  member_runs : (unit : ℕ) (m : Member) → MemberAgrees p w unit m → member_breaks w.scene w.values unit m ≡ [] → RunsAs (procedure w unit m)
+  member_runs unit m h free q seen =
+      body_may (scope_of q) (in_member w unit m) (site_in w.scene unit m.scope (spot_of w.scene unit m).is_pure w.values) (m.scope + 1) (m.tree).body
+      (h.alike q seen) h.placed free q.body (ap (λ (y : ProcedureNode). y.body) seen)
+
+  members_run : (unit : ℕ) (ms : List Member) → Each (MemberAgrees p w unit) ms → flat_map (member_breaks w.scene w.values unit) ms ≡ []
+      → Each RunsAs (map (procedure w unit) ms)
+  members_run unit [] h free = tt
+  members_run unit (m ∷ ms) h free = (
+    member_runs unit m h.0 (first _ _ free),
+    members_run unit ms h.1 (second (member_breaks w.scene w.values unit m) _ free),
+  )
+
+  each_joined : {A : Type 0} (P : A → Type 0) (xs ys : List A) → Each P xs → Each P ys → Each P (xs ++ ys)
+  each_joined P [] ys h k = k
+  each_joined P (x ∷ xs) ys h k = (h.0, each_joined P xs ys h.1 k)
+
+  units_run : (us : List Numbered) → Each (UnitAgrees p w) us → flat_map (unit_breaks w.scene w.values) us ≡ []
+      → Each RunsAs (flat_map (λ (u : Numbered). map (procedure w u.scope) u.members) us)
+  units_run [] h free = tt
+  units_run (u ∷ us) h free =
+      each_joined RunsAs (map (procedure w u.scope) u.members) _
+      (members_run u.scope u.members (UnitAgrees.members h.0) (second (body_breaks w.scene w.values u.scope u.scope false (u.tree).body) _ (first _ _ free)))
+      (units_run us h.1 (second (unit_breaks w.scene w.values u) _ free))
+
+  -- ---- the main program
+
+  abbrev RunsAsMain : ProcedureNode → Type 0
+  RunsAsMain node = (q : Procedure) → procedure_view q ≡ node → MayExec p q.body (main_scope q)
+
+  main_runs : (u : Numbered) → UnitAgrees p w u → unit_breaks w.scene w.values u ≡ [] → RunsAsMain (main w u)
+  main_runs u h free q seen =
+      body_may (main_scope q) (in_main w u) (site_in w.scene u.scope u.scope false w.values) (u.scope + 1) (u.tree).body (h.alike q seen) h.placed
+      (first _ _ free) q.body (ap (λ (y : ProcedureNode). y.body) seen)
+
+  nothing_runs : (place : _) → RunsAsMain (nothing_done place)
+  nothing_runs place q seen =
+      statement_seen p q.body (main_scope q)
+      (subst (λ (y : StatementNode). NodeRuns p y (main_scope q)) (sym (ap (λ (y : ProcedureNode). y.body) seen)) tt)
+
+  mains : (us : List Numbered) → Each (UnitAgrees p w) us → flat_map (unit_breaks w.scene w.values) us ≡ []
+      → Each (λ (u : Numbered). RunsAsMain (main w u)) (filter (λ (u : Numbered). is_main (u.tree).kind) us)
+  mains [] h free = tt
+  mains (u ∷ us) h free =
+      go (is_main (u.tree).kind) (main_runs u h.0 (first _ _ free)) (mains us h.1 (second (unit_breaks w.scene w.values u) _ free))
+    where
+      go : (b : Bool) → RunsAsMain (main w u) → Each (λ (u : Numbered). RunsAsMain (main w u)) (filter (λ (u : Numbered). is_main (u.tree).kind) us)
+          → Each (λ (u : Numbered). RunsAsMain (main w u)) (cond b (u ∷ filter (λ (u : Numbered). is_main (u.tree).kind) us) (filter (λ (u : Numbered). is_main (u.tree).kind) us))
+      go true x xs = (x, xs)
+      go false x xs = xs
+
+  main_of : (place : _) (us : List Numbered) → Each (λ (u : Numbered). RunsAsMain (main w u)) us → RunsAsMain (map_or (nothing_done place) (main w) (slice_get us 0))
+  main_of place [] h = nothing_runs place
+  main_of place (u ∷ us) h = h.0

@@ -1,0 +1,53 @@
+-- What the rules on types know of a program, and what its elaborated program says, are of the same entities, wherever a body begins.
+use Rattle.std.specs.Prelude.{◌≡◌, ℕ, ◌+◌, false, [], List, slice_get}
+use Rattle.f3_access.specs.declared.table.Lookup.{Lookup}
+use Rattle.f3_scopes.specs.Scopes.{scopes_of}
+use Rattle.f3_tree.specs.Tree.{Tree}
+use Rattle.f3_program.specs.declared.program.Procedure.{Procedure}
+use Rattle.f3_program.specs.declared.program.Program.{Program}
+use Rattle.f3_meaning_whole.specs.Exec.{declared_in}
+use Rattle.f3_meaning_whole.specs.Permitted.{Each, Scope, scope_of}
+use Rattle.f3_type_rules.specs.Declarations.{spot_of}
+use Rattle.f3_type_rules.specs.Definitions.{Site}
+use Rattle.f3_type_rules.specs.Members.{Member, Numbered, units_from}
+use Rattle.f3_type_rules.specs.Program.{units_in}
+use Rattle.f3_type_rules.specs.Scene.{names_of, scene_of, site_in}
+use Rattle.f3_elaboration.specs.Context.{Surroundings}
+use Rattle.f3_elaboration.specs.Declarations.{Whole}
+use Rattle.f3_elaboration.specs.DeclaredViews.{procedure_view}
+use Rattle.f3_elaboration.specs.Program.{whole_along}
+use Rattle.f3_elaboration.specs.Units.{procedure, main, in_member, in_main}
+use Rattle.f3_lawful_laws.specs.Agreement.{Agrees, Allows, Lends}
+use Rattle.f3_lawful_laws.specs.Blocks.{IsBlockPlaced}
+
+abbrev pub units_of : Tree → List Numbered
+units_of t = units_from (scopes_of t) 0 t.units
+
+-- what is known of the whole program
+abbrev pub whole_of : Tree → (look : ℕ → ℕ → Lookup) → (order : List ℕ) → Whole
+whole_of t look order = whole_along (scene_of (names_of t look) (scopes_of t) (units_of t)) t.texts (units_of t) (units_in (units_of t) order)
+
+-- the rules and the program agree where a body begins
+pub record AreAlike (p : Program) (w : Whole) (scope : Scope) (s : Surroundings) (site : Site) : Type 0 where
+  pub agrees : Agrees p scope s
+  pub lends : Lends scope s
+  pub allows : Allows p scope s site (λ l. slice_get (w.scene).holders l)
+
+abbrev pub main_scope : Procedure → Scope
+main_scope q = record { unit = q.unit; variables = declared_in q; names = [] }
+
+module _ (p : Program) (w : Whole) where
+  -- so in a procedure of the unit of this number, and its block is one that a source may spell
+  pub record MemberAgrees (unit : ℕ) (m : Member) : Type 0 where
+    pub alike : (q : Procedure) → procedure_view q ≡ procedure w unit m
+        → AreAlike p w (scope_of q) (in_member w unit m) (site_in w.scene unit m.scope (spot_of w.scene unit m).is_pure w.values)
+    pub placed : IsBlockPlaced ((w.scene).names).look (λ l. slice_get (w.scene).holders l) m.scope (m.scope + 1) (m.tree).body
+
+  -- so in a unit, and in its procedures
+  pub record UnitAgrees (u : Numbered) : Type 0 where
+    pub alike : (q : Procedure) → procedure_view q ≡ main w u → AreAlike p w (main_scope q) (in_main w u) (site_in w.scene u.scope u.scope false w.values)
+    pub placed : IsBlockPlaced ((w.scene).names).look (λ l. slice_get (w.scene).holders l) u.scope (u.scope + 1) (u.tree).body
+    pub members : Each (MemberAgrees u.scope) u.members
+
+abbrev pub EntitiesAgree : Program → Tree → (look : ℕ → ℕ → Lookup) → (order : List ℕ) → Type 0
+EntitiesAgree p t look order = Each (UnitAgrees p (whole_of t look order)) (units_of t)
