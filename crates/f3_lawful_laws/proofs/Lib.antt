@@ -23,6 +23,7 @@ mod Naming
 mod Inside
 mod Statements
 mod Whole
+mod Parts
 mod Primed
 mod SeenExpressions
 mod SeenStatements

@@ -1,5 +1,5 @@
 -- The bodies of a program that breaks no rule may run.
-use Rattle.std.proofs.Common.{◌≡◌, ℕ, ◌+◌, Bool, true, false, List, [], ◌∷◌, ◌++◌, map, filter, cond, Option, None, Some, Contains, refl, sym, ap, ◌∙◌}
+use Rattle.std.proofs.Common.{◌≡◌, ℕ, suc, ◌+◌, ◌<◌, length, arith, Bool, true, false, List, [], ◌∷◌, ◌++◌, map, filter, cond, Option, None, Some, Contains, refl, sym, ap, ◌∙◌}
 use Rattle.std.specs.Prelude.{⊤, slice_get}
 use Rattle.std.specs.List.{flat_map}
 use mathlib.Core.Path.{subst}
@@ -29,6 +29,7 @@ use Rattle.f3_elaboration.specs.Program.{elaborated, is_main, main_unit, nothing
 use Rattle.f3_elaboration.specs.Units.{procedure, main, in_member, in_main}
 use Rattle.f3_elaboration.specs.Views.{statement_view}
 use Rattle.f3_lawful_laws.specs.Nodes.{NodeRuns}
+use Rattle.f3_lawful_laws.specs.Laws.{BodiesMayRun}
 use Rattle.f3_lawful_laws.specs.Blocks.{IsBlockPlaced}
 use Rattle.f3_lawful_laws.specs.Entities.{units_of, whole_of, AreAlike, main_scope, MemberAgrees, UnitAgrees, EntitiesAgree}
 use Rattle.f3_lawful_laws.proofs.Facts.{not_nil, first, second, nothing, same}
@@ -104,3 +105,21 @@ module _ (p : Program) (w : Whole) where
   main_of : (place : _) (us : List Numbered) → Each (λ (u : Numbered). RunsAsMain (main w u)) us → RunsAsMain (map_or (nothing_done place) (main w) (slice_get us 0))
   main_of place [] h = nothing_runs place
   main_of place (u ∷ us) h = h.0
+
+-- ---- the whole program
+
+nil_of : (bs : List Break) → ((b : Break) → Contains bs b → ⊥) → bs ≡ []
+nil_of [] h = refl
+nil_of (b ∷ bs) h = absurd (h b (0, (let e : 0 < suc (length bs) = omega arith in e), refl))
+
+pub bodies_run : BodiesMayRun
+bodies_run t look order p seen h none =
+    let w : Whole = whole_of t look order in
+    let free : flat_map (unit_breaks w.scene w.values) (units_of t) ≡ [] =
+        second (along (unit_rows w.scene) (unit_next w.scene) nothing_known (units_in (units_of t) order)) _ (nil_of (program_breaks t look order) none) in
+    (
+      subst (RunsAsMain p w) (sym (ap (λ (y : ProgramNode). y.main) seen))
+      (main_of p w t.end (filter (λ (u : Numbered). is_main (u.tree).kind) (units_of t)) (mains p w (units_of t) h free)) p.main refl,
+      each_seen (RunsAs p w) (MayRun p) procedure_view (λ q k. k q refl) p.procedures.items
+      (subst (Each (RunsAs p w)) (sym (ap (λ (y : ProgramNode). y.procedures) seen)) (units_run p w (units_of t) h free)),
+    )

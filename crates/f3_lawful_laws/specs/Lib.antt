@@ -3,3 +3,4 @@ pub mod Written
 pub mod Agreement
 pub mod Blocks
 pub mod Entities
+pub mod Laws
