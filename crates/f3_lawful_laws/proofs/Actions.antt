@@ -1,17 +1,15 @@
 -- Actions that break no rule may run.
-use Rattle.std.proofs.Common.{◌≡◌, ℕ, ◌+◌, Bool, true, false, List, [], ◌∷◌, ◌++◌, map, Option, Some, None, refl, sym, ap, ◌∙◌, if◌then◌else◌}
-use Rattle.std.specs.Prelude.{⊤, slice_get}
+use Rattle.std.proofs.Common.{◌≡◌, ℕ, ◌+◌, Bool, true, List, [], ◌∷◌, map, Option, Some, None, refl, sym, ap, ◌∙◌, if◌then◌else◌}
+use Rattle.std.specs.Prelude.{slice_get}
 use Rattle.std.specs.Option.{option_map}
 use Rattle.std.specs.List.{flat_map}
 use mathlib.Core.Path.{subst}
 use Rattle.f3_access.specs.declared.table.Lookup.{Lookup}
 use Rattle.f3_access.specs.declared.table.Lookup.TheVariants.{One, Nothing, Several}
-use Rattle.f3_rules.specs.declared.breaks.Break.{Break}
 use Rattle.f3_tree.specs.declared.expression.Name.{Name}
 use Rattle.f3_tree.specs.Expressions as t
 use Rattle.f3_tree.specs.Statements as a
 use Rattle.f3_program.specs.declared.program.Program.{Program}
-use Rattle.f3_kinds.specs.declared.said.Said.{Said}
 use Rattle.f3_kinds.specs.declared.said.Given.{Given}
 use Rattle.f3_kinds.specs.declared.said.Given.TheVariants.{Value, Triplet}
 use Rattle.f3_kinds.specs.declared.said.Role.{Role}
@@ -19,13 +17,13 @@ use Rattle.f3_kinds.specs.declared.said.Role.TheVariants as role
 use Rattle.f3_kinds.specs.declared.things.Dummy.{Dummy}
 use Rattle.f3_kinds.specs.declared.things.Intrinsic.{Intrinsic}
 use Rattle.f3_kinds.specs.declared.things.Intrinsic.TheVariants as i
-use Rattle.f3_kinds.specs.Things.{Nature, constant, variable, derived, subroutine, function, Meaning, nothing, several, intrinsic, entity, entity_or, meaning_by, meaning_of}
+use Rattle.f3_kinds.specs.Things.{Nature, constant, variable, derived, subroutine, function, Meaning, nothing, intrinsic, entity, entity_or, meaning_by, meaning_of}
 use Rattle.f3_kinds.specs.Things.{look_here, map_or, at_place_of}
 use Rattle.f3_kinds.specs.Rows.{unless}
-use Rattle.f3_kinds.specs.Calls.{Matched, no_match, match_next, argument_fits, argument_rows, place_for, call_rows}
+use Rattle.f3_kinds.specs.Calls.{Matched, no_match, match_next, argument_fits, argument_rows, place_for}
 use Rattle.f3_kinds.specs.Typing.{said, said_arguments, breaks, breaks_arguments, designator_at, designator_breaks}
 use Rattle.f3_meaning_whole.specs.Permitted.{Scope, Each, names_in}
-use Rattle.f3_type_rules.specs.Statements.{act_breaks, called_rows, item_breaks, item_rows, number_defined}
+use Rattle.f3_type_rules.specs.Statements.{act_breaks, called_rows, item_breaks, number_defined}
 use Rattle.f3_type_rules.specs.declared.definition.Holder.{Holder}
 use Rattle.f3_type_rules.specs.Definitions.{Site, definition_rows, defined, call_defined, arguments_defined, is_defining, value_given}
 use Rattle.f3_elaboration.specs.Nodes as n
@@ -36,7 +34,7 @@ use Rattle.f3_elaboration.specs.Actions.{called, move, item, action, request, va
 use Rattle.f3_lawful_laws.specs.Nodes.{NodeValue, NodeRuns, NodeRequest, NodeStat, NodeItem}
 use Rattle.f3_lawful_laws.specs.Written.{IsWritten, IsVariableWritten, IsStatWritten, IsActWritten}
 use Rattle.f3_lawful_laws.specs.Agreement.{Agrees, Allows}
-use Rattle.f3_lawful_laws.proofs.Facts.{no, not_nil, first, second, holds, same, none_of, none_before, none_behind, none_mapped}
+use Rattle.f3_lawful_laws.proofs.Facts.{no, first, second, holds, none_before, none_behind}
 use Rattle.f3_lawful_laws.proofs.Alike.{IsGiven, AreGiven}
 use Rattle.f3_lawful_laws.proofs.Passing.{Fits, fits_by, MayChange}
 use Rattle.f3_lawful_laws.proofs.Given.{all_may, may_of, arguments_may, arguments_pass, AllChange}
@@ -58,7 +56,7 @@ module _ (p : Program) (scope : Scope) (s : Surroundings) (agrees : Agrees p sco
       → (k : ℕ) (d : ℕ × Dummy) → place_for ds j y ≡ Some k → slice_get ds k ≡ Some d → is_defining (Some d.1) ≡ true → MayChange p scope s (given_value g)
   one_changes ds j (x.value l e) (Value k y) m h fits free number d place there defining =
       let found : is_defining (map_or None (at_place_of ds) (place_for ds j (Value k y))) ≡ true =
-          ap (λ o. is_defining (map_or None (at_place_of ds) o)) place ∙ ap (λ o. is_defining (map_or None (λ (z : ℕ × Dummy). Some z.1) o)) there ∙ defining in
+      ap (λ o. is_defining (map_or None (at_place_of ds) o)) place ∙ ap (λ o. is_defining (map_or None (λ (z : ℕ × Dummy). Some z.1) o)) there ∙ defining in
       changes p scope s site held allows y e h.1
       (first _ _ (subst (λ b. flat_map (definition_rows site) (if b then y ∷ [] else []) ≡ []) found free))
   one_changes ds j (x.value l e) (Triplet q a b c) m h fits free number d place there defining = absurd h
@@ -74,7 +72,7 @@ module _ (p : Program) (scope : Scope) (s : Surroundings) (agrees : Agrees p sco
   all_change ds j (g ∷ gs) (y ∷ ys) m h rows free = (
     one_changes ds j g y m h.0 (holds _ _ (first _ _ rows)) (none_before (definition_rows site) (if is_defining (map_or None (at_place_of ds) (place_for ds j y)) then value_given y else []) (arguments_defined ds (j + 1) ys) free),
     all_change ds (j + 1) gs ys (match_next ds j y m) h.1 (second (unless (argument_fits ds j y m) _) _ rows)
-    (none_behind (definition_rows site) (if is_defining (map_or None (at_place_of ds) (place_for ds j y)) then value_given y else []) (arguments_defined ds (j + 1) ys) free),
+        (none_behind (definition_rows site) (if is_defining (map_or None (at_place_of ds) (place_for ds j y)) then value_given y else []) (arguments_defined ds (j + 1) ys) free),
   )
 
   subroutine_runs : (e : ℕ) (pure : Bool) (ds : List (ℕ × Dummy)) (gs : List x.Given) (ys : List Given) → (s.context).nature e ≡ Some (subroutine pure ds)
@@ -83,7 +81,7 @@ module _ (p : Program) (scope : Scope) (s : Surroundings) (agrees : Agrees p sco
   subroutine_runs e pure ds gs ys is h rows free = (
     arguments_may p scope s ds 0 gs (all_may p scope s gs ys h),
     arguments_pass p scope s ds (names_in p (s.procedure e)) 0 gs ys no_match (agrees.known e (subroutine pure ds) is) (agrees.subroutines e pure ds is) h rows
-    (all_change ds 0 gs ys no_match h rows free),
+        (all_change ds 0 gs ys no_match h rows free),
   )
 
   -- ---- MOVE_ALLOC
@@ -172,8 +170,7 @@ module _ (p : Program) (scope : Scope) (s : Surroundings) (agrees : Agrees p sco
   pub action_runs : (act : a.Act) → IsActWritten act → act_breaks s.context act ≡ [] → flat_map (definition_rows site) (defined s.context act) ≡ []
       → NodeRuns p (action s act) scope
   action_runs (a.assign v e) w b free =
-      let made = variable_defines p scope s agrees site held allows v w.0.0 w.0.1 (first _ _ b) (first _ _ free) in
-      (
+      let made = variable_defines p scope s agrees site held allows v w.0.0 w.0.1 (first _ _ b) (first _ _ free) in (
         (itself_defines p scope s agrees (named s v) made.0, itself_typed p scope s agrees (named s v) _ made.1),
         may_value e w.1 (first _ _ (second (designator_breaks s.context role.Variable v) _ b)),
       )
@@ -182,12 +179,12 @@ module _ (p : Program) (scope : Scope) (s : Surroundings) (agrees : Agrees p sco
   action_runs (a.allocate vs stat) w b free = (
     requests_may role.Allocated tt vs w.0 (first _ _ b) (none_before (definition_rows site) (map (designator_at s.context role.Allocated) vs) (map_or [] (λ (v : t.Parts). designator_at s.context role.Variable v ∷ []) stat) free),
     stat_may stat w.1 (second (flat_map (designator_breaks s.context role.Allocated) vs) _ b)
-    (none_behind (definition_rows site) (map (designator_at s.context role.Allocated) vs) (map_or [] (λ (v : t.Parts). designator_at s.context role.Variable v ∷ []) stat) free),
+        (none_behind (definition_rows site) (map (designator_at s.context role.Allocated) vs) (map_or [] (λ (v : t.Parts). designator_at s.context role.Variable v ∷ []) stat) free),
   )
   action_runs (a.deallocate vs stat) w b free = (
     requests_may role.Deallocated tt vs w.0 (first _ _ b) (none_before (definition_rows site) (map (designator_at s.context role.Deallocated) vs) (map_or [] (λ (v : t.Parts). designator_at s.context role.Variable v ∷ []) stat) free),
     stat_may stat w.1 (second (flat_map (designator_breaks s.context role.Deallocated) vs) _ b)
-    (none_behind (definition_rows site) (map (designator_at s.context role.Deallocated) vs) (map_or [] (λ (v : t.Parts). designator_at s.context role.Variable v ∷ []) stat) free),
+        (none_behind (definition_rows site) (map (designator_at s.context role.Deallocated) vs) (map_or [] (λ (v : t.Parts). designator_at s.context role.Variable v ∷ []) stat) free),
   )
   action_runs (a.print es) w b free = items_may es w b
   action_runs (a.stop code) w b free = tt

@@ -1,8 +1,7 @@
 -- What is said of an expression, and what it is elaborated to.
-use Rattle.std.proofs.Common.{◌≡◌, ℕ, Bool, true, false, List, [], ◌∷◌, Option, Some, None}
+use Rattle.std.proofs.Common.{◌≡◌, ℕ, true, List, [], ◌∷◌, Option, Some, None}
 use Rattle.std.specs.Prelude.{⊤}
 use Rattle.f3_access.specs.declared.table.Lookup.TheVariants.{One}
-use Rattle.f3_tree.specs.declared.expression.Name.{Name}
 use Rattle.f3_program.specs.declared.program.Program.{Program}
 use Rattle.f3_kinds.specs.declared.types.Object.{Object}
 use Rattle.f3_kinds.specs.declared.said.Form.{Form}
@@ -13,7 +12,7 @@ use Rattle.f3_kinds.specs.declared.said.Given.{Given}
 use Rattle.f3_kinds.specs.declared.said.Given.TheVariants.{Value, Triplet}
 use Rattle.f3_kinds.specs.Things.{variable, look_here}
 use Rattle.f3_kinds.specs.Rows.{has_type}
-use Rattle.f3_kinds.specs.Designators.{Part, are_typed, is_typed}
+use Rattle.f3_kinds.specs.Designators.{Part, are_typed}
 use Rattle.f3_meaning_whole.specs.Permitted.{Scope, name_of}
 use Rattle.f3_elaboration.specs.Nodes as n
 use Rattle.f3_elaboration.specs.Nodes.{ExpressionNode, DesignatorNode}

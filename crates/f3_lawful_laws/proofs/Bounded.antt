@@ -1,5 +1,5 @@
 -- An object of ALLOCATE or DEALLOCATE that breaks no rule breaks none without what stands behind its last part.
-use Rattle.std.proofs.Common.{◌≡◌, ℕ, Bool, true, false, ◌&&◌, ◌||◌, not, List, [], ◌∷◌, ◌++◌, Option, Some, None, refl, sym, ap, ◌∙◌, if◌then◌else◌}
+use Rattle.std.proofs.Common.{◌≡◌, Bool, true, false, ◌&&◌, ◌||◌, not, List, [], ◌∷◌, ◌++◌, Option, Some, None, refl, sym, ap, ◌∙◌, if◌then◌else◌}
 use Rattle.std.specs.Prelude.{⊤, ◌==◌}
 use mathlib.Core.Path.{subst}
 use Rattle.f3_rules.specs.declared.breaks.Break.{Break}
@@ -10,14 +10,13 @@ use Rattle.f3_kinds.specs.declared.said.Given.{Given}
 use Rattle.f3_kinds.specs.declared.said.Reach.{Reach}
 use Rattle.f3_kinds.specs.declared.said.Role.{Role}
 use Rattle.f3_kinds.specs.declared.said.Role.TheVariants as role
-use Rattle.f3_kinds.specs.declared.said.Selected.TheVariants as is
 use Rattle.f3_kinds.specs.declared.things.Component.{Component}
 use Rattle.f3_kinds.specs.Things.{Context}
 use Rattle.f3_kinds.specs.Rows.{is_known, unless, at_place, at_name}
-use Rattle.f3_kinds.specs.Designators.{Part, select, step_selected, step_selected_rows, step, step_rows, along, along_rows, is_allocation, is_last, are_typed, are_fit}
-use Rattle.f3_kinds.specs.Designators.{start, enter, enter_rows, parts_typed, role_fits, reach_rows, object_reach, object_rows, rank_left, is_bare}
+use Rattle.f3_kinds.specs.Designators.{Part, step_selected, step_selected_rows, step, step_rows, along, along_rows, is_allocation, are_typed}
+use Rattle.f3_kinds.specs.Designators.{start, enter, enter_rows, parts_typed, role_fits, reach_rows, object_rows, rank_left}
 use Rattle.f3_lawful_laws.specs.Agreement.{Knows}
-use Rattle.f3_lawful_laws.proofs.Facts.{no, not_nil, first, second, holds, both, left, right, when_true, same}
+use Rattle.f3_lawful_laws.proofs.Facts.{no, first, second, left, right}
 use Rattle.f3_lawful_laws.proofs.Designating.{Enters, enters, entered, Selects, selects, component_known}
 use Rattle.f3_lawful_laws.proofs.Reaching.{role_holds}
 
@@ -108,20 +107,20 @@ module _ (c : Context) (knows : Knows c) (u : Role) (heap : IsHeap u) (m : Name)
       }
   kept y (z ∷ zs) r fit known t e ends =
       let rows : step_rows c false y (Some r) ++ along_rows c u (z ∷ zs) (step c false y (Some r)) ≡ [] =
-          subst (λ b. step_rows c b y (Some r) ++ along_rows c u (z ∷ zs) (step c b y (Some r)) ≡ []) (never_bounds u) e in
+      subst (λ b. step_rows c b y (Some r) ++ along_rows c u (z ∷ zs) (step c b y (Some r)) ≡ []) (never_bounds u) e in
       let last : reach_rows u m (along c u (z ∷ zs) (step c false y (Some r))) ≡ [] =
-          subst (λ b. reach_rows u m (along c u (z ∷ zs) (step c b y (Some r))) ≡ []) (never_bounds u) ends in
+      subst (λ b. reach_rows u m (along c u (z ∷ zs) (step c b y (Some r))) ≡ []) (never_bounds u) ends in
       let found = selects c false r.object y known (first _ _ rows) in
       let k : Component = found.0 in
       let h : Selects c r.object y.0 k = found.2 in
       let inside : Enters false r k.object y.1 =
-          enters false r k.object y fit (left _ _ t) (subst (λ z. step_selected_rows false y z ≡ []) found.1 (first _ _ rows)) in
+      enters false r k.object y fit (left _ _ t) (subst (λ z. step_selected_rows false y z ≡ []) found.1 (first _ _ rows)) in
       let stepped : step c false y (Some r) ≡ Some inside.reach = ap (step_selected false r y.1) found.1 ∙ inside.is in
       let rest : Kept (bare_last (z ∷ zs)) inside.reach =
-          kept z zs inside.reach inside.fit
-          (ap (λ (o : Object). is_known o.data_type) inside.object ∙ component_known h.components (y.0).symbol k (knows h.type _ h.nature) h.component)
-          (right _ _ t) (subst (λ q. along_rows c u (z ∷ zs) q ≡ []) stepped (second (step_rows c false y (Some r)) _ rows))
-          (subst (λ q. reach_rows u m (along c u (z ∷ zs) q) ≡ []) stepped last) in
+      kept z zs inside.reach inside.fit
+      (ap (λ (o : Object). is_known o.data_type) inside.object ∙ component_known h.components (y.0).symbol k (knows h.type _ h.nature) h.component)
+      (right _ _ t) (subst (λ q. along_rows c u (z ∷ zs) q ≡ []) stepped (second (step_rows c false y (Some r)) _ rows))
+      (subst (λ q. reach_rows u m (along c u (z ∷ zs) q) ≡ []) stepped last) in
       record {
         rows =
             nothing_in (step_rows c false y (Some r)) (along_rows c role.Expression (bare_last (z ∷ zs)) (step c false y (Some r))) (first _ _ rows)
@@ -140,14 +139,14 @@ module _ (c : Context) (knows : Knows c) (u : Role) (heap : IsHeap u) (m : Name)
       final u heap m (start o) o (m, b) refl (left _ _ t) (first _ _ e) (second (enter_rows (is_allocation u && true) o (m, b)) _ e)
   bare_rows o b (y ∷ ps) known t e =
       let rows : enter_rows false o (m, b) ++ (along_rows c u (y ∷ ps) (enter false (start o) o b) ++ reach_rows u m (along c u (y ∷ ps) (enter false (start o) o b))) ≡ [] =
-          subst (λ z. enter_rows z o (m, b) ++ (along_rows c u (y ∷ ps) (enter z (start o) o b) ++ reach_rows u m (along c u (y ∷ ps) (enter z (start o) o b))) ≡ [])
-          (never_bounds u) e in
+      subst (λ z. enter_rows z o (m, b) ++ (along_rows c u (y ∷ ps) (enter z (start o) o b) ++ reach_rows u m (along c u (y ∷ ps) (enter z (start o) o b))) ≡ [])
+      (never_bounds u) e in
       let inside : Enters false (start o) o b = enters false (start o) o (m, b) refl (left _ _ t) (first _ _ rows) in
       let behind = second (enter_rows false o (m, b)) _ rows in
       let rest : Kept (bare_last (y ∷ ps)) inside.reach =
-          kept y ps inside.reach inside.fit (ap (λ (o : Object). is_known o.data_type) inside.object ∙ known) (right _ _ t)
-          (subst (λ q. along_rows c u (y ∷ ps) q ≡ []) inside.is (first _ _ behind))
-          (subst (λ q. reach_rows u m (along c u (y ∷ ps) q) ≡ []) inside.is (second (along_rows c u (y ∷ ps) (enter false (start o) o b)) _ behind)) in
+      kept y ps inside.reach inside.fit (ap (λ (o : Object). is_known o.data_type) inside.object ∙ known) (right _ _ t)
+      (subst (λ q. along_rows c u (y ∷ ps) q ≡ []) inside.is (first _ _ behind))
+      (subst (λ q. reach_rows u m (along c u (y ∷ ps) q) ≡ []) inside.is (second (along_rows c u (y ∷ ps) (enter false (start o) o b)) _ behind)) in
       nothing_in (enter_rows false o (m, b)) _ (first _ _ rows)
       (nothing_in (along_rows c role.Expression (bare_last (y ∷ ps)) (enter false (start o) o b)) _
       (ap (along_rows c role.Expression (bare_last (y ∷ ps))) inside.is ∙ rest.rows)

@@ -1,13 +1,11 @@
 -- What breaks no rule has a type: references and constructors.
-use Rattle.std.proofs.Common.{◌≡◌, ℕ, ◌+◌, zero, suc, Bool, true, false, ◌&&◌, ◌||◌, not, List, [], ◌∷◌, ◌++◌, length, Option, Some, None, refl, sym, ap, ◌∙◌}
-use Rattle.std.proofs.Common.{if◌then◌else◌, nat_lt, arith, inl, inr}
-use Rattle.std.specs.Prelude.{⊤, ◌==◌, slice_get}
+use Rattle.std.proofs.Common.{◌≡◌, ℕ, ◌+◌, Bool, true, false, ◌&&◌, ◌||◌, not, List, [], ◌∷◌, length, Option, Some, None, refl, sym, ap, ◌∙◌}
+use Rattle.std.proofs.Common.{if◌then◌else◌, nat_lt}
+use Rattle.std.specs.Prelude.{slice_get}
 use Rattle.std.specs.List.{list_all}
 use Rattle.f3_rules.specs.declared.breaks.Break.{Break}
-use Rattle.f3_rules.specs.declared.rule.Rule.TheVariants.{T8, T10, T12}
 use Rattle.f3_tree.specs.declared.expression.Name.{Name}
 use Rattle.f3_kinds.specs.declared.types.DataType.{DataType}
-use Rattle.f3_kinds.specs.declared.types.DataType.TheVariants.{Integer, Logical, Derived}
 use Rattle.f3_kinds.specs.declared.types.Object.{Object}
 use Rattle.f3_kinds.specs.declared.types.Wanted.TheVariants as wanted
 use Rattle.f3_kinds.specs.declared.said.Has.{Has}
@@ -19,13 +17,13 @@ use Rattle.f3_kinds.specs.declared.things.Dummy.{Dummy}
 use Rattle.f3_kinds.specs.declared.things.Intrinsic.{Intrinsic}
 use Rattle.f3_kinds.specs.declared.things.Intrinsic.TheVariants as i
 use Rattle.f3_kinds.specs.Things.{map_or}
-use Rattle.f3_kinds.specs.Rows.{has_type, is_known, fits, has_fits, type_fits, unless, at_place, at_name}
+use Rattle.f3_kinds.specs.Rows.{has_type, is_known, fits, has_fits, type_fits, unless}
 use Rattle.f3_kinds.specs.Operands.{type_in}
 use Rattle.f3_kinds.specs.Designators.{is_typed}
 use Rattle.f3_kinds.specs.Calls.{Matched, match_next, no_match, argument_fits, argument_rows, all_fit, is_complete, are_right, function_rows, function_has, result_has}
-use Rattle.f3_kinds.specs.Calls.{given_place, least_count, is_within, actual_fits, actual_right, actual_rows, integer_type, or_first, no_breaks, intrinsic_parts}
+use Rattle.f3_kinds.specs.Calls.{least_count, is_within, actual_fits, actual_right, actual_rows, integer_type, no_breaks, intrinsic_parts}
 use Rattle.f3_kinds.specs.Calls.{intrinsic_rows, intrinsic_has, typed_result, constructor_given, constructor_parts, constructor_rows, constructor_has, is_constructed}
-use Rattle.f3_lawful_laws.proofs.Facts.{no, not_nil, first, second, holds, both, left, right, negated, negated_back, otherwise, when_true}
+use Rattle.f3_lawful_laws.proofs.Facts.{no, not_nil, first, second, holds, both, left, right, negated_back, otherwise, when_true}
 
 -- ---- arguments
 

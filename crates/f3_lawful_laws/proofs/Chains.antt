@@ -1,7 +1,6 @@
 -- Operators and array constructors may stand where they break no rule.
-use Rattle.std.proofs.Common.{◌≡◌, ℕ, Bool, true, false, ◌&&◌, List, [], ◌∷◌, Option, Some, None, refl, sym, ap, ◌∙◌, if◌then◌else◌}
+use Rattle.std.proofs.Common.{◌≡◌, ℕ, Bool, true, false, Option, Some, None, refl, sym, ◌∙◌, if◌then◌else◌}
 use Rattle.std.specs.Prelude.{⊤}
-use Rattle.std.specs.List.{list_all}
 use Rattle.f3_tree.specs.declared.expression.Sign.{Sign}
 use Rattle.f3_tree.specs.declared.expression.Sign.TheVariants.{Plus, Minus}
 use Rattle.f3_tree.specs.Expressions as t
@@ -12,17 +11,15 @@ use Rattle.f3_kinds.specs.declared.types.DataType.TheVariants.{Integer, Logical,
 use Rattle.f3_kinds.specs.declared.types.Wanted.{Wanted}
 use Rattle.f3_kinds.specs.declared.types.Wanted.TheVariants as wanted
 use Rattle.f3_kinds.specs.declared.said.Has.{Has}
-use Rattle.f3_kinds.specs.declared.said.Said.{Said}
-use Rattle.f3_kinds.specs.Rows.{has_type, has_fits, type_fits, computed, is_known}
+use Rattle.f3_kinds.specs.Rows.{has_fits, type_fits, computed}
 use Rattle.f3_kinds.specs.Operands.{enclosed, when_right, result_of, array_has, kind_of, kind_in}
 use Rattle.f3_kinds.specs.Typing.{said, said_rest, said_all}
 use Rattle.f3_meaning_whole.specs.Permitted.{Scope}
 use Rattle.f3_elaboration.specs.Nodes as n
 use Rattle.f3_elaboration.specs.Nodes.{ExpressionNode}
 use Rattle.f3_elaboration.specs.Context.{Surroundings, base}
-use Rattle.f3_elaboration.specs.Expressions as x
 use Rattle.f3_elaboration.specs.Expressions.{Operand, operand, joined, is_power, chain, expression, items, signed}
-use Rattle.f3_lawful_laws.specs.Nodes.{designated, NodeValue, NodeArguments}
+use Rattle.f3_lawful_laws.specs.Nodes.{NodeValue, NodeArguments}
 use Rattle.f3_lawful_laws.proofs.Facts.{no, left}
 use Rattle.f3_lawful_laws.proofs.Typed.{AreTyped}
 use Rattle.f3_lawful_laws.proofs.Alike.{HasAs, IsOf}

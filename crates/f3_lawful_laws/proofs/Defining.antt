@@ -1,6 +1,5 @@
 -- A variable in a definition context that breaks no rule may be defined.
-use Rattle.std.proofs.Common.{◌≡◌, ℕ, Bool, true, false, ◌&&◌, List, [], ◌∷◌, ◌++◌, Option, Some, None, refl, sym, ap, ◌∙◌, if◌then◌else◌}
-use Rattle.std.specs.Prelude.{⊤, ◌==◌}
+use Rattle.std.proofs.Common.{◌≡◌, ℕ, Bool, true, false, List, [], ◌∷◌, ◌++◌, Option, Some, None, refl, sym, ap, ◌∙◌, if◌then◌else◌}
 use Rattle.std.specs.List.{flat_map}
 use mathlib.Core.Path.{subst}
 use Rattle.f3_access.specs.declared.table.Lookup.{Lookup}
@@ -16,22 +15,21 @@ use Rattle.f3_kinds.specs.declared.said.Has.{Has}
 use Rattle.f3_kinds.specs.declared.said.Said.{Said}
 use Rattle.f3_kinds.specs.declared.said.Given.{Given}
 use Rattle.f3_kinds.specs.declared.said.Role.{Role}
-use Rattle.f3_kinds.specs.declared.said.Role.TheVariants as role
 use Rattle.f3_kinds.specs.declared.things.Intrinsic.{Intrinsic}
 use Rattle.f3_kinds.specs.declared.things.Intrinsic.TheVariants as i
-use Rattle.f3_kinds.specs.Things.{Nature, constant, variable, derived, subroutine, function, Context, Meaning, nothing, several, intrinsic, entity, entity_or, meaning_by, meaning_of}
+use Rattle.f3_kinds.specs.Things.{Nature, constant, variable, derived, subroutine, function, Meaning, nothing, intrinsic, entity, entity_or, meaning_by, meaning_of}
 use Rattle.f3_kinds.specs.Things.{look_here, map_or}
 use Rattle.f3_kinds.specs.Rows.{has_type, unless, at_name}
 use Rattle.f3_kinds.specs.Designators.{Part, parts_typed, is_of_heap, reach_has, object_reach, object_rows}
-use Rattle.f3_kinds.specs.Typing.{Sense, unmeant, object, called, sense_of, sense_entity, sense_has, sense_rows, named_said, sense_parts}
+use Rattle.f3_kinds.specs.Typing.{Sense, unmeant, object, sense_of, sense_has, sense_rows, named_said, sense_parts}
 use Rattle.f3_meaning_whole.specs.Permitted.{Scope, name_of}
 use Rattle.f3_type_rules.specs.declared.definition.Holder.{Holder}
 use Rattle.f3_type_rules.specs.Definitions.{Site, link_rows, form_rows, definition_rows, active_rows, holder_rows, protected_rows, intent_rows}
 use Rattle.f3_elaboration.specs.Nodes as n
 use Rattle.f3_elaboration.specs.Nodes.{ExpressionNode, DesignatorNode}
-use Rattle.f3_elaboration.specs.Context.{Surroundings, base}
+use Rattle.f3_elaboration.specs.Context.{Surroundings}
 use Rattle.f3_lawful_laws.specs.Nodes.{designated}
-use Rattle.f3_lawful_laws.specs.Agreement.{Agrees, Allows, Knows, lend_rows}
+use Rattle.f3_lawful_laws.specs.Agreement.{Allows, Knows, lend_rows}
 use Rattle.f3_lawful_laws.proofs.Facts.{no, not_nil, first, second, holds, nothing as none_there, same}
 use Rattle.f3_lawful_laws.proofs.Alike.{IsSeen, HasRoot, IsNoVariable, HasAs, IsOf}
 use Rattle.f3_lawful_laws.proofs.Reaching.{object_typed}

@@ -1,33 +1,25 @@
 -- What breaks no rule has a type: designators of objects.
-use Rattle.std.proofs.Common.{◌≡◌, ℕ, Bool, true, false, ◌&&◌, ◌||◌, not, List, [], ◌∷◌, ◌++◌, Option, Some, None, refl, sym, ap, ◌∙◌, if◌then◌else◌}
-use Rattle.std.specs.Prelude.{⊤, ◌==◌, nat_eq}
+use Rattle.std.proofs.Common.{◌≡◌, ℕ, Bool, true, false, ◌&&◌, ◌||◌, not, List, [], ◌∷◌, Option, Some, None, refl, sym, ap, ◌∙◌, if◌then◌else◌}
+use Rattle.std.specs.Prelude.{◌==◌, nat_eq}
 use Rattle.std.specs.List.{flat_map, list_all}
-use Rattle.std.specs.Map.{lookup}
-use Rattle.f3_rules.specs.declared.source.Place.{Place}
-use Rattle.f3_rules.specs.declared.breaks.Break.{Break}
 use Rattle.f3_tree.specs.declared.expression.Name.{Name}
 use Rattle.f3_kinds.specs.declared.types.DataType.{DataType}
 use Rattle.f3_kinds.specs.declared.types.DataType.TheVariants.{Integer, Logical, Derived}
 use Rattle.f3_kinds.specs.declared.types.Object.{Object}
 use Rattle.f3_kinds.specs.declared.types.Wanted.TheVariants as wanted
-use Rattle.f3_kinds.specs.declared.said.Form.{Form}
-use Rattle.f3_kinds.specs.declared.said.Has.{Has}
 use Rattle.f3_kinds.specs.declared.said.Said.{Said}
 use Rattle.f3_kinds.specs.declared.said.Given.{Given}
 use Rattle.f3_kinds.specs.declared.said.Given.TheVariants.{Value, Triplet}
 use Rattle.f3_kinds.specs.declared.said.Reach.{Reach}
-use Rattle.f3_kinds.specs.declared.said.Role.{Role}
-use Rattle.f3_kinds.specs.declared.said.Role.TheVariants as role
-use Rattle.f3_kinds.specs.declared.said.Selected.{Selected}
 use Rattle.f3_kinds.specs.declared.said.Selected.TheVariants as is
 use Rattle.f3_kinds.specs.declared.things.Component.{Component}
 use Rattle.f3_kinds.specs.Things.{Nature, constant, variable, derived, subroutine, function, Context, component_of}
-use Rattle.f3_kinds.specs.Rows.{at_place, is_known, has_type, fits, unless, scalar_rows}
-use Rattle.f3_kinds.specs.Designators.{Part, subscript_fits, fits_perhaps, subscript_rows, rows_perhaps, is_typed, is_typed_perhaps, are_typed, parts_typed}
-use Rattle.f3_kinds.specs.Designators.{are_fit, part_rows, count_is_right, rank_left, start, enter, enter_rows, allowed, select_in, select_of, select}
-use Rattle.f3_kinds.specs.Designators.{is_last, step_selected, step, step_selected_rows, step_rows, along, along_rows, is_allocation, role_fits, reach_has}
-use Rattle.f3_kinds.specs.Designators.{reach_rows, object_reach, object_rows, is_bare}
-use Rattle.f3_lawful_laws.specs.Agreement.{KnowsComponents, IsKnown, Knows}
+use Rattle.f3_kinds.specs.Rows.{is_known}
+use Rattle.f3_kinds.specs.Designators.{Part, subscript_fits, fits_perhaps, subscript_rows, rows_perhaps, is_typed, is_typed_perhaps, are_typed}
+use Rattle.f3_kinds.specs.Designators.{are_fit, part_rows, count_is_right, rank_left, enter, enter_rows, allowed, select_in, select_of, select}
+use Rattle.f3_kinds.specs.Designators.{step_selected_rows}
+use Rattle.f3_kinds.specs.Designators.{is_bare}
+use Rattle.f3_lawful_laws.specs.Agreement.{KnowsComponents}
 use Rattle.f3_lawful_laws.proofs.Facts.{no, not_nil, first, second, holds, both, left, right, when_true, when_false, nothing, same}
 use Rattle.f3_lawful_laws.proofs.Typed.{fit}
 
@@ -147,6 +139,7 @@ selects c bounds o p t h = by_type o.data_type refl t h
     by_nature type of (Some (subroutine pure ds)) e h = not_nil h
     by_nature type of (Some (function pure ds x)) e h = not_nil h
     by_nature type of None e h = not_nil h
+
     by_type : (d : Option DataType) → o.data_type ≡ d → is_known d ≡ true → step_selected_rows bounds p (select_of c (p.0).symbol d) ≡ []
         → (k : Component) × (select_of c (p.0).symbol d ≡ is.Component k) × Selects c o p.0 k
     by_type None of t h = no (sym t)

@@ -1,6 +1,5 @@
 -- Expressions that break no rule have types, and may stand where they do.
-use Rattle.std.proofs.Common.{◌≡◌, ℕ, Bool, true, ◌&&◌, List, [], ◌∷◌, ◌++◌, Option, Some, None, refl, sym, ap, ◌∙◌}
-use Rattle.std.specs.Prelude.{⊤}
+use Rattle.std.proofs.Common.{◌≡◌, true, ◌&&◌, [], ◌∷◌, Some, None, refl, sym}
 use Rattle.std.specs.List.{list_all}
 use mathlib.Core.Path.{subst}
 use Rattle.f3_tree.specs.Expressions as t
@@ -9,14 +8,11 @@ use Rattle.f3_program.specs.declared.expression.UnaryOperator.TheVariants.{Not}
 use Rattle.f3_program.specs.declared.program.Program.{Program}
 use Rattle.f3_kinds.specs.declared.types.DataType.TheVariants.{Integer, Logical}
 use Rattle.f3_kinds.specs.declared.types.Wanted.TheVariants as wanted
-use Rattle.f3_kinds.specs.declared.said.Has.{Has}
-use Rattle.f3_kinds.specs.declared.said.Said.{Said}
-use Rattle.f3_kinds.specs.declared.said.Role.TheVariants as role
-use Rattle.f3_kinds.specs.Rows.{has_type, fits, scalar_rows, computed}
-use Rattle.f3_kinds.specs.Operands.{group_said, signed_said, not_said, comparison_said, chain_said, chain_rows, array_said, array_rows, enclosed, when_right, wanted_by}
-use Rattle.f3_kinds.specs.Operands.{array_has, first_type, kind_of, has_same}
+use Rattle.f3_kinds.specs.Rows.{has_type, fits, computed}
+use Rattle.f3_kinds.specs.Operands.{signed_said, not_said, comparison_said, chain_said, chain_rows, array_said, array_rows, enclosed, wanted_by}
+use Rattle.f3_kinds.specs.Operands.{first_type, kind_of}
 use Rattle.f3_kinds.specs.Typing.{said, said_rest, said_all, said_parts, said_behind, said_arguments, said_argument, said_perhaps, breaks, breaks_rest}
-use Rattle.f3_kinds.specs.Typing.{breaks_all, breaks_parts, breaks_behind, breaks_arguments, breaks_argument, breaks_perhaps, designator_rows, level_of}
+use Rattle.f3_kinds.specs.Typing.{breaks_all, breaks_parts, breaks_behind, breaks_arguments, breaks_argument, breaks_perhaps, level_of}
 use Rattle.f3_meaning_whole.specs.Permitted.{Scope}
 use Rattle.f3_elaboration.specs.Nodes as n
 use Rattle.f3_elaboration.specs.Context.{Surroundings, base}
@@ -25,7 +21,7 @@ use Rattle.f3_lawful_laws.specs.Written.{IsWritten, IsRestWritten, AreWritten, A
 use Rattle.f3_lawful_laws.specs.Written.{IsPerhapsWritten}
 use Rattle.f3_lawful_laws.specs.Agreement.{Agrees}
 use Rattle.f3_lawful_laws.specs.Nodes.{NodeValue}
-use Rattle.f3_lawful_laws.proofs.Facts.{no, not_nil, first, second, both, when_true}
+use Rattle.f3_lawful_laws.proofs.Facts.{not_nil, first, second, both, when_true}
 use Rattle.f3_lawful_laws.proofs.Typed.{fit, group_typed, signed_typed, not_typed, comparison_typed, chain_typed, array_typed}
 use Rattle.f3_lawful_laws.proofs.Alike.{IsOf, MayBeOf, IsGiven, AreGiven, IsBehind, AreParts}
 use Rattle.f3_lawful_laws.proofs.Given.{may_of, typed_of}

@@ -1,9 +1,8 @@
 -- What empty lists and true conjunctions say.
-use Rattle.std.proofs.Common.{◌≡◌, ℕ, Bool, true, false, ◌&&◌, ◌||◌, not, List, [], ◌∷◌, ◌++◌, map, Option, Some, None, refl, sym, ap, ◌∙◌, if◌then◌else◌}
+use Rattle.std.proofs.Common.{◌≡◌, Bool, true, false, ◌&&◌, ◌||◌, not, List, [], ◌∷◌, ◌++◌, map, Option, Some, None, refl, sym, ap, ◌∙◌, if◌then◌else◌}
 use Rattle.std.specs.List.{flat_map}
 use Rattle.std.proofs.lemmas.Bool.{true≢false}
 use Rattle.f3_rules.specs.declared.breaks.Break.{Break}
-use Rattle.f3_kinds.specs.Things.{map_or}
 use Rattle.f3_kinds.specs.Rows.{unless}
 use Rattle.f3_meaning_whole.specs.Permitted.{Each}
 

@@ -1,8 +1,7 @@
 -- What is given in parentheses: arguments, values of components, subscripts.
-use Rattle.std.proofs.Common.{◌≡◌, ℕ, ◌+◌, zero, suc, Bool, true, false, ◌&&◌, not, List, [], ◌∷◌, ◌++◌, map, Option, Some, None, refl, sym, ap, ◌∙◌, if◌then◌else◌}
-use Rattle.std.specs.Prelude.{⊤, ◌==◌, ◌||◌, slice_get, slice_index_or}
+use Rattle.std.proofs.Common.{◌≡◌, ℕ, ◌+◌, zero, suc, Bool, true, false, ◌&&◌, not, List, [], ◌∷◌, map, Option, Some, None, refl, sym, ap, ◌∙◌, if◌then◌else◌}
+use Rattle.std.specs.Prelude.{⊤, slice_get, slice_index_or}
 use Rattle.std.specs.List.{list_all}
-use mathlib.Core.Path.{subst}
 use Rattle.f3_program.specs.declared.program.Program.{Program}
 use Rattle.f3_kinds.specs.declared.types.Object.{Object}
 use Rattle.f3_kinds.specs.declared.said.Has.{Has}
@@ -11,10 +10,9 @@ use Rattle.f3_kinds.specs.declared.said.Given.{Given}
 use Rattle.f3_kinds.specs.declared.said.Given.TheVariants.{Value, Triplet}
 use Rattle.f3_kinds.specs.declared.things.Component.{Component}
 use Rattle.f3_kinds.specs.declared.things.Dummy.{Dummy}
-use Rattle.f3_kinds.specs.Things.{at_place_of}
 use Rattle.f3_kinds.specs.Rows.{has_type, is_known, unless}
 use Rattle.f3_kinds.specs.Designators.{Part, is_typed, is_typed_perhaps, are_typed, parts_typed}
-use Rattle.f3_kinds.specs.Calls.{Matched, match_next, argument_fits, argument_rows, fits_at, place_for, has_fits_dummy, of_type}
+use Rattle.f3_kinds.specs.Calls.{Matched, match_next, argument_fits, argument_rows, place_for, has_fits_dummy}
 use Rattle.f3_meaning_whole.specs.Permitted.{Lendable, Scope, unknown}
 use Rattle.f3_type_rules.specs.Definitions.{is_defining}
 use Rattle.f3_elaboration.specs.Nodes as n
@@ -23,12 +21,12 @@ use Rattle.f3_elaboration.specs.Context.{Surroundings, base}
 use Rattle.f3_elaboration.specs.Expressions as x
 use Rattle.f3_elaboration.specs.Expressions.{or_one, stored, stored_for, components_for, passed_for, arguments_for, given_value, number_for, allocatable_dummy}
 use Rattle.f3_elaboration.specs.Expressions.{is_whole_allocatable, allocatable_component, itself}
-use Rattle.f3_lawful_laws.specs.Nodes.{designated, NodePasses, NodesPass, NodeValue, NodeArgument, NodeArguments, NodeLocate}
+use Rattle.f3_lawful_laws.specs.Nodes.{NodePasses, NodesPass, NodeValue, NodeArgument, NodeArguments}
 use Rattle.f3_lawful_laws.specs.Agreement as agreement
 use Rattle.f3_lawful_laws.specs.Agreement.{KnowsDummies, lent}
-use Rattle.f3_lawful_laws.proofs.Facts.{no, first, second, holds, both, left, right, otherwise, nothing, same}
+use Rattle.f3_lawful_laws.proofs.Facts.{no, first, second, holds, both, right, otherwise, nothing, same}
 use Rattle.f3_lawful_laws.proofs.Positions.{index_at}
-use Rattle.f3_lawful_laws.proofs.Alike.{IsOf, HasAs, MayBeOf, IsGiven, AreGiven, IsBehind, AreParts, MayGive, MayGiveAll, MayStandBehind, AreNamed}
+use Rattle.f3_lawful_laws.proofs.Alike.{IsOf, MayBeOf, IsGiven, AreGiven, IsBehind, AreParts, MayGive, MayGiveAll, MayStandBehind, AreNamed}
 use Rattle.f3_lawful_laws.proofs.Passing.{Fits, fits_by, numbered, known_same, may_passed, locates_itself, MayChange, HasType, passes}
 
 module _ (p : Program) (scope : Scope) (s : Surroundings) where

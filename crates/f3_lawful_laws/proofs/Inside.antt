@@ -1,6 +1,6 @@
 -- Inside an ASSOCIATE construct the rules and the program agree too.
-use Rattle.std.proofs.Common.{◌≡◌, ℕ, zero, suc, ◌+◌, ◌<◌, Bool, true, false, List, [], ◌∷◌, ◌++◌, length, map, position, nat_eq, Option, None, Some, refl, sym, ap, ◌∙◌, arith}
-use Rattle.std.specs.Prelude.{⊤, slice_index_or}
+use Rattle.std.proofs.Common.{◌≡◌, ℕ, suc, ◌+◌, ◌<◌, Bool, true, false, List, [], ◌∷◌, ◌++◌, length, map, position, nat_eq, Option, None, Some, refl, sym, ap, ◌∙◌, arith}
+use Rattle.std.specs.Prelude.{slice_index_or}
 use Rattle.std.specs.List.{flat_map}
 use Rattle.std.specs.Map.{lookup}
 use mathlib.Core.Path.{subst}
@@ -15,12 +15,11 @@ use Rattle.f3_kinds.specs.declared.said.Form.TheVariants.{Computed, Constant, Va
 use Rattle.f3_kinds.specs.declared.said.Has.{Has}
 use Rattle.f3_kinds.specs.declared.said.Said.{Said}
 use Rattle.f3_kinds.specs.declared.things.Component.{Component}
-use Rattle.f3_kinds.specs.declared.things.Dummy.{Dummy}
-use Rattle.f3_kinds.specs.Things.{map_or, Nature, constant, variable, derived, subroutine, function, Context, look_here}
-use Rattle.f3_kinds.specs.Rows.{is_known, has_type}
+use Rattle.f3_kinds.specs.Things.{map_or, Nature, variable, derived, subroutine, function, Context, look_here}
+use Rattle.f3_kinds.specs.Rows.{is_known}
 use Rattle.f3_kinds.specs.Operands.{type_in}
 use Rattle.f3_kinds.specs.Typing.{said}
-use Rattle.f3_meaning_whole.specs.Permitted.{Each, Lendable, Scope, unknown, names_in, name_of, naming}
+use Rattle.f3_meaning_whole.specs.Permitted.{Each, Lendable, Scope, unknown, name_of, naming}
 use Rattle.f3_type_rules.specs.declared.definition.Holder.{Holder}
 use Rattle.f3_type_rules.specs.Associates.{associated, associate_nature, associate_chain, selected_chain, plain_chain, site_inside}
 use Rattle.f3_rules.specs.declared.rule.Rule.TheVariants.{D1, D2}
@@ -30,15 +29,15 @@ use Rattle.std.specs.Prelude.{not, ◌||◌, ◌==◌}
 use Rattle.f3_type_rules.specs.Definitions.{Site, Chain, at_first, intent_rows}
 use Rattle.f3_elaboration.specs.Nodes as n
 use Rattle.f3_elaboration.specs.Nodes.{ExpressionNode, SelectorNode}
-use Rattle.f3_elaboration.specs.Context.{Surroundings, base, associate_entity, object_inside, inside}
+use Rattle.f3_elaboration.specs.Context.{Surroundings, base, associate_entity, inside}
 use Rattle.f3_elaboration.specs.Expressions.{expression}
 use Rattle.f3_elaboration.specs.Actions.{kind}
 use Rattle.f3_elaboration.specs.Statements.{selected, selector}
 use Rattle.f3_lawful_laws.specs.Nodes.{designated, names_by}
-use Rattle.f3_lawful_laws.specs.Agreement.{Agrees, Allows, Lends, IsWithin, IsKnown, Knows, IsType, AreComponents, AreGiven, lent, lend_rows}
+use Rattle.f3_lawful_laws.specs.Agreement.{Agrees, Allows, Lends, IsWithin, IsKnown, Knows, IsType, AreComponents, lend_rows}
 use Rattle.f3_lawful_laws.specs.Blocks.{IsFree, Opens}
-use Rattle.f3_lawful_laws.proofs.Facts.{no, nothing, same, second}
-use Rattle.f3_lawful_laws.proofs.Alike.{IsOf, HasAs, HasRoot, IsNoVariable, IsSeen}
+use Rattle.f3_lawful_laws.proofs.Facts.{no, same, second}
+use Rattle.f3_lawful_laws.proofs.Alike.{IsOf, HasAs, HasRoot, IsNoVariable}
 use Rattle.f3_lawful_laws.proofs.Naming.{index_behind, index_before, lendable_by, IsSelector, selector_type, Named, Among, is_named, is_other, among}
 
 -- a nature that an object has
@@ -54,7 +53,7 @@ is_variable (variable o) = true
 is_variable _ = false
 
 module _ (p : Program) (scope : Scope) (s : Surroundings) (agrees : Agrees p scope s) (lends : Lends scope s) (number : ℕ) (xs : List AssociationTree)
-  (is : Each (IsSelector p scope s) xs) (held : ℕ → Option Holder) (opens : Opens (s.context).look held (s.context).scope number xs) where
+    (is : Each (IsSelector p scope s) xs) (held : ℕ → Option Holder) (opens : Opens (s.context).look held (s.context).scope number xs) where
   abbrev within : Surroundings
   within = inside s number xs
 
@@ -128,9 +127,9 @@ module _ (p : Program) (scope : Scope) (s : Surroundings) (agrees : Agrees p sco
     unit = agrees.unit;
     known = knows_within;
     types = λ e home ks f nature. (
-      let t : IsType p s e home ks = agrees.types e home ks f (plain_there e (derived home ks f) refl nature) in
-      record { type = t.type; there = t.there; at_home = t.at_home; components = components_there (t.type.components).items ks t.components }
-    );
+        let t : IsType p s e home ks = agrees.types e home ks f (plain_there e (derived home ks f) refl nature) in
+        record { type = t.type; there = t.there; at_home = t.at_home; components = components_there (t.type.components).items ks t.components }
+        );
     subroutines = λ e pure ds nature. agrees.subroutines e pure ds (plain_there e (subroutine pure ds) refl nature);
     functions = λ e pure ds o nature. agrees.functions e pure ds o (plain_there e (function pure ds o) refl nature);
     variables = variables_there;

@@ -1,10 +1,9 @@
 -- References to intrinsic functions may stand where they break no rule, and are no variables.
-use Rattle.std.proofs.Common.{◌≡◌, ℕ, Bool, true, false, List, [], ◌∷◌, length, Option, Some, None, refl, sym, nat_lt}
+use Rattle.std.proofs.Common.{◌≡◌, true, false, List, [], ◌∷◌, length, Option, Some, None, sym, nat_lt}
 use Rattle.std.specs.Prelude.{⊤}
 use Rattle.f3_program.specs.declared.declarations.Base.{Base}
 use Rattle.f3_program.specs.declared.expression.BinaryOperator.{BinaryOperator}
 use Rattle.f3_program.specs.declared.program.Program.{Program}
-use Rattle.f3_kinds.specs.declared.said.Form.{Form}
 use Rattle.f3_kinds.specs.declared.said.Has.{Has}
 use Rattle.f3_kinds.specs.declared.things.Intrinsic.{Intrinsic}
 use Rattle.f3_kinds.specs.declared.things.Intrinsic.TheVariants as i

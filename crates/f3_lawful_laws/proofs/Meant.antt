@@ -1,7 +1,6 @@
 -- A designator, a reference or a constructor in an expression, by what its first name means.
-use Rattle.std.proofs.Common.{◌≡◌, ℕ, Bool, true, false, ◌&&◌, not, List, [], ◌∷◌, ◌++◌, length, map, Option, Some, None, refl, sym, ap, ◌∙◌, if◌then◌else◌, nat_lt, suc}
-use Rattle.std.specs.Prelude.{⊤, ◌==◌}
-use Rattle.std.specs.List.{list_all}
+use Rattle.std.proofs.Common.{◌≡◌, ℕ, Bool, true, false, ◌&&◌, not, List, [], ◌∷◌, length, map, Option, Some, None, refl, sym, ap, ◌∙◌, if◌then◌else◌, nat_lt, suc}
+use Rattle.std.specs.Prelude.{◌==◌}
 use mathlib.Core.Path.{subst}
 use Rattle.f3_access.specs.declared.table.Lookup.{Lookup}
 use Rattle.f3_access.specs.declared.table.Lookup.TheVariants.{One, Nothing, Several}
@@ -10,8 +9,7 @@ use Rattle.f3_tree.specs.declared.expression.Name.{Name}
 use Rattle.f3_program.specs.declared.program.Program.{Program}
 use Rattle.f3_kinds.specs.declared.types.DataType.{DataType}
 use Rattle.f3_kinds.specs.declared.types.Object.{Object}
-use Rattle.f3_kinds.specs.declared.said.Form.{Form}
-use Rattle.f3_kinds.specs.declared.said.Form.TheVariants.{Computed, Constant, Variable}
+use Rattle.f3_kinds.specs.declared.said.Form.TheVariants.{Constant, Variable}
 use Rattle.f3_kinds.specs.declared.said.Has.{Has}
 use Rattle.f3_kinds.specs.declared.said.Reach.{Reach}
 use Rattle.f3_kinds.specs.declared.said.Given.{Given}
@@ -21,13 +19,12 @@ use Rattle.f3_kinds.specs.declared.things.Component.{Component}
 use Rattle.f3_kinds.specs.declared.things.Dummy.{Dummy}
 use Rattle.f3_kinds.specs.declared.things.Intrinsic.{Intrinsic}
 use Rattle.f3_kinds.specs.declared.things.Intrinsic.TheVariants as i
-use Rattle.f3_kinds.specs.Things.{Nature, constant, variable, derived, subroutine, function, Context, Meaning, nothing, several, intrinsic, entity, entity_or, meaning_by, meaning_of}
+use Rattle.f3_kinds.specs.Things.{Nature, constant, variable, derived, subroutine, function, Meaning, nothing, intrinsic, entity, entity_or, meaning_by, meaning_of}
 use Rattle.f3_kinds.specs.Things.{look_here, map_or}
-use Rattle.f3_kinds.specs.Rows.{has_type}
-use Rattle.f3_kinds.specs.Designators.{Part, is_typed, parts_typed, role_fits, reach_has, object_reach, object_rows}
-use Rattle.f3_kinds.specs.Calls.{least_count, actual_rows, argument_rows, no_match, function_has, function_rows, are_right, is_complete, intrinsic_has, intrinsic_parts}
+use Rattle.f3_kinds.specs.Designators.{Part, role_fits, reach_has, object_reach, object_rows}
+use Rattle.f3_kinds.specs.Calls.{least_count, no_match, function_has, function_rows, are_right, is_complete, intrinsic_has, intrinsic_parts}
 use Rattle.f3_kinds.specs.Calls.{intrinsic_rows, constructor_has, constructor_parts, constructor_rows, is_constructed, result_has}
-use Rattle.f3_kinds.specs.Typing.{Sense, called, sense_of, sense_has, sense_rows, designator_rows, designator_said}
+use Rattle.f3_kinds.specs.Typing.{called, sense_of, sense_has, sense_rows}
 use Rattle.f3_meaning_whole.specs.Permitted.{Scope, Each, names_in}
 use Rattle.f3_elaboration.specs.Nodes as n
 use Rattle.f3_elaboration.specs.Nodes.{ExpressionNode, DesignatorNode}
@@ -35,15 +32,15 @@ use Rattle.f3_elaboration.specs.Declarations.{constant_of}
 use Rattle.f3_elaboration.specs.Context.{Surroundings, base}
 use Rattle.f3_elaboration.specs.Expressions as x
 use Rattle.f3_elaboration.specs.Expressions.{meant, given_value, arguments_for, components_for}
-use Rattle.f3_lawful_laws.specs.Nodes.{designated, NodeValue}
+use Rattle.f3_lawful_laws.specs.Nodes.{NodeValue}
 use Rattle.f3_lawful_laws.specs.Agreement.{Agrees}
-use Rattle.f3_lawful_laws.proofs.Facts.{no, not_nil, first, second, holds, both, negated_back, when_true}
-use Rattle.f3_lawful_laws.proofs.Alike.{IsSeen, HasRoot, IsOf, AreGiven, IsBehind, AreParts, MayGiveAll}
+use Rattle.f3_lawful_laws.proofs.Facts.{not_nil, first, both}
+use Rattle.f3_lawful_laws.proofs.Alike.{HasRoot, IsOf, AreGiven, IsBehind, AreParts, MayGiveAll}
 use Rattle.f3_lawful_laws.proofs.Reaching.{object_typed}
 use Rattle.f3_lawful_laws.proofs.Objects.{Stands, stands}
 use Rattle.f3_lawful_laws.proofs.Calling.{function_typed, intrinsic_typed, intrinsic_counted, constructor_typed}
 use Rattle.f3_lawful_laws.proofs.Given.{all_may, all_typed, behind_may, behind_typed, parts_named, all_parts_typed, value_may, arguments_may, components_may, arguments_pass, none_change}
-use Rattle.f3_lawful_laws.proofs.Intrinsics.{MayAs, intrinsic_may, IsNone, plain}
+use Rattle.f3_lawful_laws.proofs.Intrinsics.{intrinsic_may, IsNone, plain}
 
 module _ (p : Program) (scope : Scope) (s : Surroundings) (agrees : Agrees p scope s) (of : Option DataType) where
   none_if : (b : Bool) (h : Has) → IsNone p scope s (Some h) → IsNone p scope s (if b then Some h else None)
@@ -63,9 +60,9 @@ module _ (p : Program) (scope : Scope) (s : Surroundings) (agrees : Agrees p sco
       → IsOf p scope s (n.variable (x.variable_of s e o (m, g) qs)) (reach_has (Variable e) role.Expression (object_reach s.context role.Expression o (m, b) rs))
   variable_is m g qs b rs e o looked nature behind parts rows =
       let h : Stands p scope s agrees (Variable e) role.Expression e o (m, g) qs (m, b) rs =
-          stands p scope s agrees (Variable e) role.Expression e o (m, g) qs (m, b) rs (agrees.known e (variable o) nature)
-          (agrees.variables m.symbol e o looked nature) (behind_may p scope s g b behind) (behind_typed p scope s g b behind)
-          (parts_named p scope s qs rs parts) rows in
+      stands p scope s agrees (Variable e) role.Expression e o (m, g) qs (m, b) rs (agrees.known e (variable o) nature)
+      (agrees.variables m.symbol e o looked nature) (behind_may p scope s g b behind) (behind_typed p scope s g b behind)
+      (parts_named p scope s qs rs parts) rows in
       subst (IsOf p scope s (n.variable (x.variable_of s e o (m, g) qs))) (sym h.is)
       (h.known, h.locates, (h.of, seen_as e (x.variable_of s e o (m, g) qs) h.has h.form_is (record { symbol = m.symbol; object = o; looked = looked; nature = nature }, h.may)))
 
@@ -85,8 +82,7 @@ module _ (p : Program) (scope : Scope) (s : Surroundings) (agrees : Agrees p sco
   reference_is e pure ds o m gs ys nature given rows =
       let known = agrees.known e (function pure ds o) nature in
       let dummies = agrees.functions e pure ds o nature in
-      plain p scope s (n.reference (s.procedure e) (arguments_for ds 0 gs)) (function_has ds o ys)
-      (
+      plain p scope s (n.reference (s.procedure e) (arguments_for ds 0 gs)) (function_has ds o ys) (
         (
           arguments_may p scope s ds 0 gs (all_may p scope s gs ys given),
           arguments_pass p scope s ds (names_in p (s.procedure e)) 0 gs ys no_match known.0 dummies.0 given (first _ _ rows) (none_change p scope s ds 0 gs ys dummies.1 given),

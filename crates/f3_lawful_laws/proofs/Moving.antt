@@ -1,40 +1,38 @@
 -- MOVE_ALLOC has two variables of one type where it breaks no rule.
-use Rattle.std.proofs.Common.{◌≡◌, ℕ, zero, suc, ◌+◌, Bool, true, false, ◌&&◌, ◌||◌, not, List, [], ◌∷◌, ◌++◌, Option, Some, None, refl, sym, ap, ◌∙◌, if◌then◌else◌}
-use Rattle.std.specs.Prelude.{⊤, ◌==◌, nat_eq, nat_lt, slice_get}
-use Rattle.std.specs.List.{flat_map, list_any}
+use Rattle.std.proofs.Common.{◌≡◌, ℕ, zero, suc, Bool, true, false, ◌&&◌, ◌||◌, not, List, [], ◌∷◌, Option, Some, None, refl, sym, ap, ◌∙◌, if◌then◌else◌}
+use Rattle.std.specs.Prelude.{nat_eq, slice_get}
+use Rattle.std.specs.List.{list_any}
 use mathlib.Core.Path.{subst}
 use Rattle.f3_tree.specs.declared.expression.Name.{Name}
 use Rattle.f3_tree.specs.Expressions as t
-use Rattle.f3_program.specs.declared.declarations.Base.{Base}
 use Rattle.f3_program.specs.declared.program.Program.{Program}
-use Rattle.f3_kinds.specs.declared.types.Object.{Object}
 use Rattle.f3_kinds.specs.declared.said.Has.{Has}
 use Rattle.f3_kinds.specs.declared.said.Said.{Said}
 use Rattle.f3_kinds.specs.declared.said.Given.{Given}
-use Rattle.f3_kinds.specs.declared.said.Given.TheVariants.{Value, Triplet}
+use Rattle.f3_kinds.specs.declared.said.Given.TheVariants.{Value}
 use Rattle.f3_kinds.specs.declared.things.Dummy.{Dummy}
 use Rattle.f3_kinds.specs.Things.{map_or}
-use Rattle.f3_kinds.specs.Rows.{has_type, is_known, unless}
+use Rattle.f3_kinds.specs.Rows.{has_type, unless}
 use Rattle.f3_kinds.specs.Operands.{type_in}
-use Rattle.f3_kinds.specs.Calls.{Matched, no_match, match_next, added, argument_fits, argument_rows, is_free, is_keyed, place_for, fits_at, has_fits_dummy, call_rows}
+use Rattle.f3_kinds.specs.Calls.{no_match, match_next, added, argument_fits, argument_rows, is_free, place_for, has_fits_dummy}
 use Rattle.f3_kinds.specs.Typing.{said}
-use Rattle.f3_meaning_whole.specs.Permitted.{Scope, same_type}
-use Rattle.f3_type_rules.specs.Statements.{allocatable_as, two_dummies, has_of, given_at, moving_dummies}
+use Rattle.f3_meaning_whole.specs.Permitted.{Scope}
+use Rattle.f3_type_rules.specs.Statements.{allocatable_as, two_dummies, given_at, moving_dummies}
 use Rattle.f3_type_rules.specs.declared.definition.Holder.{Holder}
-use Rattle.f3_type_rules.specs.Definitions.{Site, definition_rows, value_given}
+use Rattle.f3_type_rules.specs.Definitions.{Site, definition_rows}
 use Rattle.f3_elaboration.specs.Nodes as n
 use Rattle.f3_elaboration.specs.Nodes.{ExpressionNode, DesignatorNode}
 use Rattle.f3_elaboration.specs.Numbers as Numbers
 use Rattle.f3_elaboration.specs.Context.{Surroundings, base}
-use Rattle.f3_elaboration.specs.Expressions.{expression, itself}
-use Rattle.f3_elaboration.specs.Actions.{kind, kind_by, named_by, allocatable, move}
-use Rattle.f3_lawful_laws.specs.Nodes.{designated, NodeLocate, NodeDefines, NodeDefinesAs, NodeRuns}
+use Rattle.f3_elaboration.specs.Expressions.{expression}
+use Rattle.f3_elaboration.specs.Actions.{kind, kind_by, named_by, allocatable}
+use Rattle.f3_lawful_laws.specs.Nodes.{designated, NodeDefines, NodeDefinesAs}
 use Rattle.f3_lawful_laws.specs.Agreement.{Agrees, Allows}
-use Rattle.f3_lawful_laws.proofs.Facts.{no, not_nil, first, second, holds, both, left, right, otherwise, nothing, same, when_true, when_false}
+use Rattle.f3_lawful_laws.proofs.Facts.{no, first, second, holds, both, left, right, otherwise, nothing, same, when_true}
 use Rattle.f3_lawful_laws.proofs.Positions.{eq_self}
-use Rattle.f3_lawful_laws.proofs.Alike.{IsOf, AreGiven}
+use Rattle.f3_lawful_laws.proofs.Alike.{IsOf}
 use Rattle.f3_lawful_laws.proofs.Passing.{Fits, fits_by, known_same, alike_by, MayChange}
-use Rattle.f3_lawful_laws.proofs.Given.{may_of, typed_of}
+use Rattle.f3_lawful_laws.proofs.Given.{typed_of}
 use Rattle.f3_lawful_laws.proofs.Defining.{changes}
 use Rattle.f3_lawful_laws.proofs.Variables.{itself_defines, itself_typed}
 
@@ -94,7 +92,7 @@ module _ (type : ℕ → ℕ) (names : ℕ × ℕ) (l1 : Option Name) (y1 : Said
       → Numbers.base_by type (type_in y1.has) ≡ Numbers.base_by type (type_in y2.has)
   in_order t1 t2 p1 f1 f2 =
       let from_is : from ≡ y1.has =
-          ap (λ o. if map_or false (nat_eq 0) o then y1.has else given_at names 0 1 (Value l2 y2 ∷ [])) (place_kept names from to 0 l1 y1 ∙ p1) in
+      ap (λ o. if map_or false (nat_eq 0) o then y1.has else given_at names 0 1 (Value l2 y2 ∷ [])) (place_kept names from to 0 l1 y1 ∙ p1) in
       let good : is_right y1.has ≡ true = moved from y1.has t1 f1 in
       let to_is : to ≡ y1.has = ap (λ o. if is_right o then o else given_at names 1 0 both_given) from_is ∙ when_true (is_right y1.has) _ _ good in
       types_moved type y1.has y2.has t1 t2 (subst (λ o. has_fits_dummy (allocatable_as o).object y2.has ≡ true) to_is f2)
@@ -104,8 +102,8 @@ module _ (type : ℕ → ℕ) (names : ℕ × ℕ) (l1 : Option Name) (y1 : Said
       → Numbers.base_by type (type_in y1.has) ≡ Numbers.base_by type (type_in y2.has)
   turned t1 t2 p1 p2 f1 f2 =
       let from_is : from ≡ y2.has =
-          ap (λ o. if map_or false (nat_eq 0) o then y1.has else given_at names 0 1 (Value l2 y2 ∷ [])) (place_kept names from to 0 l1 y1 ∙ p1)
-          ∙ ap (λ o. if map_or false (nat_eq 0) o then y2.has else None) (place_kept names from to 1 l2 y2 ∙ p2) in
+      ap (λ o. if map_or false (nat_eq 0) o then y1.has else given_at names 0 1 (Value l2 y2 ∷ [])) (place_kept names from to 0 l1 y1 ∙ p1)
+      ∙ ap (λ o. if map_or false (nat_eq 0) o then y2.has else None) (place_kept names from to 1 l2 y2 ∙ p2) in
       let good : is_right y2.has ≡ true = moved from y2.has t2 f2 in
       let to_is : to ≡ y2.has = ap (λ o. if is_right o then o else given_at names 1 0 both_given) from_is ∙ when_true (is_right y2.has) _ _ good in
       sym (types_moved type y2.has y1.has t2 t1 (subst (λ o. has_fits_dummy (allocatable_as o).object y1.has ≡ true) to_is f1))
@@ -160,11 +158,10 @@ module _ (p : Program) (scope : Scope) (s : Surroundings) (agrees : Agrees p sco
       let he = named_defines (expression s e) (said s.context e).has h (changes p scope s site held allows (said s.context e) (expression s e) h free1) in
       let hf = named_defines (expression s f) (said s.context f).has k (changes p scope s site held allows (said s.context f) (expression s f) k free2) in
       let types : base s (type_in (said s.context e).has) ≡ base s (type_in (said s.context f).has) =
-          moved_types s.type (s.context).moving l1 (said s.context e) l2 (said s.context f) (typed_of p scope s (expression s e) (said s.context e).has h)
-          (typed_of p scope s (expression s f) (said s.context f).has k) (holds _ _ (first _ _ rows))
-          (holds _ _ (first _ _ (second (unless (argument_fits (moving_dummies (s.context).moving (Value l1 (said s.context e) ∷ Value l2 (said s.context f) ∷ [])) 0 (Value l1 (said s.context e)) no_match) _) _ rows))) in
-      let same_kind : base s (type_in (said s.context e).has) ≡ (kind s e).of = kind_same (said s.context e).has in
-      (
+      moved_types s.type (s.context).moving l1 (said s.context e) l2 (said s.context f) (typed_of p scope s (expression s e) (said s.context e).has h)
+      (typed_of p scope s (expression s f) (said s.context f).has k) (holds _ _ (first _ _ rows))
+      (holds _ _ (first _ _ (second (unless (argument_fits (moving_dummies (s.context).moving (Value l1 (said s.context e) ∷ Value l2 (said s.context f) ∷ [])) 0 (Value l1 (said s.context e)) no_match) _) _ rows))) in
+      let same_kind : base s (type_in (said s.context e).has) ≡ (kind s e).of = kind_same (said s.context e).has in (
         (
           itself_defines p scope s agrees (named_by (expression s e)) he.0,
           itself_typed p scope s agrees (named_by (expression s e)) (kind s e).of (alike_by _ _ (he.1 ∙ same_kind)),

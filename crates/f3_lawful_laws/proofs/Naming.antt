@@ -1,17 +1,13 @@
 -- The names of an ASSOCIATE construct.
-use Rattle.std.proofs.Common.{◌≡◌, ℕ, zero, suc, ◌+◌, ◌<◌, Bool, true, false, ◌&&◌, cond, List, [], ◌∷◌, ◌++◌, length, map, position, nat_eq, Option, None, Some, option_map, refl, sym, ap, ◌∙◌, arith}
-use Rattle.std.specs.Prelude.{⊤, slice_index_or}
+use Rattle.std.proofs.Common.{◌≡◌, ℕ, zero, suc, ◌+◌, ◌<◌, Bool, true, false, cond, List, [], ◌∷◌, ◌++◌, length, map, position, nat_eq, Option, None, Some, option_map, refl, sym, ap, ◌∙◌, arith}
+use Rattle.std.specs.Prelude.{slice_index_or}
 use Rattle.std.specs.List.{flat_map}
 use Rattle.std.specs.Map.{lookup}
 use mathlib.Core.Path.{subst}
-use Rattle.f3_access.specs.declared.table.Lookup.{Lookup}
-use Rattle.f3_access.specs.declared.table.Lookup.TheVariants.{One}
 use Rattle.f3_tree.specs.Statements.{AssociationTree}
 use Rattle.f3_program.specs.declared.declarations.Kind.{Kind}
 use Rattle.f3_program.specs.declared.program.Program.{Program}
 use Rattle.f3_kinds.specs.declared.said.Has.{Has}
-use Rattle.f3_kinds.specs.declared.said.Said.{Said}
-use Rattle.f3_kinds.specs.Things.{Context}
 use Rattle.f3_kinds.specs.Operands.{type_in}
 use Rattle.f3_kinds.specs.Typing.{said}
 use Rattle.f3_meaning_whole.specs.Permitted.{Each, Lendable, Scope, unknown}
@@ -25,9 +21,8 @@ use Rattle.f3_elaboration.specs.Actions.{kind, kind_by}
 use Rattle.f3_elaboration.specs.Statements.{selected, selector}
 use Rattle.f3_lawful_laws.specs.Nodes.{designated, NodeValue, NodeSelector, names_by}
 use Rattle.f3_lawful_laws.specs.Blocks.{entity_in, IsDeclaredIn, IsFree}
-use Rattle.f3_lawful_laws.proofs.Facts.{no, nothing, same}
 use Rattle.f3_lawful_laws.proofs.Positions.{position_cons, eq_same}
-use Rattle.f3_lawful_laws.proofs.Alike.{IsOf, HasAs}
+use Rattle.f3_lawful_laws.proofs.Alike.{IsOf}
 use Rattle.f3_lawful_laws.proofs.Given.{may_of}
 
 -- ---- names behind others

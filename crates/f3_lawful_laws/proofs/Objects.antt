@@ -1,15 +1,14 @@
 -- A designator of a variable that breaks no rule.
-use Rattle.std.proofs.Common.{◌≡◌, ℕ, Bool, true, ◌&&◌, List, [], ◌∷◌, ◌++◌, Option, Some, None, refl, sym, ap, ◌∙◌}
+use Rattle.std.proofs.Common.{◌≡◌, ℕ, Bool, true, ◌&&◌, List, [], Some, refl, sym, ap, ◌∙◌}
 use mathlib.Core.Path.{subst}
 use Rattle.f3_program.specs.declared.program.Program.{Program}
 use Rattle.f3_kinds.specs.declared.types.Object.{Object}
 use Rattle.f3_kinds.specs.declared.said.Form.{Form}
 use Rattle.f3_kinds.specs.declared.said.Has.{Has}
-use Rattle.f3_kinds.specs.declared.said.Reach.{Reach}
 use Rattle.f3_kinds.specs.declared.said.Role.{Role}
 use Rattle.f3_kinds.specs.Things.{Context}
-use Rattle.f3_kinds.specs.Rows.{has_type, is_known}
-use Rattle.f3_kinds.specs.Designators.{Part, along, along_rows, is_allocation, is_last, are_typed, start, enter, enter_rows}
+use Rattle.f3_kinds.specs.Rows.{is_known}
+use Rattle.f3_kinds.specs.Designators.{Part, along, along_rows, is_allocation, is_last, are_typed, start, enter_rows}
 use Rattle.f3_kinds.specs.Designators.{reach_has, reach_rows, object_reach, object_rows}
 use Rattle.f3_meaning_whole.specs.Permitted.{Scope, name_of}
 use Rattle.f3_elaboration.specs.Nodes as n
@@ -45,8 +44,8 @@ module _ (p : Program) (scope : Scope) (s : Surroundings) (agrees : Agrees p sco
       let others = second (enter_rows b o y) _ rows in
       let d : DesignatorNode = n.name (s.object e) (selection o q.1) in
       let rest : Arrives p scope s agrees u qs rs inside.reach d o =
-          walk p scope s agrees u qs rs named inside.reach d o inside.object inside.fit known (takes p scope s o q.1 behind) of
-          (subst (λ z. along_rows c u rs z ≡ []) inside.is (first _ _ others)) in
+      walk p scope s agrees u qs rs named inside.reach d o inside.object inside.fit known (takes p scope s o q.1 behind) of
+      (subst (λ z. along_rows c u rs z ≡ []) inside.is (first _ _ others)) in
       let reached : object_reach c u o y rs ≡ Some rest.reach = ap (along c u rs) inside.is ∙ rest.is in
       let all : Has_all form u rest.reach = has_all form u y.0 rest.reach rest.fit (subst (λ z. reach_rows u y.0 z ≡ []) reached (second (along_rows c u rs _) _ others)) in
       record {

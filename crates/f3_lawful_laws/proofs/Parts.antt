@@ -1,7 +1,7 @@
 -- Expressions, actions and blocks in memory.
-use Rattle.std.proofs.Common.{◌≡◌, ℕ, sym}
+use Rattle.std.proofs.Common.{sym}
 use mathlib.Core.Path.{subst}
-use Rattle.f3_elaboration.specs.Nodes.{ExpressionNode, StatementNode}
+use Rattle.f3_elaboration.specs.Nodes.{StatementNode}
 use Rattle.f3_elaboration.specs.Expressions.{expression}
 use Rattle.f3_kinds.specs.Typing.{said}
 use Rattle.f3_lawful_laws.specs.Nodes.{NodeValue, NodeRuns}

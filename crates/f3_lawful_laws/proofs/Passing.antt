@@ -1,41 +1,33 @@
 -- Arguments may be passed where they break no rule.
-use Rattle.std.proofs.Common.{◌≡◌, ℕ, ◌+◌, zero, suc, Bool, true, false, ◌&&◌, ◌||◌, not, List, [], ◌∷◌, ◌++◌, length, map, Option, Some, None, refl, sym, ap, ◌∙◌}
+use Rattle.std.proofs.Common.{◌≡◌, ℕ, Bool, true, false, ◌||◌, not, List, length, Option, Some, None, refl, sym, ap, ◌∙◌}
 use Rattle.std.proofs.Common.{if◌then◌else◌, nat_lt, nat_eq}
-use Rattle.std.specs.Prelude.{⊤, ◌==◌, slice_get, slice_index_or}
-use Rattle.std.specs.List.{list_all, list_any}
-use mathlib.Core.Path.{subst}
-use Rattle.f3_rules.specs.declared.rule.Rule.TheVariants.{T8}
+use Rattle.std.specs.Prelude.{⊤, slice_get, slice_index_or}
+use Rattle.std.specs.List.{list_any}
 use Rattle.f3_tree.specs.declared.expression.Name.{Name}
-use Rattle.f3_tree.specs.declared.expression.IntegerKind.{IntegerKind}
 use Rattle.f3_tree.specs.declared.expression.IntegerKind.TheVariants.{Four, Eight}
 use Rattle.f3_program.specs.declared.declarations.Base.{Base}
 use Rattle.f3_program.specs.declared.declarations.Base.TheVariants as base_is
 use Rattle.f3_program.specs.declared.program.Program.{Program}
 use Rattle.f3_kinds.specs.declared.types.DataType.{DataType}
 use Rattle.f3_kinds.specs.declared.types.DataType.TheVariants.{Integer, Logical, Derived}
-use Rattle.f3_kinds.specs.declared.types.Object.{Object}
-use Rattle.f3_kinds.specs.declared.said.Has.{Has}
 use Rattle.f3_kinds.specs.declared.said.Given.{Given}
-use Rattle.f3_kinds.specs.declared.said.Given.TheVariants.{Value, Triplet}
+use Rattle.f3_kinds.specs.declared.said.Given.TheVariants.{Value}
 use Rattle.f3_kinds.specs.declared.things.Dummy.{Dummy}
-use Rattle.f3_kinds.specs.Things.{map_or, at_place_of, place_of}
+use Rattle.f3_kinds.specs.Things.{map_or}
 use Rattle.f3_kinds.specs.Rows.{has_type, is_known, unless, at_place}
 use Rattle.f3_kinds.specs.Rows as rows
 use Rattle.f3_kinds.specs.Operands.{same_known}
-use Rattle.f3_kinds.specs.Calls.{Matched, match_next, argument_fits, argument_rows, is_free, is_keyed, fits_at, place_for, within_count, given_place, has_fits_dummy}
+use Rattle.f3_kinds.specs.Calls.{Matched, argument_fits, is_free, is_keyed, fits_at, place_for, within_count}
 use Rattle.f3_meaning_whole.specs.Permitted.{Lendable, Scope, unknown, same_type}
-use Rattle.f3_type_rules.specs.Definitions.{is_defining}
 use Rattle.f3_elaboration.specs.Nodes as n
 use Rattle.f3_elaboration.specs.Nodes.{ExpressionNode, DesignatorNode, SelectionNode}
 use Rattle.f3_elaboration.specs.Numbers.{base_by}
-use Rattle.f3_elaboration.specs.Context.{Surroundings, base}
+use Rattle.f3_elaboration.specs.Context.{Surroundings}
 use Rattle.f3_elaboration.specs.Expressions as x
 use Rattle.f3_elaboration.specs.Expressions.{itself, unheld, passed, passed_for, arguments_for, given_value, number_for, number_of, allocatable_dummy}
-use Rattle.f3_lawful_laws.specs.Nodes.{designated, NodePasses, NodesPass, NodeValue, NodeArgument, NodeArguments, NodeLocate, NodeTake}
-use Rattle.f3_lawful_laws.specs.Agreement.{KnowsDummies, lent}
-use Rattle.f3_lawful_laws.proofs.Facts.{no, not_nil, first, second, holds, left, right, otherwise, nothing, same}
-use Rattle.f3_lawful_laws.proofs.Positions.{eq_self, eq_same, index_at}
-use Rattle.f3_lawful_laws.proofs.Alike.{IsOf, IsGiven, AreGiven, MayGive, MayGiveAll}
+use Rattle.f3_lawful_laws.specs.Nodes.{designated, NodePasses, NodeValue, NodeArgument, NodeLocate, NodeTake}
+use Rattle.f3_lawful_laws.proofs.Facts.{no, right, nothing, same}
+use Rattle.f3_lawful_laws.proofs.Positions.{eq_self, eq_same}
 
 -- ---- types
 
@@ -150,8 +142,8 @@ module _ (p : Program) (scope : Scope) (s : Surroundings) where
       → (l.may_define ≡ true → MayChange e) → HasType e l.of → NodePasses p scope names (passed b k e)
   passes names k l b (n.variable d) is change type = (
     ap (λ (z : Lendable). not z.may_define || (designated p scope (if b then itself d else d)).may_define) is
-    ∙ ap (λ (z : Lendable). not l.may_define || z.may_define) (passed_same b d) ∙ implied l.may_define _ change,
+        ∙ ap (λ (z : Lendable). not l.may_define || z.may_define) (passed_same b d) ∙ implied l.may_define _ change,
     ap (λ (z : Lendable). same_type (designated p scope (if b then itself d else d)).of z.of) is
-    ∙ alike_by _ l.of (ap (λ (z : Lendable). z.of) (passed_same b d) ∙ type),
+        ∙ alike_by _ l.of (ap (λ (z : Lendable). z.of) (passed_same b d) ∙ type),
   )
   passes names k l b e is change type = ap (λ (z : Lendable). z.may_define) is ∙ never l.may_define change

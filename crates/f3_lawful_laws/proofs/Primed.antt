@@ -1,5 +1,5 @@
 -- The view of each form in memory, by cases.
-use Rattle.std.proofs.Common.{◌≡◌, ℕ, Bool, List, map, rules}
+use Rattle.std.proofs.Common.{◌≡◌, ℕ, Bool, map, rules}
 use Rattle.f3_rules.specs.declared.source.Place.{Place}
 use Rattle.f3_program.specs.declared.declarations.Base.{Base}
 use Rattle.f3_program.specs.declared.declarations.Kind.{Kind}
@@ -19,7 +19,6 @@ use Rattle.f3_elaboration.specs.Nodes as n
 use Rattle.f3_elaboration.specs.Views.{expression_view, argument_view, designator_view, selection_view, subscript_view, statement_view, selector_view}
 use Rattle.f3_elaboration.specs.Views.{arguments_of, subscripts_of, statements_of}
 use Rattle.f3_elaboration.proofs.Views as v
-
 
 pub component_is : (q : _) (x : d.Designator) (k : ℕ) (how : l.Selection)
     → designator_view (d.Component' q x k how) ≡ n.component (designator_view x) k (selection_view how)

@@ -1,6 +1,5 @@
 -- What breaks no rule has a type: all parts of a designator.
-use Rattle.std.proofs.Common.{◌≡◌, ℕ, Bool, true, false, ◌&&◌, not, List, [], ◌∷◌, ◌++◌, Option, Some, None, refl, sym, ap, ◌∙◌, if◌then◌else◌}
-use Rattle.std.specs.Prelude.{⊤}
+use Rattle.std.proofs.Common.{◌≡◌, Bool, true, false, ◌&&◌, not, List, [], ◌∷◌, Some, refl, sym, ap, ◌∙◌, if◌then◌else◌}
 use mathlib.Core.Path.{subst}
 use Rattle.f3_rules.specs.declared.rule.Rule.TheVariants.{T7, T9}
 use Rattle.f3_tree.specs.declared.expression.Name.{Name}
@@ -12,10 +11,10 @@ use Rattle.f3_kinds.specs.declared.said.Role.{Role}
 use Rattle.f3_kinds.specs.declared.things.Component.{Component}
 use Rattle.f3_kinds.specs.Things.{Context}
 use Rattle.f3_kinds.specs.Rows.{has_type, is_known, unless, at_place, at_name}
-use Rattle.f3_kinds.specs.Designators.{Part, select, step_selected, step_selected_rows, step, along, along_rows, is_allocation, is_last, are_typed, start, enter, enter_rows}
+use Rattle.f3_kinds.specs.Designators.{Part, select, step_selected, step_selected_rows, step, along, along_rows, is_allocation, is_last, start, enter_rows}
 use Rattle.f3_kinds.specs.Designators.{parts_typed, role_fits, reach_has, reach_rows, object_reach, object_rows}
 use Rattle.f3_lawful_laws.specs.Agreement.{Knows}
-use Rattle.f3_lawful_laws.proofs.Facts.{no, not_nil, first, second, holds, both, left, right, negated, when_true}
+use Rattle.f3_lawful_laws.proofs.Facts.{not_nil, first, second, holds, both, left, right, when_true}
 use Rattle.f3_lawful_laws.proofs.Designating.{Enters, enters, Selects, selects, component_known}
 
 -- what is reached behind all parts
@@ -36,9 +35,9 @@ ends c knows u (y ∷ ps) r fit known t e =
     let stepped : step c b y (Some r) ≡ Some inside.reach = ap (step_selected b r y.1) found.1 ∙ inside.is in
     let h : Selects c r.object y.0 k = found.2 in
     let rest : Ends c u ps inside.reach =
-        ends c knows u ps inside.reach inside.fit
-        (ap (λ (o : Object). is_known o.data_type) inside.object ∙ component_known h.components (y.0).symbol k (knows h.type _ h.nature) h.component)
-        (right _ _ t) (subst (λ z. along_rows c u ps z ≡ []) stepped (second (step_selected_rows b y (select c r.object y.0)) _ e)) in
+    ends c knows u ps inside.reach inside.fit
+    (ap (λ (o : Object). is_known o.data_type) inside.object ∙ component_known h.components (y.0).symbol k (knows h.type _ h.nature) h.component)
+    (right _ _ t) (subst (λ z. along_rows c u ps z ≡ []) stepped (second (step_selected_rows b y (select c r.object y.0)) _ e)) in
     record { reach = rest.reach; is = ap (along c u ps) stepped ∙ rest.is; fit = rest.fit; known = rest.known }
 
 -- ---- what the whole has
@@ -72,8 +71,8 @@ object_typed c knows form u o y ps known t e =
     let inside : Enters b (start o) o y.1 = enters b (start o) o y refl (left _ _ t) (first _ _ e) in
     let behind = second (enter_rows b o y) _ e in
     let rest : Ends c u ps inside.reach =
-        ends c knows u ps inside.reach inside.fit (ap (λ (o : Object). is_known o.data_type) inside.object ∙ known) (right _ _ t)
-        (subst (λ z. along_rows c u ps z ≡ []) inside.is (first _ _ behind)) in
+    ends c knows u ps inside.reach inside.fit (ap (λ (o : Object). is_known o.data_type) inside.object ∙ known) (right _ _ t)
+    (subst (λ z. along_rows c u ps z ≡ []) inside.is (first _ _ behind)) in
     let reached : object_reach c u o y ps ≡ Some rest.reach = ap (along c u ps) inside.is ∙ rest.is in
     let all : Has_all form u rest.reach = has_all form u y.0 rest.reach rest.fit (subst (λ z. reach_rows u y.0 z ≡ []) reached (second (along_rows c u ps _) _ behind)) in
     ap (λ z. has_type (reach_has form u z)) reached ∙ ap has_type all.is ∙ ap is_known all.type_is ∙ rest.known

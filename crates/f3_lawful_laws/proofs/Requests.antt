@@ -1,6 +1,5 @@
 -- Objects of ALLOCATE and DEALLOCATE may be defined where they break no rule.
-use Rattle.std.proofs.Common.{◌≡◌, ℕ, Bool, true, List, [], ◌∷◌, ◌++◌, map, Option, Some, None, refl, sym, ap, ◌∙◌}
-use Rattle.std.specs.Prelude.{⊤}
+use Rattle.std.proofs.Common.{◌≡◌, ℕ, true, List, [], ◌∷◌, map, Option, Some, None, refl, sym, ap}
 use mathlib.Core.Path.{subst}
 use Rattle.f3_access.specs.declared.table.Lookup.TheVariants.{One}
 use Rattle.f3_tree.specs.declared.expression.Name.{Name}
@@ -13,7 +12,7 @@ use Rattle.f3_kinds.specs.declared.said.Role.TheVariants as role
 use Rattle.f3_kinds.specs.Things as Things
 use Rattle.f3_kinds.specs.Typing as Typing
 use Rattle.f3_kinds.specs.Things.{Context, variable, look_here}
-use Rattle.f3_kinds.specs.Designators.{Part, object_rows, parts_typed}
+use Rattle.f3_kinds.specs.Designators.{Part, object_rows}
 use Rattle.f3_kinds.specs.Typing.{said, said_parts, said_behind, breaks_parts, breaks_behind, designator_at, designator_breaks, called}
 use Rattle.f3_meaning_whole.specs.Permitted.{Scope, Each, name_of, same_type}
 use Rattle.f3_type_rules.specs.declared.definition.Holder.{Holder}
@@ -23,12 +22,12 @@ use Rattle.f3_elaboration.specs.Expressions as x
 use Rattle.f3_elaboration.specs.Expressions.{parts, behind, given_in, itself}
 use Rattle.f3_elaboration.specs.Actions.{kind, variable as named, unbounded, last_given, bounds, request}
 use Rattle.f3_lawful_laws.specs.Nodes.{designated, NodeDefines, NodeBounds, NodeRequest}
-use Rattle.f3_lawful_laws.specs.Written.{HasName, ArePartsWritten, IsVariableWritten}
+use Rattle.f3_lawful_laws.specs.Written.{IsVariableWritten}
 use Rattle.f3_lawful_laws.specs.Agreement.{Agrees, Allows}
 use Rattle.f3_lawful_laws.proofs.Facts.{first, second, both}
 use Rattle.f3_lawful_laws.proofs.Alike.{AreParts, IsBehind, MayGive, MayGiveAll}
 use Rattle.f3_lawful_laws.proofs.Given.{all_may, behind_typed, all_parts_typed}
-use Rattle.f3_lawful_laws.proofs.Expressions.{parts_are, behind_is}
+use Rattle.f3_lawful_laws.proofs.Expressions.{parts_are}
 use Rattle.f3_lawful_laws.proofs.Defining.{Defined, defined_by}
 use Rattle.f3_lawful_laws.proofs.Variables.{Target, target, target_defines, target_typed, itself_defines, itself_typed}
 use Rattle.f3_lawful_laws.proofs.Bounded.{IsHeap, bare_last, bare_rows}
@@ -89,18 +88,18 @@ module _ (p : Program) (scope : Scope) (s : Surroundings) (agrees : Agrees p sco
         × (same_type (designated p scope (named s (unbounded (t.parts m g ps)))).of (kind s (t.designator (unbounded (t.parts m g ps)))).of ≡ true)
     bare_target m g t.no_parts e o looked is given others rows may =
         let free : object_rows s.context role.Expression o (m, None) [] ≡ [] =
-            bare_rows s.context agrees.known u heap m o (said_behind s.context g) [] (agrees.known e (variable o) is)
-            (both _ _ (behind_typed p scope s (behind s g) (said_behind s.context g) given) refl) rows in
+        bare_rows s.context agrees.known u heap m o (said_behind s.context g) [] (agrees.known e (variable o) is)
+        (both _ _ (behind_typed p scope s (behind s g) (said_behind s.context g) given) refl) rows in
         let h : Target p scope s agrees m t.bare t.no_parts e o = target p scope s agrees m t.bare t.no_parts e o looked is tt tt free in
         (target_defines p scope s agrees m t.bare t.no_parts e o h may, target_typed p scope s agrees m t.bare t.no_parts e o h)
     bare_target m g (t.parts k b ps) e o looked is given others rows may =
         let rest : t.Parts = t.parts k b ps in
         let free : object_rows s.context role.Expression o (m, said_behind s.context g) (bare_last (said_parts s.context rest)) ≡ [] =
-            bare_rows s.context agrees.known u heap m o (said_behind s.context g) (said_parts s.context rest) (agrees.known e (variable o) is)
-            (both _ _ (behind_typed p scope s (behind s g) (said_behind s.context g) given) (all_parts_typed p scope s (parts s rest) (said_parts s.context rest) others)) rows in
+        bare_rows s.context agrees.known u heap m o (said_behind s.context g) (said_parts s.context rest) (agrees.known e (variable o) is)
+        (both _ _ (behind_typed p scope s (behind s g) (said_behind s.context g) given) (all_parts_typed p scope s (parts s rest) (said_parts s.context rest) others)) rows in
         let h : Target p scope s agrees m g (unbounded rest) e o =
-            target p scope s agrees m g (unbounded rest) e o looked is given (unbounded_are rest others)
-            (subst (λ qs. object_rows s.context role.Expression o (m, said_behind s.context g) qs ≡ []) (sym (bare_is s.context rest)) free) in
+        target p scope s agrees m g (unbounded rest) e o looked is given (unbounded_are rest others)
+        (subst (λ qs. object_rows s.context role.Expression o (m, said_behind s.context g) qs ≡ []) (sym (bare_is s.context rest)) free) in
         (target_defines p scope s agrees m g (unbounded rest) e o h may, target_typed p scope s agrees m g (unbounded rest) e o h)
 
     pub request_may : (v : t.Parts) → IsVariableWritten v → designator_breaks s.context u v ≡ [] → definition_rows site (designator_at s.context u v) ≡ []
@@ -111,14 +110,14 @@ module _ (p : Program) (scope : Scope) (s : Surroundings) (agrees : Agrees p sco
         let all = parts_are p scope s agrees (t.parts m g ps) w.1 own in
         let qs : List Part = said_parts s.context ps in
         let at : Defined p scope s site held allows u m (said_behind s.context g) qs =
-            defined_by p scope s site held allows agrees.known u m (said_behind s.context g) qs
-            (both _ _ (behind_typed p scope s (behind s g) (said_behind s.context g) all.1) (all_parts_typed p scope s (parts s ps) qs all.2))
-            (subst (λ z. Typing.sense_rows s.context u (m, said_behind s.context g) qs (Typing.sense_of (s.context).unit u m (Things.meaning_of s.context m.symbol) z) ≡ [])
-            (never_called qs (said_behind s.context g)) (second (breaks_parts s.context (t.parts m g ps)) _ b))
-            (subst (λ z. definition_rows site (Typing.named_said m
-            (Typing.sense_parts s.context u (m, said_behind s.context g) qs (Typing.sense_of (s.context).unit u m (Things.meaning_of s.context m.symbol) z))
-            (Typing.sense_has s.context u (m, said_behind s.context g) qs (Typing.sense_of (s.context).unit u m (Things.meaning_of s.context m.symbol) z))) ≡ [])
-            (never_called qs (said_behind s.context g)) free) in
+        defined_by p scope s site held allows agrees.known u m (said_behind s.context g) qs
+        (both _ _ (behind_typed p scope s (behind s g) (said_behind s.context g) all.1) (all_parts_typed p scope s (parts s ps) qs all.2))
+        (subst (λ z. Typing.sense_rows s.context u (m, said_behind s.context g) qs (Typing.sense_of (s.context).unit u m (Things.meaning_of s.context m.symbol) z) ≡ [])
+        (never_called qs (said_behind s.context g)) (second (breaks_parts s.context (t.parts m g ps)) _ b))
+        (subst (λ z. definition_rows site (Typing.named_said m
+        (Typing.sense_parts s.context u (m, said_behind s.context g) qs (Typing.sense_of (s.context).unit u m (Things.meaning_of s.context m.symbol) z))
+        (Typing.sense_has s.context u (m, said_behind s.context g) qs (Typing.sense_of (s.context).unit u m (Things.meaning_of s.context m.symbol) z))) ≡ [])
+        (never_called qs (said_behind s.context g)) free) in
         let made = bare_target m g ps at.root at.object at.looked at.nature all.1 all.2 at.rows at.may in
         let d = named s (unbounded (t.parts m g ps)) in
         ((itself_defines p scope s agrees d made.0, itself_typed p scope s agrees d _ made.1), bounds_may (last_given (parts s (t.parts m g ps))) (last_may (parts s (t.parts m g ps)) (said_parts s.context (t.parts m g ps)) all))

@@ -1,5 +1,5 @@
 -- An expression in memory may do what its data may do.
-use Rattle.std.proofs.Common.{◌≡◌, ℕ, true, false, List, map, refl, ap, sym, ◌∙◌}
+use Rattle.std.proofs.Common.{◌≡◌, ℕ, true, List, map, ap, ◌∙◌}
 use Rattle.std.specs.Prelude.{slice_index_or, not, ◌||◌}
 use mathlib.Core.Path.{subst}
 use Rattle.f3_program.specs.declared.expression.Argument as a
@@ -28,8 +28,7 @@ module _ (p : Program) (scope : Scope) where
   passes : (ds : List Lendable) (x : a.Argument) → NodePasses p scope ds (argument_view x) → MayPass p scope ds x
   passes ds (a.Value' k q x) h = subst (NodePasses p scope ds) (is.value_is k q x) h
   passes ds (a.Variable' k q x) h =
-      let g = subst (NodePasses p scope ds) (is.object_is k q x) h in
-      (
+      let g = subst (NodePasses p scope ds) (is.object_is k q x) h in (
         subst (λ (m : Lendable). (not (slice_index_or ds k unknown).may_define || m.may_define) ≡ true) (designated_seen x) g.0,
         subst (λ (m : Lendable). same_type m.of (slice_index_or ds k unknown).of ≡ true) (designated_seen x) g.1,
       )
@@ -68,8 +67,7 @@ module _ (p : Program) (scope : Scope) where
     pub locate_seen : (x : d.Designator) → NodeLocate p scope (designator_view x) → MayLocate p scope x
     locate_seen (d.Name x how) h = take_seen how (subst (NodeLocate p scope) (v.view_name x how) h)
     locate_seen (d.Component' q x k how) h =
-        let g = subst (NodeLocate p scope) (is.component_is q x k how) h in
-        (
+        let g = subst (NodeLocate p scope) (is.component_is q x k how) h in (
           locate_seen x g.0,
           subst (λ (m : Lendable). selectable p scope.unit m.of k ≡ true) (designated_seen x) g.1,
           take_seen how g.2,

@@ -1,10 +1,9 @@
 -- A statement in memory may do what its data may do.
-use Rattle.std.proofs.Common.{◌≡◌, ℕ, true, List, [], ◌∷◌, Option, Some, None, map, refl, ap, ◌∙◌, false}
+use Rattle.std.proofs.Common.{◌≡◌, true, List, [], ◌∷◌, Option, Some, None, map, refl, ap, ◌∙◌, false}
 use Rattle.std.specs.Option.{option_map}
 use mathlib.Core.Path.{subst}
 use Rattle.f3_program.specs.declared.declarations.Kind.{Kind}
 use Rattle.f3_program.specs.declared.expression.Designator as d
-use Rattle.f3_program.specs.declared.expression.Expression as e
 use Rattle.f3_program.specs.declared.statement.Bounds.{Bounds}
 use Rattle.f3_program.specs.declared.statement.Item.{Item}
 use Rattle.f3_program.specs.declared.statement.Item.TheVariants as item
@@ -17,7 +16,7 @@ use Rattle.f3_meaning_whole.specs.Permitted.{Each, Lendable, Scope, same_type, n
 use Rattle.f3_meaning_whole.specs.Permitted.{MayExec, MayBlock}
 use Rattle.f3_meaning_whole.specs.Permitted as permitted
 use Rattle.f3_elaboration.specs.Nodes.{StatementNode}
-use Rattle.f3_elaboration.specs.Views.{expression_view, designator_view, bounds_view, request_view, item_view, selector_view, statement_view, statements_of}
+use Rattle.f3_elaboration.specs.Views.{designator_view, bounds_view, request_view, item_view, selector_view, statement_view, statements_of}
 use Rattle.f3_elaboration.proofs.Views as v
 use Rattle.f3_lawful_laws.specs.Nodes.{NodeDefines, NodeDefinesAs, NodeStat, NodeBounds, NodeRequest, NodeItem, NodeSelector, names_by, NodeRuns, NodesRun}
 use Rattle.f3_lawful_laws.proofs.Primed as is
@@ -95,11 +94,10 @@ module _ (p : Program) where
         let g = subst (Runs scope) (is.count_is x k from to step q y) h in
         (defines_seen p scope x g.0, value_seen p scope from g.1, value_seen p scope to g.2, value_seen p scope step g.3, statement_seen y scope g.4)
     statement_seen (s.Associate' xs q y) scope h =
-        let g = subst (Runs scope) (is.associate_is xs q y) h in
-        (
+        let g = subst (Runs scope) (is.associate_is xs q y) h in (
           each_seen (NodeSelector p scope) (MayBe p scope) selector_view (selector_seen p scope) xs.items g.0,
           statement_seen y (naming (permitted.names_by p scope xs.items) scope)
-          (subst (λ (ms : List Lendable). NodeRuns p (statement_view y) (naming ms scope)) (names_seen p scope xs.items) g.1),
+              (subst (λ (ms : List Lendable). NodeRuns p (statement_view y) (naming ms scope)) (names_seen p scope xs.items) g.1),
         )
 
     statements_seen : {m : _} (xs : s.Row_of-Statement m) (scope : Scope)

@@ -1,9 +1,7 @@
 -- Statements that break no rule may run.
-use Rattle.std.proofs.Common.{◌≡◌, ℕ, ◌+◌, Bool, true, false, List, [], ◌∷◌, ◌++◌, length, map, Option, None, Some, refl, sym, ap, ◌∙◌}
-use Rattle.std.specs.Prelude.{⊤, pos}
+use Rattle.std.proofs.Common.{◌≡◌, ℕ, ◌+◌, Bool, true, false, List, [], ◌∷◌, length, map, Option, None, Some, sym, ap, ◌∙◌}
+use Rattle.std.specs.Prelude.{pos}
 use Rattle.std.specs.List.{flat_map}
-use mathlib.Core.Path.{subst}
-use Rattle.f3_access.specs.declared.table.Lookup.{Lookup}
 use Rattle.f3_rules.specs.declared.source.Place.{Place}
 use Rattle.f3_rules.specs.declared.breaks.Break.{Break}
 use Rattle.f3_tree.specs.Expressions as e
@@ -12,21 +10,21 @@ use Rattle.f3_tree.specs.Statements.{AssociationTree}
 use Rattle.f3_program.specs.declared.program.Program.{Program}
 use Rattle.f3_kinds.specs.declared.said.Role.TheVariants as role
 use Rattle.f3_kinds.specs.Things.{map_or, Context}
-use Rattle.f3_kinds.specs.Typing.{said, breaks, designator_at, designator_breaks}
+use Rattle.f3_kinds.specs.Typing.{breaks, designator_at, designator_breaks}
 use Rattle.f3_meaning_whole.specs.Permitted.{Each, Scope, naming}
 use Rattle.f3_type_rules.specs.declared.definition.Holder.{Holder}
 use Rattle.f3_type_rules.specs.Associates.{constructs_of, constructs_of_branches, constructs_of_block, site_inside}
 use Rattle.f3_type_rules.specs.Bodies.{act_rows, control_rows, selector_rows, statement_breaks, block_breaks, branch_breaks, other_breaks, case_breaks}
 use Rattle.f3_type_rules.specs.Cases.{select_breaks}
-use Rattle.f3_type_rules.specs.Definitions.{Site, definition_rows, defined, act_definitions, control_definitions, do_variables, in_loop}
+use Rattle.f3_type_rules.specs.Definitions.{Site, definition_rows, defined, in_loop}
 use Rattle.f3_type_rules.specs.Statements.{act_breaks, condition_breaks, control_breaks, number_breaks, number_defined, variable_of}
 use Rattle.f3_elaboration.specs.Nodes as n
 use Rattle.f3_elaboration.specs.Nodes.{StatementNode}
 use Rattle.f3_elaboration.specs.Context.{Surroundings, inside}
 use Rattle.f3_elaboration.specs.Expressions.{number, expression}
-use Rattle.f3_elaboration.specs.Actions.{action, nothing_done, variable as named}
+use Rattle.f3_elaboration.specs.Actions.{action, nothing_done}
 use Rattle.f3_elaboration.specs.Statements.{loop, selector, statement, block, branches, alternative, cases}
-use Rattle.f3_lawful_laws.specs.Nodes.{NodeValue, NodeRuns, NodesRun, NodeDefines, names_by}
+use Rattle.f3_lawful_laws.specs.Nodes.{NodeValue, NodeRuns, NodesRun, names_by}
 use Rattle.f3_lawful_laws.specs.Written.{IsWritten, IsActWritten}
 use Rattle.f3_lawful_laws.specs.Blocks.{IsStepWritten, IsControlWritten, IsPlaced, IsBlockPlaced, AreBranchesPlaced, IsOtherPlaced, AreCasesPlaced}
 use Rattle.f3_lawful_laws.specs.Agreement.{Agrees, Allows, Lends}
@@ -68,11 +66,10 @@ module _ (p : Program) (held : ℕ → Option Holder) where
     loop_runs (t.counted v from to step) body w b h =
         let own = first _ _ b in
         let bounds = second (number_defined site.context (variable_of v)) _ own in
-        let others = second (number_breaks site.context from) _ bounds in
-        (
+        let others = second (number_breaks site.context from) _ bounds in (
           (variable_defines p scope s here.agrees site held here.allows (variable_of v) tt (tt, tt)
-          (at_here (λ c. designator_breaks c role.Variable (variable_of v)) (first _ _ (first _ _ own)))
-          (at_here (λ c. definition_rows site (designator_at c role.Variable (variable_of v))) (first _ _ (second (control_breaks site.context (t.counted v from to step)) _ b)))).0,
+              (at_here (λ c. designator_breaks c role.Variable (variable_of v)) (first _ _ (first _ _ own)))
+              (at_here (λ c. definition_rows site (designator_at c role.Variable (variable_of v))) (first _ _ (second (control_breaks site.context (t.counted v from to step)) _ b)))).0,
           value_runs from w.0 (first _ _ (first _ _ bounds)),
           value_runs to w.1 (first _ _ (first _ _ others)),
           step_may step w.2 (second (number_breaks site.context to) _ others),
@@ -119,11 +116,10 @@ module _ (p : Program) (held : ℕ → Option Holder) where
           agrees = agrees_within p scope s here.agrees here.lends next xs is held w.1;
           lends = lends_within p scope s here.agrees here.lends next xs is held w.1;
           allows = allows_within p scope s here.agrees here.lends next xs is held w.1 site here.allows;
-        } in
-        (
+        } in (
           selectors_may p scope s xs is,
           block_runs body (naming (names_by p scope (map (selector s) xs)) scope) (inside s next xs) (site_inside next xs site) (next + 1) inner w.2
-          (second (selector_rows site xs) _ b),
+              (second (selector_rows site xs) _ b),
         )
 
     pub block_runs : (x : t.Block) (scope : Scope) (s : Surroundings) (site : Site) (next : ℕ) → Here scope s site
@@ -139,8 +135,7 @@ module _ (p : Program) (held : ℕ → Option Holder) where
         → NodeRuns p otherwise scope → NodeRuns p (branches s next begins bs otherwise) scope
     branches_run t.no_branches scope s site next begins here w b otherwise h = h
     branches_run (t.branch q x y bs) scope s site next begins here w b otherwise h =
-        let behind = second (condition_breaks site.context x) _ b in
-        (
+        let behind = second (condition_breaks site.context x) _ b in (
           value_runs scope s site here x w.0 (first _ _ (first _ _ b)),
           block_runs y scope s site next here w.1 (first _ _ behind),
           branches_run bs scope s site (next + length (constructs_of_block y)) false here w.2 (second (block_breaks site next y) _ behind) otherwise h,

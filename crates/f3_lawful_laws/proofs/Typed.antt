@@ -1,21 +1,19 @@
 -- What breaks no rule has a type: parts of expressions.
-use Rattle.std.proofs.Common.{◌≡◌, ℕ, Bool, true, false, ◌&&◌, List, [], ◌∷◌, ◌++◌, Option, Some, None, refl, sym, ap, ◌∙◌, if◌then◌else◌}
+use Rattle.std.proofs.Common.{◌≡◌, Bool, true, false, ◌&&◌, List, [], ◌∷◌, ◌++◌, Option, Some, None, refl, sym, ap, ◌∙◌, if◌then◌else◌}
 use Rattle.std.specs.Prelude.{⊤, ◌==◌}
 use Rattle.std.specs.List.{flat_map, list_all}
 use Rattle.f3_rules.specs.declared.source.Place.{Place}
-use Rattle.f3_rules.specs.declared.breaks.Break.{Break}
-use Rattle.f3_rules.specs.declared.rule.Rule.TheVariants.{T6, T7}
+use Rattle.f3_rules.specs.declared.rule.Rule.TheVariants.{T6}
 use Rattle.f3_tree.specs.declared.expression.IntegerKind.{IntegerKind}
 use Rattle.f3_kinds.specs.declared.types.DataType.{DataType}
-use Rattle.f3_kinds.specs.declared.types.DataType.TheVariants.{Integer, Logical, Derived}
 use Rattle.f3_kinds.specs.declared.types.Wanted.{Wanted}
 use Rattle.f3_kinds.specs.declared.types.Wanted.TheVariants as wanted
 use Rattle.f3_kinds.specs.declared.said.Has.{Has}
 use Rattle.f3_kinds.specs.declared.said.Said.{Said}
-use Rattle.f3_kinds.specs.Rows.{at_place, is_known, has_type, is_wanted, fits, has_fits, type_fits, type_rows, has_rows, scalar_rows, typed_rows, unless}
-use Rattle.f3_kinds.specs.Operands.{chain_said, chain_rows, comparison_said, signed_said, not_said, group_said, array_said, array_rows, mixed_rows, has_same, first_type}
-use Rattle.f3_kinds.specs.Operands.{when_right, result_of, widest, kind_of, array_has, type_in, enclosed}
-use Rattle.f3_lawful_laws.proofs.Facts.{no, not_nil, first, second, holds, both, left, right, when_true}
+use Rattle.f3_kinds.specs.Rows.{at_place, is_known, has_type, fits, has_fits, type_fits, type_rows, has_rows, scalar_rows}
+use Rattle.f3_kinds.specs.Operands.{chain_said, chain_rows, comparison_said, signed_said, not_said, group_said, array_said, array_rows, mixed_rows, has_same}
+use Rattle.f3_kinds.specs.Operands.{when_right, result_of, array_has, type_in, enclosed}
+use Rattle.f3_lawful_laws.proofs.Facts.{no, not_nil, first, second, holds, both, when_true}
 
 abbrev pub IsTyped : Said → Type 0
 IsTyped s = has_type s.has ≡ true

@@ -1,6 +1,5 @@
 -- Variables where they are defined: in assignments, in DO, and as STAT variables.
-use Rattle.std.proofs.Common.{◌≡◌, ℕ, Bool, true, List, [], ◌∷◌, ◌++◌, Option, Some, None, refl, sym, ap, ◌∙◌}
-use Rattle.std.specs.Prelude.{⊤}
+use Rattle.std.proofs.Common.{◌≡◌, ℕ, true, [], Option, Some, refl, sym, ap, ◌∙◌}
 use mathlib.Core.Path.{subst}
 use Rattle.f3_access.specs.declared.table.Lookup.TheVariants.{One}
 use Rattle.f3_tree.specs.declared.expression.Name.{Name}
@@ -10,27 +9,24 @@ use Rattle.f3_kinds.specs.declared.types.DataType.{DataType}
 use Rattle.f3_kinds.specs.declared.types.Object.{Object}
 use Rattle.f3_kinds.specs.declared.said.Form.TheVariants.{Variable}
 use Rattle.f3_kinds.specs.declared.said.Has.{Has}
-use Rattle.f3_kinds.specs.declared.said.Given.{Given}
 use Rattle.f3_kinds.specs.declared.said.Role.TheVariants as role
-use Rattle.f3_kinds.specs.Things.{Meaning, variable, entity, entity_or, meaning_by, meaning_of, look_here}
-use Rattle.f3_kinds.specs.Designators.{Part, object_rows, object_reach, reach_has}
-use Rattle.f3_kinds.specs.Operands.{type_in}
-use Rattle.f3_kinds.specs.Typing.{said, said_parts, said_behind, breaks_parts, breaks_behind, designator_rows, designator_at, designator_breaks, sense_of, sense_has, called}
+use Rattle.f3_kinds.specs.Things.{variable, entity, entity_or, meaning_by, meaning_of, look_here}
+use Rattle.f3_kinds.specs.Designators.{object_rows}
+use Rattle.f3_kinds.specs.Typing.{said, said_parts, said_behind, breaks_parts, breaks_behind, designator_at, designator_breaks, sense_of, sense_has, called}
 use Rattle.f3_meaning_whole.specs.Permitted as Permitted
 use Rattle.f3_meaning_whole.specs.Permitted.{Scope, same_type}
 use Rattle.f3_type_rules.specs.declared.definition.Holder.{Holder}
 use Rattle.f3_type_rules.specs.Definitions.{Site, definition_rows}
-use Rattle.f3_elaboration.specs.Nodes as n
 use Rattle.f3_elaboration.specs.Nodes.{DesignatorNode}
 use Rattle.f3_elaboration.specs.Context.{Surroundings, base}
 use Rattle.f3_elaboration.specs.Expressions as x
 use Rattle.f3_elaboration.specs.Expressions.{expression, parts, behind, itself, meant, type_of}
 use Rattle.f3_elaboration.specs.Actions.{kind, kind_by, named_by, variable as named}
-use Rattle.f3_lawful_laws.specs.Nodes.{designated, NodeLocate, NodeDefines, NodeDefinesAs}
+use Rattle.f3_lawful_laws.specs.Nodes.{designated, NodeDefines}
 use Rattle.f3_lawful_laws.specs.Written.{HasName, ArePartsWritten}
 use Rattle.f3_lawful_laws.specs.Agreement.{Agrees, Allows}
 use Rattle.f3_lawful_laws.proofs.Facts.{first, second, both}
-use Rattle.f3_lawful_laws.proofs.Alike.{AreParts, IsBehind, MayStandBehind, AreNamed}
+use Rattle.f3_lawful_laws.proofs.Alike.{AreParts, IsBehind}
 use Rattle.f3_lawful_laws.proofs.Objects.{Stands, stands}
 use Rattle.f3_lawful_laws.proofs.Passing.{alike_by, locates_itself, itself_same}
 use Rattle.f3_lawful_laws.proofs.Given.{behind_may, behind_typed, parts_named, all_parts_typed}
@@ -58,9 +54,9 @@ module _ (p : Program) (scope : Scope) (s : Surroundings) (agrees : Agrees p sco
       let meaning : meaning_of s.context m.symbol ≡ entity e (variable o) = means_variable m e o looked is in
       let of : Option DataType = type_of s (t.designator (t.parts m g ps)) in
       let at : Stands p scope s agrees (Variable e) role.Expression e o (m, behind s g) (parts s ps) (m, said_behind s.context g) (said_parts s.context ps) =
-          stands p scope s agrees (Variable e) role.Expression e o (m, behind s g) (parts s ps) (m, said_behind s.context g) (said_parts s.context ps)
-          (agrees.known e (variable o) is) (agrees.variables m.symbol e o looked is) (behind_may p scope s (behind s g) (said_behind s.context g) given)
-          (behind_typed p scope s (behind s g) (said_behind s.context g) given) (parts_named p scope s (parts s ps) (said_parts s.context ps) others) rows in
+      stands p scope s agrees (Variable e) role.Expression e o (m, behind s g) (parts s ps) (m, said_behind s.context g) (said_parts s.context ps)
+      (agrees.known e (variable o) is) (agrees.variables m.symbol e o looked is) (behind_may p scope s (behind s g) (said_behind s.context g) given)
+      (behind_typed p scope s (behind s g) (said_behind s.context g) given) (parts_named p scope s (parts s ps) (said_parts s.context ps) others) rows in
       record {
         node = x.variable_of s e o (m, behind s g) (parts s ps);
         is = ap (λ z. named_by (meant s of (m, behind s g) (parts s ps) z)) meaning;
@@ -104,8 +100,8 @@ module _ (p : Program) (scope : Scope) (s : Surroundings) (agrees : Agrees p sco
         let given = behind_is p scope s agrees g ws.0 (first _ _ own) in
         let others = parts_are p scope s agrees ps ws.1 (second (breaks_behind s.context g) _ own) in
         let at : Defined p scope s site held allows role.Variable m (said_behind s.context g) (said_parts s.context ps) =
-            defined_by p scope s site held allows agrees.known role.Variable m (said_behind s.context g) (said_parts s.context ps)
-            (both _ _ (behind_typed p scope s (behind s g) (said_behind s.context g) given) (all_parts_typed p scope s (parts s ps) (said_parts s.context ps) others))
-            (second (breaks_parts s.context (t.parts m g ps)) _ b) free in
+        defined_by p scope s site held allows agrees.known role.Variable m (said_behind s.context g) (said_parts s.context ps)
+        (both _ _ (behind_typed p scope s (behind s g) (said_behind s.context g) given) (all_parts_typed p scope s (parts s ps) (said_parts s.context ps) others))
+        (second (breaks_parts s.context (t.parts m g ps)) _ b) free in
         let h : Target m g ps at.root at.object = target m g ps at.root at.object at.looked at.nature given others at.rows in
         (target_defines m g ps at.root at.object h at.may, target_typed m g ps at.root at.object h)

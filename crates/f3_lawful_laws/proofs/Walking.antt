@@ -1,23 +1,19 @@
 -- Designators of objects may stand where they break no rule.
-use Rattle.std.proofs.Common.{◌≡◌, ℕ, Bool, true, false, ◌&&◌, ◌||◌, not, List, [], ◌∷◌, ◌++◌, Option, Some, None, refl, sym, ap, ◌∙◌, if◌then◌else◌}
-use Rattle.std.specs.Prelude.{⊤, ◌==◌, nat_eq, slice_get}
+use Rattle.std.proofs.Common.{◌≡◌, ℕ, Bool, true, false, ◌&&◌, ◌||◌, not, List, [], ◌∷◌, Option, Some, None, refl, sym, ap, ◌∙◌, if◌then◌else◌}
+use Rattle.std.specs.Prelude.{◌==◌, nat_eq}
 use mathlib.Core.Path.{subst}
-use Rattle.f3_program.specs.declared.declarations.Base.{Base}
 use Rattle.f3_program.specs.declared.declarations.Base.TheVariants as base_is
 use Rattle.f3_tree.specs.declared.expression.Name.{Name}
 use Rattle.f3_program.specs.declared.program.Program.{Program}
-use Rattle.f3_kinds.specs.declared.types.DataType.{DataType}
 use Rattle.f3_kinds.specs.declared.types.DataType.TheVariants.{Derived}
 use Rattle.f3_kinds.specs.declared.types.Object.{Object}
 use Rattle.f3_kinds.specs.declared.said.Reach.{Reach}
 use Rattle.f3_kinds.specs.declared.said.Role.{Role}
-use Rattle.f3_kinds.specs.declared.said.Selected.{Selected}
-use Rattle.f3_kinds.specs.declared.said.Selected.TheVariants as is
 use Rattle.f3_kinds.specs.declared.things.Component.{Component}
-use Rattle.f3_kinds.specs.Things.{Nature, derived, Context, component_of, map_or}
+use Rattle.f3_kinds.specs.Things.{Context, component_of, map_or}
 use Rattle.f3_kinds.specs.Rows.{is_known}
-use Rattle.f3_kinds.specs.Designators.{Part, select, step_selected, step_selected_rows, step, along, along_rows, enter, is_allocation, is_last}
-use Rattle.f3_meaning_whole.specs.Act.{base_of, component_in, derived_of, component_type}
+use Rattle.f3_kinds.specs.Designators.{Part, select, step_selected, step_selected_rows, step, along, along_rows, is_allocation, is_last}
+use Rattle.f3_meaning_whole.specs.Act.{base_of, component_in, component_type}
 use Rattle.f3_meaning_whole.specs.Permitted.{Scope, selectable, selectable_in, selectable_of}
 use Rattle.f3_elaboration.specs.Nodes as n
 use Rattle.f3_elaboration.specs.Nodes.{DesignatorNode}
@@ -25,8 +21,8 @@ use Rattle.f3_elaboration.specs.Context.{Surroundings, base}
 use Rattle.f3_elaboration.specs.Expressions as x
 use Rattle.f3_elaboration.specs.Expressions.{components_in, components_of, number_of, selection, subscripts, subscript}
 use Rattle.f3_lawful_laws.specs.Nodes.{designated, NodeLocate, NodeTake, NodeSubscripts, NodeSubscript}
-use Rattle.f3_lawful_laws.specs.Agreement.{Agrees, IsType, Knows}
-use Rattle.f3_lawful_laws.proofs.Facts.{no, first, second, otherwise, negated_back}
+use Rattle.f3_lawful_laws.specs.Agreement.{Agrees, IsType}
+use Rattle.f3_lawful_laws.proofs.Facts.{first, second}
 use Rattle.f3_lawful_laws.proofs.Positions.{eq_swap, Standing, standing}
 use Rattle.f3_lawful_laws.proofs.Designating.{Enters, enters, Selects, selects, component_known}
 use Rattle.f3_lawful_laws.proofs.Alike.{MayGive, MayGiveAll, MayStandBehind, AreNamed}
@@ -72,7 +68,7 @@ module _ (p : Program) (scope : Scope) (s : Surroundings) where
     picks o name k h =
         let t : IsType p s h.type h.home h.components = agrees.types h.type h.home h.components h.finalizable h.nature in
         let at : Standing s (t.type.components).items h.components name.symbol k =
-            standing s (t.type.components).items h.components name.symbol k t.components h.component in
+        standing s (t.type.components).items h.components name.symbol k t.components h.component in
         let number : number_of h.components name.symbol ≡ at.number = ap (λ o. map_or 0 (λ k. k) o) at.place in
         record {
           type = h.type;
@@ -113,11 +109,11 @@ module _ (p : Program) (scope : Scope) (s : Surroundings) where
         ≡ x.along s.context d o (q ∷ qs)
     onward d o q qs k h =
         let next : List (ℕ × Component) → Component → DesignatorNode =
-            λ ks j. x.along s.context (n.component d (number_of ks (q.0).symbol) (selection j.object q.1)) j.object qs in
+        λ ks j. x.along s.context (n.component d (number_of ks (q.0).symbol) (selection j.object q.1)) j.object qs in
         sym (
-          ap (λ t. map_or d (next (components_of s.context t)) (component_of (components_of s.context t) (q.0).symbol)) h.of
-          ∙ ap (λ ks. map_or d (next ks) (component_of ks (q.0).symbol)) h.in_type
-          ∙ ap (λ j. map_or d (next h.components) j) h.found
+        ap (λ t. map_or d (next (components_of s.context t)) (component_of (components_of s.context t) (q.0).symbol)) h.of
+        ∙ ap (λ ks. map_or d (next ks) (component_of ks (q.0).symbol)) h.in_type
+        ∙ ap (λ j. map_or d (next h.components) j) h.found
         )
 
     pub walk : (u : Role) (qs : List x.Part) (rs : List Part) → AreNamed p scope s qs rs → (r : Reach) (d : DesignatorNode) (o : Object) → r.object ≡ o
@@ -143,15 +139,15 @@ module _ (p : Program) (scope : Scope) (s : Surroundings) where
         let pick : Picks o (q.0).symbol k = subst (λ (n : Name). Picks o n.symbol k) (sym h.0) (picks o y.0 k found.2) in
         let inside : Enters b r k.object y.1 = enters b r k.object y fit h.2 (subst (λ z. step_selected_rows b y z ≡ []) found.1 rows) in
         let stepped : step c b y (Some r) ≡ Some inside.reach =
-            ap (λ o. step_selected b r y.1 (select c o y.0)) same ∙ ap (step_selected b r y.1) found.1 ∙ inside.is in
+        ap (λ o. step_selected b r y.1 (select c o y.0)) same ∙ ap (step_selected b r y.1) found.1 ∙ inside.is in
         let m : ℕ = number_of pick.components (q.0).symbol in
         let typed : (designated p scope d).of ≡ base_is.Derived (s.type pick.type) = of ∙ ap (base s) pick.of in
         let e' : DesignatorNode = n.component d m (selection k.object q.1) in
         let rest : Arrives u qs rs inside.reach e' k.object =
-            walk u qs rs h.3 inside.reach e' k.object inside.object inside.fit pick.known
-            (locates, ap (λ t. selectable p scope.unit t m) typed ∙ pick.free, takes k.object q.1 h.1)
-            (ap (λ t. component_type p.types.items t m) typed ∙ pick.part)
-            (subst (λ z. along_rows c u rs z ≡ []) stepped (second (step_selected_rows b y (select c r.object y.0)) _ e)) in
+        walk u qs rs h.3 inside.reach e' k.object inside.object inside.fit pick.known
+        (locates, ap (λ t. selectable p scope.unit t m) typed ∙ pick.free, takes k.object q.1 h.1)
+        (ap (λ t. component_type p.types.items t m) typed ∙ pick.part)
+        (subst (λ z. along_rows c u rs z ≡ []) stepped (second (step_selected_rows b y (select c r.object y.0)) _ e)) in
         let path : x.along c e' k.object qs ≡ x.along c d o (q ∷ qs) = onward d o q qs k pick in
         record {
           reach = rest.reach;

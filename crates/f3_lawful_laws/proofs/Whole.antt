@@ -1,13 +1,10 @@
 -- The bodies of a program that breaks no rule may run.
-use Rattle.std.proofs.Common.{◌≡◌, ℕ, suc, ◌+◌, ◌<◌, length, arith, Bool, true, false, List, [], ◌∷◌, ◌++◌, map, filter, cond, Option, None, Some, Contains, refl, sym, ap, ◌∙◌}
-use Rattle.std.specs.Prelude.{⊤, slice_get}
+use Rattle.std.proofs.Common.{◌≡◌, ℕ, suc, ◌+◌, ◌<◌, length, arith, Bool, true, false, List, [], ◌∷◌, ◌++◌, map, filter, cond, Contains, refl, sym, ap}
+use Rattle.std.specs.Prelude.{slice_get}
 use Rattle.std.specs.List.{flat_map}
 use mathlib.Core.Path.{subst}
-use Rattle.f3_access.specs.declared.table.Lookup.{Lookup}
 use Rattle.f3_rules.specs.declared.breaks.Break.{Break}
-use Rattle.f3_scopes.specs.Scopes.{scopes_of}
 use Rattle.f3_tree.specs.Statements.{Block}
-use Rattle.f3_tree.specs.Tree.{Tree}
 use Rattle.f3_program.specs.declared.program.Procedure.{Procedure}
 use Rattle.f3_program.specs.declared.program.Program.{Program}
 use Rattle.f3_kinds.specs.Things.{map_or}
@@ -24,17 +21,17 @@ use Rattle.f3_elaboration.specs.Nodes.{ProcedureNode, ProgramNode, StatementNode
 use Rattle.f3_elaboration.specs.Context.{Surroundings}
 use Rattle.f3_elaboration.specs.Statements.{block}
 use Rattle.f3_elaboration.specs.Declarations.{Whole}
-use Rattle.f3_elaboration.specs.DeclaredViews.{procedure_view, program_view}
-use Rattle.f3_elaboration.specs.Program.{elaborated, is_main, main_unit, nothing_done}
+use Rattle.f3_elaboration.specs.DeclaredViews.{procedure_view}
+use Rattle.f3_elaboration.specs.Program.{is_main, nothing_done}
 use Rattle.f3_elaboration.specs.Units.{procedure, main, in_member, in_main}
 use Rattle.f3_elaboration.specs.Views.{statement_view}
 use Rattle.f3_lawful_laws.specs.Nodes.{NodeRuns}
 use Rattle.f3_lawful_laws.specs.Laws.{BodiesMayRun}
 use Rattle.f3_lawful_laws.specs.Blocks.{IsBlockPlaced}
-use Rattle.f3_lawful_laws.specs.Entities.{units_of, whole_of, AreAlike, main_scope, MemberAgrees, UnitAgrees, EntitiesAgree}
-use Rattle.f3_lawful_laws.proofs.Facts.{not_nil, first, second, nothing, same}
+use Rattle.f3_lawful_laws.specs.Entities.{units_of, whole_of, AreAlike, main_scope, MemberAgrees, UnitAgrees}
+use Rattle.f3_lawful_laws.proofs.Facts.{first, second}
 use Rattle.f3_lawful_laws.proofs.SeenStatements.{each_seen, statement_seen}
-use Rattle.f3_lawful_laws.proofs.Statements.{Here, block_runs}
+use Rattle.f3_lawful_laws.proofs.Statements.{block_runs}
 
 module _ (p : Program) (w : Whole) where
   -- a body
@@ -116,10 +113,9 @@ pub bodies_run : BodiesMayRun
 bodies_run t look order p seen h none =
     let w : Whole = whole_of t look order in
     let free : flat_map (unit_breaks w.scene w.values) (units_of t) ≡ [] =
-        second (along (unit_rows w.scene) (unit_next w.scene) nothing_known (units_in (units_of t) order)) _ (nil_of (program_breaks t look order) none) in
-    (
+    second (along (unit_rows w.scene) (unit_next w.scene) nothing_known (units_in (units_of t) order)) _ (nil_of (program_breaks t look order) none) in (
       subst (RunsAsMain p w) (sym (ap (λ (y : ProgramNode). y.main) seen))
-      (main_of p w t.end (filter (λ (u : Numbered). is_main (u.tree).kind) (units_of t)) (mains p w (units_of t) h free)) p.main refl,
+          (main_of p w t.end (filter (λ (u : Numbered). is_main (u.tree).kind) (units_of t)) (mains p w (units_of t) h free)) p.main refl,
       each_seen (RunsAs p w) (MayRun p) procedure_view (λ q k. k q refl) p.procedures.items
-      (subst (Each (RunsAs p w)) (sym (ap (λ (y : ProgramNode). y.procedures) seen)) (units_run p w (units_of t) h free)),
+          (subst (Each (RunsAs p w)) (sym (ap (λ (y : ProgramNode). y.procedures) seen)) (units_run p w (units_of t) h free)),
     )

@@ -1,5 +1,5 @@
 -- What an elaborated program may do, on its data: as f3_meaning_whole says it of the program in memory.
-use Rattle.std.specs.Prelude.{◌≡◌, ⊤, ℕ, not, ◌||◌, Bool, true, false, List, [], ◌∷◌, ◌++◌, Option, None, Some, slice_index_or}
+use Rattle.std.specs.Prelude.{◌≡◌, ⊤, not, ◌||◌, true, false, List, [], ◌∷◌, Option, None, Some, slice_index_or}
 use Rattle.f3_program.specs.declared.declarations.Kind.{Kind}
 use Rattle.f3_program.specs.declared.program.Program.{Program}
 use Rattle.f3_meaning_whole.specs.Act.{component_type}
