@@ -24,6 +24,7 @@ mod Inside
 mod Statements
 mod Whole
 mod Parts
+mod Opening
 mod Primed
 mod SeenExpressions
 mod SeenStatements

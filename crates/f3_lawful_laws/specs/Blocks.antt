@@ -1,5 +1,5 @@
 -- Statements that a source may spell, in which each ASSOCIATE construct is a scope of its own, inside the scope that it stands in.
-use Rattle.std.specs.Prelude.{◌≡◌, ⊤, ℕ, ◌+◌, false, nat_eq, position, length, List, Option, None, Some, map}
+use Rattle.std.specs.Prelude.{◌≡◌, ⊤, ℕ, ◌+◌, false, nat_eq, position, length, List, Option, None, Some, map, slice_get}
 use Rattle.f3_access.specs.declared.table.Lookup.{Lookup}
 use Rattle.f3_access.specs.declared.table.Lookup.TheVariants.{One}
 use Rattle.f3_tree.specs.Expressions.{Tree}
@@ -37,6 +37,10 @@ IsDeclaredIn look number x = look number (x.name).symbol ≡ One (entity_in look
 abbrev pub IsFree : Option Holder → Type 0
 IsFree None = ⊤
 IsFree (Some h) = (h.is_protected ≡ false) × (is_in h.intent ≡ false)
+
+-- no associate name stands twice
+abbrev pub AreOnce : List AssociationTree → Type 0
+AreOnce xs = (j k : ℕ) (x y : AssociationTree) → slice_get xs j ≡ Some x → slice_get xs k ≡ Some y → (x.name).symbol ≡ (y.name).symbol → j ≡ k
 
 -- The construct of this number declares its associate names; what else is visible in it is visible around it.
 pub record Opens (look : ℕ → ℕ → Lookup) (held : ℕ → Option Holder) (scope number : ℕ) (xs : List AssociationTree) : Type 0 where
