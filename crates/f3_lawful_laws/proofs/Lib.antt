@@ -25,6 +25,7 @@ mod Statements
 mod Whole
 mod Parts
 mod Opening
+mod Placing
 mod Primed
 mod SeenExpressions
 mod SeenStatements

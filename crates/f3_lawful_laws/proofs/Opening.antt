@@ -1,6 +1,7 @@
 -- An ASSOCIATE construct is a scope that declares its associate names, each once, inside the scope that it stands in.
 use Rattle.std.proofs.Common.{◌≡◌, ◌≢◌, ℕ, zero, suc, ◌+◌, ◌<◌, Bool, true, false, cond, List, [], ◌∷◌, ◌++◌, length, take, map, position, nat_eq, Option, None, Some, option_map, Contains, refl, sym, ap, ◌∙◌, arith}
 use Rattle.std.specs.Prelude.{⊤, slice_get}
+use Rattle.std.proofs.lemmas.List.{length-append}
 use mathlib.Core.Path.{subst}
 use Rattle.f3_access.specs.declared.table.Lookup.{Lookup}
 use Rattle.f3_access.specs.declared.table.Lookup.TheVariants.{One, Nothing, Several}
@@ -51,6 +52,40 @@ found_in f (y ∷ ys) e (suc k) x there is none =
 each_at : {A : Type 0} (P : A → Type 0) (xs : List A) → ((k : ℕ) (x : A) → slice_get xs k ≡ Some x → P x) → Each P xs
 each_at P [] h = tt
 each_at P (x ∷ xs) h = (h 0 x refl, each_at P xs (λ k y e. h (suc k) y e))
+
+mapped_long : {A B : Type 0} (f : A → B) (xs : List A) → length (map f xs) ≡ length xs
+mapped_long f [] = refl
+mapped_long f (x ∷ xs) = ap suc (mapped_long f xs)
+
+pub at_front : {X : Type 0} (xs ys : List X) (k : ℕ) (x : X) → slice_get xs k ≡ Some x → slice_get (xs ++ ys) k ≡ Some x
+at_front [] ys k x h = nothing h
+at_front (z ∷ zs) ys zero x h = h
+at_front (z ∷ zs) ys (suc k) x h = at_front zs ys k x h
+
+pub at_back : {X : Type 0} (xs ys : List X) (k : ℕ) (x : X) → slice_get ys k ≡ Some x → slice_get (xs ++ ys) (length xs + k) ≡ Some x
+at_back [] ys k x h = subst (λ n. slice_get ys n ≡ Some x) (let e : k ≡ 0 + k = omega arith in e) h
+at_back (z ∷ zs) ys k x h =
+    subst (λ n. slice_get (z ∷ zs ++ ys) n ≡ Some x) (let e : suc (length zs + k) ≡ length (z ∷ zs) + k = omega arith in e) (at_back zs ys k x h)
+
+-- ---- what is asked of the entities of a scope
+
+pub holder_at : (n : ℕ) (scopes : List Scope) (k : ℕ) (s : Scope) (j : ℕ) (d : Own) → slice_get scopes k ≡ Some s → slice_get s.declared j ≡ Some d
+    → slice_get (holders_from n scopes) (first_entity scopes k + j) ≡ Some (holder (n + k) s d)
+holder_at n [] k s j d there own = nothing there
+holder_at n (z ∷ zs) zero s j d there own =
+    let is : z ≡ s = same there in
+    let front : slice_get (map (holder n z) z.declared ++ holders_from (n + 1) zs) j ≡ Some (holder n z d) =
+        at_front (map (holder n z) z.declared) _ j (holder n z d) (mapped_at (holder n z) z.declared j d (subst (λ (s : Scope). slice_get s.declared j ≡ Some d) (sym is) own)) in
+    ap (slice_get (holders_from n (z ∷ zs))) (let e : 0 + j ≡ j = omega arith in e) ∙ front ∙ ap (λ (s : Scope). Some (holder n s d)) is
+    ∙ ap (λ m. Some (holder m s d)) (let e : n ≡ n + 0 = omega arith in e)
+holder_at n (z ∷ zs) (suc k) s j d there own =
+    let rest = holder_at (n + 1) zs k s j d there own in
+    let long : length (map (holder n z) z.declared) ≡ length z.declared = mapped_long (holder n z) z.declared in
+    let joined = length-append z.declared (entities_of (take k zs)) in
+    let place : first_entity (z ∷ zs) (suc k) + j ≡ length (map (holder n z) z.declared) + (first_entity zs k + j) = omega (arith, long, joined) in
+    ap (slice_get (holders_from n (z ∷ zs))) place
+    ∙ at_back (map (holder n z) z.declared) (holders_from (n + 1) zs) (first_entity zs k + j) (holder (n + 1 + k) s d) rest
+    ∙ ap (λ m. Some (holder m s d)) (let e : n + 1 + k ≡ n + suc k = omega arith in e)
 
 -- ---- the construct
 
@@ -147,3 +182,16 @@ module _ (scopes : List Scope) (look : ℕ → ℕ → Lookup) (means : (scope s
       go (One d) at r = at ∙ ap One (inwards d r.0)
       go Nothing at r = absurd (r e outside.0)
       go Several at r = absurd (r.4 (inwards r.0 r.2 ∙ sym (inwards r.1 r.3)))
+
+  -- ---- nothing is asked of associate names
+
+  free_there : Each (λ (x : AssociationTree). IsFree (slice_get (holders_from 0 scopes) (entity_in look number x))) xs
+  free_there = each_at (λ (x : AssociationTree). IsFree (slice_get (holders_from 0 scopes) (entity_in look number x))) xs (λ k x h.
+      subst IsFree
+      (sym (
+        ap (slice_get (holders_from 0 scopes)) (ap entity_of (looked k x h))
+        ∙ holder_at 0 scopes number here k (association_own x) there (mapped_at association_own xs k x h)
+      )) (refl, refl))
+
+  pub opens : Opens look (λ l. slice_get (holders_from 0 scopes) l) host number xs
+  opens = record { declared = declared_there; free = free_there; around = around_there }

@@ -48,6 +48,32 @@ pub record Opens (look : ℕ → ℕ → Lookup) (held : ℕ → Option Holder) 
   pub free : Each (λ (x : AssociationTree). IsFree (held (entity_in look number x))) xs
   pub around : (symbol e : ℕ) → look number symbol ≡ One e → position (nat_eq e) (map (entity_in look number) xs) ≡ None → look scope symbol ≡ One e
 
+-- statements that a source may spell, in which no construct names an associate name twice
+abbrev mutual
+  pub IsSpelled : StatementTree → Type 0
+  IsSpelled (acts p a) = IsActWritten a
+  IsSpelled (acts_if p e q a) = IsWritten e × IsActWritten a
+  IsSpelled (branches bs other) = AreBranchesSpelled bs × IsOtherSpelled other
+  IsSpelled (selects p e cs) = IsWritten e × AreCasesSpelled cs
+  IsSpelled (repeats p control body) = IsControlWritten control × IsBlockSpelled body
+  IsSpelled (associates p xs body) = Each (λ (x : AssociationTree). IsWritten x.selector) xs × AreOnce xs × IsBlockSpelled body
+
+  pub IsBlockSpelled : Block → Type 0
+  IsBlockSpelled no_statements = ⊤
+  IsBlockSpelled (statements x b) = IsSpelled x × IsBlockSpelled b
+
+  pub AreBranchesSpelled : Branches → Type 0
+  AreBranchesSpelled no_branches = ⊤
+  AreBranchesSpelled (branch p e b bs) = IsWritten e × IsBlockSpelled b × AreBranchesSpelled bs
+
+  pub IsOtherSpelled : Alternative → Type 0
+  IsOtherSpelled no_alternative = ⊤
+  IsOtherSpelled (alternative b) = IsBlockSpelled b
+
+  pub AreCasesSpelled : Cases → Type 0
+  AreCasesSpelled no_cases = ⊤
+  AreCasesSpelled (case_block p vs b cs) = IsBlockSpelled b × AreCasesSpelled cs
+
 module _ (look : ℕ → ℕ → Lookup) (held : ℕ → Option Holder) where
   abbrev mutual
     pub IsPlaced : (scope next : ℕ) → StatementTree → Type 0
