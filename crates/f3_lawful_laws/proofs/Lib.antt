@@ -22,6 +22,7 @@ mod Actions
 mod Naming
 mod Inside
 mod Statements
+mod Trees
 mod Whole
 mod Parts
 mod Opening

@@ -35,7 +35,7 @@ mutual
   statement_long host around n (t.repeats p control body) = block_long host around n body
   statement_long host around n (t.associates p xs body) = ap suc (block_long n (construct_name around xs) (n + 1) body)
 
-  block_long : (host : ℕ) (around : Name) (n : ℕ) (b : t.Block) → length (constructs_in_block host around n b) ≡ length (constructs_of_block b)
+  pub block_long : (host : ℕ) (around : Name) (n : ℕ) (b : t.Block) → length (constructs_in_block host around n b) ≡ length (constructs_of_block b)
   block_long host around n t.no_statements = refl
   block_long host around n (t.statements s others) =
       two_long (constructs_in host around n s) (constructs_in_block host around (n + length (constructs_in host around n s)) others)

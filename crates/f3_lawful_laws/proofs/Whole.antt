@@ -4,6 +4,7 @@ use Rattle.std.specs.Prelude.{slice_get}
 use Rattle.std.specs.List.{flat_map}
 use mathlib.Core.Path.{subst}
 use Rattle.f3_rules.specs.declared.breaks.Break.{Break}
+use Rattle.f3_scopes.specs.Scopes.{scopes_of}
 use Rattle.f3_tree.specs.Statements.{Block}
 use Rattle.f3_program.specs.declared.program.Procedure.{Procedure}
 use Rattle.f3_program.specs.declared.program.Program.{Program}
@@ -31,6 +32,7 @@ use Rattle.f3_lawful_laws.specs.Blocks.{IsBlockPlaced}
 use Rattle.f3_lawful_laws.specs.Entities.{units_of, whole_of, AreAlike, main_scope, MemberAgrees, UnitAgrees}
 use Rattle.f3_lawful_laws.proofs.Facts.{first, second}
 use Rattle.f3_lawful_laws.proofs.SeenStatements.{each_seen, statement_seen}
+use Rattle.f3_lawful_laws.proofs.Trees.{units_placed, all_lie}
 use Rattle.f3_lawful_laws.proofs.Statements.{block_runs}
 
 module _ (p : Program) (w : Whole) where
@@ -44,43 +46,51 @@ module _ (p : Program) (w : Whole) where
       (block_runs p (λ l. slice_get (w.scene).holders l) b scope s site next
       (record { agrees = alike.agrees; lends = alike.lends; allows = alike.allows }) placed free))
 
+  abbrev IsMemberPlaced : Member → Type 0
+  IsMemberPlaced m = IsBlockPlaced ((w.scene).names).look (λ l. slice_get (w.scene).holders l) m.scope (m.scope + 1) (m.tree).body
+
+  -- the bodies of a unit and of its procedures
+  abbrev IsUnitPlaced : Numbered → Type 0
+  IsUnitPlaced u =
+      IsBlockPlaced ((w.scene).names).look (λ l. slice_get (w.scene).holders l) u.scope (u.scope + 1) (u.tree).body × Each IsMemberPlaced u.members
+
   -- a procedure in memory runs as its data does
   abbrev RunsAs : ProcedureNode → Type 0
   RunsAs node = (q : Procedure) → procedure_view q ≡ node → MayRun p q
 
-  member_runs : (unit : ℕ) (m : Member) → MemberAgrees p w unit m → member_breaks w.scene w.values unit m ≡ [] → RunsAs (procedure w unit m)
-  member_runs unit m h free q seen =
+  member_runs : (unit : ℕ) (m : Member) → MemberAgrees p w unit m → IsMemberPlaced m → member_breaks w.scene w.values unit m ≡ [] → RunsAs (procedure w unit m)
+  member_runs unit m h placed free q seen =
       body_may (scope_of q) (in_member w unit m) (site_in w.scene unit m.scope (spot_of w.scene unit m).is_pure w.values) (m.scope + 1) (m.tree).body
-      (h.alike q seen) h.placed free q.body (ap (λ (y : ProcedureNode). y.body) seen)
+      (h.alike q seen) placed free q.body (ap (λ (y : ProcedureNode). y.body) seen)
 
-  members_run : (unit : ℕ) (ms : List Member) → Each (MemberAgrees p w unit) ms → flat_map (member_breaks w.scene w.values unit) ms ≡ []
+  members_run : (unit : ℕ) (ms : List Member) → Each (MemberAgrees p w unit) ms → Each IsMemberPlaced ms → flat_map (member_breaks w.scene w.values unit) ms ≡ []
       → Each RunsAs (map (procedure w unit) ms)
-  members_run unit [] h free = tt
-  members_run unit (m ∷ ms) h free = (
-    member_runs unit m h.0 (first _ _ free),
-    members_run unit ms h.1 (second (member_breaks w.scene w.values unit m) _ free),
+  members_run unit [] h placed free = tt
+  members_run unit (m ∷ ms) h placed free = (
+    member_runs unit m h.0 placed.0 (first _ _ free),
+    members_run unit ms h.1 placed.1 (second (member_breaks w.scene w.values unit m) _ free),
   )
 
   each_joined : {A : Type 0} (P : A → Type 0) (xs ys : List A) → Each P xs → Each P ys → Each P (xs ++ ys)
   each_joined P [] ys h k = k
   each_joined P (x ∷ xs) ys h k = (h.0, each_joined P xs ys h.1 k)
 
-  units_run : (us : List Numbered) → Each (UnitAgrees p w) us → flat_map (unit_breaks w.scene w.values) us ≡ []
+  units_run : (us : List Numbered) → Each (UnitAgrees p w) us → Each IsUnitPlaced us → flat_map (unit_breaks w.scene w.values) us ≡ []
       → Each RunsAs (flat_map (λ (u : Numbered). map (procedure w u.scope) u.members) us)
-  units_run [] h free = tt
-  units_run (u ∷ us) h free =
+  units_run [] h placed free = tt
+  units_run (u ∷ us) h placed free =
       each_joined RunsAs (map (procedure w u.scope) u.members) _
-      (members_run u.scope u.members (UnitAgrees.members h.0) (second (body_breaks w.scene w.values u.scope u.scope false (u.tree).body) _ (first _ _ free)))
-      (units_run us h.1 (second (unit_breaks w.scene w.values u) _ free))
+      (members_run u.scope u.members (UnitAgrees.members h.0) placed.0.1 (second (body_breaks w.scene w.values u.scope u.scope false (u.tree).body) _ (first _ _ free)))
+      (units_run us h.1 placed.1 (second (unit_breaks w.scene w.values u) _ free))
 
   -- ---- the main program
 
   abbrev RunsAsMain : ProcedureNode → Type 0
   RunsAsMain node = (q : Procedure) → procedure_view q ≡ node → MayExec p q.body (main_scope q)
 
-  main_runs : (u : Numbered) → UnitAgrees p w u → unit_breaks w.scene w.values u ≡ [] → RunsAsMain (main w u)
-  main_runs u h free q seen =
-      body_may (main_scope q) (in_main w u) (site_in w.scene u.scope u.scope false w.values) (u.scope + 1) (u.tree).body (h.alike q seen) h.placed
+  main_runs : (u : Numbered) → UnitAgrees p w u → IsUnitPlaced u → unit_breaks w.scene w.values u ≡ [] → RunsAsMain (main w u)
+  main_runs u h placed free q seen =
+      body_may (main_scope q) (in_main w u) (site_in w.scene u.scope u.scope false w.values) (u.scope + 1) (u.tree).body (h.alike q seen) placed.0
       (first _ _ free) q.body (ap (λ (y : ProcedureNode). y.body) seen)
 
   nothing_runs : (place : _) → RunsAsMain (nothing_done place)
@@ -88,11 +98,11 @@ module _ (p : Program) (w : Whole) where
       statement_seen p q.body (main_scope q)
       (subst (λ (y : StatementNode). NodeRuns p y (main_scope q)) (sym (ap (λ (y : ProcedureNode). y.body) seen)) tt)
 
-  mains : (us : List Numbered) → Each (UnitAgrees p w) us → flat_map (unit_breaks w.scene w.values) us ≡ []
+  mains : (us : List Numbered) → Each (UnitAgrees p w) us → Each IsUnitPlaced us → flat_map (unit_breaks w.scene w.values) us ≡ []
       → Each (λ (u : Numbered). RunsAsMain (main w u)) (filter (λ (u : Numbered). is_main (u.tree).kind) us)
-  mains [] h free = tt
-  mains (u ∷ us) h free =
-      go (is_main (u.tree).kind) (main_runs u h.0 (first _ _ free)) (mains us h.1 (second (unit_breaks w.scene w.values u) _ free))
+  mains [] h placed free = tt
+  mains (u ∷ us) h placed free =
+      go (is_main (u.tree).kind) (main_runs u h.0 placed.0 (first _ _ free)) (mains us h.1 placed.1 (second (unit_breaks w.scene w.values u) _ free))
     where
       go : (b : Bool) → RunsAsMain (main w u) → Each (λ (u : Numbered). RunsAsMain (main w u)) (filter (λ (u : Numbered). is_main (u.tree).kind) us)
           → Each (λ (u : Numbered). RunsAsMain (main w u)) (cond b (u ∷ filter (λ (u : Numbered). is_main (u.tree).kind) us) (filter (λ (u : Numbered). is_main (u.tree).kind) us))
@@ -110,12 +120,13 @@ nil_of [] h = refl
 nil_of (b ∷ bs) h = absurd (h b (0, (let e : 0 < suc (length bs) = omega arith in e), refl))
 
 pub bodies_run : BodiesMayRun
-bodies_run t look order p seen h none =
+bodies_run t look order p spelled means seen h none =
     let w : Whole = whole_of t look order in
+    let placed = units_placed (scopes_of t) look means 0 t.units spelled (all_lie (scopes_of t)) in
     let free : flat_map (unit_breaks w.scene w.values) (units_of t) ≡ [] =
     second (along (unit_rows w.scene) (unit_next w.scene) nothing_known (units_in (units_of t) order)) _ (nil_of (program_breaks t look order) none) in (
       subst (RunsAsMain p w) (sym (ap (λ (y : ProgramNode). y.main) seen))
-          (main_of p w t.end (filter (λ (u : Numbered). is_main (u.tree).kind) (units_of t)) (mains p w (units_of t) h free)) p.main refl,
+          (main_of p w t.end (filter (λ (u : Numbered). is_main (u.tree).kind) (units_of t)) (mains p w (units_of t) h placed free)) p.main refl,
       each_seen (RunsAs p w) (MayRun p) procedure_view (λ q k. k q refl) p.procedures.items
-          (subst (Each (RunsAs p w)) (sym (ap (λ (y : ProgramNode). y.procedures) seen)) (units_run p w (units_of t) h free)),
+          (subst (Each (RunsAs p w)) (sym (ap (λ (y : ProgramNode). y.procedures) seen)) (units_run p w (units_of t) h placed free)),
     )

@@ -2,7 +2,8 @@
 use Rattle.std.specs.Prelude.{◌≡◌, ⊤, ℕ, ◌+◌, false, nat_eq, position, length, List, Option, None, Some, map, slice_get}
 use Rattle.f3_access.specs.declared.table.Lookup.{Lookup}
 use Rattle.f3_access.specs.declared.table.Lookup.TheVariants.{One}
-use Rattle.f3_tree.specs.Expressions.{Tree}
+use Rattle.f3_tree.specs.Expressions as e
+use Rattle.f3_tree.specs.Tree.{ProcedureTree, UnitTree, Tree}
 use Rattle.f3_tree.specs.Statements.{Controls, forever, counted, while, AssociationTree, StatementTree, acts, acts_if, branches, selects, repeats, associates}
 use Rattle.f3_tree.specs.Statements.{Block, no_statements, statements, Branches, no_branches, branch}
 use Rattle.f3_tree.specs.Statements.{Alternative, no_alternative, alternative, Cases, no_cases, case_block}
@@ -15,7 +16,7 @@ use Rattle.f3_lawful_laws.specs.Written.{IsWritten, IsActWritten}
 
 -- ---- what a source may spell
 
-abbrev pub IsStepWritten : Option Tree → Type 0
+abbrev pub IsStepWritten : Option e.Tree → Type 0
 IsStepWritten None = ⊤
 IsStepWritten (Some e) = IsWritten e
 
@@ -73,6 +74,13 @@ abbrev mutual
   pub AreCasesSpelled : Cases → Type 0
   AreCasesSpelled no_cases = ⊤
   AreCasesSpelled (case_block p vs b cs) = IsBlockSpelled b × AreCasesSpelled cs
+
+abbrev pub IsUnitSpelled : UnitTree → Type 0
+IsUnitSpelled u = IsBlockSpelled u.body × Each (λ (p : ProcedureTree). IsBlockSpelled p.body) u.procedures
+
+-- so of all bodies of a program
+abbrev pub AreBodiesSpelled : Tree → Type 0
+AreBodiesSpelled t = Each IsUnitSpelled t.units
 
 module _ (look : ℕ → ℕ → Lookup) (held : ℕ → Option Holder) where
   abbrev mutual

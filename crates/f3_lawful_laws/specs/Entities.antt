@@ -18,7 +18,6 @@ use Rattle.f3_elaboration.specs.DeclaredViews.{procedure_view}
 use Rattle.f3_elaboration.specs.Program.{whole_along}
 use Rattle.f3_elaboration.specs.Units.{procedure, main, in_member, in_main}
 use Rattle.f3_lawful_laws.specs.Agreement.{Agrees, Allows, Lends}
-use Rattle.f3_lawful_laws.specs.Blocks.{IsBlockPlaced}
 
 abbrev pub units_of : Tree → List Numbered
 units_of t = units_from (scopes_of t) 0 t.units
@@ -37,16 +36,14 @@ abbrev pub main_scope : Procedure → Scope
 main_scope q = record { unit = q.unit; variables = declared_in q; names = [] }
 
 module _ (p : Program) (w : Whole) where
-  -- so in a procedure of the unit of this number, and its block is one that a source may spell
+  -- so in a procedure of the unit of this number
   pub record MemberAgrees (unit : ℕ) (m : Member) : Type 0 where
     pub alike : (q : Procedure) → procedure_view q ≡ procedure w unit m
         → AreAlike p w (scope_of q) (in_member w unit m) (site_in w.scene unit m.scope (spot_of w.scene unit m).is_pure w.values)
-    pub placed : IsBlockPlaced ((w.scene).names).look (λ l. slice_get (w.scene).holders l) m.scope (m.scope + 1) (m.tree).body
 
   -- so in a unit, and in its procedures
   pub record UnitAgrees (u : Numbered) : Type 0 where
     pub alike : (q : Procedure) → procedure_view q ≡ main w u → AreAlike p w (main_scope q) (in_main w u) (site_in w.scene u.scope u.scope false w.values)
-    pub placed : IsBlockPlaced ((w.scene).names).look (λ l. slice_get (w.scene).holders l) u.scope (u.scope + 1) (u.tree).body
     pub members : Each (MemberAgrees u.scope) u.members
 
 abbrev pub EntitiesAgree : Program → Tree → (look : ℕ → ℕ → Lookup) → (order : List ℕ) → Type 0

@@ -2,7 +2,10 @@
 use Rattle.std.specs.Prelude.{◌≡◌, ℕ, true, List, [], Contains, Option}
 use Rattle.std.specs.List.{flat_map}
 use Rattle.f3_access.specs.declared.table.Lookup.{Lookup}
+use Rattle.f3_access.specs.Access.{IsVisible}
+use Rattle.f3_access.specs.Lookups.{Resolves}
 use Rattle.f3_rules.specs.declared.breaks.Break.{Break}
+use Rattle.f3_scopes.specs.Scopes.{scopes_of}
 use Rattle.f3_tree.specs.Expressions as e
 use Rattle.f3_tree.specs.Statements.{Act, Block}
 use Rattle.f3_tree.specs.Tree.{Tree}
@@ -27,7 +30,7 @@ use Rattle.f3_elaboration.specs.Program.{elaborated}
 use Rattle.f3_elaboration.specs.Views.{expression_view, statement_view}
 use Rattle.f3_lawful_laws.specs.Written.{IsWritten, IsActWritten}
 use Rattle.f3_lawful_laws.specs.Agreement.{Agrees, Allows, Lends}
-use Rattle.f3_lawful_laws.specs.Blocks.{IsBlockPlaced}
+use Rattle.f3_lawful_laws.specs.Blocks.{IsBlockPlaced, AreBodiesSpelled}
 use Rattle.f3_lawful_laws.specs.Entities.{EntitiesAgree, main_scope}
 
 -- an expression that breaks no rule has a type
@@ -56,6 +59,7 @@ BlocksMayRun = (p : Program) (scope : Scope) (s : Surroundings) → Agrees p sco
 
 -- so of the main program and of all procedures
 abbrev pub BodiesMayRun : Type 0
-BodiesMayRun = (t : Tree) (look : ℕ → ℕ → Lookup) (order : List ℕ) (p : Program) → program_view p ≡ elaborated t look order
+BodiesMayRun = (t : Tree) (look : ℕ → ℕ → Lookup) (order : List ℕ) (p : Program) → AreBodiesSpelled t
+    → ((scope symbol : ℕ) → Resolves (look scope symbol) (IsVisible (scopes_of t) scope symbol)) → program_view p ≡ elaborated t look order
     → EntitiesAgree p t look order → ((b : Break) → Contains (program_breaks t look order) b → ⊥)
     → MayExec p p.main.body (main_scope p.main) × Each (MayRun p) p.procedures.items
