@@ -23,6 +23,7 @@ mod Naming
 mod Inside
 mod Statements
 mod Trees
+mod Finals
 mod Whole
 mod Parts
 mod Opening

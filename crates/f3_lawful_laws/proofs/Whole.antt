@@ -126,7 +126,7 @@ bodies_run t look order p spelled means seen h none =
     let free : flat_map (unit_breaks w.scene w.values) (units_of t) ≡ [] =
     second (along (unit_rows w.scene) (unit_next w.scene) nothing_known (units_in (units_of t) order)) _ (nil_of (program_breaks t look order) none) in (
       subst (RunsAsMain p w) (sym (ap (λ (y : ProgramNode). y.main) seen))
-          (main_of p w t.end (filter (λ (u : Numbered). is_main (u.tree).kind) (units_of t)) (mains p w (units_of t) h placed free)) p.main refl,
+          (main_of p w t.end (filter (λ (u : Numbered). is_main (u.tree).kind) (units_of t)) (mains p w (units_of t) h.units placed free)) p.main refl,
       each_seen (RunsAs p w) (MayRun p) procedure_view (λ q k. k q refl) p.procedures.items
-          (subst (Each (RunsAs p w)) (sym (ap (λ (y : ProgramNode). y.procedures) seen)) (units_run p w (units_of t) h placed free)),
+          (subst (Each (RunsAs p w)) (sym (ap (λ (y : ProgramNode). y.procedures) seen)) (units_run p w (units_of t) h.units placed free)),
     )

@@ -1,5 +1,6 @@
 -- What the rules on types know of a program, and what its elaborated program says, are of the same entities, wherever a body begins.
-use Rattle.std.specs.Prelude.{◌≡◌, ℕ, ◌+◌, false, [], List, slice_get}
+use Rattle.std.specs.Prelude.{◌≡◌, ℕ, ◌+◌, false, [], List, slice_get, Some}
+use Rattle.std.specs.List.{flat_map}
 use Rattle.f3_access.specs.declared.table.Lookup.{Lookup}
 use Rattle.f3_scopes.specs.Scopes.{scopes_of}
 use Rattle.f3_tree.specs.Tree.{Tree}
@@ -15,8 +16,10 @@ use Rattle.f3_type_rules.specs.Scene.{names_of, scene_of, site_in}
 use Rattle.f3_elaboration.specs.Context.{Surroundings}
 use Rattle.f3_elaboration.specs.Declarations.{Whole}
 use Rattle.f3_elaboration.specs.DeclaredViews.{procedure_view}
+use Rattle.f3_elaboration.specs.Numbers.{number_in, Definition, definitions}
 use Rattle.f3_elaboration.specs.Program.{whole_along}
-use Rattle.f3_elaboration.specs.Units.{procedure, main, in_member, in_main}
+use Rattle.f3_elaboration.specs.Units as units
+use Rattle.f3_elaboration.specs.Units.{main, in_member, in_main}
 use Rattle.f3_lawful_laws.specs.Agreement.{Agrees, Allows, Lends}
 
 abbrev pub units_of : Tree → List Numbered
@@ -36,9 +39,16 @@ abbrev pub main_scope : Procedure → Scope
 main_scope q = record { unit = q.unit; variables = declared_in q; names = [] }
 
 module _ (p : Program) (w : Whole) where
+  -- the procedure of the number that its entity has
+  pub record IsProcedure (unit : ℕ) (m : Member) : Type 0 where
+    pub procedure : Procedure
+    pub there : slice_get p.procedures.items (number_in (w.numbers).procedures m.entity) ≡ Some procedure
+    pub is : procedure_view procedure ≡ units.procedure w unit m
+
   -- so in a procedure of the unit of this number
   pub record MemberAgrees (unit : ℕ) (m : Member) : Type 0 where
-    pub alike : (q : Procedure) → procedure_view q ≡ procedure w unit m
+    pub number : IsProcedure unit m
+    pub alike : (q : Procedure) → procedure_view q ≡ units.procedure w unit m
         → AreAlike p w (scope_of q) (in_member w unit m) (site_in w.scene unit m.scope (spot_of w.scene unit m).is_pure w.values)
 
   -- so in a unit, and in its procedures
@@ -46,5 +56,10 @@ module _ (p : Program) (w : Whole) where
     pub alike : (q : Procedure) → procedure_view q ≡ main w u → AreAlike p w (main_scope q) (in_main w u) (site_in w.scene u.scope u.scope false w.values)
     pub members : Each (MemberAgrees u.scope) u.members
 
-abbrev pub EntitiesAgree : Program → Tree → (look : ℕ → ℕ → Lookup) → (order : List ℕ) → Type 0
-EntitiesAgree p t look order = Each (UnitAgrees p (whole_of t look order)) (units_of t)
+-- each type has the number of its place
+abbrev pub AreNumbered : Whole → List Definition → Type 0
+AreNumbered w ds = (i : ℕ) (d : Definition) → slice_get ds i ≡ Some d → number_in (w.numbers).types d.entity ≡ i
+
+pub record EntitiesAgree (p : Program) (t : Tree) (look : ℕ → ℕ → Lookup) (order : List ℕ) : Type 0 where
+  pub units : Each (UnitAgrees p (whole_of t look order)) (units_of t)
+  pub types : AreNumbered (whole_of t look order) (flat_map definitions (units_in (units_of t) order))
