@@ -72,3 +72,93 @@ module _ (p : Program) (w : Whole) (unit : ℕ) where
           → (m.entity ≡ e) × IsProcedure p w unit m
       go true b f more = subst (λ (z : Member). (z.entity ≡ e) × IsProcedure p w unit z) (same f) (sym (eq_same e x.entity b), h.0)
       go false b f more = more f
+
+  -- the type of the only dummy
+  typed : (m : Member) (t : ℕ) (k : ProcedureKind) (ds : List Name) (rank : ℕ) → header_rank names t m k ds ≡ Some rank
+      → (d : Name) × (ds ≡ d ∷ []) × (((dummy w unit m d).kind).of ≡ base_is.Derived (number_in (w.numbers).types t))
+  typed m t Subroutine [] rank e = nothing e
+  typed m t Subroutine (d ∷ c ∷ ds) rank e = nothing e
+  typed m t (Function s outcome) ds rank e = nothing e
+  typed m t Subroutine (d ∷ []) rank e = (d, refl, go (lookup (nat_eq d.symbol) (declarations_in m)) refl e)
+    where
+      go : (o : Option Declared) → lookup (nat_eq d.symbol) (declarations_in m) ≡ o → map_or None (dummy_rank names t m.scope) o ≡ Some rank
+          → ((dummy w unit m d).kind).of ≡ base_is.Derived (number_in (w.numbers).types t)
+      go None at e = nothing e
+      go (Some x) at e =
+          let o : Object = object_of names m.scope x in
+          let held = if_some (is_type t o.data_type && not o.is_allocatable && not (is_out (intent_of x)) && not (is_explicit (shape_of x))) o.rank rank e in
+          ap (λ z. base_of w.numbers (map_or undeclared (object_of names m.scope) z).data_type) at
+          ∙ ap (base_of w.numbers) (of_type t o.data_type (left _ _ (left _ _ (left _ _ held))))
+
+  -- a procedure with a rank, by its number
+  member_final : (m : Member) (t i rank : ℕ) → IsProcedure p w unit m → number_in (w.numbers).types t ≡ i
+      → header_rank names t m ((m.tree).header).kind ((m.tree).header).dummies ≡ Some rank
+      → IsFinalOf p i (record { rank = rank; procedure = number_in (w.numbers).procedures m.entity })
+  member_final m t i rank h number e =
+      let d = typed m t ((m.tree).header).kind ((m.tree).header).dummies rank e in
+      let known : slice_index_or (names_in p (number_in (w.numbers).procedures m.entity)) 0 unknown ≡ lendable_node (dummy w unit m d.0) =
+          ap (λ o. slice_index_or (names_of (dummies_in o)) 0 unknown) h.there ∙ one_dummy m h.procedure d.0 h.is d.1 in
+      alike_by (base_is.Derived i) _ (sym (ap (λ (z : Lendable). z.of) known ∙ d.2 ∙ ap base_is.Derived number))
+
+  final_is : (ms : List Member) (scope t i rank : ℕ) (n : Name) → Each (IsProcedure p w unit) ms → number_in (w.numbers).types t ≡ i
+      → final_rank names scope ms t n ≡ Some rank
+      → IsFinalOf p i (record { rank = rank; procedure = number_in (w.numbers).procedures (entity_of (names.look scope n.symbol)) })
+  final_is ms scope t i rank n h number e = by_look (names.look scope n.symbol) refl e
+    where
+      by_member : (entity : ℕ) → names.look scope n.symbol ≡ One entity → (o : Option Member) → lookup (nat_eq entity) (map (λ (m : Member). (m.entity, m)) ms) ≡ o
+          → map_or None (λ (m : Member). header_rank names t m ((m.tree).header).kind ((m.tree).header).dummies) o ≡ Some rank
+          → IsFinalOf p i (record { rank = rank; procedure = number_in (w.numbers).procedures (entity_of (names.look scope n.symbol)) })
+      by_member entity looked None there e = nothing e
+      by_member entity looked (Some m) there e =
+          let f = found ms entity m h there in
+          subst (λ z. IsFinalOf p i (record { rank = rank; procedure = number_in (w.numbers).procedures z }))
+          (f.0 ∙ sym (ap entity_of looked)) (member_final m t i rank f.1 number e)
+
+      by_look : (l : Lookup) → names.look scope n.symbol ≡ l
+          → map_or None (λ (m : Member). header_rank names t m ((m.tree).header).kind ((m.tree).header).dummies) (member_at ms l) ≡ Some rank
+          → IsFinalOf p i (record { rank = rank; procedure = number_in (w.numbers).procedures (entity_of (names.look scope n.symbol)) })
+      by_look (One entity) looked e = by_member entity looked _ refl e
+      by_look Nothing looked e = nothing e
+      by_look Several looked e = nothing e
+
+-- ---- all types
+
+each_joined : {A : Type 0} (P : A → Type 0) (xs ys : List A) → Each P xs → Each P ys → Each P (xs ++ ys)
+each_joined P [] ys h k = k
+each_joined P (x ∷ xs) ys h k = (h.0, each_joined P xs ys h.1 k)
+
+abbrev rest : {A : Type 0} → List A → List A
+rest [] = []
+rest (x ∷ xs) = xs
+
+module _ (p : Program) (w : Whole) where
+  -- the procedures of the unit of a type have their numbers
+  abbrev pub HasProcedures : Definition → Type 0
+  HasProcedures d = Each (IsProcedure p w (d.unit).scope) (d.unit).members
+
+  finals_are : (d : Definition) (i : ℕ) → HasProcedures d → number_in (w.numbers).types d.entity ≡ i → Each (IsFinalOf p i) (finals w d)
+  finals_are d i h number = go (d.tree).finals
+    where
+      one : (n : Name) (o : Option ℕ) → final_rank (w.scene).names (d.unit).scope (d.unit).members d.entity n ≡ o
+          → Each (IsFinalOf p i) (map_or [] (λ rank. final w d.unit n rank ∷ []) o)
+      one n None e = tt
+      one n (Some rank) e = (final_is p w (d.unit).scope (d.unit).members (d.unit).scope d.entity i rank n h number e, tt)
+
+      go : (ns : List Name) → Each (IsFinalOf p i) (flat_map (λ (n : Name). map_or [] (λ rank. final w d.unit n rank ∷ [])
+          (final_rank (w.scene).names (d.unit).scope (d.unit).members d.entity n)) ns)
+      go [] = tt
+      go (n ∷ ns) =
+          each_joined (IsFinalOf p i) (map_or [] (λ rank. final w d.unit n rank ∷ []) (final_rank (w.scene).names (d.unit).scope (d.unit).members d.entity n)) _
+          (one n _ refl) (go ns)
+
+  pub all_finals : (i : ℕ) (ys : List Derived) (ds : List Definition) → map derived_view ys ≡ map (derived w) ds → Each HasProcedures ds
+      → ((k : ℕ) (d : Definition) → slice_get ds k ≡ Some d → number_in (w.numbers).types d.entity ≡ i + k) → HaveFinals p i ys
+  all_finals i [] ds e h numbers = tt
+  all_finals i (y ∷ ys) [] e h numbers = not_nil e
+  all_finals i (y ∷ ys) (d ∷ ds) e h numbers =
+      let here : derived_view y ≡ derived w d = same (ap (λ zs. slice_get zs 0) e) in
+      (
+        subst (Each (IsFinalOf p i)) (sym (ap (λ (z : DerivedNode). z.finals) here))
+        (finals_are d i h.0 (numbers 0 d refl ∙ (let z : i + 0 ≡ i = omega arith in z))),
+        all_finals (suc i) ys ds (ap rest e) h.1 (λ k z at. numbers (suc k) z at ∙ (let j : i + suc k ≡ suc i + k = omega arith in j)),
+      )

@@ -1,14 +1,15 @@
 -- The bodies of a program that breaks no rule may run.
-use Rattle.std.proofs.Common.{◌≡◌, ℕ, suc, ◌+◌, ◌<◌, length, arith, Bool, true, false, List, [], ◌∷◌, ◌++◌, map, filter, cond, Contains, refl, sym, ap}
+use Rattle.std.proofs.Common.{◌≡◌, ℕ, zero, suc, ◌+◌, ◌<◌, length, arith, Bool, true, false, List, [], ◌∷◌, ◌++◌, map, filter, cond, Contains, refl, sym, ap, ◌∙◌}
 use Rattle.std.specs.Prelude.{slice_get}
 use Rattle.std.specs.List.{flat_map}
 use mathlib.Core.Path.{subst}
 use Rattle.f3_rules.specs.declared.breaks.Break.{Break}
-use Rattle.f3_scopes.specs.Scopes.{scopes_of}
+use Rattle.f3_scopes.specs.Scopes.{declared_in, scopes_of}
 use Rattle.f3_tree.specs.Statements.{Block}
 use Rattle.f3_program.specs.declared.program.Procedure.{Procedure}
 use Rattle.f3_program.specs.declared.program.Program.{Program}
 use Rattle.f3_kinds.specs.Things.{map_or}
+use Rattle.f3_tree.specs.Declarations.{SpecificationTree, declares, accesses, protects, saves, defines}
 use Rattle.f3_meaning_whole.specs.Permitted.{Each, Scope, scope_of, MayExec, MayRun}
 use Rattle.f3_type_rules.specs.Bodies.{block_breaks}
 use Rattle.f3_type_rules.specs.Definitions.{Site}
@@ -22,16 +23,18 @@ use Rattle.f3_elaboration.specs.Nodes.{ProcedureNode, ProgramNode, StatementNode
 use Rattle.f3_elaboration.specs.Context.{Surroundings}
 use Rattle.f3_elaboration.specs.Statements.{block}
 use Rattle.f3_elaboration.specs.Declarations.{Whole}
+use Rattle.f3_elaboration.specs.Numbers.{Definition, along_part, types_in, definitions}
 use Rattle.f3_elaboration.specs.DeclaredViews.{procedure_view}
 use Rattle.f3_elaboration.specs.Program.{is_main, nothing_done}
 use Rattle.f3_elaboration.specs.Units.{procedure, main, in_member, in_main}
 use Rattle.f3_elaboration.specs.Views.{statement_view}
 use Rattle.f3_lawful_laws.specs.Nodes.{NodeRuns}
-use Rattle.f3_lawful_laws.specs.Laws.{BodiesMayRun}
+use Rattle.f3_lawful_laws.specs.Laws.{UnbrokenIsLawful}
 use Rattle.f3_lawful_laws.specs.Blocks.{IsBlockPlaced}
-use Rattle.f3_lawful_laws.specs.Entities.{units_of, whole_of, AreAlike, main_scope, MemberAgrees, UnitAgrees}
+use Rattle.f3_lawful_laws.specs.Entities.{units_of, whole_of, AreAlike, main_scope, MemberAgrees, UnitAgrees, IsProcedure}
 use Rattle.f3_lawful_laws.proofs.Facts.{first, second}
 use Rattle.f3_lawful_laws.proofs.SeenStatements.{each_seen, statement_seen}
+use Rattle.f3_lawful_laws.proofs.Finals.{HasProcedures, all_finals}
 use Rattle.f3_lawful_laws.proofs.Trees.{units_placed, all_lie}
 use Rattle.f3_lawful_laws.proofs.Statements.{block_runs}
 
@@ -119,14 +122,64 @@ nil_of : (bs : List Break) → ((b : Break) → Contains bs b → ⊥) → bs �
 nil_of [] h = refl
 nil_of (b ∷ bs) h = absurd (h b (0, (let e : 0 < suc (length bs) = omega arith in e), refl))
 
-pub bodies_run : BodiesMayRun
-bodies_run t look order p spelled means seen h none =
+-- the definitions of a unit are its own
+along_own : (p : Program) (w : Whole) (u : Numbered) → Each (IsProcedure p w u.scope) u.members → (e : ℕ) (ss : List SpecificationTree)
+    → Each (HasProcedures p w) (along_part (types_in u) e ss)
+along_own p w u h e [] = tt
+along_own p w u h e (s ∷ ss) =
+    each_joined p w (HasProcedures p w) (types_in u e s) (along_part (types_in u) (e + length (declared_in s)) ss) (one s) (along_own p w u h (e + length (declared_in s)) ss)
+  where
+    one : (s : SpecificationTree) → Each (HasProcedures p w) (types_in u e s)
+    one (declares d) = tt
+    one (accesses a) = tt
+    one (protects q ns) = tt
+    one (saves q) = tt
+    one (defines t) = (h, tt)
+
+module _ (p : Program) (w : Whole) where
+  numbers_in : (unit : ℕ) (ms : List Member) → Each (MemberAgrees p w unit) ms → Each (IsProcedure p w unit) ms
+  numbers_in unit [] h = tt
+  numbers_in unit (m ∷ ms) h = (MemberAgrees.number h.0, numbers_in unit ms h.1)
+
+  unit_at : (us : List Numbered) (i : ℕ) → Each (UnitAgrees p w) us → Each (HasProcedures p w) (flat_map definitions (map_or [] (λ (u : Numbered). u ∷ []) (slice_get us i)))
+  unit_at [] i h = tt
+  unit_at (u ∷ us) zero h =
+      each_joined p w (HasProcedures p w) (definitions u) [] (along_own p w u (numbers_in u.scope u.members (UnitAgrees.members h.0)) u.first ((u.tree).part).specifications) tt
+  unit_at (u ∷ us) (suc i) h = unit_at us i h.1
+
+  flat_joined : (us vs : List Numbered) → Each (HasProcedures p w) (flat_map definitions us) → Each (HasProcedures p w) (flat_map definitions vs)
+      → Each (HasProcedures p w) (flat_map definitions (us ++ vs))
+  flat_joined [] vs h k = k
+  flat_joined (u ∷ us) vs h k =
+      each_joined p w (HasProcedures p w) (definitions u) (flat_map definitions (us ++ vs)) (before (definitions u) (flat_map definitions us) h)
+      (flat_joined us vs (behind (definitions u) (flat_map definitions us) h) k)
+    where
+      before : (xs ys : List Definition) → Each (HasProcedures p w) (xs ++ ys) → Each (HasProcedures p w) xs
+      before [] ys h = tt
+      before (x ∷ xs) ys h = (h.0, before xs ys h.1)
+
+      behind : (xs ys : List Definition) → Each (HasProcedures p w) (xs ++ ys) → Each (HasProcedures p w) ys
+      behind [] ys h = h
+      behind (x ∷ xs) ys h = behind xs ys h.1
+
+  ordered_have : (us : List Numbered) → Each (UnitAgrees p w) us → (order : List ℕ) → Each (HasProcedures p w) (flat_map definitions (units_in us order))
+  ordered_have us h [] = tt
+  ordered_have us h (i ∷ order) = flat_joined (map_or [] (λ (u : Numbered). u ∷ []) (slice_get us i)) (units_in us order) (unit_at us i h) (ordered_have us h order)
+
+pub lawful : UnbrokenIsLawful
+lawful t look order p spelled means seen h none =
     let w : Whole = whole_of t look order in
     let placed = units_placed (scopes_of t) look means 0 t.units spelled (all_lie (scopes_of t)) in
     let free : flat_map (unit_breaks w.scene w.values) (units_of t) ≡ [] =
-    second (along (unit_rows w.scene) (unit_next w.scene) nothing_known (units_in (units_of t) order)) _ (nil_of (program_breaks t look order) none) in (
-      subst (RunsAsMain p w) (sym (ap (λ (y : ProgramNode). y.main) seen))
-          (main_of p w t.end (filter (λ (u : Numbered). is_main (u.tree).kind) (units_of t)) (mains p w (units_of t) h.units placed free)) p.main refl,
-      each_seen (RunsAs p w) (MayRun p) procedure_view (λ q k. k q refl) p.procedures.items
-          (subst (Each (RunsAs p w)) (sym (ap (λ (y : ProgramNode). y.procedures) seen)) (units_run p w (units_of t) h.units placed free)),
-    )
+        second (along (unit_rows w.scene) (unit_next w.scene) nothing_known (units_in (units_of t) order)) _ (nil_of (program_breaks t look order) none) in
+    record {
+      in_main =
+          subst (RunsAsMain p w) (sym (ap (λ (y : ProgramNode). y.main) seen))
+          (main_of p w t.end (filter (λ (u : Numbered). is_main (u.tree).kind) (units_of t)) (mains p w (units_of t) h.units placed free)) p.main refl;
+      in_procedures =
+          each_seen (RunsAs p w) (MayRun p) procedure_view (λ q k. k q refl) p.procedures.items
+          (subst (Each (RunsAs p w)) (sym (ap (λ (y : ProgramNode). y.procedures) seen)) (units_run p w (units_of t) h.units placed free));
+      in_types =
+          all_finals p w 0 p.types.items (flat_map definitions (units_in (units_of t) order)) (ap (λ (y : ProgramNode). y.types) seen)
+          (ordered_have p w (units_of t) h.units order) (λ k d at. h.types k d at ∙ (let z : k ≡ 0 + k = omega arith in z));
+    }

@@ -14,7 +14,7 @@ use Rattle.f3_program.specs.declared.statement.Statement.{Statement}
 use Rattle.f3_program.specs.declared.program.Program.{Program}
 use Rattle.f3_kinds.specs.Rows.{has_type}
 use Rattle.f3_kinds.specs.Typing.{said, breaks}
-use Rattle.f3_meaning_whole.specs.Permitted.{Each, Scope, MayValue, MayExec, MayRun}
+use Rattle.f3_meaning_whole.specs.Permitted.{Scope, MayValue, MayExec, IsLawful}
 use Rattle.f3_type_rules.specs.declared.definition.Holder.{Holder}
 use Rattle.f3_type_rules.specs.Bodies.{block_breaks}
 use Rattle.f3_type_rules.specs.Definitions.{Site, defined, definition_rows}
@@ -31,7 +31,7 @@ use Rattle.f3_elaboration.specs.Views.{expression_view, statement_view}
 use Rattle.f3_lawful_laws.specs.Written.{IsWritten, IsActWritten}
 use Rattle.f3_lawful_laws.specs.Agreement.{Agrees, Allows, Lends}
 use Rattle.f3_lawful_laws.specs.Blocks.{IsBlockPlaced, AreBodiesSpelled}
-use Rattle.f3_lawful_laws.specs.Entities.{EntitiesAgree, main_scope}
+use Rattle.f3_lawful_laws.specs.Entities.{EntitiesAgree}
 
 -- an expression that breaks no rule has a type
 abbrev pub ExpressionsHaveTypes : Type 0
@@ -57,9 +57,9 @@ BlocksMayRun = (p : Program) (scope : Scope) (s : Surroundings) → Agrees p sco
     → (next : ℕ) (b : Block) → IsBlockPlaced (s.context).look held (s.context).scope next b → block_breaks site next b ≡ []
     → (x : Statement) → statement_view x ≡ block_node (block s next b) → MayExec p x scope
 
--- so of the main program and of all procedures
-abbrev pub BodiesMayRun : Type 0
-BodiesMayRun = (t : Tree) (look : ℕ → ℕ → Lookup) (order : List ℕ) (p : Program) → AreBodiesSpelled t
+-- So a program that breaks no rule of phases 5 to 7 is lawful, where the rules and the program speak of the same entities: whatever
+-- its names are resolved to, and along whatever order of its units.
+abbrev pub UnbrokenIsLawful : Type 0
+UnbrokenIsLawful = (t : Tree) (look : ℕ → ℕ → Lookup) (order : List ℕ) (p : Program) → AreBodiesSpelled t
     → ((scope symbol : ℕ) → Resolves (look scope symbol) (IsVisible (scopes_of t) scope symbol)) → program_view p ≡ elaborated t look order
-    → EntitiesAgree p t look order → ((b : Break) → Contains (program_breaks t look order) b → ⊥)
-    → MayExec p p.main.body (main_scope p.main) × Each (MayRun p) p.procedures.items
+    → EntitiesAgree p t look order → ((b : Break) → Contains (program_breaks t look order) b → ⊥) → IsLawful p

@@ -1,7 +1,7 @@
 //! Laws that what breaks no rule is lawful: its changes are permitted ones.
 #![tactic(auto)]
 
-ghost use Rattle.f3_lawful_laws.specs.Laws.{ActionsMayRun, BlocksMayRun, BodiesMayRun, ExpressionsHaveTypes, ExpressionsMayStand};
+ghost use Rattle.f3_lawful_laws.specs.Laws.{ActionsMayRun, BlocksMayRun, ExpressionsHaveTypes, ExpressionsMayStand, UnbrokenIsLawful};
 
 /// In an expression that breaks no rule of phase 6 private components are selected in the modules of their types alone, and each
 /// argument is of its dummy's type, a value where that is INTENT(IN), as the elaborated program has it (ISO/IEC 1539-1:2004, 4.5.1.1,
@@ -22,8 +22,8 @@ pub fn blocks_may_run()
     ensures { BlocksMayRun }
 {}
 
-/// So do the main program and all procedures of a program that breaks no rule of phases 5 to 7, where the rules and the elaborated
-/// program speak of the same entities.
-pub fn bodies_may_run()
-    ensures { BodiesMayRun }
+/// A program that breaks no rule of phases 5 to 7 is lawful, where the rules and the elaborated program speak of the same
+/// entities: each change of a run is a permitted one (5.1.2.12, 4.5.1.1, 4.5.5).
+pub fn unbroken_is_lawful()
+    ensures { UnbrokenIsLawful }
 {}
