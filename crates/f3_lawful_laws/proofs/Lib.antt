@@ -23,6 +23,7 @@ mod Naming
 mod Inside
 mod Statements
 mod Trees
+mod Ascending
 mod Finals
 mod Whole
 mod Parts
