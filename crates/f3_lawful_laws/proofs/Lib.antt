@@ -24,6 +24,7 @@ mod Inside
 mod Statements
 mod Trees
 mod Ascending
+mod Numbering
 mod Finals
 mod Whole
 mod Parts

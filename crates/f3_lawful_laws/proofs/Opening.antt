@@ -22,12 +22,12 @@ use Rattle.f3_lawful_laws.proofs.Positions.{eq_self, position_cons}
 
 -- ---- lists
 
-mapped_at : {A B : Type 0} (f : A → B) (xs : List A) (k : ℕ) (x : A) → slice_get xs k ≡ Some x → slice_get (map f xs) k ≡ Some (f x)
+pub mapped_at : {A B : Type 0} (f : A → B) (xs : List A) (k : ℕ) (x : A) → slice_get xs k ≡ Some x → slice_get (map f xs) k ≡ Some (f x)
 mapped_at f [] k x e = nothing e
 mapped_at f (y ∷ ys) zero x e = ap (λ z. Some (f z)) (same e)
 mapped_at f (y ∷ ys) (suc k) x e = mapped_at f ys k x e
 
-from_mapped : {A B : Type 0} (f : A → B) (xs : List A) (k : ℕ) (y : B) → slice_get (map f xs) k ≡ Some y → (x : A) × (slice_get xs k ≡ Some x) × (f x ≡ y)
+pub from_mapped : {A B : Type 0} (f : A → B) (xs : List A) (k : ℕ) (y : B) → slice_get (map f xs) k ≡ Some y → (x : A) × (slice_get xs k ≡ Some x) × (f x ≡ y)
 from_mapped f [] k y e = nothing e
 from_mapped f (x ∷ xs) zero y e = (x, refl, same e)
 from_mapped f (x ∷ xs) (suc k) y e = from_mapped f xs k y e
@@ -49,7 +49,7 @@ found_in f (y ∷ ys) e zero x there is none =
 found_in f (y ∷ ys) e (suc k) x there is none =
     found_in f ys e k x there is (behind_none (nat_eq e (f y)) _ (sym (position_cons (nat_eq e) (f y) (map f ys)) ∙ none))
 
-each_at : {A : Type 0} (P : A → Type 0) (xs : List A) → ((k : ℕ) (x : A) → slice_get xs k ≡ Some x → P x) → Each P xs
+pub each_at : {A : Type 0} (P : A → Type 0) (xs : List A) → ((k : ℕ) (x : A) → slice_get xs k ≡ Some x → P x) → Each P xs
 each_at P [] h = tt
 each_at P (x ∷ xs) h = (h 0 x refl, each_at P xs (λ k y e. h (suc k) y e))
 

@@ -34,6 +34,9 @@ use Rattle.f3_lawful_laws.specs.Blocks.{IsBlockPlaced}
 use Rattle.f3_lawful_laws.specs.Entities.{units_of, whole_of, AreAlike, main_scope, MemberAgrees, UnitAgrees, IsProcedure}
 use Rattle.f3_lawful_laws.proofs.Facts.{first, second}
 use Rattle.f3_lawful_laws.proofs.SeenStatements.{each_seen, statement_seen}
+use Rattle.f3_access.specs.Access.{first_entity}
+use Rattle.f3_lawful_laws.proofs.Ascending.{units_ascend}
+use Rattle.f3_lawful_laws.proofs.Numbering.{numbered_all}
 use Rattle.f3_lawful_laws.proofs.Finals.{HasProcedures, all_finals}
 use Rattle.f3_lawful_laws.proofs.Trees.{units_placed, all_lie}
 use Rattle.f3_lawful_laws.proofs.Statements.{block_runs}
@@ -137,14 +140,13 @@ along_own p w u h e (s ∷ ss) =
     one (defines t) = (h, tt)
 
 module _ (p : Program) (w : Whole) where
-  numbers_in : (unit : ℕ) (ms : List Member) → Each (MemberAgrees p w unit) ms → Each (IsProcedure p w unit) ms
-  numbers_in unit [] h = tt
-  numbers_in unit (m ∷ ms) h = (MemberAgrees.number h.0, numbers_in unit ms h.1)
+  abbrev HaveNumbers : List Numbered → Type 0
+  HaveNumbers us = Each (λ (u : Numbered). Each (IsProcedure p w u.scope) u.members) us
 
-  unit_at : (us : List Numbered) (i : ℕ) → Each (UnitAgrees p w) us → Each (HasProcedures p w) (flat_map definitions (map_or [] (λ (u : Numbered). u ∷ []) (slice_get us i)))
+  unit_at : (us : List Numbered) (i : ℕ) → HaveNumbers us → Each (HasProcedures p w) (flat_map definitions (map_or [] (λ (u : Numbered). u ∷ []) (slice_get us i)))
   unit_at [] i h = tt
   unit_at (u ∷ us) zero h =
-      each_joined p w (HasProcedures p w) (definitions u) [] (along_own p w u (numbers_in u.scope u.members (UnitAgrees.members h.0)) u.first ((u.tree).part).specifications) tt
+      each_joined p w (HasProcedures p w) (definitions u) [] (along_own p w u h.0 u.first ((u.tree).part).specifications) tt
   unit_at (u ∷ us) (suc i) h = unit_at us i h.1
 
   flat_joined : (us vs : List Numbered) → Each (HasProcedures p w) (flat_map definitions us) → Each (HasProcedures p w) (flat_map definitions vs)
@@ -162,7 +164,7 @@ module _ (p : Program) (w : Whole) where
       behind [] ys h = h
       behind (x ∷ xs) ys h = behind xs ys h.1
 
-  ordered_have : (us : List Numbered) → Each (UnitAgrees p w) us → (order : List ℕ) → Each (HasProcedures p w) (flat_map definitions (units_in us order))
+  ordered_have : (us : List Numbered) → HaveNumbers us → (order : List ℕ) → Each (HasProcedures p w) (flat_map definitions (units_in us order))
   ordered_have us h [] = tt
   ordered_have us h (i ∷ order) = flat_joined (map_or [] (λ (u : Numbered). u ∷ []) (slice_get us i)) (units_in us order) (unit_at us i h) (ordered_have us h order)
 
@@ -170,6 +172,9 @@ pub lawful : UnbrokenIsLawful
 lawful t look order p spelled means seen h none =
     let w : Whole = whole_of t look order in
     let placed = units_placed (scopes_of t) look means 0 t.units spelled (all_lie (scopes_of t)) in
+    let numbers : Each (λ (u : Numbered). Each (IsProcedure p w u.scope) u.members) (units_of t) =
+        numbered_all p w (units_of t) refl (first_entity (scopes_of t) 0) (units_ascend (scopes_of t) 0 t.units (all_lie (scopes_of t)))
+        (ap (λ (y : ProgramNode). y.procedures) seen) in
     let free : flat_map (unit_breaks w.scene w.values) (units_of t) ≡ [] =
         second (along (unit_rows w.scene) (unit_next w.scene) nothing_known (units_in (units_of t) order)) _ (nil_of (program_breaks t look order) none) in
     record {
@@ -181,5 +186,5 @@ lawful t look order p spelled means seen h none =
           (subst (Each (RunsAs p w)) (sym (ap (λ (y : ProgramNode). y.procedures) seen)) (units_run p w (units_of t) h.units placed free));
       in_types =
           all_finals p w 0 p.types.items (flat_map definitions (units_in (units_of t) order)) (ap (λ (y : ProgramNode). y.types) seen)
-          (ordered_have p w (units_of t) h.units order) (λ k d at. h.types k d at ∙ (let z : k ≡ 0 + k = omega arith in z));
+          (ordered_have p w (units_of t) numbers order) (λ k d at. h.types k d at ∙ (let z : k ≡ 0 + k = omega arith in z));
     }

@@ -47,7 +47,6 @@ module _ (p : Program) (w : Whole) where
 
   -- so in a procedure of the unit of this number
   pub record MemberAgrees (unit : ℕ) (m : Member) : Type 0 where
-    pub number : IsProcedure unit m
     pub alike : (q : Procedure) → procedure_view q ≡ units.procedure w unit m
         → AreAlike p w (scope_of q) (in_member w unit m) (site_in w.scene unit m.scope (spot_of w.scene unit m).is_pure w.values)
 
