@@ -99,7 +99,7 @@ members_span scopes e n (p ∷ ps) =
       (subst (λ m. Spans (e + 1) m (map entity (members_from scopes (e + 1) next ps))) all rest),
     )
 
-mapped_long : {A B : Type 0} (f : A → B) (xs : List A) → length (map f xs) ≡ length xs
+pub mapped_long : {A B : Type 0} (f : A → B) (xs : List A) → length (map f xs) ≡ length xs
 mapped_long f [] = refl
 mapped_long f (x ∷ xs) = ap suc (mapped_long f xs)
 

@@ -26,6 +26,7 @@ mod Trees
 mod Ascending
 mod Numbering
 mod Finals
+mod Roots
 mod Whole
 mod Parts
 mod Opening

@@ -39,18 +39,18 @@ use Rattle.f3_lawful_laws.proofs.Ascending.{units_ascend}
 use Rattle.f3_lawful_laws.proofs.Numbering.{numbered_all}
 use Rattle.f3_lawful_laws.proofs.Finals.{HasProcedures, all_finals}
 use Rattle.f3_lawful_laws.proofs.Trees.{units_placed, all_lie}
-use Rattle.f3_lawful_laws.proofs.Statements.{block_runs}
+use Rattle.f3_lawful_laws.proofs.Roots.{member_here, main_here}
+use Rattle.f3_lawful_laws.proofs.Statements.{Here, block_runs}
 
 module _ (p : Program) (w : Whole) where
   -- a body
-  body_may : (scope : Scope) (s : Surroundings) (site : Site) (next : ℕ) (b : Block) → AreAlike p w scope s site
+  body_may : (scope : Scope) (s : Surroundings) (site : Site) (next : ℕ) (b : Block) → Here p (λ l. slice_get (w.scene).holders l) scope s site
       → IsBlockPlaced (s.context).look (λ l. slice_get (w.scene).holders l) (s.context).scope next b → block_breaks site next b ≡ []
       → (x : _) → statement_view x ≡ n.block (block s next b) → MayExec p x scope
-  body_may scope s site next b alike placed free x seen =
+  body_may scope s site next b here placed free x seen =
       statement_seen p x scope
       (subst (λ (y : StatementNode). NodeRuns p y scope) (sym seen)
-      (block_runs p (λ l. slice_get (w.scene).holders l) b scope s site next
-      (record { agrees = alike.agrees; lends = alike.lends; allows = alike.allows }) placed free))
+      (block_runs p (λ l. slice_get (w.scene).holders l) b scope s site next here placed free))
 
   abbrev IsMemberPlaced : Member → Type 0
   IsMemberPlaced m = IsBlockPlaced ((w.scene).names).look (λ l. slice_get (w.scene).holders l) m.scope (m.scope + 1) (m.tree).body
@@ -67,7 +67,7 @@ module _ (p : Program) (w : Whole) where
   member_runs : (unit : ℕ) (m : Member) → MemberAgrees p w unit m → IsMemberPlaced m → member_breaks w.scene w.values unit m ≡ [] → RunsAs (procedure w unit m)
   member_runs unit m h placed free q seen =
       body_may (scope_of q) (in_member w unit m) (site_in w.scene unit m.scope (spot_of w.scene unit m).is_pure w.values) (m.scope + 1) (m.tree).body
-      (h.alike q seen) placed free q.body (ap (λ (y : ProcedureNode). y.body) seen)
+      (member_here p w unit m q seen (h.alike q seen)) placed free q.body (ap (λ (y : ProcedureNode). y.body) seen)
 
   members_run : (unit : ℕ) (ms : List Member) → Each (MemberAgrees p w unit) ms → Each IsMemberPlaced ms → flat_map (member_breaks w.scene w.values unit) ms ≡ []
       → Each RunsAs (map (procedure w unit) ms)
@@ -96,7 +96,7 @@ module _ (p : Program) (w : Whole) where
 
   main_runs : (u : Numbered) → UnitAgrees p w u → IsUnitPlaced u → unit_breaks w.scene w.values u ≡ [] → RunsAsMain (main w u)
   main_runs u h placed free q seen =
-      body_may (main_scope q) (in_main w u) (site_in w.scene u.scope u.scope false w.values) (u.scope + 1) (u.tree).body (h.alike q seen) placed.0
+      body_may (main_scope q) (in_main w u) (site_in w.scene u.scope u.scope false w.values) (u.scope + 1) (u.tree).body (main_here p w u q seen (h.alike q seen)) placed.0
       (first _ _ free) q.body (ap (λ (y : ProcedureNode). y.body) seen)
 
   nothing_runs : (place : _) → RunsAsMain (nothing_done place)
