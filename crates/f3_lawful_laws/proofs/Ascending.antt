@@ -59,7 +59,7 @@ position_at l (x ∷ xs) (suc k) e h at =
 
 -- ---- where the entities of scopes begin
 
-first_next : (scopes : List Scope) (n : ℕ) (s : Scope) → slice_get scopes n ≡ Some s → first_entity scopes (suc n) ≡ first_entity scopes n + length s.declared
+pub first_next : (scopes : List Scope) (n : ℕ) (s : Scope) → slice_get scopes n ≡ Some s → first_entity scopes (suc n) ≡ first_entity scopes n + length s.declared
 first_next [] n s at = nothing at
 first_next (x ∷ xs) zero s at =
     let long = length-append x.declared [] in

@@ -25,6 +25,7 @@ mod Statements
 mod Trees
 mod Ascending
 mod Numbering
+mod Kept
 mod Finals
 mod Roots
 mod Whole
