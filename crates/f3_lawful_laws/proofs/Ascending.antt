@@ -1,13 +1,13 @@
 -- The entities of procedures ascend, so each procedure has the number of its place.
-use Rattle.std.proofs.Common.{◌≡◌, ℕ, zero, suc, ◌+◌, ◌≤◌, ◌<◌, Bool, true, false, cond, List, [], ◌∷◌, ◌++◌, length, take, map, position, nat_eq, Option, None, Some, option_map, refl, sym, ap, ◌∙◌, inl, inr, arith}
+use Rattle.std.proofs.Common.{◌≡◌, ℕ, zero, suc, ◌+◌, ◌≤◌, false, cond, List, [], ◌∷◌, ◌++◌, length, take, map, position, nat_eq, Some, option_map, refl, ap, ◌∙◌, inl, inr, arith}
 use Rattle.std.specs.Prelude.{⊤, slice_get}
 use Rattle.std.specs.List.{flat_map}
 use Rattle.std.proofs.lemmas.List.{length-append}
 use Rattle.std.proofs.lemmas.Bool.Decides.{eqb_tells}
 use mathlib.Core.Path.{subst}
 use Rattle.f3_access.specs.Access.{entities_of, first_entity}
-use Rattle.f3_scopes.specs.Outlines.{Scope, Own}
-use Rattle.f3_scopes.specs.Scopes.{declared_in, procedure_own, scope_of_unit, own_scopes, unit_scopes, scopes_from}
+use Rattle.f3_scopes.specs.Outlines.{Scope}
+use Rattle.f3_scopes.specs.Scopes.{declared_in, procedure_own, scope_of_unit, unit_scopes, scopes_from}
 use Rattle.f3_tree.specs.Tree.{ProcedureTree, UnitTree}
 use Rattle.f3_type_rules.specs.Associates.{constructs_of_block}
 use Rattle.f3_type_rules.specs.Members.{Member, Numbered, members_from, numbered, units_from}
@@ -59,7 +59,7 @@ position_at l (x ∷ xs) (suc k) e h at =
 
 -- ---- where the entities of scopes begin
 
-pub first_next : (scopes : List Scope) (n : ℕ) (s : Scope) → slice_get scopes n ≡ Some s → first_entity scopes (suc n) ≡ first_entity scopes n + length s.declared
+first_next : (scopes : List Scope) (n : ℕ) (s : Scope) → slice_get scopes n ≡ Some s → first_entity scopes (suc n) ≡ first_entity scopes n + length s.declared
 first_next [] n s at = nothing at
 first_next (x ∷ xs) zero s at =
     let long = length-append x.declared [] in
@@ -92,11 +92,10 @@ members_span scopes e n (p ∷ ps) =
     let next : ℕ = n + 1 + length (constructs_of_block p.body) in
     let rest : Spans (e + 1) (e + 1 + length ps) (map entity (members_from scopes (e + 1) next ps)) = members_span scopes (e + 1) next ps in
     let one : e + 1 ≡ suc e = omega arith in
-    let all : e + 1 + length ps ≡ e + suc (length ps) = omega arith in
-    (
+    let all : e + 1 + length ps ≡ e + suc (length ps) = omega arith in (
       (let a : e ≤ e = omega arith in a),
       subst (λ l. Spans l (e + suc (length ps)) (map entity (members_from scopes (e + 1) next ps))) one
-      (subst (λ m. Spans (e + 1) m (map entity (members_from scopes (e + 1) next ps))) all rest),
+          (subst (λ m. Spans (e + 1) m (map entity (members_from scopes (e + 1) next ps))) all rest),
     )
 
 pub mapped_long : {A B : Type 0} (f : A → B) (xs : List A) → length (map f xs) ≡ length xs

@@ -1,6 +1,6 @@
 -- A final subroutine has a dummy of its type.
-use Rattle.std.proofs.Common.{◌≡◌, ℕ, zero, suc, ◌+◌, Bool, true, false, ◌&&◌, not, List, [], ◌∷◌, ◌++◌, map, nat_eq, Option, None, Some, refl, sym, ap, ◌∙◌, if◌then◌else◌, arith}
-use Rattle.std.specs.Prelude.{⊤, slice_get, slice_index_or}
+use Rattle.std.proofs.Common.{◌≡◌, ℕ, suc, ◌+◌, Bool, true, false, ◌&&◌, not, List, [], ◌∷◌, ◌++◌, map, nat_eq, Option, None, Some, refl, sym, ap, ◌∙◌, if◌then◌else◌, arith}
+use Rattle.std.specs.Prelude.{slice_get, slice_index_or}
 use Rattle.std.specs.List.{flat_map}
 use Rattle.std.specs.Map.{lookup}
 use mathlib.Core.Path.{subst}
@@ -11,7 +11,6 @@ use Rattle.f3_tree.specs.declared.program.ProcedureKind.{ProcedureKind}
 use Rattle.f3_tree.specs.declared.program.ProcedureKind.TheVariants.{Subroutine, Function}
 use Rattle.f3_program.specs.declared.declarations.Base.TheVariants as base_is
 use Rattle.f3_program.specs.declared.declarations.Derived.{Derived}
-use Rattle.f3_program.specs.declared.declarations.Final.{Final}
 use Rattle.f3_program.specs.declared.program.Dummy as program
 use Rattle.f3_program.specs.declared.program.Procedure.{Procedure}
 use Rattle.f3_program.specs.declared.program.Program.{Program}
@@ -19,16 +18,16 @@ use Rattle.f3_kinds.specs.declared.types.DataType as kinds
 use Rattle.f3_kinds.specs.declared.types.DataType.TheVariants as data_type
 use Rattle.f3_kinds.specs.declared.types.Object.{Object}
 use Rattle.f3_kinds.specs.Things.{map_or}
-use Rattle.f3_meaning_whole.specs.Permitted.{Each, Lendable, lendable, unknown, is_in, dummies_in, names_of, names_in, same_type, IsFinalOf, HaveFinals}
+use Rattle.f3_meaning_whole.specs.Permitted.{Each, Lendable, unknown, is_in, dummies_in, names_of, names_in, IsFinalOf, HaveFinals}
 use Rattle.f3_type_rules.specs.Finals.{is_type, is_out, is_explicit, dummy_rank, header_rank, member_at, final_rank}
-use Rattle.f3_type_rules.specs.Members.{Member, Numbered}
-use Rattle.f3_type_rules.specs.Names.{Names, Declared, entries, object_of, intent_of, shape_of, undeclared}
+use Rattle.f3_type_rules.specs.Members.{Member}
+use Rattle.f3_type_rules.specs.Names.{Names, Declared, object_of, intent_of, shape_of, undeclared}
 use Rattle.f3_elaboration.specs.Nodes.{DerivedNode, DummyNode, ProcedureNode}
-use Rattle.f3_elaboration.specs.Numbers.{number_in, entity_of, base_of, kind_of, Definition}
+use Rattle.f3_elaboration.specs.Numbers.{number_in, entity_of, base_of, Definition}
 use Rattle.f3_elaboration.specs.Declarations.{Whole, final, finals, derived}
 use Rattle.f3_elaboration.specs.DeclaredViews.{derived_view, dummy_view, procedure_view}
 use Rattle.f3_elaboration.specs.Units.{declarations_in, dummy, procedure}
-use Rattle.f3_lawful_laws.specs.Entities.{IsProcedure}
+use Rattle.f3_lawful_laws.proofs.Numbered.{IsProcedure}
 use Rattle.f3_lawful_laws.proofs.Facts.{no, not_nil, nothing, same, left}
 use Rattle.f3_lawful_laws.proofs.Positions.{eq_same}
 use Rattle.f3_lawful_laws.proofs.Passing.{alike_by}
@@ -97,7 +96,7 @@ module _ (p : Program) (w : Whole) (unit : ℕ) where
   member_final m t i rank h number e =
       let d = typed m t ((m.tree).header).kind ((m.tree).header).dummies rank e in
       let known : slice_index_or (names_in p (number_in (w.numbers).procedures m.entity)) 0 unknown ≡ lendable_node (dummy w unit m d.0) =
-          ap (λ o. slice_index_or (names_of (dummies_in o)) 0 unknown) h.there ∙ one_dummy m h.procedure d.0 h.is d.1 in
+      ap (λ o. slice_index_or (names_of (dummies_in o)) 0 unknown) h.there ∙ one_dummy m h.procedure d.0 h.is d.1 in
       alike_by (base_is.Derived i) _ (sym (ap (λ (z : Lendable). z.of) known ∙ d.2 ∙ ap base_is.Derived number))
 
   final_is : (ms : List Member) (scope t i rank : ℕ) (n : Name) → Each (IsProcedure p w unit) ms → number_in (w.numbers).types t ≡ i
@@ -156,9 +155,8 @@ module _ (p : Program) (w : Whole) where
   all_finals i [] ds e h numbers = tt
   all_finals i (y ∷ ys) [] e h numbers = not_nil e
   all_finals i (y ∷ ys) (d ∷ ds) e h numbers =
-      let here : derived_view y ≡ derived w d = same (ap (λ zs. slice_get zs 0) e) in
-      (
+      let here : derived_view y ≡ derived w d = same (ap (λ zs. slice_get zs 0) e) in (
         subst (Each (IsFinalOf p i)) (sym (ap (λ (z : DerivedNode). z.finals) here))
-        (finals_are d i h.0 (numbers 0 d refl ∙ (let z : i + 0 ≡ i = omega arith in z))),
+            (finals_are d i h.0 (numbers 0 d refl ∙ (let z : i + 0 ≡ i = omega arith in z))),
         all_finals (suc i) ys ds (ap rest e) h.1 (λ k z at. numbers (suc k) z at ∙ (let j : i + suc k ≡ suc i + k = omega arith in j)),
       )

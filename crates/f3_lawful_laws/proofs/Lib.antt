@@ -24,8 +24,8 @@ mod Inside
 mod Statements
 mod Trees
 mod Ascending
+mod Numbered
 mod Numbering
-mod Kept
 mod Finals
 mod Roots
 mod Whole

@@ -1,19 +1,16 @@
 -- Each procedure has the number that its entity has.
-use Rattle.std.proofs.Common.{◌≡◌, ℕ, List, [], ◌∷◌, ◌++◌, map, position, nat_eq, Option, None, Some, refl, sym, ap, ◌∙◌}
-use Rattle.std.specs.Prelude.{⊤, slice_get}
+use Rattle.std.proofs.Common.{◌≡◌, ℕ, List, [], ◌∷◌, ◌++◌, map, Some, refl, sym, ap, ◌∙◌}
+use Rattle.std.specs.Prelude.{slice_get}
 use Rattle.std.specs.List.{flat_map}
-use mathlib.Core.Path.{subst}
-use Rattle.f3_program.specs.declared.program.Procedure.{Procedure}
 use Rattle.f3_program.specs.declared.program.Program.{Program}
 use Rattle.f3_kinds.specs.Things.{map_or}
 use Rattle.f3_meaning_whole.specs.Permitted.{Each}
 use Rattle.f3_type_rules.specs.Members.{Member, Numbered}
-use Rattle.f3_elaboration.specs.Nodes.{ProcedureNode}
 use Rattle.f3_elaboration.specs.Numbers.{number_in}
 use Rattle.f3_elaboration.specs.Declarations.{Whole}
 use Rattle.f3_elaboration.specs.DeclaredViews.{procedure_view}
 use Rattle.f3_elaboration.specs.Units.{procedure}
-use Rattle.f3_lawful_laws.specs.Entities.{IsProcedure}
+use Rattle.f3_lawful_laws.proofs.Numbered.{IsProcedure}
 use Rattle.f3_lawful_laws.proofs.Ascending.{Ascends, position_at, entities_in}
 use Rattle.f3_lawful_laws.proofs.Opening.{mapped_at, from_mapped, each_at}
 
@@ -52,16 +49,16 @@ parted Q (u ∷ us) h = (before u.members h, parted Q us (behind u.members h))
     behind (m ∷ ms) h = behind ms h.1
 
 module _ (p : Program) (w : Whole) (us : List Numbered) (numbers : (w.numbers).procedures ≡ entities_in us) (l : ℕ) (ascend : Ascends l (entities_in us))
-  (seen : map procedure_view p.procedures.items ≡ flat_map (λ (u : Numbered). map (procedure w u.scope) u.members) us) where
+    (seen : map procedure_view p.procedures.items ≡ flat_map (λ (u : Numbered). map (procedure w u.scope) u.members) us) where
   at_place : (k : ℕ) (x : ℕ × Member) → slice_get (pairs_in us) k ≡ Some x → IsProcedure p w x.0 x.1
   at_place k x at =
       let place : slice_get (entities_in us) k ≡ Some (x.1).entity =
-          ap (λ zs. slice_get zs k) (sym (made (λ (z : ℕ × Member). (z.1).entity) us)) ∙ mapped_at (λ (z : ℕ × Member). (z.1).entity) (pairs_in us) k x at in
+      ap (λ zs. slice_get zs k) (sym (made (λ (z : ℕ × Member). (z.1).entity) us)) ∙ mapped_at (λ (z : ℕ × Member). (z.1).entity) (pairs_in us) k x at in
       let number : number_in (w.numbers).procedures (x.1).entity ≡ k =
-          ap (λ es. number_in es (x.1).entity) numbers ∙ ap (λ o. map_or 0 (λ n. n) o) (position_at l (entities_in us) k (x.1).entity ascend place) in
+      ap (λ es. number_in es (x.1).entity) numbers ∙ ap (λ o. map_or 0 (λ n. n) o) (position_at l (entities_in us) k (x.1).entity ascend place) in
       let node : slice_get (map procedure_view p.procedures.items) k ≡ Some (procedure w x.0 x.1) =
-          ap (λ zs. slice_get zs k) (seen ∙ sym (made (λ (z : ℕ × Member). procedure w z.0 z.1) us))
-          ∙ mapped_at (λ (z : ℕ × Member). procedure w z.0 z.1) (pairs_in us) k x at in
+      ap (λ zs. slice_get zs k) (seen ∙ sym (made (λ (z : ℕ × Member). procedure w z.0 z.1) us))
+      ∙ mapped_at (λ (z : ℕ × Member). procedure w z.0 z.1) (pairs_in us) k x at in
       let found = from_mapped procedure_view p.procedures.items k (procedure w x.0 x.1) node in
       record { procedure = found.0; there = ap (slice_get p.procedures.items) number ∙ found.1; is = found.2 }
 

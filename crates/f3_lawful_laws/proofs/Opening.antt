@@ -1,6 +1,6 @@
 -- An ASSOCIATE construct is a scope that declares its associate names, each once, inside the scope that it stands in.
-use Rattle.std.proofs.Common.{◌≡◌, ◌≢◌, ℕ, zero, suc, ◌+◌, ◌<◌, Bool, true, false, cond, List, [], ◌∷◌, ◌++◌, length, take, map, position, nat_eq, Option, None, Some, option_map, Contains, refl, sym, ap, ◌∙◌, arith}
-use Rattle.std.specs.Prelude.{⊤, slice_get}
+use Rattle.std.proofs.Common.{◌≡◌, ℕ, zero, suc, ◌+◌, ◌<◌, Bool, true, false, cond, List, [], ◌∷◌, ◌++◌, length, take, map, position, nat_eq, Option, None, Some, option_map, Contains, refl, sym, ap, ◌∙◌, arith}
+use Rattle.std.specs.Prelude.{slice_get}
 use Rattle.std.proofs.lemmas.List.{length-append}
 use mathlib.Core.Path.{subst}
 use Rattle.f3_access.specs.declared.table.Lookup.{Lookup}
@@ -8,12 +8,11 @@ use Rattle.f3_access.specs.declared.table.Lookup.TheVariants.{One, Nothing, Seve
 use Rattle.f3_access.specs.Access.{entities_of, first_entity, IsDeclared, IsCalled, alone, renamed, kept, Brings, IsOwn, IsVisible}
 use Rattle.f3_access.specs.Hosts.{host_in, host_of}
 use Rattle.f3_access.specs.Lookups.{ResolvesAs, Resolves}
-use Rattle.f3_scopes.specs.Outlines.{Own, Scope, Using}
+use Rattle.f3_scopes.specs.Outlines.{Own, Scope}
 use Rattle.f3_scopes.specs.Scopes.{association_own, scope_of_construct}
 use Rattle.f3_tree.specs.declared.expression.Name.{Name}
 use Rattle.f3_tree.specs.Statements.{AssociationTree}
 use Rattle.f3_meaning_whole.specs.Permitted.{Each}
-use Rattle.f3_type_rules.specs.declared.definition.Holder.{Holder}
 use Rattle.f3_type_rules.specs.Scene.{holder, holders_from}
 use Rattle.f3_elaboration.specs.Numbers.{entity_of}
 use Rattle.f3_lawful_laws.specs.Blocks.{entity_in, IsDeclaredIn, IsFree, Opens, AreOnce}
@@ -75,7 +74,7 @@ holder_at n [] k s j d there own = nothing there
 holder_at n (z ∷ zs) zero s j d there own =
     let is : z ≡ s = same there in
     let front : slice_get (map (holder n z) z.declared ++ holders_from (n + 1) zs) j ≡ Some (holder n z d) =
-        at_front (map (holder n z) z.declared) _ j (holder n z d) (mapped_at (holder n z) z.declared j d (subst (λ (s : Scope). slice_get s.declared j ≡ Some d) (sym is) own)) in
+    at_front (map (holder n z) z.declared) _ j (holder n z d) (mapped_at (holder n z) z.declared j d (subst (λ (s : Scope). slice_get s.declared j ≡ Some d) (sym is) own)) in
     ap (slice_get (holders_from n (z ∷ zs))) (let e : 0 + j ≡ j = omega arith in e) ∙ front ∙ ap (λ (s : Scope). Some (holder n s d)) is
     ∙ ap (λ m. Some (holder m s d)) (let e : n ≡ n + 0 = omega arith in e)
 holder_at n (z ∷ zs) (suc k) s j d there own =
@@ -93,7 +92,7 @@ none_in : {A : Type 0} (x : A) → Contains [] x → ⊥
 none_in x h = let lt : h.0 < 0 = h.1 in omega (arith, lt)
 
 module _ (scopes : List Scope) (look : ℕ → ℕ → Lookup) (means : (scope symbol : ℕ) → Resolves (look scope symbol) (IsVisible scopes scope symbol))
-  (host number : ℕ) (name : Name) (xs : List AssociationTree) (there : slice_get scopes number ≡ Some (scope_of_construct host name xs)) (once : AreOnce xs) where
+    (host number : ℕ) (name : Name) (xs : List AssociationTree) (there : slice_get scopes number ≡ Some (scope_of_construct host name xs)) (once : AreOnce xs) where
   abbrev here : Scope
   here = scope_of_construct host name xs
 
@@ -189,8 +188,8 @@ module _ (scopes : List Scope) (look : ℕ → ℕ → Lookup) (means : (scope s
   free_there = each_at (λ (x : AssociationTree). IsFree (slice_get (holders_from 0 scopes) (entity_in look number x))) xs (λ k x h.
       subst IsFree
       (sym (
-        ap (slice_get (holders_from 0 scopes)) (ap entity_of (looked k x h))
-        ∙ holder_at 0 scopes number here k (association_own x) there (mapped_at association_own xs k x h)
+      ap (slice_get (holders_from 0 scopes)) (ap entity_of (looked k x h))
+      ∙ holder_at 0 scopes number here k (association_own x) there (mapped_at association_own xs k x h)
       )) (refl, refl))
 
   pub opens : Opens look (λ l. slice_get (holders_from 0 scopes) l) host number xs

@@ -1,6 +1,6 @@
 -- Blocks that a source may spell, where their constructs stand among the scopes of a program.
-use Rattle.std.proofs.Common.{◌≡◌, ℕ, zero, suc, ◌+◌, List, [], ◌∷◌, ◌++◌, length, Option, Some, refl, sym, ap, ◌∙◌, arith}
-use Rattle.std.specs.Prelude.{⊤, slice_get}
+use Rattle.std.proofs.Common.{◌≡◌, ℕ, suc, ◌+◌, List, ◌∷◌, ◌++◌, length, Option, Some, refl, ap, arith}
+use Rattle.std.specs.Prelude.{slice_get}
 use Rattle.std.proofs.lemmas.List.{length-append}
 use mathlib.Core.Path.{subst}
 use Rattle.f3_access.specs.declared.table.Lookup.{Lookup}
@@ -91,11 +91,10 @@ module _ (scopes : List Scope) (look : ℕ → ℕ → Lookup) (means : (scope s
     statement_placed (t.acts p a) host around next w lies = w
     statement_placed (t.acts_if p e q a) host around next w lies = w
     statement_placed (t.branches bs other) host around next w lies =
-        let own = constructs_in_branches host around next bs in
-        (
+        let own = constructs_in_branches host around next bs in (
           branches_placed bs host around next w.0 (lies_left scopes next own _ lies),
           subst (λ k. IsOtherPlaced look held host (next + k) other) (branches_long host around next bs)
-          (other_placed other host around (next + length own) w.1 (lies_right scopes next own _ lies)),
+              (other_placed other host around (next + length own) w.1 (lies_right scopes next own _ lies)),
         )
     statement_placed (t.selects p e cs) host around next w lies = (w.0, cases_placed cs host around next w.1 lies)
     statement_placed (t.repeats p control body) host around next w lies = (w.0, block_placed body host around next w.1 lies)
@@ -109,23 +108,21 @@ module _ (scopes : List Scope) (look : ℕ → ℕ → Lookup) (means : (scope s
         → IsBlockPlaced look held host next x
     block_placed t.no_statements host around next w lies = tt
     block_placed (t.statements x b) host around next w lies =
-        let own = constructs_in host around next x in
-        (
+        let own = constructs_in host around next x in (
           statement_placed x host around next w.0 (lies_left scopes next own _ lies),
           subst (λ k. IsBlockPlaced look held host (next + k) b) (statement_long host around next x)
-          (block_placed b host around (next + length own) w.1 (lies_right scopes next own _ lies)),
+              (block_placed b host around (next + length own) w.1 (lies_right scopes next own _ lies)),
         )
 
     branches_placed : (bs : t.Branches) (host : ℕ) (around : Name) (next : ℕ) → AreBranchesSpelled bs → Lies scopes next (constructs_in_branches host around next bs)
         → AreBranchesPlaced look held host next bs
     branches_placed t.no_branches host around next w lies = tt
     branches_placed (t.branch p e b bs) host around next w lies =
-        let own = constructs_in_block host around next b in
-        (
+        let own = constructs_in_block host around next b in (
           w.0,
           block_placed b host around next w.1 (lies_left scopes next own _ lies),
           subst (λ k. AreBranchesPlaced look held host (next + k) bs) (block_long host around next b)
-          (branches_placed bs host around (next + length own) w.2 (lies_right scopes next own _ lies)),
+              (branches_placed bs host around (next + length own) w.2 (lies_right scopes next own _ lies)),
         )
 
     other_placed : (x : t.Alternative) (host : ℕ) (around : Name) (next : ℕ) → IsOtherSpelled x → Lies scopes next (constructs_in_alternative host around next x)
@@ -137,9 +134,8 @@ module _ (scopes : List Scope) (look : ℕ → ℕ → Lookup) (means : (scope s
         → AreCasesPlaced look held host next cs
     cases_placed t.no_cases host around next w lies = tt
     cases_placed (t.case_block p vs b cs) host around next w lies =
-        let own = constructs_in_block host around next b in
-        (
+        let own = constructs_in_block host around next b in (
           block_placed b host around next w.0 (lies_left scopes next own _ lies),
           subst (λ k. AreCasesPlaced look held host (next + k) cs) (block_long host around next b)
-          (cases_placed cs host around (next + length own) w.1 (lies_right scopes next own _ lies)),
+              (cases_placed cs host around (next + length own) w.1 (lies_right scopes next own _ lies)),
         )

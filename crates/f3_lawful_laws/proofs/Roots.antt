@@ -1,18 +1,16 @@
 -- Where a body begins.
-use Rattle.std.proofs.Common.{◌≡◌, ℕ, false, Option, List, [], ◌∷◌, length, map, refl, sym, ap, ◌∙◌}
-use Rattle.std.specs.Prelude.{⊤, slice_get}
-use Rattle.f3_program.specs.declared.program.Dummy as program
+use Rattle.std.proofs.Common.{◌≡◌, ℕ, false, Option, length, refl, sym, ap, ◌∙◌}
+use Rattle.std.specs.Prelude.{slice_get}
 use Rattle.f3_program.specs.declared.program.Procedure.{Procedure}
 use Rattle.f3_program.specs.declared.program.Program.{Program}
 use Rattle.f3_tree.specs.declared.expression.Name.{Name}
-use Rattle.f3_meaning_whole.specs.Permitted.{Scope, names_of, scope_of, lendable}
+use Rattle.f3_meaning_whole.specs.Permitted.{names_of, scope_of, lendable}
 use Rattle.f3_type_rules.specs.declared.definition.Holder.{Holder}
 use Rattle.f3_type_rules.specs.Declarations.{spot_of}
 use Rattle.f3_type_rules.specs.Members.{Member, Numbered}
 use Rattle.f3_type_rules.specs.Scene.{site_in}
 use Rattle.f3_elaboration.specs.Nodes.{ProcedureNode}
 use Rattle.f3_elaboration.specs.Numbers.{entity_of}
-use Rattle.f3_elaboration.specs.Context.{Surroundings}
 use Rattle.f3_elaboration.specs.Declarations.{Whole}
 use Rattle.f3_elaboration.specs.DeclaredViews.{procedure_view, dummy_view}
 use Rattle.f3_elaboration.specs.Units.{procedure, dummy, main, in_member, in_main}

@@ -1,6 +1,6 @@
 -- The bodies of a program, where their constructs stand among its scopes.
-use Rattle.std.proofs.Common.{◌≡◌, ℕ, zero, suc, ◌+◌, List, [], ◌∷◌, ◌++◌, length, Option, refl, sym, ap, ◌∙◌, arith}
-use Rattle.std.specs.Prelude.{⊤, slice_get}
+use Rattle.std.proofs.Common.{◌≡◌, ℕ, ◌+◌, List, [], ◌∷◌, length, Option, ap, ◌∙◌, arith}
+use Rattle.std.specs.Prelude.{slice_get}
 use Rattle.std.specs.List.{flat_map}
 use mathlib.Core.Path.{subst}
 use Rattle.f3_access.specs.declared.table.Lookup.{Lookup}
@@ -8,13 +8,13 @@ use Rattle.f3_access.specs.Access.{first_entity, IsVisible}
 use Rattle.f3_access.specs.Lookups.{Resolves}
 use Rattle.f3_scopes.specs.Outlines.{Scope}
 use Rattle.f3_scopes.specs.Scopes.{scope_of_procedure, scope_of_unit, constructs_in_block, procedure_scopes, procedures_from, own_scopes, unit_scopes, scopes_from, declared_in}
-use Rattle.f3_tree.specs.Tree.{ProcedureTree, UnitTree, Tree}
+use Rattle.f3_tree.specs.Tree.{ProcedureTree, UnitTree}
 use Rattle.f3_meaning_whole.specs.Permitted.{Each}
 use Rattle.f3_type_rules.specs.declared.definition.Holder.{Holder}
 use Rattle.f3_type_rules.specs.Associates.{constructs_of_block}
 use Rattle.f3_type_rules.specs.Members.{Member, Numbered, members_from, numbered, units_from}
 use Rattle.f3_type_rules.specs.Scene.{holders_from}
-use Rattle.f3_lawful_laws.specs.Blocks.{IsBlockPlaced, IsBlockSpelled, IsUnitSpelled, AreBodiesSpelled}
+use Rattle.f3_lawful_laws.specs.Blocks.{IsBlockPlaced, IsBlockSpelled, IsUnitSpelled}
 use Rattle.f3_lawful_laws.proofs.Placing.{block_long, Lies, lies_left, lies_right, lies_next, block_placed}
 
 module _ (scopes : List Scope) (look : ℕ → ℕ → Lookup) (means : (scope symbol : ℕ) → Resolves (look scope symbol) (IsVisible scopes scope symbol)) where
@@ -35,11 +35,10 @@ module _ (scopes : List Scope) (look : ℕ → ℕ → Lookup) (means : (scope s
       let own : List Scope = constructs_in_block n (p.header).name (n + 1) p.body in
       let mine : Lies scopes n (procedure_scopes host n p) = lies_left scopes n (procedure_scopes host n p) _ lies in
       let count = block_long n (p.header).name (n + 1) p.body in
-      let step : n + length (procedure_scopes host n p) ≡ n + 1 + length (constructs_of_block p.body) = omega (arith, count) in
-      (
+      let step : n + length (procedure_scopes host n p) ≡ n + 1 + length (constructs_of_block p.body) = omega (arith, count) in (
         block_placed scopes look means p.body n (p.header).name (n + 1) w.0 (lies_next scopes n (scope_of_procedure host p) own mine),
         subst (λ k. Each IsMemberPlaced (members_from scopes (e + 1) k ps)) step
-        (members_placed host (e + 1) (n + length (procedure_scopes host n p)) ps w.1 (lies_right scopes n (procedure_scopes host n p) _ lies)),
+            (members_placed host (e + 1) (n + length (procedure_scopes host n p)) ps w.1 (lies_right scopes n (procedure_scopes host n p) _ lies)),
       )
 
   unit_placed : (n : ℕ) (u : UnitTree) → IsUnitSpelled u → Lies scopes n (unit_scopes n u) → IsUnitPlaced (numbered scopes n u)
@@ -47,11 +46,10 @@ module _ (scopes : List Scope) (look : ℕ → ℕ → Lookup) (means : (scope s
       let own : List Scope = constructs_in_block n u.name (n + 1) u.body in
       let mine : Lies scopes n (own_scopes n u) = lies_left scopes n (own_scopes n u) _ lies in
       let count = block_long n u.name (n + 1) u.body in
-      let step : n + length (own_scopes n u) ≡ n + 1 + length (constructs_of_block u.body) = omega (arith, count) in
-      (
+      let step : n + length (own_scopes n u) ≡ n + 1 + length (constructs_of_block u.body) = omega (arith, count) in (
         block_placed scopes look means u.body n u.name (n + 1) w.0 (lies_next scopes n (scope_of_unit u) own mine),
         subst (λ k. Each IsMemberPlaced (members_from scopes (first_entity scopes n + length (flat_map declared_in (u.part).specifications)) k u.procedures)) step
-        (members_placed n (first_entity scopes n + length (flat_map declared_in (u.part).specifications)) (n + length (own_scopes n u)) u.procedures w.1 (lies_right scopes n (own_scopes n u) _ lies)),
+            (members_placed n (first_entity scopes n + length (flat_map declared_in (u.part).specifications)) (n + length (own_scopes n u)) u.procedures w.1 (lies_right scopes n (own_scopes n u) _ lies)),
       )
 
   pub units_placed : (n : ℕ) (us : List UnitTree) → Each IsUnitSpelled us → Lies scopes n (scopes_from n us) → Each IsUnitPlaced (units_from scopes n us)

@@ -31,7 +31,8 @@ use Rattle.f3_elaboration.specs.Views.{statement_view}
 use Rattle.f3_lawful_laws.specs.Nodes.{NodeRuns}
 use Rattle.f3_lawful_laws.specs.Laws.{UnbrokenIsLawful}
 use Rattle.f3_lawful_laws.specs.Blocks.{IsBlockPlaced}
-use Rattle.f3_lawful_laws.specs.Entities.{units_of, whole_of, AreAlike, main_scope, MemberAgrees, UnitAgrees, IsProcedure}
+use Rattle.f3_lawful_laws.specs.Entities.{units_of, whole_of, main_scope, MemberAgrees, UnitAgrees}
+use Rattle.f3_lawful_laws.proofs.Numbered.{IsProcedure}
 use Rattle.f3_lawful_laws.proofs.Facts.{first, second}
 use Rattle.f3_lawful_laws.proofs.SeenStatements.{each_seen, statement_seen}
 use Rattle.f3_access.specs.Access.{first_entity}
@@ -173,10 +174,10 @@ lawful t look order p spelled means seen h none =
     let w : Whole = whole_of t look order in
     let placed = units_placed (scopes_of t) look means 0 t.units spelled (all_lie (scopes_of t)) in
     let numbers : Each (λ (u : Numbered). Each (IsProcedure p w u.scope) u.members) (units_of t) =
-        numbered_all p w (units_of t) refl (first_entity (scopes_of t) 0) (units_ascend (scopes_of t) 0 t.units (all_lie (scopes_of t)))
-        (ap (λ (y : ProgramNode). y.procedures) seen) in
+    numbered_all p w (units_of t) refl (first_entity (scopes_of t) 0) (units_ascend (scopes_of t) 0 t.units (all_lie (scopes_of t)))
+    (ap (λ (y : ProgramNode). y.procedures) seen) in
     let free : flat_map (unit_breaks w.scene w.values) (units_of t) ≡ [] =
-        second (along (unit_rows w.scene) (unit_next w.scene) nothing_known (units_in (units_of t) order)) _ (nil_of (program_breaks t look order) none) in
+    second (along (unit_rows w.scene) (unit_next w.scene) nothing_known (units_in (units_of t) order)) _ (nil_of (program_breaks t look order) none) in
     record {
       in_main =
           subst (RunsAsMain p w) (sym (ap (λ (y : ProgramNode). y.main) seen))

@@ -101,4 +101,5 @@ IsWithin count (Local i) = ⊤
 -- as many objects are lent as names are known, and each name that is lent is one of them
 pub record Lends (scope : Scope) (s : Surroundings) : Type 0 where
   pub count : s.lent ≡ length scope.names
-  pub within : (symbol e : ℕ) (o : Object) → look_here s.context symbol ≡ One e → (s.context).nature e ≡ Some (variable o) → IsWithin s.lent (s.object e)
+  pub within : (symbol e : ℕ) (o : Object) → look_here s.context symbol ≡ One e → (s.context).nature e ≡ Some (variable o)
+      → IsWithin s.lent (s.object e)

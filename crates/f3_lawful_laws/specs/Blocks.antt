@@ -47,7 +47,8 @@ AreOnce xs = (j k : ℕ) (x y : AssociationTree) → slice_get xs j ≡ Some x �
 pub record Opens (look : ℕ → ℕ → Lookup) (held : ℕ → Option Holder) (scope number : ℕ) (xs : List AssociationTree) : Type 0 where
   pub declared : Each (IsDeclaredIn look number) xs
   pub free : Each (λ (x : AssociationTree). IsFree (held (entity_in look number x))) xs
-  pub around : (symbol e : ℕ) → look number symbol ≡ One e → position (nat_eq e) (map (entity_in look number) xs) ≡ None → look scope symbol ≡ One e
+  pub around : (symbol e : ℕ) → look number symbol ≡ One e → position (nat_eq e) (map (entity_in look number) xs) ≡ None
+      → look scope symbol ≡ One e
 
 -- statements that a source may spell, in which no construct names an associate name twice
 abbrev mutual

@@ -1,5 +1,5 @@
 -- What the rules on types know of a program, and what its elaborated program says, are of the same entities, wherever a body begins.
-use Rattle.std.specs.Prelude.{◌≡◌, ℕ, ◌+◌, false, [], List, slice_get, Some, Bool, map, true}
+use Rattle.std.specs.Prelude.{◌≡◌, ℕ, false, [], List, slice_get, Some, Bool, map, true}
 use Rattle.std.specs.List.{flat_map}
 use Rattle.f3_access.specs.declared.table.Lookup.{Lookup}
 use Rattle.f3_scopes.specs.Scopes.{scopes_of}
@@ -47,7 +47,8 @@ pub record AreAlike (p : Program) (w : Whole) (scope : Scope) (s : Surroundings)
       → (names_in p (s.procedure e) ≡ map (lent s) ds) × AreGiven ds
   pub variables : (symbol e : ℕ) (o : Object) → look_here s.context symbol ≡ One e → (s.context).nature e ≡ Some (variable o)
       → (name_of p scope (s.object e)).of ≡ base s o.data_type
-  pub within : (symbol e : ℕ) (o : Object) → look_here s.context symbol ≡ One e → (s.context).nature e ≡ Some (variable o) → IsWithin s.lent (s.object e)
+  pub within : (symbol e : ℕ) (o : Object) → look_here s.context symbol ≡ One e → (s.context).nature e ≡ Some (variable o)
+      → IsWithin s.lent (s.object e)
   pub defines : (symbol e : ℕ) (o : Object) (x : Said) → look_here s.context symbol ≡ One e → (s.context).nature e ≡ Some (variable o)
       → lend_rows site x (slice_get (w.scene).holders e) ≡ [] → (name_of p scope (s.object e)).may_define ≡ true
 
@@ -55,12 +56,6 @@ abbrev pub main_scope : Procedure → Scope
 main_scope q = record { unit = q.unit; variables = declared_in q; names = [] }
 
 module _ (p : Program) (w : Whole) where
-  -- the procedure of the number that its entity has
-  pub record IsProcedure (unit : ℕ) (m : Member) : Type 0 where
-    pub procedure : Procedure
-    pub there : slice_get p.procedures.items (number_in (w.numbers).procedures m.entity) ≡ Some procedure
-    pub is : procedure_view procedure ≡ units.procedure w unit m
-
   -- so in a procedure of the unit of this number
   pub record MemberAgrees (unit : ℕ) (m : Member) : Type 0 where
     pub alike : (q : Procedure) → procedure_view q ≡ units.procedure w unit m
