@@ -80,7 +80,7 @@ module _ (p : Program) (scope : Scope) (s : Surroundings) (agrees : Agrees p sco
       → NodeValue p scope (n.reference (s.procedure e) (arguments_for ds 0 gs))
   subroutine_runs e pure ds gs ys is h rows free = (
     arguments_may p scope s ds 0 gs (all_may p scope s gs ys h),
-    arguments_pass p scope s ds (names_in p (s.procedure e)) 0 gs ys no_match (agrees.known e (subroutine pure ds) is) (agrees.subroutines e pure ds is) h rows
+    arguments_pass p scope s ds (names_in p (s.procedure e)) 0 gs ys no_match (agrees.known.natures e (subroutine pure ds) is) (agrees.subroutines e pure ds is) h rows
         (all_change ds 0 gs ys no_match h rows free),
   )
 

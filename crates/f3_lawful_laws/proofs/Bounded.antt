@@ -118,7 +118,7 @@ module _ (c : Context) (knows : Knows c) (u : Role) (heap : IsHeap u) (m : Name)
       let stepped : step c false y (Some r) ≡ Some inside.reach = ap (step_selected false r y.1) found.1 ∙ inside.is in
       let rest : Kept (bare_last (z ∷ zs)) inside.reach =
       kept z zs inside.reach inside.fit
-      (ap (λ (o : Object). is_known o.data_type) inside.object ∙ component_known h.components (y.0).symbol k (knows h.type _ h.nature) h.component)
+      (ap (λ (o : Object). is_known o.data_type) inside.object ∙ component_known h.components (y.0).symbol k (knows.natures h.type _ h.nature) h.component)
       (right _ _ t) (subst (λ q. along_rows c u (z ∷ zs) q ≡ []) stepped (second (step_rows c false y (Some r)) _ rows))
       (subst (λ q. reach_rows u m (along c u (z ∷ zs) q) ≡ []) stepped last) in
       record {

@@ -133,7 +133,7 @@ module _ (p : Program) (scope : Scope) (s : Surroundings) (site : Site) (held : 
       may =
           variable_may e o (SaidBy (object (Variable e) o)) (record { symbol = m.symbol; object = o; looked = looked; nature = is })
           (reach_has (Variable e) u (object_reach s.context u o (m, b) rs))
-          (object_typed s.context knows (Variable e) u o (m, b) rs (knows e (variable o) is) typed rows)
+          (object_typed s.context knows (Variable e) u o (m, b) rs (knows.variables m.symbol e o looked is) typed rows)
           (form_kept (Variable e) (object_reach s.context u o (m, b) rs)) free;
     }
 
@@ -143,7 +143,7 @@ module _ (p : Program) (scope : Scope) (s : Surroundings) (site : Site) (held : 
     constant_defined e o is typed true rows free = not_nil rows
     constant_defined e o is typed false rows free =
         absurd (constant_may (SaidBy (object Constant o)) (reach_has Constant u (object_reach s.context u o (m, b) rs))
-        (object_typed s.context knows Constant u o (m, b) rs (knows e (constant o) is) typed rows)
+        (object_typed s.context knows Constant u o (m, b) rs (knows.natures e (constant o) is) typed rows)
         (form_kept Constant (object_reach s.context u o (m, b) rs)) free)
 
     by_entity : (e : ℕ) (nature : Nature) → look_here s.context m.symbol ≡ One e → (s.context).nature e ≡ Some nature → parts_typed ((m, b) ∷ rs) ≡ true

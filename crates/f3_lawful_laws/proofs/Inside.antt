@@ -15,7 +15,7 @@ use Rattle.f3_kinds.specs.declared.said.Form.TheVariants.{Computed, Constant, Va
 use Rattle.f3_kinds.specs.declared.said.Has.{Has}
 use Rattle.f3_kinds.specs.declared.said.Said.{Said}
 use Rattle.f3_kinds.specs.declared.things.Component.{Component}
-use Rattle.f3_kinds.specs.Things.{map_or, Nature, variable, derived, subroutine, function, Context, look_here}
+use Rattle.f3_kinds.specs.Things.{map_or, Nature, constant, variable, derived, subroutine, function, Context, look_here}
 use Rattle.f3_kinds.specs.Rows.{is_known}
 use Rattle.f3_kinds.specs.Operands.{type_in}
 use Rattle.f3_kinds.specs.Typing.{said}
@@ -101,15 +101,6 @@ module _ (p : Program) (scope : Scope) (s : Surroundings) (agrees : Agrees p sco
   known_named None e h = absurd h
   known_named (Some y) e h = h.0
 
-  knows_within : Knows within.context
-  knows_within e m nature = go (which e)
-    where
-      go : Among p scope s number xs held e → IsKnown m
-      go (is_named r) =
-          subst IsKnown (same (sym (nature_named e (said s.context r.name.selector) r.looked) ∙ nature))
-          (known_named (said s.context r.name.selector).has (expression s r.name.selector) r.is)
-      go (is_other a b) = agrees.known e m (sym (nature_other e a) ∙ nature)
-
   -- what is no variable is the same there
   plain_there : (e : ℕ) (m : Nature) → is_variable m ≡ false → (within.context).nature e ≡ Some m → (s.context).nature e ≡ Some m
   plain_there e m plain nature = go (which e)
@@ -118,6 +109,27 @@ module _ (p : Program) (scope : Scope) (s : Surroundings) (agrees : Agrees p sco
       go (is_named r) =
           no (ap is_variable (same (sym (nature_named e (said s.context r.name.selector) r.looked) ∙ nature)) ∙ plain)
       go (is_other a b) = sym (nature_other e a) ∙ nature
+
+  knows_within : Knows within.context
+  knows_within = record { natures = natures_there; variables = variables_known }
+    where
+      natures_there : (e : ℕ) (m : Nature) → (within.context).nature e ≡ Some m → IsKnown m
+      natures_there e (variable o) nature = tt
+      natures_there e (constant o) nature = agrees.known.natures e (constant o) (plain_there e (constant o) refl nature)
+      natures_there e (derived home ks f) nature = agrees.known.natures e (derived home ks f) (plain_there e (derived home ks f) refl nature)
+      natures_there e (subroutine pure ds) nature = agrees.known.natures e (subroutine pure ds) (plain_there e (subroutine pure ds) refl nature)
+      natures_there e (function pure ds o) nature = agrees.known.natures e (function pure ds o) (plain_there e (function pure ds o) refl nature)
+
+      variables_known : (symbol e : ℕ) (o : Object) → look_here within.context symbol ≡ One e → (within.context).nature e ≡ Some (variable o)
+          → is_known o.data_type ≡ true
+      variables_known symbol e o looked nature = go (which e)
+        where
+          go : Among p scope s number xs held e → is_known o.data_type ≡ true
+          go (is_named r) =
+              ap (λ (o : Object). is_known o.data_type)
+              (sym (object_same _ o (sym (nature_named e (said s.context r.name.selector) r.looked) ∙ nature)))
+              ∙ known_named (said s.context r.name.selector).has (expression s r.name.selector) r.is
+          go (is_other a b) = let around = seen_around symbol e o looked nature a b in agrees.known.variables symbol e o around.0 around.1
 
   components_there : (ys : _) (ks : List (ℕ × Component)) → AreComponents s ys ks → AreComponents within ys ks
   components_there ys ks h = h

@@ -60,7 +60,7 @@ module _ (p : Program) (scope : Scope) (s : Surroundings) (agrees : Agrees p sco
       → IsOf p scope s (n.variable (x.variable_of s e o (m, g) qs)) (reach_has (Variable e) role.Expression (object_reach s.context role.Expression o (m, b) rs))
   variable_is m g qs b rs e o looked nature behind parts rows =
       let h : Stands p scope s agrees (Variable e) role.Expression e o (m, g) qs (m, b) rs =
-      stands p scope s agrees (Variable e) role.Expression e o (m, g) qs (m, b) rs (agrees.known e (variable o) nature)
+      stands p scope s agrees (Variable e) role.Expression e o (m, g) qs (m, b) rs (agrees.known.variables m.symbol e o looked nature)
       (agrees.variables m.symbol e o looked nature) (behind_may p scope s g b behind) (behind_typed p scope s g b behind)
       (parts_named p scope s qs rs parts) rows in
       subst (IsOf p scope s (n.variable (x.variable_of s e o (m, g) qs))) (sym h.is)
@@ -80,7 +80,7 @@ module _ (p : Program) (scope : Scope) (s : Surroundings) (agrees : Agrees p sco
       → (s.context).nature e ≡ Some (function pure ds o) → AreGiven p scope s gs ys → function_rows m ds ys ≡ []
       → IsOf p scope s (n.reference (s.procedure e) (arguments_for ds 0 gs)) (function_has ds o ys)
   reference_is e pure ds o m gs ys nature given rows =
-      let known = agrees.known e (function pure ds o) nature in
+      let known = agrees.known.natures e (function pure ds o) nature in
       let dummies = agrees.functions e pure ds o nature in
       plain p scope s (n.reference (s.procedure e) (arguments_for ds 0 gs)) (function_has ds o ys) (
         (
@@ -127,7 +127,7 @@ module _ (p : Program) (scope : Scope) (s : Surroundings) (agrees : Agrees p sco
   by_entity m g qs b rs e (variable o) looked is behind parts rows = variable_is m g qs b rs e o looked is behind parts rows
   by_entity m g qs b rs e (constant o) looked is behind parts rows =
       plain p scope s (n.literal (constant_of ((s.context).value e))) (reach_has Constant role.Expression (object_reach s.context role.Expression o (m, b) rs)) (tt, tt)
-      (object_typed s.context agrees.known Constant role.Expression o (m, b) rs (agrees.known e (constant o) is)
+      (object_typed s.context agrees.known Constant role.Expression o (m, b) rs (agrees.known.natures e (constant o) is)
       (both _ _ (behind_typed p scope s g b behind) (all_parts_typed p scope s qs rs parts)) rows)
       (constant_none role.Expression _)
   by_entity m (Some gs) qs (Some ys) [] e (function pure ds o) looked is behind parts rows = reference_is e pure ds o m gs ys is behind rows

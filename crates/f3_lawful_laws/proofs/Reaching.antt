@@ -36,7 +36,7 @@ ends c knows u (y ∷ ps) r fit known t e =
     let h : Selects c r.object y.0 k = found.2 in
     let rest : Ends c u ps inside.reach =
     ends c knows u ps inside.reach inside.fit
-    (ap (λ (o : Object). is_known o.data_type) inside.object ∙ component_known h.components (y.0).symbol k (knows h.type _ h.nature) h.component)
+    (ap (λ (o : Object). is_known o.data_type) inside.object ∙ component_known h.components (y.0).symbol k (knows.natures h.type _ h.nature) h.component)
     (right _ _ t) (subst (λ z. along_rows c u ps z ≡ []) stepped (second (step_selected_rows b y (select c r.object y.0)) _ e)) in
     record { reach = rest.reach; is = ap (along c u ps) stepped ∙ rest.is; fit = rest.fit; known = rest.known }
 

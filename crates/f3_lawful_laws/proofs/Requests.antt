@@ -88,14 +88,14 @@ module _ (p : Program) (scope : Scope) (s : Surroundings) (agrees : Agrees p sco
         × (same_type (designated p scope (named s (unbounded (t.parts m g ps)))).of (kind s (t.designator (unbounded (t.parts m g ps)))).of ≡ true)
     bare_target m g t.no_parts e o looked is given others rows may =
         let free : object_rows s.context role.Expression o (m, None) [] ≡ [] =
-        bare_rows s.context agrees.known u heap m o (said_behind s.context g) [] (agrees.known e (variable o) is)
+        bare_rows s.context agrees.known u heap m o (said_behind s.context g) [] (agrees.known.variables m.symbol e o looked is)
         (both _ _ (behind_typed p scope s (behind s g) (said_behind s.context g) given) refl) rows in
         let h : Target p scope s agrees m t.bare t.no_parts e o = target p scope s agrees m t.bare t.no_parts e o looked is tt tt free in
         (target_defines p scope s agrees m t.bare t.no_parts e o h may, target_typed p scope s agrees m t.bare t.no_parts e o h)
     bare_target m g (t.parts k b ps) e o looked is given others rows may =
         let rest : t.Parts = t.parts k b ps in
         let free : object_rows s.context role.Expression o (m, said_behind s.context g) (bare_last (said_parts s.context rest)) ≡ [] =
-        bare_rows s.context agrees.known u heap m o (said_behind s.context g) (said_parts s.context rest) (agrees.known e (variable o) is)
+        bare_rows s.context agrees.known u heap m o (said_behind s.context g) (said_parts s.context rest) (agrees.known.variables m.symbol e o looked is)
         (both _ _ (behind_typed p scope s (behind s g) (said_behind s.context g) given) (all_parts_typed p scope s (parts s rest) (said_parts s.context rest) others)) rows in
         let h : Target p scope s agrees m g (unbounded rest) e o =
         target p scope s agrees m g (unbounded rest) e o looked is given (unbounded_are rest others)

@@ -55,7 +55,7 @@ module _ (p : Program) (scope : Scope) (s : Surroundings) (agrees : Agrees p sco
       let of : Option DataType = type_of s (t.designator (t.parts m g ps)) in
       let at : Stands p scope s agrees (Variable e) role.Expression e o (m, behind s g) (parts s ps) (m, said_behind s.context g) (said_parts s.context ps) =
       stands p scope s agrees (Variable e) role.Expression e o (m, behind s g) (parts s ps) (m, said_behind s.context g) (said_parts s.context ps)
-      (agrees.known e (variable o) is) (agrees.variables m.symbol e o looked is) (behind_may p scope s (behind s g) (said_behind s.context g) given)
+      (agrees.known.variables m.symbol e o looked is) (agrees.variables m.symbol e o looked is) (behind_may p scope s (behind s g) (said_behind s.context g) given)
       (behind_typed p scope s (behind s g) (said_behind s.context g) given) (parts_named p scope s (parts s ps) (said_parts s.context ps) others) rows in
       record {
         node = x.variable_of s e o (m, behind s g) (parts s ps);

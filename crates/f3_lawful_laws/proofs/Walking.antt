@@ -76,7 +76,7 @@ module _ (p : Program) (scope : Scope) (s : Surroundings) where
           of = h.of;
           in_type = ap components_in h.nature;
           found = h.component;
-          known = component_known h.components name.symbol k (agrees.known h.type _ h.nature) h.component;
+          known = component_known h.components name.symbol k (agrees.known.natures h.type _ h.nature) h.component;
           free =
               ap (λ m. selectable p scope.unit (base_is.Derived (s.type h.type)) m) number
               ∙ ap (λ y. selectable_in scope.unit y at.number) t.there

@@ -31,13 +31,15 @@ KnowsDummies (d ∷ ds) = (is_known ((d.1).object).data_type ≡ true) × KnowsD
 
 abbrev pub IsKnown : Nature → Type 0
 IsKnown (constant o) = is_known o.data_type ≡ true
-IsKnown (variable o) = is_known o.data_type ≡ true
+IsKnown (variable o) = ⊤
 IsKnown (derived home ks f) = KnowsComponents ks
 IsKnown (subroutine pure ds) = KnowsDummies ds
 IsKnown (function pure ds o) = KnowsDummies ds × (is_known o.data_type ≡ true)
 
-abbrev pub Knows : Context → Type 0
-Knows c = (e : ℕ) (n : Nature) → c.nature e ≡ Some n → IsKnown n
+-- of a variable where it is visible: what an associate name is, is known inside its construct alone
+pub record Knows (c : Context) : Type 0 where
+  pub natures : (e : ℕ) (n : Nature) → c.nature e ≡ Some n → IsKnown n
+  pub variables : (symbol e : ℕ) (o : Object) → look_here c symbol ≡ One e → c.nature e ≡ Some (variable o) → is_known o.data_type ≡ true
 
 -- ---- types, dummies and variables
 
