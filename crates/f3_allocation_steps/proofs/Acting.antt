@@ -1,6 +1,6 @@
 -- What parts of runs come to as one instruction, where the heap grants each request.
 use Rattle.std.proofs.Common.{◌≡◌, ℕ, ◌+◌, Bool, true, false, nat_eq, List, [], ◌∷◌, ◌++◌, length, map, refl, sym, ap, ◌∙◌, subst, arith}
-use Rattle.std.specs.Prelude.{⊤, Option, None, Some, if◌then◌else◌}
+use Rattle.std.specs.Prelude.{⊤, Option, None, Some, Result, Ok, Err, if◌then◌else◌}
 use Rattle.std.proofs.lemmas.Grind.{common_steps}
 use Rattle.f3_rules.specs.declared.source.Place.{Place}
 use Rattle.f3_program.specs.declared.program.Program.{Program}
@@ -21,13 +21,17 @@ use Rattle.f3_data.specs.Values.{spans_of}
 use Rattle.f3_data.specs.Stores.{store_of}
 use Rattle.f3_code.specs.State.{Next, Goes, Stays, Failed}
 use Rattle.f3_code.specs.State as s
-use Rattle.f3_code.specs.Machine.{on, on_object, on_datum, on_status, on_elements, performs, ends_so, tested, opens, goes, skips}
+use Rattle.f3_code.specs.Machine.{on, on_object, on_datum, on_status, on_elements, performs, ends_so, tested, opens, goes, skips, on_many, extent_of}
 use Rattle.f3_cells.specs.declared.state.State.{State}
-use Rattle.f3_cells.specs.Cells.{cells_of}
+use Rattle.f3_cells.specs.Cells.{cell_of, cells_of}
 use Rattle.f3_cells.specs.States.{state_of, world_of, granted}
 use Rattle.f3_located.specs.Finds.{Finds, FailsBy}
-use Rattle.f3_cells.specs.Moves.{Moved}
-use Rattle.f3_cells.specs.Follows.{GoesOn}
+use Rattle.f3_cells.specs.Moves.{Moved, OnWith, WentOn}
+use Rattle.f3_cells.specs.Follows.{GoesOn, Follows}
+use Rattle.f3_cells.specs.Popped.{PoppedMany, extent_in}
+use Rattle.f3_cells.specs.declared.state.Stop.{Stop}
+use Rattle.f3_cells.specs.declared.state.Stop.TheVariants as stop
+use Rattle.f3_cells.specs.declared.cell.Cell.{Cell}
 
 -- what goes on with an object, or a value, on top
 pub at_object : {cells rest : List s.Cell} {r : m.Reference} (f : m.Reference → List s.Cell → Next) → cells ≡ s.Object r ∷ rest → on_object cells f ≡ f r rest
@@ -126,3 +130,30 @@ at_status f e = rw e refl
 
 pub at_elements : {cells rest : List s.Cell} {ps : List t.Path} (f : List t.Path → List s.Cell → Next) → cells ≡ s.Elements ps ∷ rest → on_elements cells f ≡ f ps rest
 at_elements f e = rw e refl
+
+-- events happen that print nothing, and the next line comes with one more cell
+with_cell : (code : s.Code) (next : Next) (r : Result ⊤ Stop) (place : Place) (p : Program) (out : List Event) (cell : Cell) (mid new : State) → OnWith cell r mid new
+    → next ≡ Goes out (on (state_of p mid) (cell_of p cell ∷ cells_of p mid.stack.items) (world_of mid.store)) → output out ≡ [] → Follows code next r (state_of p new) place
+with_cell code next (Ok done) place p out cell mid new h e o = (out, e ∙ ap (Goes out) (sym (h p)), o)
+with_cell code next (Err stop.Memory) place p out cell mid new h e o = tt
+with_cell code next (Err stop.Done) place p out cell mid new h e o = absurd h
+with_cell code next (Err (stop.Stopped number)) place p out cell mid new h e o = absurd h
+with_cell code next (Err (stop.Failed error)) place p out cell mid new h e o = absurd h
+with_cell code next (Err stop.Stuck) place p out cell mid new h e o = absurd h
+with_cell code next (Err stop.Lost) place p out cell mid new h e o = absurd h
+with_cell code next (Err stop.Refused) place p out cell mid new h e o = absurd h
+
+pub went_with : (code : s.Code) (place : Place) (p : Program) (out : List Event) {next : Next} {r : Result ⊤ Stop} {cell : Cell} {mid new : State} → WentOn cell r mid new
+    → next ≡ Goes out (on (state_of p mid) (cell_of p cell ∷ cells_of p mid.stack.items) (world_of mid.store)) → output out ≡ [] → Follows code next r (state_of p new) place
+went_with code place p out {next = next} {r = r} {cell = cell} {mid = mid} {new = new} h e o = with_cell code next r place p out cell mid new h.with e o
+
+-- dimensions are not there
+pub many_stops : (code : s.Code) (p : Program) (to : s.State) (place : Place) (k : ℕ) (e : Stop) (old new : List Cell) (f : List v.Span → List s.Cell → Next)
+    → PoppedMany extent_in extent_of k (Err e) old new → Follows code (on_many extent_of k [] (cells_of p old) f) (Err e) to place
+many_stops code p to place k stop.Stuck old new f h = ([], h p f, refl)
+many_stops code p to place k stop.Memory old new f h = tt
+many_stops code p to place k stop.Done old new f h = absurd h
+many_stops code p to place k (stop.Stopped number) old new f h = absurd h
+many_stops code p to place k (stop.Failed error) old new f h = absurd h
+many_stops code p to place k stop.Lost old new f h = absurd h
+many_stops code p to place k stop.Refused old new f h = absurd h

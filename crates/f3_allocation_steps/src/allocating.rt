@@ -217,7 +217,10 @@ pub fn allocate(
     requires { state.old.pc < 2 ^ 63 }
     ensures { DoesWith scene.now begin (i.Allocate rank dimensions) result state.old state.new }
 {
-    let extents = pop_extents(alloc, &mut state.stack, dimensions)?;
+    let extents = match pop_extents(alloc, &mut state.stack, dimensions) {
+        Ok(extents) => extents,
+        Err(stop) => return Err(stop),
+    };
     let Some(object) = pop_object(&mut state.stack) else {
         return Err(Stop::Stuck);
     };

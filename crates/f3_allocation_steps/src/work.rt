@@ -79,7 +79,8 @@ pub fn open_contents(alloc: Global, state: &mut State) -> Result<(), Stop>
         return Err(Stop::Failed(RunError::InUse));
     }
     let whole = copies::reference(alloc, object)?;
-    match contents(alloc, whole, &state.store)? {
+    let found = contents(alloc, whole, &state.store)?;
+    match found {
         Some(held) => state.go_on_with(Cell::Object(held)),
         None => Err(Stop::Failed(RunError::NotAllocated)),
     }
