@@ -1,7 +1,7 @@
 -- What stands below so many cells.
-use Rattle.std.proofs.Common.{◌≡◌, ℕ, suc, ◌-◌, ◌<◌, ◌≤◌, List, [], ◌∷◌, ◌++◌, length, get_or, take, drop, map, reverse, inl, inr, Option, None, Some, sym, ap, ◌∙◌, arith}
+use Rattle.std.proofs.Common.{◌≡◌, ℕ, suc, ◌-◌, ◌<◌, ◌≤◌, List, ◌∷◌, ◌++◌, length, get_or, take, drop, map, reverse, inl, inr, Option, None, Some, sym, ap, ◌∙◌, arith}
 use Rattle.std.proofs.Math.Seq.{drop-cons}
-use Rattle.std.proofs.lemmas.List.{drop-map, drop_at, drop_all, take-append-drop, reverse-append, length-reverse, length-drop, length-map, get_or-reverse}
+use Rattle.std.proofs.lemmas.List.{drop-map, drop_at, drop_all, take-append-drop, reverse-append, length-reverse, length-drop, get_or-reverse}
 use Rattle.std.proofs.lemmas.Bool.{cases_lt}
 use Rattle.std.specs.Option.{MatchOption}
 use Rattle.f3_code.specs.State.{Next}

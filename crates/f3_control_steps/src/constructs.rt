@@ -48,18 +48,16 @@ pub fn discard(state: &mut State) -> Result<(), Stop>
 }
 
 /// The run stops (ISO/IEC 1539-1:2004, 8.4).
-pub fn stop(state: &mut State, number: Option<u32>) -> Result<(), Stop>
-    ensures { Does (instruction.Stop number) result state.old state.new }
+pub fn stop(_state: &mut State, number: Option<u32>) -> Result<(), Stop>
+    ensures { Does (instruction.Stop number) result _state.old _state.new }
 {
-    let _ = state;
     Err(Stop::Stopped(number))
 }
 
 /// The end of the run.
-pub fn finish(state: &mut State) -> Result<(), Stop>
-    ensures { Does Finish result state.old state.new }
+pub fn finish(_state: &mut State) -> Result<(), Stop>
+    ensures { Does Finish result _state.old _state.new }
 {
-    let _ = state;
     Err(Stop::Done)
 }
 

@@ -1,4 +1,4 @@
-use Rattle.std.proofs.Common.{◌≡◌, ℕ, refl, ap, ◌∙◌, map, arith}
+use Rattle.std.proofs.Common.{◌≡◌, ap, ◌∙◌, map, arith}
 use Rattle.f3_code.specs.Machine.{argument_of}
 use Rattle.f3_cells.specs.Cells.{cells_of}
 use Rattle.f3_cells.specs.Cells.{passed_of}
