@@ -1,21 +1,19 @@
 -- What an instruction comes to, by how its last call ended.
-use Rattle.std.proofs.Common.{◌≡◌, ◌≤◌, ℕ, ◌+◌, List, [], ◌∷◌, length, Option, None, Result, Ok, Err, refl, sym, subst, ap, ◌∙◌, arith}
+use Rattle.std.proofs.Common.{◌≡◌, ◌≤◌, ℕ, ◌+◌, [], ◌∷◌, length, None, Result, Ok, Err, refl, sym, subst, ap, ◌∙◌, arith}
 use Rattle.std.specs.Prelude.{⊤, slice_get}
 use Rattle.std.proofs.lemmas.Option.{slice_get_past}
 use Rattle.f3_rules.specs.declared.source.Place.{Place}
 use Rattle.f3_program.specs.declared.program.Program.{Program}
-use Rattle.f3_meaning_whole.specs.Ran.{Event}
-use Rattle.f3_meaning_whole.specs.Run.{output}
 use Rattle.f3_code.specs.State.{Code, Next, Goes, Stays, Stuck}
 use Rattle.f3_code.specs.State as s
-use Rattle.f3_code.specs.Machine.{on, stuck, goes, skips}
+use Rattle.f3_code.specs.Machine.{stuck, goes, skips}
 use Rattle.f3_cells.specs.declared.cell.Cell.{Cell}
 use Rattle.f3_cells.specs.declared.state.State.{State}
 use Rattle.f3_cells.specs.declared.state.Stop.{Stop}
 use Rattle.f3_cells.specs.declared.state.Stop.TheVariants as stop
 use Rattle.f3_cells.specs.Cells.{cell_of, cells_of}
 use Rattle.f3_cells.specs.States.{state_of, world_of}
-use Rattle.f3_cells.specs.Follows.{GoesOn, StopsSo, IsLost, StopsBy, Follows}
+use Rattle.f3_cells.specs.Follows.{GoesOn, StopsSo, Follows}
 use Rattle.f3_cells.specs.Moves.{AheadBy, AheadWith, Moved, OnWith, WentAhead, WentAheadWith, WentOn}
 
 -- the machine is stuck
@@ -72,8 +70,8 @@ pub went_ahead : (code : Code) (place : Place) (p : Program) {next : Next} {r : 
 went_ahead code place p {next = next} {r = r} {d = d} {total = total} {mid = mid} {new = new} size h e =
     ahead_by code next r place p d total mid new size h.by e
 
-ahead_with : (code : Code) (next : Next) (r : Result ⊤ Stop) (place : Place) (p : Program) (x : Cell) (d total : ℕ) (mid new : State) → length code.lines ≡ total
-    → AheadWith x d total r mid new → next ≡ skips (state_of p mid) d (cell_of p x ∷ cells_of p mid.stack.items) → Follows code next r (state_of p new) place
+ahead_with : (code : Code) (next : Next) (r : Result ⊤ Stop) (place : Place) (p : Program) (x : Cell) (d total : ℕ) (mid new : State)
+    → length code.lines ≡ total → AheadWith x d total r mid new → next ≡ skips (state_of p mid) d (cell_of p x ∷ cells_of p mid.stack.items) → Follows code next r (state_of p new) place
 ahead_with code next (Ok done) place p x d total mid new size h e = ([], e ∙ sym (h p), refl)
 ahead_with code next (Err stop.Lost) place p x d total mid new size h e =
     let to : s.State = record {

@@ -2,7 +2,8 @@
 
 ghost use Rattle.std.specs.Prelude.{◌≡◌, ◌<◌, ◌^◌, IfOk};
 ghost use Rattle.f3_rules.specs.declared.source.Place.{Place};
-ghost use Rattle.f3_code.specs.declared.instruction.Instruction.TheVariants.{Begin, SetPlace, Meets, Selecting, Leave, Depart, SelectVariable, SelectValue, Associated, NextObject, CountNext, Discard, Finish};
+ghost use Rattle.f3_code.specs.declared.instruction.Instruction.TheVariants.{Begin, SetPlace, Meets, Selecting, Leave, Depart};
+ghost use Rattle.f3_code.specs.declared.instruction.Instruction.TheVariants.{SelectVariable, SelectValue, Associated, NextObject, CountNext, Discard, Finish};
 ghost use Rattle.f3_code.specs.declared.instruction.Instruction.TheVariants as instruction;
 ghost use Rattle.f3_arithmetic.specs.Turns.{turns_of};
 ghost use Rattle.f3_program.specs.declared.program.Program.{Program};
@@ -48,18 +49,16 @@ pub fn discard(state: &mut State) -> Result<(), Stop>
 }
 
 /// The run stops (ISO/IEC 1539-1:2004, 8.4).
-pub fn stop(state: &mut State, number: Option<u32>) -> Result<(), Stop>
-    ensures { Does (instruction.Stop number) result state.old state.new }
+pub fn stop(_state: &mut State, number: Option<u32>) -> Result<(), Stop>
+    ensures { Does (instruction.Stop number) result _state.old _state.new }
 {
-    let _ = state;
     Err(Stop::Stopped(number))
 }
 
 /// The end of the run.
-pub fn finish(state: &mut State) -> Result<(), Stop>
-    ensures { Does Finish result state.old state.new }
+pub fn finish(_state: &mut State) -> Result<(), Stop>
+    ensures { Does Finish result _state.old _state.new }
 {
-    let _ = state;
     Err(Stop::Done)
 }
 

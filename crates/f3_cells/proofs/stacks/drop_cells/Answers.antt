@@ -1,4 +1,4 @@
-use Rattle.std.proofs.Common.{◌≡◌, ◌-◌, length, take, ap, ◌∙◌, arith}
+use Rattle.std.proofs.Common.{◌≡◌, ◌-◌, length, take, ap, ◌∙◌}
 use Rattle.f3_cells.specs.Cells.{cells_of}
 use Rattle.f3_cells.proofs.Below.{dropped}
 use Rattle.f3_cells.proofs.stacks.drop_cells.Goals as goal
