@@ -2,7 +2,7 @@
 use Rattle.std.proofs.Common.{◌≡◌, ℕ, ◌-◌, ◌<◌, ◌≤◌, Bool, true, false, List, [], ◌∷◌, ◌++◌, length, take, drop, map, reverse, inl, inr, refl, sym, ap, ◌∙◌, arith}
 use Rattle.std.proofs.lemmas.List.{drop-map, drop_at, drop_all, take-append-drop, reverse-append, length-reverse, length-drop}
 use Rattle.std.proofs.lemmas.Bool.{cases_lt}
-use Rattle.std.specs.Prelude.{⊤}
+use Rattle.std.specs.Prelude.{⊤, Ok, Err}
 use Rattle.f3_meaning_whole.specs.Value as v
 use Rattle.f3_meaning_whole.specs.Value.{spread}
 use Rattle.f3_meaning_whole.specs.Store as t
@@ -13,7 +13,12 @@ use Rattle.f3_meaning_whole.specs.declared.run_error.RunError.TheVariants.{InUse
 use Rattle.f3_meaning_whole.specs.Ran.{Event, Gives, Fails, World, ◌>>=◌, gives, fails, looks, does, behind}
 use Rattle.f3_meaning_whole.specs.Act.{Setting, Here, change}
 use Rattle.f3_meaning_whole.specs.Exec.{take_over}
-use Rattle.f3_code.specs.Machine.{no_calls}
+use Rattle.f3_code.specs.Machine.{no_calls, performs, ends_so}
+use Rattle.f3_code.specs.State as s
+use Rattle.f3_cells.specs.declared.state.Stop.{Stop}
+use Rattle.f3_cells.specs.declared.state.Stop.TheVariants as stop
+use Rattle.f3_cells.specs.Follows.{Follows}
+use Rattle.f3_allocation_steps.specs.Acts.{TakesOver}
 use Rattle.f3_data.specs.declared.store.Store.{Store}
 use Rattle.f3_data.specs.declared.reference.Reference.{Reference}
 use Rattle.f3_data.specs.Stores.{store_of}
@@ -81,3 +86,15 @@ pub was_in_use : (from to : m.Reference) (g : Setting) (here : Here) (old : Stor
     → (looks (λ store. get store from.path) >>= λ x. take_over g 0 no_calls from to x here).from (world_of old) ≡ record { out = []; end = Fails InUse here.place }
 unfolding ◌>>=◌ looks
 was_in_use from to g here old x e h = ap (λ y. behind [] ((take_over g 0 no_calls from to y here).from (world_of old))) e ∙ ap (behind []) (in_use from to g here (world_of old) x h)
+
+-- it did not
+pub not_over : (code : s.Code) (end : s.State) (here : Here) (from to : m.Reference) (lent : List m.Reference) (e : Stop) (old new : Store) (g : Setting) (k : ⊤ → World → s.State) (next : s.Next)
+    → next ≡ performs (looks (λ store. get store from.path) >>= λ x. take_over g 0 no_calls from to x here) (world_of old) k → here.lent ≡ lent
+    → TakesOver from to lent (Err e) old new → Follows code next (Err e) end here.place
+not_over code end here from to lent (stop.Failed error) old new g k next n l h = ([], n ∙ ap (λ o. ends_so o.out o.end k) (h g here l), refl)
+not_over code end here from to lent stop.Memory old new g k next n l h = tt
+not_over code end here from to lent stop.Stuck old new g k next n l h = absurd h
+not_over code end here from to lent stop.Done old new g k next n l h = absurd h
+not_over code end here from to lent (stop.Stopped number) old new g k next n l h = absurd h
+not_over code end here from to lent stop.Lost old new g k next n l h = absurd h
+not_over code end here from to lent stop.Refused old new g k next n l h = absurd h
