@@ -1,8 +1,8 @@
 -- What a MOVE_ALLOC comes to.
-use Rattle.std.proofs.Common.{◌≡◌, ℕ, ◌-◌, ◌<◌, ◌≤◌, Bool, true, false, List, [], ◌∷◌, ◌++◌, length, take, drop, map, reverse, inl, inr, refl, sym, ap, ◌∙◌, arith}
+use Rattle.std.proofs.Common.{◌≡◌, ℕ, ◌-◌, ◌<◌, ◌≤◌, true, false, List, [], ◌++◌, length, take, drop, map, reverse, inl, inr, refl, sym, ap, ◌∙◌, arith}
 use Rattle.std.proofs.lemmas.List.{drop-map, drop_at, drop_all, take-append-drop, reverse-append, length-reverse, length-drop}
 use Rattle.std.proofs.lemmas.Bool.{cases_lt}
-use Rattle.std.specs.Prelude.{⊤, Ok, Err}
+use Rattle.std.specs.Prelude.{⊤, Err}
 use Rattle.f3_meaning_whole.specs.Value as v
 use Rattle.f3_meaning_whole.specs.Value.{spread}
 use Rattle.f3_meaning_whole.specs.Store as t
@@ -10,7 +10,7 @@ use Rattle.f3_meaning_whole.specs.Store.{put_all, get}
 use Rattle.f3_meaning_whole.specs.Reference as m
 use Rattle.f3_meaning_whole.specs.Reference.{paths, is_pinned}
 use Rattle.f3_meaning_whole.specs.declared.run_error.RunError.TheVariants.{InUse}
-use Rattle.f3_meaning_whole.specs.Ran.{Event, Gives, Fails, World, ◌>>=◌, gives, fails, looks, does, behind}
+use Rattle.f3_meaning_whole.specs.Ran.{Gives, Fails, World, ◌>>=◌, gives, fails, looks, does, behind}
 use Rattle.f3_meaning_whole.specs.Act.{Setting, Here, change}
 use Rattle.f3_meaning_whole.specs.Exec.{take_over}
 use Rattle.f3_code.specs.Machine.{no_calls, performs, ends_so}

@@ -1,4 +1,4 @@
-use Rattle.std.proofs.Common.{◌+◌, List, reverse, refl, sym, ap, ◌∙◌}
+use Rattle.std.proofs.Common.{◌+◌, List, reverse, sym, ap, ◌∙◌}
 use Rattle.std.specs.Prelude.{⊤, drop}
 use Rattle.f3_program.specs.declared.program.Program.{Program}
 use Rattle.f3_meaning_whole.specs.Reference as m

@@ -1,4 +1,4 @@
-use Rattle.std.proofs.Common.{[], refl, sym, ◌∙◌}
+use Rattle.std.proofs.Common.{[], refl, ◌∙◌}
 use Rattle.f3_data.specs.Values.{value_of}
 use Rattle.f3_cells.proofs.Steps.{is_stuck, moved_on}
 use Rattle.f3_allocation_steps.proofs.Acting.{at_object, at_datum, passed, failed, ranked, unranked}
