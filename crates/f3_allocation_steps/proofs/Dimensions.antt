@@ -1,6 +1,6 @@
 -- What an ALLOCATE comes to, where the heap grants each request.
 use Rattle.std.proofs.Common.{◌≡◌, ℕ, zero, suc, ◌<◌, ◌≤◌, ◌^◌, ℤ, Bool, true, false, nat_lt, List, [], ◌∷◌, length, get_or, map, refl, sym, ap, ◌∙◌, arith}
-use Rattle.std.specs.Prelude.{⊤, Option, None, Some, if◌then◌else◌}
+use Rattle.std.specs.Prelude.{Option, None, Some, if◌then◌else◌}
 use Rattle.std.proofs.lemmas.Grind.{common_steps}
 use Rattle.f3_meaning_whole.specs.Value as v
 use Rattle.f3_meaning_whole.specs.Value.{spread}
@@ -9,7 +9,7 @@ use Rattle.f3_meaning_whole.specs.Store.{put_all, get}
 use Rattle.f3_meaning_whole.specs.Reference as m
 use Rattle.f3_meaning_whole.specs.Reference.{paths}
 use Rattle.f3_meaning_whole.specs.declared.run_error.RunError.TheVariants.{AlreadyAllocated, ArrayTooLarge}
-use Rattle.f3_meaning_whole.specs.Ran.{Event, Asked, Gives, World, ◌>>=◌, gives, looks, does, asks}
+use Rattle.f3_meaning_whole.specs.Ran.{Asked, Gives, ◌>>=◌, gives, looks, does, asks}
 use Rattle.f3_meaning_whole.specs.Act.{Here, change}
 use Rattle.f3_meaning_whole.specs.Exec.{vacant, too_many}
 use Rattle.f3_core.specs.Exec.{allocate}

@@ -17,9 +17,9 @@ pub mapped_at : (f : ℕ → Path) (ns : List ℕ) (k n : ℕ) → slice_get ns 
 mapped_at f [] k n h = cc
 mapped_at f (x ∷ ns) zero n h = ap f' h
   where
-  f' : Option ℕ → Option Path
-  f' (Some n) = Some (f n)
-  f' None = None
+    f' : Option ℕ → Option Path
+    f' (Some n) = Some (f n)
+    f' None = None
 mapped_at f (x ∷ ns) (suc k) n h = mapped_at f ns k n h
 
 -- those from a number on begin with the one of that number

@@ -1,5 +1,5 @@
 -- What instructions about allocation come to.
-use Rattle.std.specs.Prelude.{⊤, ◌≡◌, ℕ, Bool, false, ◌||◌, nat_lt, List, [], Option, None, Some, Result, if◌then◌else◌, length}
+use Rattle.std.specs.Prelude.{⊤, ◌≡◌, ℕ, Bool, false, ◌||◌, nat_lt, List, [], Option, None, Some, Result, Ok, Err, if◌then◌else◌, length}
 use Rattle.f3_rules.specs.declared.source.Place.{Place}
 use Rattle.f3_program.specs.declared.program.Program.{Program}
 use Rattle.f3_program.specs.declared.declarations.Base.{Base}
@@ -8,20 +8,21 @@ use Rattle.f3_meaning_whole.specs.Store as s
 use Rattle.f3_meaning_whole.specs.Reference.{Reference, is_pinned}
 use Rattle.f3_meaning_whole.specs.declared.run_error.RunError.{RunError}
 use Rattle.f3_meaning_whole.specs.declared.run_error.RunError.TheVariants.{NotAllocated, InUse}
-use Rattle.f3_meaning_whole.specs.Ran.{Event, Gives, Ran}
+use Rattle.f3_meaning_whole.specs.Ran.{Event, Gives, Fails, Ran, ◌>>=◌, looks}
 use Rattle.f3_meaning_whole.specs.Run.{output}
-use Rattle.f3_meaning_whole.specs.Exec.{too_many}
+use Rattle.f3_meaning_whole.specs.Exec.{too_many, take_over}
 use Rattle.f3_meaning_whole.specs.Act.{Setting, Here, at}
 use Rattle.f3_data.specs.declared.value.Span.{Span}
 use Rattle.f3_data.specs.declared.store.Store.{Store}
 use Rattle.f3_data.specs.Values.{spans_of}
 use Rattle.f3_code.specs.declared.instruction.Instruction.{Instruction}
 use Rattle.f3_code.specs.State as c
-use Rattle.f3_code.specs.Machine.{act, branches, goes, skips}
+use Rattle.f3_code.specs.Machine.{act, branches, goes, skips, no_calls}
 use Rattle.f3_gen_values.specs.Emitted.{taken}
 use Rattle.f3_cells.specs.declared.scene.Scene.{Scene}
 use Rattle.f3_cells.specs.declared.state.State.{State}
 use Rattle.f3_cells.specs.declared.state.Stop.{Stop}
+use Rattle.f3_cells.specs.declared.state.Stop.TheVariants as stop
 use Rattle.f3_cells.specs.Cells.{here_of}
 use Rattle.f3_cells.specs.States.{state_of, world_of, setting}
 use Rattle.f3_cells.specs.Follows.{Follows, DoesThere}
@@ -56,3 +57,12 @@ pub record FitsIn (spans : List Span) (ss : List m.Span) : Type 0 where
 -- a part of a run gives this wherever it is, and the store becomes that, and no byte is printed
 abbrev pub Performs : {A : Type 0} → (Here → Ran A) → Store → A → Store → Type 0
 Performs m old x new = (here : Here) → (out : List Event) × ((m here).from (world_of old) ≡ record { out = out; end = Gives x (world_of new) }) × (output out ≡ [])
+
+-- what an object holds goes to another, wherever these are lent, or it is in use; of want of memory nothing is said here
+abbrev pub TakesOver : Reference → Reference → List Reference → Result ⊤ Stop → Store → Store → Type 0
+TakesOver from to lent (Ok done) old new = (g : Setting) (here : Here) → here.lent ≡ lent → (out : List Event)
+    × ((looks (λ store. s.get store from.path) >>= λ x. take_over g 0 no_calls from to x here).from (world_of old) ≡ record { out = out; end = Gives tt (world_of new) }) × (output out ≡ [])
+TakesOver from to lent (Err (stop.Failed error)) old new = (g : Setting) (here : Here) → here.lent ≡ lent
+    → (looks (λ store. s.get store from.path) >>= λ x. take_over g 0 no_calls from to x here).from (world_of old) ≡ record { out = []; end = Fails error here.place }
+TakesOver from to lent (Err stop.Memory) old new = ⊤
+TakesOver from to lent (Err e) old new = ⊥

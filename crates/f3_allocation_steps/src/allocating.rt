@@ -45,12 +45,7 @@ fn line_value(alloc: Global, program: &Program, of: Option<Base>) -> Result<Valu
 }
 
 /// The object takes the line's value: that with which an object of a type begins.
-pub fn set(
-    alloc: Global,
-    scene: &Scene,
-    state: &mut State,
-    begin: Option<Base>,
-) -> Result<(), Stop>
+pub fn set(alloc: Global, scene: &Scene, state: &mut State, begin: Option<Base>) -> Result<(), Stop>
     requires { state.old.pc < 2 ^ 63 }
     ensures { DoesWith scene.now begin i.Set result state.old state.new }
 {
@@ -142,10 +137,7 @@ fn extent_of(turns: Option<u64>) -> Option<u64>
 
 /// The bounds of dimensions, each with its lower bound and how many subscripts follow its first, if there is one: none where there
 /// are too many subscripts.
-fn spans_in(
-    alloc: Global,
-    extents: &[(i64, Option<u64>)],
-) -> Result<Option<Vec<Span>>, AllocError>
+fn spans_in(alloc: Global, extents: &[(i64, Option<u64>)]) -> Result<Option<Vec<Span>>, AllocError>
     ensures { IfOk result (λ found. MatchOption found (too_many (map extent_in extents.now) ≡ true) (λ ss. view.spans_of ss.items ≡ map extent_in extents.now)) }
 {
     let mut spans = Vec::new(alloc);

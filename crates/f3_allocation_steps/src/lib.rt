@@ -2,5 +2,6 @@
 #![tactic(auto)]
 
 pub mod allocating;
+pub mod moving;
 pub mod states;
 pub mod work;

@@ -1,4 +1,4 @@
-use Rattle.std.proofs.Common.{[], ◌∷◌, map, refl, sym, ap, subst, ◌∙◌}
+use Rattle.std.proofs.Common.{◌∷◌, map, ap, subst, ◌∙◌}
 use Rattle.f3_meaning_whole.specs.Act.{at}
 use Rattle.f3_data.specs.References.{reference_of}
 use Rattle.f3_core.specs.Exec.{allocate}

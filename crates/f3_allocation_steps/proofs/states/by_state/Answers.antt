@@ -1,4 +1,4 @@
-use Rattle.std.proofs.Common.{refl, sym, ◌∙◌}
+use Rattle.std.proofs.Common.{◌∙◌}
 use Rattle.f3_cells.specs.States.{state_of}
 use Rattle.f3_cells.proofs.Steps.{is_stuck, moved_on, went_ahead}
 use Rattle.f3_allocation_steps.proofs.Acting.{at_object, at_datum}

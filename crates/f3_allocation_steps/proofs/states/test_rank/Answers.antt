@@ -1,4 +1,4 @@
-use Rattle.std.proofs.Common.{[], refl, sym, ◌∙◌}
+use Rattle.std.proofs.Common.{[], refl, ◌∙◌}
 use Rattle.f3_data.specs.Values.{value_of}
 use Rattle.f3_cells.proofs.Steps.{is_stuck, moved_on}
 use Rattle.f3_allocation_steps.proofs.Acting.{at_object, at_datum, passed, failed, ranked, unranked}
@@ -16,6 +16,9 @@ returns-then-rank-spans_of c = λ p limit g code v here.
     ∙ passed _ _ here _ _ (ranked c.args.rank c.spans_of.result.now (value_of c.in-Some-datum_at.value.now) c.if-rank-spans_of.true c.spans_of.ensures))
 
 pub returns-else-rank-spans_of : goal.returns-else-rank-spans_of
-returns-else-rank-spans_of c = λ p limit g code v here.
-    ([], at_object _ (c.in-Some.ensures p) ∙ at_datum _ (c.in-Some-datum_at.ensures p)
-    ∙ failed _ _ here _ _ (unranked c.args.rank c.spans_of.result.now (value_of c.in-Some-datum_at.value.now) c.if-rank-spans_of.false c.spans_of.ensures), refl)
+returns-else-rank-spans_of c = λ p limit g code v here. (
+  [],
+  at_object _ (c.in-Some.ensures p) ∙ at_datum _ (c.in-Some-datum_at.ensures p)
+      ∙ failed _ _ here _ _ (unranked c.args.rank c.spans_of.result.now (value_of c.in-Some-datum_at.value.now) c.if-rank-spans_of.false c.spans_of.ensures),
+  refl,
+)

@@ -16,8 +16,12 @@ pub returns-in_default : goal.returns-in_default
 returns-in_default c = λ place p limit g code v. is_stuck (c.in_default.ensures p _)
 
 pub returns-then-is_pinned : goal.returns-then-is_pinned
-returns-then-is_pinned c = λ place p limit g code v. ([], at_object _ (c.in-Some.ensures p)
-    ∙ shut (reference_of c.in-Some.object.now) (at place (here_of p c.args.state.now.here)) _ _ (ap (λ l. is_pinned (path_of c.in-Some.object.now.path) (references_of (reverse l))) (sym c.deref.ensures.value) ∙ sym c.is_pinned.ensures ∙ c.if-is_pinned.true), refl)
+returns-then-is_pinned c = λ place p limit g code v. (
+  [],
+  at_object _ (c.in-Some.ensures p)
+      ∙ shut (reference_of c.in-Some.object.now) (at place (here_of p c.args.state.now.here)) _ _ (ap (λ l. is_pinned (path_of c.in-Some.object.now.path) (references_of (reverse l))) (sym c.deref.ensures.value) ∙ sym c.is_pinned.ensures ∙ c.if-is_pinned.true),
+  refl,
+)
 
 pub returns-in-Some-found : goal.returns-in-Some-found
 returns-in-Some-found c = λ place p limit g code v.
@@ -31,8 +35,11 @@ returns-in-Some-found c = λ place p limit g code v.
 pub returns-in-None : goal.returns-in-None
 returns-in-None c = λ place p limit g code v.
     let here = at place (here_of p c.args.state.now.here) in
-    let st = c.args.state.now in
-    ([], at_object _ (c.in-Some.ensures p)
-    ∙ unshut (reference_of c.in-Some.object.now) here _ _ (ap (λ l. is_pinned (path_of c.in-Some.object.now.path) (references_of (reverse l))) (sym c.deref.ensures.value) ∙ sym c.is_pinned.ensures ∙ c.if-is_pinned.false)
-    ∙ ap (λ (q : Reference). performs (contents q here) (world_of st.store) (λ q. on (state_of p st) (s.Object q ∷ cells_of p st.stack.items))) (sym c.in_ok-whole.ensures)
-    ∙ missed (contents (reference_of c.in_ok-whole.whole) here) st.store NotAllocated place (λ q. on (state_of p st) (s.Object q ∷ cells_of p st.stack.items)) (rw c.in-None.is at (c.in_ok-found.ensures here)), refl)
+    let st = c.args.state.now in (
+      [],
+      at_object _ (c.in-Some.ensures p)
+          ∙ unshut (reference_of c.in-Some.object.now) here _ _ (ap (λ l. is_pinned (path_of c.in-Some.object.now.path) (references_of (reverse l))) (sym c.deref.ensures.value) ∙ sym c.is_pinned.ensures ∙ c.if-is_pinned.false)
+          ∙ ap (λ (q : Reference). performs (contents q here) (world_of st.store) (λ q. on (state_of p st) (s.Object q ∷ cells_of p st.stack.items))) (sym c.in_ok-whole.ensures)
+          ∙ missed (contents (reference_of c.in_ok-whole.whole) here) st.store NotAllocated place (λ q. on (state_of p st) (s.Object q ∷ cells_of p st.stack.items)) (rw c.in-None.is at (c.in_ok-found.ensures here)),
+      refl,
+    )

@@ -1,9 +1,7 @@
-use Rattle.std.proofs.Common.{◌+◌, ◌∷◌, drop, refl, ap, sym, ◌∙◌, arith}
-use Rattle.f3_meaning_whole.specs.Reference.{Reference, paths}
+use Rattle.std.proofs.Common.{◌∙◌, arith}
+use Rattle.f3_meaning_whole.specs.Reference.{paths}
 use Rattle.f3_data.specs.Stores.{path_of}
 use Rattle.f3_data.specs.References.{reference_of}
-use Rattle.f3_code.specs.State as s
-use Rattle.f3_code.specs.Machine.{goes, next_element}
 use Rattle.f3_cells.specs.Cells.{cells_of}
 use Rattle.f3_cells.specs.States.{state_of}
 use Rattle.f3_cells.proofs.Steps.{is_stuck, went_ahead, went_on}

@@ -1,4 +1,4 @@
-use Rattle.std.proofs.Common.{◌∷◌, refl, ap, sym, ◌∙◌}
+use Rattle.std.proofs.Common.{◌∷◌, ap, sym, ◌∙◌}
 use Rattle.f3_meaning_whole.specs.Reference.{Reference, Language}
 use Rattle.f3_meaning_whole.specs.Act.{component}
 use Rattle.f3_data.specs.References.{reference_of}

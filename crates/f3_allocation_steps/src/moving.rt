@@ -1,0 +1,94 @@
+//! What an object takes over from another.
+
+ghost use Rattle.std.specs.Prelude.{◌≡◌, ◌<◌, ◌^◌, OnOk, drop, length, reverse};
+ghost use Rattle.f3_rules.specs.declared.source.Place.{Place};
+ghost use Rattle.f3_meaning_whole.specs.Value as m;
+ghost use Rattle.f3_meaning_whole.specs.Value.{spread};
+ghost use Rattle.f3_meaning_whole.specs.Store.{put_all};
+ghost use Rattle.f3_meaning_whole.specs.Reference.{paths};
+ghost use Rattle.f3_data.specs.Values.{value_of};
+ghost use Rattle.f3_data.specs.Stores.{store_of};
+ghost use Rattle.f3_data.specs.References.{reference_of, references_of};
+ghost use Rattle.f3_code.specs.declared.instruction.Instruction.TheVariants as i;
+ghost use Rattle.f3_cells.specs.Follows.{DoesAt};
+ghost use Rattle.f3_allocation_steps.specs.Acts.{TakesOver};
+
+use f3_cells::stacks::pop_object;
+use f3_cells::state::{State, Stop};
+use f3_data::copies;
+use f3_data::reference::Reference;
+use f3_data::store::Store;
+use f3_data::value::Value;
+use f3_located::changes;
+use f3_located::parts::held_at;
+use f3_located::pins::is_pinned;
+use f3_meaning_whole::run_error::RunError;
+use std::alloc::{AllocError, Global};
+
+/// An object is unallocated, and then another holds a value.
+fn hand_over(
+    alloc: Global,
+    store: &mut Store,
+    from: &Reference,
+    to: &Reference,
+    value: Value,
+) -> Result<(), AllocError>
+    ensures { OnOk result (store_of store.new ≡ put_all (paths (reference_of to.now)) (spread (length (paths (reference_of to.now))) (m.Allocated (value_of value))) (put_all (paths (reference_of from.now)) (spread (length (paths (reference_of from.now))) m.Unallocated) (store_of store.old))) }
+{
+    let held = Value::Allocated(Box::new(alloc, value)?);
+    changes::set(alloc, store, from, Value::Unallocated)?;
+    changes::set(alloc, store, to, held)
+}
+
+/// An object takes what another holds, if it holds something (ISO/IEC 1539-1:2004, 13.7.82). `InUse` where that is in use (own rule).
+fn take_contents(
+    alloc: Global,
+    store: &mut Store,
+    from: &Reference,
+    to: &Reference,
+    lent: &[Reference],
+) -> Result<(), Stop>
+    ensures { TakesOver (reference_of from.now) (reference_of to.now) (references_of (reverse lent.now)) result store.old store.new }
+{
+    let Some(held) = held_at(store, &from.path) else {
+        return Ok(());
+    };
+    if is_pinned(&from.path, lent) {
+        return Err(Stop::Failed(RunError::InUse));
+    }
+    let value = copies::value(alloc, held)?;
+    hand_over(alloc, store, from, to, value)?;
+    Ok(())
+}
+
+/// The two objects that were lent last are lent no longer.
+fn unlend_both(lent: &mut Vec<Reference>)
+    ensures { references_of (reverse lent.new.items) ≡ drop 2 (references_of (reverse lent.old.items)) }
+{
+    lent.truncate(lent.len().saturating_sub(2));
+}
+
+/// The object on top takes what the other holds, and both are lent no longer (13.7.82). `InUse` (own rule).
+pub fn take_over(alloc: Global, state: &mut State) -> Result<(), Stop>
+    requires { state.old.pc < 2 ^ 63 }
+    ensures { (place : Place) → DoesAt place i.TakeOver result state.old state.new }
+{
+    let Some(to) = pop_object(&mut state.stack) else {
+        return Err(Stop::Stuck);
+    };
+    let Some(from) = pop_object(&mut state.stack) else {
+        drop(to);
+        return Err(Stop::Stuck);
+    };
+    let done = take_contents(alloc, &mut state.store, &from, &to, &state.here.lent);
+    drop(from);
+    drop(to);
+    match done {
+        Ok(()) => {
+            unlend_both(&mut state.here.lent);
+            state.advance();
+            Ok(())
+        }
+        Err(stop) => Err(stop),
+    }
+}
