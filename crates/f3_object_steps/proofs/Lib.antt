@@ -5,3 +5,7 @@ pub mod Turning
 pub mod Meant
 pub mod Stepping
 pub mod Selecting
+pub mod Selections
+pub mod Picks
+pub mod Walks
+mod Tops

@@ -1,4 +1,6 @@
+pub mod Taken
 pub mod Performed
 pub mod Parts
 pub mod Walks
 pub mod Selections
+pub mod Picks

@@ -11,12 +11,12 @@ ghost use Rattle.f3_meaning_whole.specs.Act.{Here};
 ghost use Rattle.f3_data.specs.Values.{value_of, spans_of};
 ghost use Rattle.f3_data.specs.Stores.{path_of, store_of};
 ghost use Rattle.f3_data.specs.References.{reach_in, reference_of};
-ghost use Rattle.f3_cells.specs.Popped.{PoppedPair, same};
+ghost use Rattle.f3_object_steps.specs.Taken.{PoppedPair, same};
 ghost use Rattle.f3_object_steps.specs.Parts.{fills, takes, counts, on_assigned, on_reported};
 ghost use Rattle.f3_object_steps.specs.Performed.{Performed};
 
 use f3_cells::cell::Cell;
-use f3_cells::stacks::{pop_datum, pop_object, pop_status};
+use crate::taking::{pop_datum, pop_object, pop_status};
 use f3_cells::state::Stop;
 use f3_data::reference::{Reach, Reference};
 use f3_data::store::{Path, Store};

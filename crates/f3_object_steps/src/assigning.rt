@@ -6,8 +6,8 @@ ghost use Rattle.f3_cells.specs.Follows.{Does};
 
 use crate::acts::{assign, has_rank, has_shape, pop_assigned, pop_reported, read, set};
 use f3_cells::cell::Cell;
-use f3_cells::look::{datum_at, object_at};
-use f3_cells::stacks::pop_object;
+use crate::taking::{datum_at, object_at};
+use crate::taking::pop_object;
 use f3_cells::state::{State, Stop};
 use f3_meaning_whole::run_error::RunError;
 use f3_program::declarations::Base;

@@ -8,12 +8,12 @@ ghost use Rattle.f3_gen_values.specs.Emitted.{taken};
 ghost use Rattle.f3_code.specs.declared.instruction.Instruction.TheVariants as i;
 ghost use Rattle.f3_data.specs.Values.{value_of};
 ghost use Rattle.f3_data.specs.References.{reference_of};
-ghost use Rattle.f3_cells.specs.Popped.{same};
+ghost use Rattle.f3_object_steps.specs.Taken.{same};
 ghost use Rattle.f3_cells.specs.Follows.{Does, DoesThere};
 ghost use Rattle.f3_cells.specs.States.{setting};
 ghost use Rattle.f3_object_steps.specs.Performed.{Performed};
 
-use f3_cells::look::object_at;
+use crate::taking::object_at;
 use f3_cells::scene::Scene;
 use f3_cells::state::{State, Stop};
 use f3_data::reference::Reference;

@@ -8,10 +8,13 @@ ghost use Rattle.f3_data.specs.References.{reference_of};
 ghost use Rattle.f3_cells.specs.Follows.{Does, DoesThere};
 
 use crate::naming;
+use crate::picking::selects;
 use f3_cells::cell::Cell;
-use f3_cells::look::object_at;
+use crate::taking::object_at;
+use f3_cells::many::pop_choices;
 use f3_cells::scene::Scene;
-use f3_cells::stacks::{pop_object, push};
+use crate::taking::pop_object;
+use f3_cells::stacks::push;
 use f3_cells::state::{State, Stop};
 use f3_data::copies;
 use f3_data::reference::{Maker, Reference};
@@ -113,6 +116,48 @@ pub fn work_component(
         Maker::Language,
     ) {
         Ok(part) => state.go_on_with(Cell::Object(part)),
+        Err(stop) => Err(stop),
+    }
+}
+
+/// Elements by so many subscripts, after what an allocatable holds where the flag is set (6.2.2).
+pub fn select(
+    alloc: Global,
+    state: &mut State,
+    is_opened: bool,
+    count: usize,
+) -> Result<(), Stop>
+    requires { state.old.pc < 2 ^ 63 }
+    ensures { Does (i.Select is_opened count) result state.old state.new }
+{
+    let chosen = match pop_choices(alloc, &mut state.stack, count) {
+        Ok(chosen) => chosen,
+        Err(stop) => return Err(stop),
+    };
+    let Some(object) = pop_object(&mut state.stack) else {
+        return Err(Stop::Stuck);
+    };
+    match selects(alloc, &state.store, object, is_opened, &chosen) {
+        Ok(part) => state.go_on_with(Cell::Object(part)),
+        Err(stop) => Err(stop),
+    }
+}
+
+/// What the object on top holds, unless it is in use (6.3.3).
+pub fn open_contents(
+    alloc: Global,
+    scene: &Scene<'_>,
+    state: &mut State,
+) -> Result<(), Stop>
+    requires { state.old.pc < 2 ^ 63 }
+    ensures { (v : Value) (place : Place) → DoesThere scene.now i.OpenContents v place result state.old state.new }
+{
+    let Some(object) = object_at(&state.stack, 0) else {
+        return Err(Stop::Stuck);
+    };
+    let copy = copy_of(alloc, object)?;
+    match naming::opened(alloc, &state.store, &state.here.lent, copy) {
+        Ok(held) => state.go_on_with(Cell::Object(held)),
         Err(stop) => Err(stop),
     }
 }

@@ -1,11 +1,11 @@
 //! The elements that are selected of an array.
 
-ghost use Rattle.std.specs.Prelude.{◌≡◌, ◌+◌, ◌*◌, ◌++◌, ◌-ℤ◌, [], ◌∷◌, nat_abs, nat_lt, map, true, false, IfOk, OnOk, MatchOption};
+ghost use Rattle.std.specs.Prelude.{◌≡◌, length, ◌+◌, ◌*◌, ◌++◌, ◌-ℤ◌, [], ◌∷◌, nat_abs, nat_lt, map, true, false, IfOk, OnOk, MatchOption};
 ghost use Rattle.std.specs.List.{flat_map};
 ghost use Rattle.f3_meaning_whole.specs.Act.{all_inside, is_inside, places_in, some_zero_step, spans_in, steps_by_zero, subscripts_in};
 ghost use Rattle.f3_data.specs.Values.{span_of, spans_of};
 ghost use Rattle.f3_cells.specs.Cells.{chosen_of};
-ghost use Rattle.f3_object_steps.specs.Selections.{kept, row_of, rows_of, spans_with};
+ghost use Rattle.f3_object_steps.specs.Selections.{kept, row_of, spans_with, AreSelected, Widened};
 
 use crate::subscripts::offsets;
 use f3_cells::cell::Chosen;
@@ -73,9 +73,8 @@ fn rows(
     Ok(places)
 }
 
-/// The bounds of a section with a dimension more, where that is not one subscript.
+/// The bounds of a section with a dimension more, of so many subscripts, where that is not one subscript.
 fn spans_with(
-    span: Span,
     choice: Chosen,
     count: usize,
     mut spans: Vec<Span>,
@@ -94,5 +93,80 @@ fn spans_with(
             )?;
             Ok(spans)
         }
+    }
+}
+
+/// What is selected in one dimension more, by how far the subscripts are from its lower bound.
+fn widened_by(
+    alloc: Global,
+    span: Span,
+    choice: Chosen,
+    offsets: &[u64],
+    behind: Selected,
+    limit: usize,
+) -> Result<Selected, AllocError>
+    ensures places { IfOk result (λ x. x.places.items ≡ kept limit (flat_map (row_of offsets.now span.extent) behind.places.items)) }
+    ensures spans { IfOk result (λ x. spans_of x.spans.items ≡ spans_with (chosen_of choice) (length offsets.now) (spans_of behind.spans.items)) }
+{
+    let Selected { places, spans } = behind;
+    let places = rows(alloc, offsets, span.extent, &places, limit)?;
+    let spans = spans_with(choice, offsets.len(), spans)?;
+    Ok(Selected { places, spans })
+}
+
+/// What is selected in one dimension more: none, where some subscripts are out of bounds.
+fn widened(
+    alloc: Global,
+    span: Span,
+    choice: Chosen,
+    behind: Selected,
+    limit: usize,
+) -> Result<Option<Selected>, AllocError>
+    requires { steps_by_zero (chosen_of choice) ≡ false }
+    ensures { IfOk result (λ found. MatchOption found (is_inside (span_of span) (subscripts_in (span_of span) (chosen_of choice)) ≡ false) (Widened (span_of span) (chosen_of choice) behind limit)) }
+{
+    match offsets(alloc, span, choice)? {
+        Some(offsets) => Ok(Some(widened_by(alloc, span, choice, &offsets, behind, limit)?)),
+        None => {
+            drop(behind);
+            Ok(None)
+        }
+    }
+}
+
+/// Of an array without dimensions the one element is selected, where there is one.
+fn narrowest(alloc: Global, limit: usize) -> Result<Selected, AllocError>
+    ensures { IfOk result (λ x. (x.places.items ≡ kept limit (0 ∷ [])) × (x.spans.items ≡ [])) }
+{
+    let mut places = Vec::new(alloc);
+    if limit > 0 {
+        places.push(0)?;
+    }
+    Ok(Selected {
+        places,
+        spans: Vec::new(alloc),
+    })
+}
+
+/// What is selected of an array with these bounds, of elements before a limit: none, where some subscripts are out of bounds
+/// (ISO/IEC 1539-1:2004, 6.2.2.2, 6.2.2.3).
+pub fn selection(
+    alloc: Global,
+    spans: &[Span],
+    chosen: &[Chosen],
+    limit: usize,
+) -> Result<Option<Selected>, AllocError>
+    requires { some_zero_step (map chosen_of chosen.now) ≡ false }
+    ensures { IfOk result (λ found. MatchOption found (all_inside (spans_of spans.now) (map chosen_of chosen.now) ≡ false) (AreSelected (spans_of spans.now) (map chosen_of chosen.now) limit)) }
+{
+    let Some((span, others)) = spans.split_first() else {
+        return Ok(Some(narrowest(alloc, limit)?));
+    };
+    let Some((choice, rest)) = chosen.split_first() else {
+        return Ok(Some(narrowest(alloc, limit)?));
+    };
+    match selection(alloc, others, rest, limit)? {
+        Some(behind) => widened(alloc, *span, *choice, behind, limit),
+        None => Ok(None),
     }
 }

@@ -14,7 +14,7 @@ returns-in_default c = λ p limit g code v here.
 pub returns-in-Ok : goal.returns-in-Ok
 returns-in-Ok c = λ p limit g code v here.
     assigned_ok on_assigned (act limit g code (i.Take c.args.of) v here (state_of p c.args.state.now)) code p here c.args.state.now c.advance.new.self (λ here r x. takes c.args.of r x here)
-    c.pop_assigned.new.stack c.assign.new.store c.in-Some.object c.in-Some.value refl c.in-Some.ensures c.in-Ok.ensures.take c.advance.ensures
+    c.pop_assigned.new.stack c.assign.new.store c.in-Some.object c.in-Some.value refl c.in-Some.ensures c.in-Ok.ensures.take c.advance.ensures.is
 
 pub returns-in-Err : goal.returns-in-Err
 returns-in-Err c = λ p limit g code v here.

@@ -15,7 +15,7 @@ returns-in_default c = λ p limit g code v here.
 pub returns-in-Ok : goal.returns-in-Ok
 returns-in-Ok c = λ p limit g code v here.
     worked_ok (act limit g code i.Free v here (state_of p c.args.state.now)) code p here c.args.state.now c.advance.new.self (λ here r. set r Unallocated here) c.put.new.store (reference_of c.in-Some.object.now)
-    refl c.in-Some.ensures c.in-Ok.ensures c.advance.ensures
+    refl c.in-Some.ensures c.in-Ok.ensures c.advance.ensures.is
 
 pub returns-in-Err : goal.returns-in-Err
 returns-in-Err c = λ p limit g code v here.

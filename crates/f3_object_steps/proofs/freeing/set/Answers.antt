@@ -7,7 +7,7 @@ use Rattle.f3_data.specs.Values.{value_of}
 use Rattle.f3_data.specs.References.{reference_of}
 use Rattle.f3_code.specs.declared.instruction.Instruction.TheVariants as i
 use Rattle.f3_code.specs.Machine.{act}
-use Rattle.f3_cells.specs.Popped.{same}
+use Rattle.f3_object_steps.specs.Taken.{same}
 use Rattle.f3_cells.specs.Cells.{here_of}
 use Rattle.f3_cells.specs.States.{state_of, setting, code_of}
 use Rattle.f3_object_steps.specs.Performed.{Performed}
@@ -24,7 +24,7 @@ returns-in-Ok c = λ place. let p = c.args.scene.now.program.now in
     worked_ok (act 1000 (setting p) (code_of c.args.scene.now) i.Set (taken (setting p) c.args.of) (at place (here_of p c.args.state.now.here)) (state_of p c.args.state.now)) (code_of c.args.scene.now) p
     (at place (here_of p c.args.state.now.here)) c.args.state.now c.advance.new.self (λ here r. set r (taken (setting p) c.args.of) here) c.put.new.store (reference_of c.in-Some.object.now) refl c.in-Some.ensures
     (subst (λ (x : Value). Performed (same {X = ⊤}) (λ (here : Here). set (reference_of c.in-Some.object.now) x here) (Ok tt) c.args.state.now.store c.put.new.store) (c.in_ok-value.ensures p (sym c.deref.ensures.value)) c.in-Ok.ensures)
-    c.advance.ensures
+    c.advance.ensures.is
 
 pub returns-in-Err : goal.returns-in-Err
 returns-in-Err c = λ place. let p = c.args.scene.now.program.now in

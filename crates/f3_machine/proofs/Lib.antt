@@ -1,2 +1,0 @@
-pub mod Course
-pub mod Stepping

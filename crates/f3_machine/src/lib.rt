@@ -1,7 +1,0 @@
-//! The machine: it runs the code of a program, instruction by instruction.
-#![tactic(auto)]
-
-pub mod machine;
-pub mod start;
-mod step;
-mod table;
