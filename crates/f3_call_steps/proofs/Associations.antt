@@ -72,8 +72,12 @@ module _ (old : State) (one : Vec Cell Global) (rs : List r.Reference) (objects 
     there p = ap (ending p old) (objects p) ∙ ap (λ cells. on_going cells (leaving p old)) (going p)
 
     pub no_level : (new : State) → ((p : Program) (f : ℕ → List r.Reference → List s.Cell → Next) → on_level (cells_of p two.items) f ≡ stuck) → Does EndAssociate (Err stop.Stuck) old new
-    no_level new none = λ p limit g code v here. ([], there p
-        ∙ none p (λ level rs st. performs (leave level) (world_of old.store) (λ done. on (state_of p old) (s.Going (flow_of flow) ∷ st))), refl)
+    no_level new none = λ p limit g code v here. (
+      [],
+      there p
+          ∙ none p (λ level rs st. performs (leave level) (world_of old.store) (λ done. on (state_of p old) (s.Going (flow_of flow) ∷ st))),
+      refl,
+    )
 
     pub ends : (three : Vec Cell Global) (level : ℕ) (qs : List r.Reference) (result : Result ⊤ Stop) (new : State)
         → ((p : Program) → cells_of p two.items ≡ s.Level level qs ∷ cells_of p three.items)

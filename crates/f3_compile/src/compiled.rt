@@ -1,0 +1,21 @@
+//! Programs that were accepted.
+
+ghost use Rattle.std.specs.Prelude.{◌≡◌};
+ghost use Rattle.f3_compile.specs.Compiled.{program_of};
+
+use f3_program::program::Program;
+
+/// A program that was accepted: only `compile` makes one.
+#[derive(Drop)]
+pub struct Compiled {
+    pub(crate) program: Program,
+}
+
+impl Compiled {
+    /// The program, in which each name is replaced by what it means.
+    pub fn program(&self) -> &Program
+        ensures { result.now ≡ program_of self.now }
+    {
+        &self.program
+    }
+}
