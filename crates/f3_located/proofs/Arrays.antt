@@ -1,9 +1,9 @@
 -- Elements of arrays, in memory and in the meaning.
-use Rattle.std.proofs.Common.{get_or, append_assoc, ◌≡◌, add-one, drop, ℕ, zero, suc, ◌+◌, ◌<◌, ◌≤◌, List, [], ◌∷◌, ◌++◌, length, refl, sym, ap, ◌∙◌, rules, arith, Vec, Global, map, Option, None, Some}
+use Rattle.std.proofs.Common.{get_or, append_assoc, ◌≡◌, drop, ℕ, zero, suc, ◌+◌, ◌<◌, ◌≤◌, List, [], ◌∷◌, ◌++◌, length, refl, sym, ap, ◌∙◌, rules, arith, Vec, Global, map, None, Some}
 use Rattle.std.specs.Prelude.{slice_get}
 use Rattle.f3_meaning_whole.specs.Value as m
 use Rattle.f3_meaning_whole.specs.Value.{joined}
-use Rattle.f3_meaning_whole.specs.Store.{Path, Step, Element, within}
+use Rattle.f3_meaning_whole.specs.Store.{Path, Element, within}
 use Rattle.f3_meaning_whole.specs.Reference as r
 use Rattle.f3_data.specs.declared.value.Span.{Span}
 use Rattle.f3_data.specs.declared.store.Step as t

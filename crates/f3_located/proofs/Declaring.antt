@@ -1,5 +1,5 @@
 -- What is declared of the variables of an activation.
-use Rattle.std.proofs.Common.{◌≡◌, ℕ, zero, suc, ◌<◌, ◌≤◌, List, [], ◌∷◌, ◌++◌, length, refl, sym, ap, ◌∙◌, arith, Option, None, Some}
+use Rattle.std.proofs.Common.{◌≡◌, ℕ, zero, suc, ◌<◌, ◌≤◌, List, [], ◌∷◌, ◌++◌, length, refl, ap, ◌∙◌, arith, Option, None, Some}
 use Rattle.std.specs.Prelude.{slice_get}
 use Rattle.f3_program.specs.declared.declarations.Declared.{Declared}
 use Rattle.f3_meaning_whole.specs.Exec.{with_result}

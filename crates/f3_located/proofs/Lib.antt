@@ -3,4 +3,3 @@ pub mod Lending
 pub mod Declaring
 pub mod Parting
 pub mod Spreading
-pub mod Stepping

@@ -1,5 +1,5 @@
 -- Parts of objects, in memory and in the meaning.
-use Rattle.std.proofs.Common.{◌≡◌, ℕ, ◌+◌, Bool, true, false, List, [], ◌∷◌, ◌++◌, refl, sym, ap, ◌∙◌, rules, arith, Vec, Global, map}
+use Rattle.std.proofs.Common.{◌≡◌, ℕ, false, List, [], ◌∷◌, ◌++◌, refl, sym, ap, ◌∙◌, Vec, Global, map}
 use Rattle.f3_program.specs.declared.declarations.Base.{Base}
 use Rattle.f3_meaning_whole.specs.declared.run_error.RunError.TheVariants.{NotAllocated}
 use Rattle.f3_meaning_whole.specs.Value as v
@@ -7,7 +7,7 @@ use Rattle.f3_meaning_whole.specs.Value.{from_one, is_allocated}
 use Rattle.f3_meaning_whole.specs.Store as s
 use Rattle.f3_meaning_whole.specs.Store.{get, within}
 use Rattle.f3_meaning_whole.specs.Reference as m
-use Rattle.f3_meaning_whole.specs.Ran.{World, Outcome, Gives, Fails, Ran, ◌>>=◌, gives, fails, looks}
+use Rattle.f3_meaning_whole.specs.Ran.{World, Outcome, Gives, Fails, ◌>>=◌, gives, fails, looks}
 use Rattle.f3_meaning_whole.specs.Act.{Setting, Here, moved, opened, contents, component, component_type, component_path, component_reach}
 use Rattle.f3_data.specs.declared.value.Span.{Span}
 use Rattle.f3_data.specs.declared.store.Step as t

@@ -1,12 +1,12 @@
 -- Instructions by what they take, do and leave.
-use Rattle.std.proofs.Common.{◌≡◌, length, arith, zero, suc, ◌≤◌, Bool, true, false, map, ℕ, ◌+◌, List, [], ◌∷◌, refl, sym, ap, ◌∙◌, Result, Ok, Err, Option, None, Some, Vec, Global}
-use Rattle.std.specs.Prelude.{⊤, ℤ, slice_get, if◌then◌else◌}
+use Rattle.std.proofs.Common.{◌≡◌, map, ℕ, ◌+◌, List, [], ◌∷◌, refl, sym, ap, ◌∙◌, Result, Ok, Err, Option, None, Some, Vec, Global}
+use Rattle.std.specs.Prelude.{⊤, ℤ}
 use Rattle.f3_rules.specs.declared.source.Place.{Place}
 use Rattle.f3_program.specs.declared.program.Program.{Program}
 use Rattle.f3_meaning_whole.specs.declared.run_error.RunError.{RunError}
 use Rattle.f3_meaning_whole.specs.Value as v
 use Rattle.f3_meaning_whole.specs.Reference as m
-use Rattle.f3_meaning_whole.specs.Ran.{World, Ran}
+use Rattle.f3_meaning_whole.specs.Ran.{Ran}
 use Rattle.f3_meaning_whole.specs.Act as m'
 use Rattle.f3_meaning_whole.specs.Act.{Setting, Here}
 use Rattle.f3_data.specs.declared.value.Value.{Value}
@@ -14,10 +14,9 @@ use Rattle.f3_data.specs.declared.store.Store.{Store}
 use Rattle.f3_data.specs.declared.reference.Reference.{Reference}
 use Rattle.f3_data.specs.Values.{value_of}
 use Rattle.f3_data.specs.References.{reference_of}
-use Rattle.f3_code.specs.declared.instruction.Instruction.{Instruction}
 use Rattle.f3_code.specs.State.{Code, Line, Next, Goes}
 use Rattle.f3_code.specs.State as s
-use Rattle.f3_code.specs.Machine.{act, choice_of, goes, skips, on_many, stuck, performs, ends_so, on, on_object, on_datum, on_turns}
+use Rattle.f3_code.specs.Machine.{choice_of, on_many, performs, ends_so, on, on_object, on_datum, on_turns}
 use Rattle.f3_cells.specs.declared.cell.Cell.{Cell}
 use Rattle.f3_cells.specs.declared.cell.Cell.TheVariants as cell
 use Rattle.f3_cells.specs.declared.state.State.{State}
@@ -26,12 +25,12 @@ use Rattle.f3_cells.specs.declared.state.Stop.TheVariants as stop
 use Rattle.f3_cells.specs.Cells.{cell_of, cells_of, chosen_of}
 use Rattle.f3_cells.specs.declared.cell.Chosen.{Chosen}
 use Rattle.f3_cells.specs.States.{state_of, world_of}
-use Rattle.f3_cells.specs.Moves.{Moved, WentOn, WentAhead}
+use Rattle.f3_cells.specs.Moves.{Moved, WentOn}
 use Rattle.f3_object_steps.specs.Taken.{Popped, PoppedPair, PoppedMany, Pushed, HasCell, HasNone, Shows, ShowsNone, same}
 use Rattle.f3_cells.specs.Follows.{Follows}
-use Rattle.f3_object_steps.specs.Parts.{HoldsStep, ShowsStep, TookLimits, on_limits, turns_between}
+use Rattle.f3_object_steps.specs.Parts.{on_part, HoldsStep, ShowsStep, TookLimits, on_limits, turns_between}
 use Rattle.f3_object_steps.specs.declared.counting.Limits.{Limits}
-use Rattle.f3_object_steps.specs.Performed.{Comes, FailsSo, Performed, PerformedAt, PerformedBy}
+use Rattle.f3_object_steps.specs.Performed.{Comes, FailsSo, Performed, PerformedAt}
 use Rattle.f3_object_steps.proofs.Ending.{is_stuck, pushes, moves, stops}
 
 -- ---- an object and a value are taken
@@ -259,59 +258,6 @@ added_err next code p here old to part mid object same error e h i c =
     stops code next here to error reference_of (λ (here : Here). part here (reference_of same)) old.store old.store (λ q. on (state_of p old) (s.Object q ∷ s.Object (reference_of object) ∷ cells_of p mid))
     (e ∙ h p (adding p old (part here)) ∙ ap (λ o. performs (part here o) (world_of old.store) (λ q. on (state_of p old) (s.Object q ∷ s.Object (reference_of object) ∷ cells_of p mid))) (sym i)) c
 
--- ---- something is done to the object on top, which stays
-
-abbrev working : Program → State → (m.Reference → Ran ⊤) → m.Reference → List s.Cell → Next
-working p old part r st = performs (part r) (world_of old.store) (λ done. on (state_of p old) (cells_of p old.stack.items))
-
-abbrev pub Works : Next → Program → State → (m.Reference → Ran ⊤) → Type 0
-Works next p old part = next ≡ on_object (cells_of p old.stack.items) (working p old part)
-
-pub worked_none : (next : Next) (code : Code) (p : Program) (old : State) (part : m.Reference → Ran ⊤) (to : s.State) (place : Place)
-    → Works next p old part → ShowsNone on_object old.stack.items 0 → Follows code next (Err stop.Stuck) to place
-worked_none next code p old part to place e h = is_stuck code next to place (e ∙ h p (working p old part))
-
-pub worked_ok : (next : Next) (code : Code) (p : Program) (here : Here) (old new : State) (part : Here → m.Reference → Ran ⊤) (store : Store) (object : m.Reference)
-    → Works next p old (part here) → Shows on_object old.stack.items 0 object
-    → Performed (same {X = ⊤}) (λ (here : Here). part here object) (Ok tt) old.store store
-    → new ≡ record { pc = old.pc + 1; stack = old.stack; here = old.here; frames = old.frames; store = store } → Follows code next (Ok tt) (state_of p new) here.place
-worked_ok next code p here old new part store object e h c n =
-    moves code next here.place p (state_of p new) (part here object) tt old.store store (λ done. on (state_of p old) (cells_of p old.stack.items))
-    (e ∙ h p (working p old (part here))) (c here) (sym (ap (state_of p) n))
-
-pub worked_err : (next : Next) (code : Code) (p : Program) (here : Here) (old : State) (to : s.State) (part : Here → m.Reference → Ran ⊤) (store : Store) (object : m.Reference) (error : Stop)
-    → Works next p old (part here) → Shows on_object old.stack.items 0 object
-    → Performed (same {X = ⊤}) (λ (here : Here). part here object) (Err error) old.store store → Follows code next (Err error) to here.place
-worked_err next code p here old to part store object error e h c =
-    stops code next here to error (same {X = ⊤}) (λ (here : Here). part here object) old.store store (λ done. on (state_of p old) (cells_of p old.stack.items)) (e ∙ h p (working p old (part here))) c
-
--- ---- one more object, of the one on top, which stays: as the language selects it
-
-abbrev selecting : Program → State → (m.Reference → Ran m.Reference) → m.Reference → List s.Cell → Next
-selecting p old part r st = performs (part r) (world_of old.store) (λ q. on (state_of p old) (s.Object q ∷ cells_of p old.stack.items))
-
-abbrev pub Selects : Next → Program → State → (m.Reference → Ran m.Reference) → Type 0
-Selects next p old part = next ≡ on_object (cells_of p old.stack.items) (selecting p old part)
-
-pub selected_none : (next : Next) (code : Code) (p : Program) (old : State) (part : m.Reference → Ran m.Reference) (to : s.State) (place : Place)
-    → Selects next p old part → ShowsNone on_object old.stack.items 0 → Follows code next (Err stop.Stuck) to place
-selected_none next code p old part to place e h = is_stuck code next to place (e ∙ h p (selecting p old part))
-
-pub selected_ok : (next : Next) (code : Code) (p : Program) (here : Here) (old new : State) (part : Here → m.Reference → Ran m.Reference) (object : m.Reference) (same q : Reference) (r : Result ⊤ Stop)
-    → Selects next p old (part here) → Shows on_object old.stack.items 0 object → reference_of same ≡ object
-    → Performed reference_of (λ (here : Here). part here (reference_of same)) (Ok q) old.store old.store
-    → WentOn (cell.Object q) r old new → Follows code next r (state_of p new) here.place
-selected_ok next code p here old new part object same q r e h i c w =
-    pushes code next here.place p (cell.Object q) r old new (part here (reference_of same)) (reference_of q) old.store (λ q. on (state_of p old) (s.Object q ∷ cells_of p old.stack.items))
-    (e ∙ h p (selecting p old (part here)) ∙ ap (λ o. performs (part here o) (world_of old.store) (λ q. on (state_of p old) (s.Object q ∷ cells_of p old.stack.items))) (sym i)) (c here) refl w
-
-pub selected_err : (next : Next) (code : Code) (p : Program) (here : Here) (old : State) (to : s.State) (part : Here → m.Reference → Ran m.Reference) (object : m.Reference) (same : Reference) (error : Stop)
-    → Selects next p old (part here) → Shows on_object old.stack.items 0 object → reference_of same ≡ object
-    → Performed reference_of (λ (here : Here). part here (reference_of same)) (Err error) old.store old.store → Follows code next (Err error) to here.place
-selected_err next code p here old to part object same error e h i c =
-    stops code next here to error reference_of (λ (here : Here). part here (reference_of same)) old.store old.store (λ q. on (state_of p old) (s.Object q ∷ cells_of p old.stack.items))
-    (e ∙ h p (selecting p old (part here)) ∙ ap (λ o. performs (part here o) (world_of old.store) (λ q. on (state_of p old) (s.Object q ∷ cells_of p old.stack.items))) (sym i)) c
-
 -- ---- elements are selected of the object beneath the subscripts
 
 abbrev choosing : Program → State → (List m'.Chosen → m.Reference → Ran m.Reference) → List m'.Chosen → List s.Cell → Next
@@ -357,105 +303,49 @@ chosen_err next code p here old to k part xs mid stack object error e h i c =
     stops code next here to error reference_of (λ (here : Here). part here (map chosen_of xs.items) (reference_of object)) old.store old.store (λ q. on (state_of p old) (s.Object q ∷ cells_of p stack))
     (chosen_part next p old k (part here) xs mid e h ∙ i p (λ r st. performs (part here (map chosen_of xs.items) r) (world_of old.store) (λ q. on (state_of p old) (s.Object q ∷ st)))) c
 
--- ---- a cell is made of the object on top, which is taken or stays
+-- ---- elements are selected of a component of an object
 
-pub went_on : (next : Next) (code : Code) (p : Program) (place : Place) (cell : Cell) (r : Result ⊤ Stop) (mid new : State)
-    → next ≡ Goes [] (on (state_of p mid) (cell_of p cell ∷ cells_of p mid.stack.items) (world_of mid.store)) → WentOn cell r mid new → Follows code next r (state_of p new) place
-went_on next code p place cell (Ok done) mid new e w = ([], e ∙ ap (Goes []) (sym (w p)), refl)
-went_on next code p place cell (Err stop.Memory) mid new e w = tt
-went_on next code p place cell (Err stop.Done) mid new e w = absurd w
-went_on next code p place cell (Err (stop.Stopped n)) mid new e w = absurd w
-went_on next code p place cell (Err (stop.Failed n)) mid new e w = absurd w
-went_on next code p place cell (Err stop.Stuck) mid new e w = absurd w
-went_on next code p place cell (Err stop.Lost) mid new e w = absurd w
-went_on next code p place cell (Err stop.Refused) mid new e w = absurd w
+abbrev parting : Program → State → (List m'.Chosen → m.Reference → m.Reference → Ran m.Reference) → List m'.Chosen → List s.Cell → Next
+parting p old part cs st = on_part st (λ q r st. performs (part cs q r) (world_of old.store) (λ x. on (state_of p old) (s.Object x ∷ st)))
 
-abbrev pub Makes : Next → Program → State → (m.Reference → s.Cell) → Type 0
-Makes next p old made = next ≡ on_object (cells_of p old.stack.items) (λ r st. Goes [] (on (state_of p old) (made r ∷ st) (world_of old.store)))
+abbrev pub Parts : Next → Program → State → ℕ → (List m'.Chosen → m.Reference → m.Reference → Ran m.Reference) → Type 0
+Parts next p old k part = next ≡ on_many choice_of k [] (cells_of p old.stack.items) (parting p old part)
 
-pub made_none : (next : Next) (code : Code) (p : Program) (old : State) (made : m.Reference → s.Cell) (stack : List Cell) (to : s.State) (place : Place)
-    → Makes next p old made → Popped reference_of on_object None old.stack.items stack → Follows code next (Err stop.Stuck) to place
-made_none next code p old made stack to place e h = is_stuck code next to place (e ∙ h p (λ r st. Goes [] (on (state_of p old) (made r ∷ st) (world_of old.store))))
+pub parted_none : (next : Next) (code : Code) (p : Program) (old : State) (k : ℕ) (part : List m'.Chosen → m.Reference → m.Reference → Ran m.Reference) (e : Stop) (stack : List Cell) (to : s.State) (place : Place)
+    → Parts next p old k part → PoppedMany chosen_of choice_of k (Err e) old.stack.items stack → Follows code next (Err e) to place
+parted_none next code p old k part stop.Stuck stack to place e h = is_stuck code next to place (e ∙ h p (parting p old part))
+parted_none next code p old k part stop.Memory stack to place e h = tt
+parted_none next code p old k part stop.Done stack to place e h = absurd h
+parted_none next code p old k part (stop.Stopped n) stack to place e h = absurd h
+parted_none next code p old k part (stop.Failed n) stack to place e h = absurd h
+parted_none next code p old k part stop.Lost stack to place e h = absurd h
+parted_none next code p old k part stop.Refused stack to place e h = absurd h
 
-pub made_ok : (next : Next) (code : Code) (p : Program) (place : Place) (old new : State) (made : m.Reference → s.Cell) (stack : Vec Cell Global) (object : Reference) (cell : Cell) (r : Result ⊤ Stop)
-    → Makes next p old made → Popped reference_of on_object (Some object) old.stack.items stack.items → cell_of p cell ≡ made (reference_of object)
-    → WentOn cell r (record { pc = old.pc; stack = stack; here = old.here; frames = old.frames; store = old.store }) new → Follows code next r (state_of p new) place
-made_ok next code p place old new made stack object cell r e h i w =
-    went_on next code p place cell r (record { pc = old.pc; stack = stack; here = old.here; frames = old.frames; store = old.store }) new
-    (e ∙ h p (λ r st. Goes [] (on (state_of p old) (made r ∷ st) (world_of old.store))) ∙ ap (λ c. Goes [] (on (state_of p old) (c ∷ cells_of p stack.items) (world_of old.store))) (sym i)) w
+pub parted_stuck : (next : Next) (code : Code) (p : Program) (old : State) (k : ℕ) (part : List m'.Chosen → m.Reference → m.Reference → Ran m.Reference) (xs : Vec Chosen Global) (mid stack : List Cell) (to : s.State) (place : Place)
+    → Parts next p old k part → PoppedMany chosen_of choice_of k (Ok xs) old.stack.items mid → PoppedPair reference_of reference_of on_part None mid stack → Follows code next (Err stop.Stuck) to place
+parted_stuck next code p old k part xs mid stack to place e h i = is_stuck code next to place (e ∙ h p (parting p old part)
+    ∙ i p (λ q r st. performs (part (map chosen_of xs.items) q r) (world_of old.store) (λ x. on (state_of p old) (s.Object x ∷ st))))
 
-abbrev pub Lays : Next → Program → State → (m.Reference → s.Cell) → Type 0
-Lays next p old made = next ≡ on_object (cells_of p old.stack.items) (λ r st. Goes [] (on (state_of p old) (made r ∷ cells_of p old.stack.items) (world_of old.store)))
+parted_part : (next : Next) (p : Program) (old : State) (k : ℕ) (part : List m'.Chosen → m.Reference → m.Reference → Ran m.Reference) (xs : Vec Chosen Global) (mid stack : List Cell) (q r : Reference)
+    → Parts next p old k part → PoppedMany chosen_of choice_of k (Ok xs) old.stack.items mid → PoppedPair reference_of reference_of on_part (Some (q, r)) mid stack
+    → next ≡ performs (part (map chosen_of xs.items) (reference_of q) (reference_of r)) (world_of old.store) (λ x. on (state_of p old) (s.Object x ∷ cells_of p stack))
+parted_part next p old k part xs mid stack q r e h i = e ∙ h p (parting p old part)
+    ∙ i p (λ q r st. performs (part (map chosen_of xs.items) q r) (world_of old.store) (λ x. on (state_of p old) (s.Object x ∷ st)))
 
-pub shown_none : (next : Next) (code : Code) (p : Program) (old : State) (made : m.Reference → s.Cell) (to : s.State) (place : Place)
-    → Lays next p old made → ShowsNone on_object old.stack.items 0 → Follows code next (Err stop.Stuck) to place
-shown_none next code p old made to place e h = is_stuck code next to place (e ∙ h p (λ r st. Goes [] (on (state_of p old) (made r ∷ cells_of p old.stack.items) (world_of old.store))))
+pub parted_ok : (next : Next) (code : Code) (p : Program) (here : Here) (old new : State) (k : ℕ) (part : Here → List m'.Chosen → m.Reference → m.Reference → Ran m.Reference) (xs : Vec Chosen Global) (mid : List Cell)
+    (stack : Vec Cell Global) (q r found : Reference) (res : Result ⊤ Stop)
+    → Parts next p old k (part here) → PoppedMany chosen_of choice_of k (Ok xs) old.stack.items mid → PoppedPair reference_of reference_of on_part (Some (q, r)) mid stack.items
+    → Performed reference_of (λ (here : Here). part here (map chosen_of xs.items) (reference_of q) (reference_of r)) (Ok found) old.store old.store
+    → WentOn (cell.Object found) res (record { pc = old.pc; stack = stack; here = old.here; frames = old.frames; store = old.store }) new → Follows code next res (state_of p new) here.place
+parted_ok next code p here old new k part xs mid stack q r found res e h i c w =
+    pushes code next here.place p (cell.Object found) res (record { pc = old.pc; stack = stack; here = old.here; frames = old.frames; store = old.store }) new
+    (part here (map chosen_of xs.items) (reference_of q) (reference_of r)) (reference_of found) old.store (λ x. on (state_of p old) (s.Object x ∷ cells_of p stack.items))
+    (parted_part next p old k (part here) xs mid stack.items q r e h i) (c here) refl w
 
-pub shown_ok : (next : Next) (code : Code) (p : Program) (place : Place) (old new : State) (made : m.Reference → s.Cell) (object : m.Reference) (cell : Cell) (r : Result ⊤ Stop)
-    → Lays next p old made → Shows on_object old.stack.items 0 object → cell_of p cell ≡ made object
-    → WentOn cell r old new → Follows code next r (state_of p new) place
-shown_ok next code p place old new made object cell r e h i w =
-    went_on next code p place cell r old new (e ∙ h p (λ r st. Goes [] (on (state_of p old) (made r ∷ cells_of p old.stack.items) (world_of old.store)))
-    ∙ ap (λ c. Goes [] (on (state_of p old) (c ∷ cells_of p old.stack.items) (world_of old.store))) (sym i)) w
-
--- ---- on, or far on
-
-past_lines : (ls : List Line) (k : ℕ) → length ls ≤ k → slice_get ls k ≡ None
-past_lines [] k h = refl
-past_lines (l ∷ ls) zero h = absurd (omega arith)
-past_lines (l ∷ ls) (suc k) h = past_lines ls k (omega arith)
-
--- so far on where the lines say so
-pub went_ahead : (next : Next) (code : Code) (p : Program) (place : Place) (d total : ℕ) (r : Result ⊤ Stop) (old new : State)
-    → next ≡ Goes [] (state_of p (record { pc = old.pc + 1 + d; stack = old.stack; here = old.here; frames = old.frames; store = old.store })) → length code.lines ≡ total → WentAhead d total r old new
-    → Follows code next r (state_of p new) place
-went_ahead next code p place d total (Ok done) old new e n w = ([], e ∙ ap (λ t. Goes [] (state_of p t)) (sym w.0), refl)
-went_ahead next code p place d total (Err stop.Lost) old new e n w =
-    (state_of p (record { pc = old.pc + 1 + d; stack = old.stack; here = old.here; frames = old.frames; store = old.store }), ([], e, refl), past_lines code.lines (old.pc + 1 + d) (omega (arith, n, w.1)))
-went_ahead next code p place d total (Err stop.Memory) old new e n w = absurd w
-went_ahead next code p place d total (Err stop.Done) old new e n w = absurd w
-went_ahead next code p place d total (Err (stop.Stopped k)) old new e n w = absurd w
-went_ahead next code p place d total (Err (stop.Failed k)) old new e n w = absurd w
-went_ahead next code p place d total (Err stop.Stuck) old new e n w = absurd w
-went_ahead next code p place d total (Err stop.Refused) old new e n w = absurd w
-
-abbrev branching : Program → State → ℕ → (m.Reference → Bool) → m.Reference → List s.Cell → Next
-branching p old d test r st = if test r then goes (state_of p old) (cells_of p old.stack.items) else skips (state_of p old) d (cells_of p old.stack.items)
-
-abbrev pub Branches : Next → Program → State → ℕ → (m.Reference → Bool) → Type 0
-Branches next p old d test = next ≡ on_object (cells_of p old.stack.items) (branching p old d test)
-
-pub branched_none : (next : Next) (code : Code) (p : Program) (old : State) (d : ℕ) (test : m.Reference → Bool) (to : s.State) (place : Place)
-    → Branches next p old d test → ShowsNone on_object old.stack.items 0 → Follows code next (Err stop.Stuck) to place
-branched_none next code p old d test to place e h = is_stuck code next to place (e ∙ h p (branching p old d test))
-
-pub branched_on : (next : Next) (code : Code) (p : Program) (place : Place) (old new : State) (d : ℕ) (test : m.Reference → Bool) (object : m.Reference)
-    → Branches next p old d test → Shows on_object old.stack.items 0 object → test object ≡ true → Moved (old.pc + 1) old new → Follows code next (Ok tt) (state_of p new) place
-branched_on next code p place old new d test object e h t n =
-    ([], e ∙ h p (branching p old d test) ∙ ap (λ b. if b then goes (state_of p old) (cells_of p old.stack.items) else skips (state_of p old) d (cells_of p old.stack.items)) t ∙ ap (λ s. Goes [] (state_of p s)) (sym n), refl)
-
-pub branched_off : (next : Next) (code : Code) (p : Program) (place : Place) (old new : State) (d total : ℕ) (test : m.Reference → Bool) (object : m.Reference) (r : Result ⊤ Stop)
-    → Branches next p old d test → Shows on_object old.stack.items 0 object → test object ≡ false → length code.lines ≡ total → WentAhead d total r old new → Follows code next r (state_of p new) place
-branched_off next code p place old new d total test object r e h t n w =
-    went_ahead next code p place d total r old new
-    (e ∙ h p (branching p old d test) ∙ ap (λ b. if b then goes (state_of p old) (cells_of p old.stack.items) else skips (state_of p old) d (cells_of p old.stack.items)) t) n w
-
--- the same, in one place
-pub opened_ok : (next : Next) (code : Code) (p : Program) (place : Place) (old new : State) (part : m.Reference → Ran m.Reference) (object : m.Reference) (same q : Reference) (r : Result ⊤ Stop)
-    → Selects next p old part → Shows on_object old.stack.items 0 object → reference_of same ≡ object → Comes (part (reference_of same)) old.store (reference_of q) old.store
-    → WentOn (cell.Object q) r old new → Follows code next r (state_of p new) place
-opened_ok next code p place old new part object same q r e h i c w =
-    pushes code next place p (cell.Object q) r old new (part (reference_of same)) (reference_of q) old.store (λ q. on (state_of p old) (s.Object q ∷ cells_of p old.stack.items))
-    (e ∙ h p (selecting p old part) ∙ ap (λ o. performs (part o) (world_of old.store) (λ q. on (state_of p old) (s.Object q ∷ cells_of p old.stack.items))) (sym i)) c refl w
-
-pub opened_err : (next : Next) (code : Code) (p : Program) (place : Place) (old : State) (to : s.State) (part : m.Reference → Ran m.Reference) (object : m.Reference) (same : Reference) (error : Stop)
-    → Selects next p old part → Shows on_object old.stack.items 0 object → reference_of same ≡ object → PerformedBy reference_of (part (reference_of same)) (Err error) old.store place → Follows code next (Err error) to place
-opened_err next code p place old to part object same (stop.Failed x) e h i c =
-    (c.0, e ∙ h p (selecting p old part) ∙ ap (λ o. performs (part o) (world_of old.store) (λ q. on (state_of p old) (s.Object q ∷ cells_of p old.stack.items))) (sym i)
-    ∙ ap (λ o. ends_so o.out o.end (λ q. on (state_of p old) (s.Object q ∷ cells_of p old.stack.items))) c.1, c.2)
-opened_err next code p place old to part object same stop.Memory e h i c = tt
-opened_err next code p place old to part object same stop.Done e h i c = absurd c
-opened_err next code p place old to part object same (stop.Stopped n) e h i c = absurd c
-opened_err next code p place old to part object same stop.Stuck e h i c = absurd c
-opened_err next code p place old to part object same stop.Lost e h i c = absurd c
-opened_err next code p place old to part object same stop.Refused e h i c = absurd c
+pub parted_err : (next : Next) (code : Code) (p : Program) (here : Here) (old : State) (to : s.State) (k : ℕ) (part : Here → List m'.Chosen → m.Reference → m.Reference → Ran m.Reference) (xs : Vec Chosen Global) (mid stack : List Cell)
+    (q r : Reference) (error : Stop)
+    → Parts next p old k (part here) → PoppedMany chosen_of choice_of k (Ok xs) old.stack.items mid → PoppedPair reference_of reference_of on_part (Some (q, r)) mid stack
+    → Performed reference_of (λ (here : Here). part here (map chosen_of xs.items) (reference_of q) (reference_of r)) (Err error) old.store old.store → Follows code next (Err error) to here.place
+parted_err next code p here old to k part xs mid stack q r error e h i c =
+    stops code next here to error reference_of (λ (here : Here). part here (map chosen_of xs.items) (reference_of q) (reference_of r)) old.store old.store (λ x. on (state_of p old) (s.Object x ∷ cells_of p stack))
+    (parted_part next p old k (part here) xs mid stack q r e h i) c

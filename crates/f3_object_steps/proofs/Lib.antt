@@ -7,5 +7,5 @@ pub mod Stepping
 pub mod Selecting
 pub mod Selections
 pub mod Picks
-pub mod Walks
 mod Tops
+pub mod FirstPlaces

@@ -1,15 +1,14 @@
 -- Elements that are selected, by their places.
-use Rattle.std.proofs.Common.{◌≡◌, length, ℕ, zero, suc, ◌+◌, ◌-◌, ◌*◌, ◌<◌, ◌≤◌, ℤ, pos, Bool, true, false, List, [], ◌∷◌, ◌++◌, refl, sym, ap, ◌∙◌, arith, map, append_assoc, filter, cond}
+use Rattle.std.proofs.Common.{◌≡◌, length, ℕ, zero, suc, ◌+◌, ◌*◌, ◌≤◌, ℤ, Bool, true, false, List, [], ◌∷◌, ◌++◌, refl, sym, ap, ◌∙◌, arith, map, cond}
 use Rattle.std.proofs.Common.{subst, T}
 use Rattle.std.proofs.lemmas.Bool.{ltb-false, le-ltb}
 use Rattle.std.proofs.lemmas.Int.{ints}
 use Rattle.std.proofs.lemmas.Simd.{map-map}
-use Rattle.std.specs.Prelude.{nat_lt, ◌+ℤ◌, ◌-ℤ◌, ◌<ℤ◌, ◌≤ℤ◌, int_le, int_lt, nat_abs, ◌&&◌}
-use Rattle.std.specs.Prelude.{Option, None, Some, slice_get}
+use Rattle.std.specs.Prelude.{nat_lt, ◌-ℤ◌, ◌<ℤ◌, ◌≤ℤ◌, int_le, int_lt, nat_abs, ◌&&◌}
+use Rattle.std.specs.Prelude.{None, slice_get}
 use Rattle.std.specs.List.{flat_map, filter_map, cons_option}
 use Rattle.f3_meaning_whole.specs.Value.{Span}
-use Rattle.f3_meaning_whole.specs.Act as a
-use Rattle.f3_meaning_whole.specs.Act.{Chosen, At, Range, end_of, is_inside, subscripts_in, places_in, spans_in, all_inside}
+use Rattle.f3_meaning_whole.specs.Act.{Chosen, At, Range, end_of, is_inside, subscripts_in, spans_in, all_inside}
 use Rattle.f3_object_steps.specs.Selections.{kept, row_of, rows_of, spans_with}
 
 kept_by : (b : Bool) (k : ℕ) (ks : List ℕ) → b ≡ true → cond b (k ∷ ks) ks ≡ k ∷ ks

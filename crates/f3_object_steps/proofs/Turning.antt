@@ -1,5 +1,5 @@
 -- How often a DO turns.
-use Rattle.std.proofs.Common.{◌≡◌, ℕ, zero, suc, ◌/◌, ℤ, pos, negsuc, neg_ℤ, int_div, refl, sym, ap, ◌∙◌, arith}
+use Rattle.std.proofs.Common.{◌≡◌, suc, ℤ, pos, negsuc, neg_ℤ, int_div, sym, ap}
 use Rattle.std.proofs.Math.Nat.{div-zero}
 use Rattle.std.specs.Prelude.{◌+ℤ◌, ◌-ℤ◌}
 use Rattle.f3_meaning_whole.specs.Arithmetic.{natural, trips}

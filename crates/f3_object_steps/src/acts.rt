@@ -1,28 +1,26 @@
 //! What instructions do to the store.
 
-ghost use Rattle.std.specs.Prelude.{◌≡◌, pos, length, nat_eq};
+ghost use Rattle.std.specs.Prelude.{◌≡◌};
 ghost use Rattle.f3_meaning_whole.specs.Value as v;
 ghost use Rattle.f3_meaning_whole.specs.Value.{conforms};
 ghost use Rattle.f3_meaning_whole.specs.Store as s;
 ghost use Rattle.f3_meaning_whole.specs.Reference as m;
-ghost use Rattle.f3_meaning_whole.specs.Exec.{status_number};
 ghost use Rattle.f3_meaning_whole.specs.Act as a;
 ghost use Rattle.f3_meaning_whole.specs.Act.{Here};
 ghost use Rattle.f3_data.specs.Values.{value_of, spans_of};
 ghost use Rattle.f3_data.specs.Stores.{path_of, store_of};
 ghost use Rattle.f3_data.specs.References.{reach_in, reference_of};
 ghost use Rattle.f3_object_steps.specs.Taken.{PoppedPair, same};
-ghost use Rattle.f3_object_steps.specs.Parts.{fills, takes, counts, on_assigned, on_reported};
+ghost use Rattle.f3_object_steps.specs.Parts.{fills, takes, counts, on_assigned};
 ghost use Rattle.f3_object_steps.specs.Performed.{Performed};
 
+use crate::taking::{pop_datum, pop_object};
 use f3_cells::cell::Cell;
-use crate::taking::{pop_datum, pop_object, pop_status};
 use f3_cells::state::Stop;
 use f3_data::reference::{Reach, Reference};
 use f3_data::store::{Path, Store};
-use f3_data::value::{self, Span, Value, number_of};
+use f3_data::value::{Span, Value, number_of};
 use f3_located::{changes, reads};
-use f3_meaning_whole::run_error::RunError;
 use f3_program::declarations::Base;
 use f3_program::expression::BinaryOperator;
 use f3_shaping::bounds::conforms;
@@ -43,30 +41,6 @@ pub fn pop_assigned(stack: &mut Vec<Cell>) -> Option<(Reference, Value)>
     Some((object, value))
 }
 
-/// How an ALLOCATE or DEALLOCATE ended, as a number: 0 of no error (ISO/IEC 1539-1:2004, 6.3.1.3, 6.3.3.3).
-fn status_value(status: Option<RunError>) -> Value
-    ensures { value_of result ≡ v.Number (pos (status_number status)) }
-{
-    match status {
-        Some(error) => Value::Number(error.number() as i64),
-        None => Value::Number(0),
-    }
-}
-
-/// The object on top, and the number of how it ended beneath, which are taken.
-pub fn pop_reported(stack: &mut Vec<Cell>) -> Option<(Reference, Value)>
-    ensures { PoppedPair reference_of value_of on_reported result stack.old.items stack.new.items }
-{
-    let Some(object) = pop_object(stack) else {
-        return None;
-    };
-    let Some(status) = pop_status(stack) else {
-        drop(object);
-        return None;
-    };
-    Some((object, status_value(status)))
-}
-
 /// The bounds of what is meant: none of a scalar.
 pub fn spans(object: &Reference) -> &[Span]
     ensures { spans_of result.now ≡ m.spans (reach_in (path_of object.now.path) object.now.reach) }
@@ -82,13 +56,6 @@ pub fn has_shape(object: &Reference, value: &Value) -> bool
     ensures { result ≡ conforms (m.spans (reference_of object.now).reach) (value_of value.now) }
 {
     conforms(spans(object), value)
-}
-
-/// Whether a value is an array of a rank, or a scalar for rank 0.
-pub fn has_rank(value: &Value, rank: usize) -> bool
-    ensures { result ≡ nat_eq rank (length (v.spans_of (value_of value.now))) }
-{
-    rank == value::spans_of(value).len()
 }
 
 /// A copy of what stands at a reference.

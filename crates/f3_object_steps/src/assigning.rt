@@ -4,10 +4,9 @@ ghost use Rattle.std.specs.Prelude.{◌<◌, ◌^◌};
 ghost use Rattle.f3_code.specs.declared.instruction.Instruction.TheVariants as i;
 ghost use Rattle.f3_cells.specs.Follows.{Does};
 
-use crate::acts::{assign, has_rank, has_shape, pop_assigned, pop_reported, read, set};
+use crate::acts::{assign, has_shape, pop_assigned, read};
+use crate::taking::{datum_at, object_at, pop_object};
 use f3_cells::cell::Cell;
-use crate::taking::{datum_at, object_at};
-use crate::taking::pop_object;
 use f3_cells::state::{State, Stop};
 use f3_meaning_whole::run_error::RunError;
 use f3_program::declarations::Base;
@@ -77,41 +76,5 @@ pub fn test_shape(state: &mut State) -> Result<(), Stop>
         Ok(())
     } else {
         Err(Stop::Failed(RunError::ShapesDiffer))
-    }
-}
-
-/// An error where a value has another rank (own rule).
-pub fn test_rank(state: &mut State, rank: usize) -> Result<(), Stop>
-    requires { state.old.pc < 2 ^ 63 }
-    ensures { Does (i.TestRank rank) result state.old state.new }
-{
-    let Some(_object) = object_at(&state.stack, 0) else {
-        return Err(Stop::Stuck);
-    };
-    let Some(value) = datum_at(&state.stack, 1) else {
-        return Err(Stop::Stuck);
-    };
-    if has_rank(value, rank) {
-        state.advance();
-        Ok(())
-    } else {
-        Err(Stop::Failed(RunError::NotAllocated))
-    }
-}
-
-/// The number of an error, 0 of none, goes to a variable (6.3.1.3, 6.3.3.3).
-pub fn store_status(alloc: Global, state: &mut State) -> Result<(), Stop>
-    requires { state.old.pc < 2 ^ 63 }
-    ensures { Does i.StoreStatus result state.old state.new }
-{
-    let Some((object, value)) = pop_reported(&mut state.stack) else {
-        return Err(Stop::Stuck);
-    };
-    match set(alloc, &mut state.store, object, value) {
-        Ok(()) => {
-            state.advance();
-            Ok(())
-        }
-        Err(stop) => Err(stop),
     }
 }

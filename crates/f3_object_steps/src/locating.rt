@@ -5,15 +5,16 @@ ghost use Rattle.f3_rules.specs.declared.source.Place.{Place};
 ghost use Rattle.f3_meaning_whole.specs.Value.{Value};
 ghost use Rattle.f3_code.specs.declared.instruction.Instruction.TheVariants as i;
 ghost use Rattle.f3_data.specs.References.{reference_of};
+ghost use Rattle.f3_object_steps.specs.Taken.{PoppedPair};
+ghost use Rattle.f3_object_steps.specs.Parts.{on_part};
 ghost use Rattle.f3_cells.specs.Follows.{Does, DoesThere};
 
 use crate::naming;
-use crate::picking::selects;
+use crate::picking::{selects, selects_of};
+use crate::taking::pop_object;
 use f3_cells::cell::Cell;
-use crate::taking::object_at;
 use f3_cells::many::pop_choices;
 use f3_cells::scene::Scene;
-use crate::taking::pop_object;
 use f3_cells::stacks::push;
 use f3_cells::state::{State, Stop};
 use f3_data::copies;
@@ -93,40 +94,8 @@ pub fn contents(alloc: Global, state: &mut State) -> Result<(), Stop>
     }
 }
 
-/// A component of the object on top, selected by the language.
-pub fn work_component(
-    alloc: Global,
-    scene: &Scene<'_>,
-    state: &mut State,
-    k: usize,
-) -> Result<(), Stop>
-    requires { state.old.pc < 2 ^ 63 }
-    ensures { (v : Value) (place : Place) → DoesThere scene.now (i.WorkComponent k) v place result state.old state.new }
-{
-    let Some(object) = object_at(&state.stack, 0) else {
-        return Err(Stop::Stuck);
-    };
-    let copy = copy_of(alloc, object)?;
-    match naming::component(
-        alloc,
-        &scene.program.types,
-        &state.store,
-        copy,
-        k,
-        Maker::Language,
-    ) {
-        Ok(part) => state.go_on_with(Cell::Object(part)),
-        Err(stop) => Err(stop),
-    }
-}
-
 /// Elements by so many subscripts, after what an allocatable holds where the flag is set (6.2.2).
-pub fn select(
-    alloc: Global,
-    state: &mut State,
-    is_opened: bool,
-    count: usize,
-) -> Result<(), Stop>
+pub fn select(alloc: Global, state: &mut State, is_opened: bool, count: usize) -> Result<(), Stop>
     requires { state.old.pc < 2 ^ 63 }
     ensures { Does (i.Select is_opened count) result state.old state.new }
 {
@@ -143,21 +112,51 @@ pub fn select(
     }
 }
 
-/// What the object on top holds, unless it is in use (6.3.3).
-pub fn open_contents(
+/// The object on top and the one beneath, which are taken.
+fn pop_part(stack: &mut Vec<Cell>) -> Option<(Reference, Reference)>
+    ensures { PoppedPair reference_of reference_of on_part result stack.old.items stack.new.items }
+{
+    let Some(part) = pop_object(stack) else {
+        return None;
+    };
+    let Some(object) = pop_object(stack) else {
+        drop(part);
+        return None;
+    };
+    Some((part, object))
+}
+
+/// Elements of the component of a number, also where this is one of each element of an array (6.2.2).
+pub fn select_of(
     alloc: Global,
     scene: &Scene<'_>,
     state: &mut State,
+    is_opened: bool,
+    k: usize,
+    count: usize,
 ) -> Result<(), Stop>
     requires { state.old.pc < 2 ^ 63 }
-    ensures { (v : Value) (place : Place) → DoesThere scene.now i.OpenContents v place result state.old state.new }
+    ensures { (v : Value) (place : Place) → DoesThere scene.now (i.SelectOf is_opened k count) v place result state.old state.new }
 {
-    let Some(object) = object_at(&state.stack, 0) else {
+    let chosen = match pop_choices(alloc, &mut state.stack, count) {
+        Ok(chosen) => chosen,
+        Err(stop) => return Err(stop),
+    };
+    let Some((part, object)) = pop_part(&mut state.stack) else {
         return Err(Stop::Stuck);
     };
-    let copy = copy_of(alloc, object)?;
-    match naming::opened(alloc, &state.store, &state.here.lent, copy) {
-        Ok(held) => state.go_on_with(Cell::Object(held)),
+    let types = &scene.program.types;
+    match selects_of(
+        alloc,
+        types,
+        &state.store,
+        object,
+        part,
+        is_opened,
+        k,
+        &chosen,
+    ) {
+        Ok(found) => state.go_on_with(Cell::Object(found)),
         Err(stop) => Err(stop),
     }
 }

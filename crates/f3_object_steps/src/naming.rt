@@ -1,6 +1,6 @@
 //! The objects that names mean, and parts of objects.
 
-ghost use Rattle.std.specs.Prelude.{◌≡◌, IfOk, reverse, slice_get, slice_index_or};
+ghost use Rattle.std.specs.Prelude.{◌≡◌, IfOk, slice_get, slice_index_or};
 ghost use Rattle.f3_rules.specs.declared.source.Place.{Place};
 ghost use Rattle.f3_program.specs.declared.declarations.Base.TheVariants as base;
 ghost use Rattle.f3_meaning_whole.specs.Value as v;
@@ -9,11 +9,10 @@ ghost use Rattle.f3_meaning_whole.specs.Reference as m;
 ghost use Rattle.f3_meaning_whole.specs.Act as a;
 ghost use Rattle.f3_meaning_whole.specs.Act.{Setting, at};
 ghost use Rattle.f3_data.specs.References.{maker_of, reference_of, references_of};
-ghost use Rattle.f3_code.specs.Machine.{opens};
 ghost use Rattle.f3_located.specs.Finds.{Finds};
 ghost use Rattle.f3_cells.specs.Cells.{variables_of, here_of};
 ghost use Rattle.f3_cells.specs.States.{setting};
-ghost use Rattle.f3_object_steps.specs.Performed.{Performed, PerformedAt, PerformedBy};
+ghost use Rattle.f3_object_steps.specs.Performed.{Performed, PerformedAt};
 
 use f3_cells::cell::Here;
 use f3_cells::state::Stop;
@@ -23,7 +22,6 @@ use f3_data::store::{Root, Store};
 use f3_data::value::Value;
 use f3_located::names::{static_object, to_object, to_value, variable_type};
 use f3_located::parts;
-use f3_located::pins::is_pinned;
 use f3_meaning_whole::run_error::RunError;
 use f3_program::declarations::{Base, Derived};
 use f3_program::expression::Name;
@@ -132,24 +130,5 @@ pub fn named(
     match meant(alloc, program, here, store, name) {
         Ok(object) => Ok(object),
         Err(_) => Err(Stop::Memory),
-    }
-}
-
-/// What an allocatable holds, unless it is in use (6.3.3; own rules).
-///
-/// `InUse`, before `NotAllocated`.
-pub fn opened(
-    alloc: Global,
-    store: &Store,
-    lent: &[Reference],
-    object: Reference,
-) -> Result<Reference, Stop>
-    ensures { (here : a.Here) → here.lent ≡ references_of (reverse lent.now) → PerformedBy reference_of (opens (reference_of object) here) result store.now here.place }
-{
-    if is_pinned(&object.path, lent) {
-        drop(object);
-        Err(Stop::Failed(RunError::InUse))
-    } else {
-        contents(alloc, store, object)
     }
 }

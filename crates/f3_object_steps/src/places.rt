@@ -20,7 +20,7 @@ pub struct Selected {
 }
 
 /// A place in a row of elements, where there is such an element.
-fn place_of(offset: u64, extent: u64, row: usize, limit: usize) -> Option<usize>
+pub fn place_of(offset: u64, extent: u64, row: usize, limit: usize) -> Option<usize>
     ensures { MatchOption result (nat_lt (offset + extent * row) limit ≡ false) (λ p. (nat_lt (offset + extent * row) limit ≡ true) × (p ≡ offset + extent * row)) }
 {
     let Some(start) = extent.checked_mul(row as u64) else {
@@ -74,11 +74,7 @@ fn rows(
 }
 
 /// The bounds of a section with a dimension more, of so many subscripts, where that is not one subscript.
-fn spans_with(
-    choice: Chosen,
-    count: usize,
-    mut spans: Vec<Span>,
-) -> Result<Vec<Span>, AllocError>
+fn spans_with(choice: Chosen, count: usize, mut spans: Vec<Span>) -> Result<Vec<Span>, AllocError>
     ensures { IfOk result (λ v. spans_of v.items ≡ spans_with (chosen_of choice) count (spans_of spans.items)) }
 {
     match choice {

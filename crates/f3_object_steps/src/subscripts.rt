@@ -112,7 +112,7 @@ fn offset_of(span: Span, subscript: i128) -> Option<u64>
 }
 
 /// How far the next subscript is from the lower bound of a dimension: none, where it is out of bounds.
-fn next_offset(span: Span, walk: Walk) -> Option<u64>
+pub fn next_offset(span: Span, walk: Walk) -> Option<u64>
     requires { IsNear walk.next }
     ensures low { OnSome result (neg_ℤ (pos (2 ^ 63)) ≤ℤ walk.next) }
     ensures high { OnSome result (walk.next ≤ℤ pos (2 ^ 65)) }

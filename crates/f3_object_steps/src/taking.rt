@@ -1,16 +1,15 @@
 //! What stands on top of a stack, by what goes on with it.
 
 ghost use Rattle.std.specs.Prelude.{MatchOption};
-ghost use Rattle.f3_code.specs.Machine.{on_datum, on_object, on_status};
+ghost use Rattle.f3_code.specs.Machine.{on_datum, on_object};
 ghost use Rattle.f3_data.specs.Values.{value_of};
 ghost use Rattle.f3_data.specs.References.{reference_of};
-ghost use Rattle.f3_object_steps.specs.Taken.{Popped, Shows, ShowsNone, same};
+ghost use Rattle.f3_object_steps.specs.Taken.{Popped, Shows, ShowsNone};
 
 use f3_cells::cell::Cell;
 use f3_cells::{look, stacks};
 use f3_data::reference::Reference;
 use f3_data::value::Value;
-use f3_meaning_whole::run_error::RunError;
 
 /// The value on top, which is taken.
 pub fn pop_datum(stack: &mut Vec<Cell>) -> Option<Value>
@@ -24,13 +23,6 @@ pub fn pop_object(stack: &mut Vec<Cell>) -> Option<Reference>
     ensures { Popped reference_of on_object result stack.old.items stack.new.items }
 {
     stacks::pop_object(stack)
-}
-
-/// How an ALLOCATE or DEALLOCATE ended, which is taken.
-pub fn pop_status(stack: &mut Vec<Cell>) -> Option<Option<RunError>>
-    ensures { Popped same on_status result stack.old.items stack.new.items }
-{
-    stacks::pop_status(stack)
 }
 
 /// The value below so many cells.

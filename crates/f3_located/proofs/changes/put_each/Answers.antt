@@ -1,4 +1,4 @@
-use Rattle.std.proofs.Common.{◌≡◌, ◌∙◌, ap, sym, map, drop, [], length, rules, arith}
+use Rattle.std.proofs.Common.{◌≡◌, ◌∙◌, ap, sym, map, drop, [], arith}
 use Rattle.std.specs.Vec.Iter.{into_iter_items}
 use Rattle.f3_meaning_whole.specs.Store.{put_all}
 use Rattle.f3_data.specs.Values.{values_of}

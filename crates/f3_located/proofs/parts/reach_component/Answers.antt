@@ -1,4 +1,4 @@
-use Rattle.std.proofs.Common.{◌≡◌, ◌∙◌, sym, ap}
+use Rattle.std.proofs.Common.{◌∙◌, sym, ap}
 use Rattle.f3_meaning_whole.specs.Act.{component_reach}
 use Rattle.f3_data.specs.Stores.{path_of, store_of}
 use Rattle.f3_data.specs.References.{reach_in}
