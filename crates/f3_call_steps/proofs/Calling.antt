@@ -1,16 +1,15 @@
 -- A procedure is called.
-use Rattle.std.proofs.Common.{◌≡◌, ℕ, zero, suc, ◌≤◌, ◌<◌, List, [], ◌∷◌, length, map, reverse, true, false, refl, sym, ap, ◌∙◌, subst, arith}
+use Rattle.std.proofs.Common.{◌≡◌, ℕ, zero, suc, ◌≤◌, ◌<◌, List, [], ◌∷◌, length, map, reverse, true, false, refl, sym, ap, ◌∙◌, subst}
 use Rattle.std.proofs.lemmas.List.{length-map, length-reverse}
 use Rattle.std.proofs.lemmas.Bool.{le-ltb, lt-ltb}
-use Rattle.std.specs.Prelude.{⊤, Bool, nat_lt, if◌then◌else◌, Option, None, Some, Result, Ok, Err, Vec, slice_get}
-use Rattle.std.specs.declared.alloc.Global.{Global}
+use Rattle.std.specs.Prelude.{⊤, nat_lt, if◌then◌else◌, Option, None, Some, Result, Ok, Err, slice_get}
 use Rattle.f3_rules.specs.declared.source.Place.{Place}
 use Rattle.f3_program.specs.declared.program.Procedure.{Procedure}
 use Rattle.f3_program.specs.declared.program.Program.{Program}
 use Rattle.f3_meaning_whole.specs.Value as m
 use Rattle.f3_meaning_whole.specs.Store as st
 use Rattle.f3_meaning_whole.specs.declared.run_error.RunError.TheVariants.{CallsTooDeep}
-use Rattle.f3_meaning_whole.specs.Ran.{World, Entered, Gives, effect, looks, does, asks, gives, ◌>>=◌}
+use Rattle.f3_meaning_whole.specs.Ran.{World, Entered, effect, looks, does, asks, gives, ◌>>=◌}
 use Rattle.f3_meaning_whole.specs.Act as a
 use Rattle.f3_meaning_whole.specs.Act.{Setting, at}
 use Rattle.f3_meaning_whole.specs.Exec.{held, variables}
@@ -18,7 +17,7 @@ use Rattle.f3_meaning_whole.specs.Run.{setting_of}
 use Rattle.f3_code.specs.declared.instruction.Instruction.TheVariants.{Call}
 use Rattle.f3_code.specs.State.{Entry, Next, Goes, Stays, Failed}
 use Rattle.f3_code.specs.State as s
-use Rattle.f3_code.specs.Machine.{argument_of, begun, entered, called_at, called, on_many, performs, goes, stuck}
+use Rattle.f3_code.specs.Machine.{argument_of, begun, entered, called_at, on_many, performs}
 use Rattle.f3_gen_program.specs.Emission.{entries_in}
 use Rattle.f3_data.specs.Stores.{store_of}
 use Rattle.f3_cells.specs.declared.cell.Cell.{Cell}
@@ -99,7 +98,8 @@ module _ (x : Scene) (f k : ℕ) (place : Place) (v : m.Value) (old : State) whe
       then called_at (slice_get (code_of x).procedures f) (state_of x.program.now old) stack (at place (here_of x.program.now old.here)) ps
       else Stays [] (Failed CallsTooDeep place)
 
-  pub no_arguments : (e : Stop) (new : State) (stack : List Cell) → PoppedMany passed_of argument_of k (Err e) old.stack.items stack → DoesThere x (Call f k) v place (Err e) old new
+  pub no_arguments : (e : Stop) (new : State) (stack : List Cell) → PoppedMany passed_of argument_of k (Err e) old.stack.items stack
+      → DoesThere x (Call f k) v place (Err e) old new
   no_arguments stop.Stuck new stack none = ([], none x.program.now follows, refl)
   no_arguments stop.Memory new stack none = tt
   no_arguments stop.Done new stack none = absurd none
@@ -112,7 +112,8 @@ module _ (x : Scene) (f k : ℕ) (place : Place) (v : m.Value) (old : State) whe
       → on_many argument_of k [] (cells_of p old.stack.items) f ≡ f (map passed_of args) (cells_of p stack)) where
     pub too_deep : (new : State) → 1000 ≤ length old.frames.items → DoesThere x (Call f k) v place (Err (stop.Failed CallsTooDeep)) old new
     too_deep new deep =
-        let no : nat_lt (length (state_of x.program.now old).frames) 1000 ≡ false = le-ltb _ _ (subst (λ n. 1000 ≤ n) (sym (frames_are x.program.now old)) deep) in (
+        let no : nat_lt (length (state_of x.program.now old).frames) 1000 ≡ false = le-ltb _ _ (subst (λ n. 1000 ≤ n) (sym (frames_are x.program.now old))
+        deep) in (
           [],
           popped x.program.now follows
               ∙ ap (λ b. if b then called_at (slice_get (code_of x).procedures f) (state_of x.program.now old) (cells_of x.program.now stack)
@@ -123,13 +124,16 @@ module _ (x : Scene) (f k : ℕ) (place : Place) (v : m.Value) (old : State) whe
     pub calls : (mid new : State) (result : Result ⊤ Stop) → length old.frames.items < 1000 → mid ≡ record old { stack = mid.stack } → mid.stack.items ≡ stack
         → CalledWith x f args place result mid new → DoesThere x (Call f k) v place result old new
     calls mid new result shallow same cells m =
-        let yes : nat_lt (length (state_of x.program.now old).frames) 1000 ≡ true = lt-ltb _ _ (subst (λ n. n < 1000) (sym (frames_are x.program.now old)) shallow) in
+        let yes : nat_lt (length (state_of x.program.now old).frames) 1000 ≡ true = lt-ltb _ _ (subst (λ n. n < 1000) (sym (frames_are x.program.now old))
+        shallow) in
         subst (λ next. Follows (code_of x) next result (state_of x.program.now new) place)
         (sym (popped x.program.now follows
         ∙ ap (λ b. if b then called_at (slice_get (code_of x).procedures f) (state_of x.program.now old) (cells_of x.program.now stack)
         (at place (here_of x.program.now old.here)) (map passed_of args) else Stays [] (Failed CallsTooDeep place)) yes
-        ∙ alike (slice_get (code_of x).procedures f) old mid x.program.now (cells_of x.program.now stack) (at place (here_of x.program.now old.here)) (map passed_of args) same
-        ∙ ap (λ cs. called_at (slice_get (code_of x).procedures f) (state_of x.program.now mid) (cells_of x.program.now cs) (at place (here_of x.program.now old.here))
+        ∙ alike (slice_get (code_of x).procedures f) old mid x.program.now (cells_of x.program.now stack) (at place (here_of x.program.now old.here)) (map
+        passed_of args) same
+        ∙ ap (λ cs. called_at (slice_get (code_of x).procedures f) (state_of x.program.now mid) (cells_of x.program.now cs) (at place (here_of
+        x.program.now old.here))
         (map passed_of args)) (sym cells)
         ∙ ap (λ (h : memory.Here). called_at (slice_get (code_of x).procedures f) (state_of x.program.now mid) (cells_of x.program.now mid.stack.items)
         (at place (here_of x.program.now h)) (map passed_of args)) (sym (ap (λ (t : State). t.here) same))))

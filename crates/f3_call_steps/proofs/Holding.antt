@@ -29,7 +29,8 @@ held_more xs i x old new lt is before more =
 
 reversed : (xs : List Reference) → references_of (reverse xs) ≡ reverse (references_of xs)
 reversed [] = refl
-reversed (x ∷ xs) = ap references_of (reverse-append (x ∷ []) xs) ∙ map-append reference_of (reverse xs) (x ∷ []) ∙ ap (λ rs. rs ++ reference_of x ∷ []) (reversed xs)
+reversed (x ∷ xs) = ap references_of (reverse-append (x ∷ []) xs) ∙ map-append reference_of (reverse xs) (x ∷ [])
+    ∙ ap (λ rs. rs ++ reference_of x ∷ []) (reversed xs)
     ∙ sym (reverse-append (reference_of x ∷ []) (references_of xs))
 
 -- the same references in the other order
@@ -37,7 +38,8 @@ pub reversed_alike : (xs ys : List Reference) → references_of xs ≡ reference
 reversed_alike xs ys same = reversed xs ∙ ap reverse same ∙ sym (reversed ys)
 
 -- more that is lent
-pub lent_more : (xs ys zs : List Reference) (rs : List r.Reference) → references_of (reverse zs) ≡ rs ++ references_of (reverse xs) → references_of xs ≡ references_of ys
+pub lent_more : (xs ys zs : List Reference) (rs : List r.Reference) → references_of (reverse zs) ≡ rs ++ references_of (reverse xs) → references_of xs
+    ≡ references_of ys
     → references_of (reverse zs) ≡ rs ++ references_of (reverse ys)
 lent_more xs ys zs rs more same = more ∙ ap (λ qs. rs ++ qs) (reversed_alike xs ys same)
 

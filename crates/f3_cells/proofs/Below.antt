@@ -1,6 +1,5 @@
 -- What stands below so many cells.
-use Rattle.std.proofs.Common.{◌≡◌, ℕ, suc, ◌-◌, ◌<◌, ◌≤◌, List, ◌∷◌, ◌++◌, length, get_or, take}
-use Rattle.std.proofs.Common.{drop, map, reverse, inl, inr, Option, None, Some, sym, ap, ◌∙◌, arith}
+use Rattle.std.proofs.Common.{◌≡◌, ℕ, suc, ◌-◌, ◌<◌, ◌≤◌, List, ◌∷◌, ◌++◌, length, get_or, take, drop, map, reverse, inl, inr, Option, None, Some, sym, ap, ◌∙◌, arith}
 use Rattle.std.proofs.Math.Seq.{drop-cons}
 use Rattle.std.proofs.lemmas.List.{drop-map, drop_at, drop_all, take-append-drop, reverse-append, length-reverse, length-drop, get_or-reverse}
 use Rattle.std.proofs.lemmas.Bool.{cases_lt}
@@ -46,8 +45,7 @@ pub shows : {X Y : Type 0} (on : List s.Cell → (Y → List s.Cell → Next) �
 shows on view None cs k cell h seen = λ p f. ap (λ xs. on xs f) (h p) ∙ seen p (drop (suc k) (cells_of p cs)) f
 shows on view (Some x) cs k cell h seen = λ p. h p ∙ ap (λ y. y ∷ drop (suc k) (cells_of p cs)) (seen p)
 
-pub shows_pair : {X Y Z : Type 0} (on : List s.Cell → (Y → Z → List s.Cell → Next) → Next) (view : X → s.Cell)
-    (r : Option X) (cs : List Cell) (k : ℕ) (cell : Cell)
+pub shows_pair : {X Y Z : Type 0} (on : List s.Cell → (Y → Z → List s.Cell → Next) → Next) (view : X → s.Cell) (r : Option X) (cs : List Cell) (k : ℕ) (cell : Cell)
     → HasCell cs k cell → MatchOption r (HoldsNoPair on cell) (λ x. Holds cell (view x)) → MatchOption r (ShowsNoPair on cs k) (λ x. Shows cs k (view x))
 shows_pair on view None cs k cell h seen = λ p f. ap (λ xs. on xs f) (h p) ∙ seen p (drop (suc k) (cells_of p cs)) f
 shows_pair on view (Some x) cs k cell h seen = λ p. h p ∙ ap (λ y. y ∷ drop (suc k) (cells_of p cs)) (seen p)

@@ -70,8 +70,8 @@ pub went_ahead : (code : Code) (place : Place) (p : Program) {next : Next} {r : 
 went_ahead code place p {next = next} {r = r} {d = d} {total = total} {mid = mid} {new = new} size h e =
     ahead_by code next r place p d total mid new size h.by e
 
-ahead_with : (code : Code) (next : Next) (r : Result ⊤ Stop) (place : Place) (p : Program) (x : Cell) (d total : ℕ) (mid new : State)
-    → length code.lines ≡ total → AheadWith x d total r mid new → next ≡ skips (state_of p mid) d (cell_of p x ∷ cells_of p mid.stack.items) → Follows code next r (state_of p new) place
+ahead_with : (code : Code) (next : Next) (r : Result ⊤ Stop) (place : Place) (p : Program) (x : Cell) (d total : ℕ) (mid new : State) → length code.lines ≡ total
+    → AheadWith x d total r mid new → next ≡ skips (state_of p mid) d (cell_of p x ∷ cells_of p mid.stack.items) → Follows code next r (state_of p new) place
 ahead_with code next (Ok done) place p x d total mid new size h e = ([], e ∙ sym (h p), refl)
 ahead_with code next (Err stop.Lost) place p x d total mid new size h e =
     let to : s.State = record {

@@ -95,8 +95,7 @@ fn level_in(cell: &Cell) -> Option<(usize, &Vec<Reference>)>
 
 /// The level of the values that an ASSOCIATE holds, and its objects, below so many cells.
 pub fn level_at(stack: &Vec<Cell>, depth: usize) -> Option<(usize, &Vec<Reference>)>
-    ensures { MatchOption result (ShowsNoPair on_level stack.now.items depth)
-        (λ x. Shows stack.now.items depth (s.Level (x.0) (references_of (x.1).now.items))) }
+    ensures { MatchOption result (ShowsNoPair on_level stack.now.items depth) (λ x. Shows stack.now.items depth (s.Level (x.0) (references_of (x.1).now.items))) }
 {
     match cell_at(stack, depth) {
         Some(cell) => level_in(cell),

@@ -85,8 +85,7 @@ fn pop_extent(stack: &mut Vec<Cell>) -> Option<(i64, Option<u64>)>
     }
 }
 
-/// Dimensions of an ALLOCATE, each with its lower bound and how many subscripts follow its first, if there is one (6.3.1); so many,
-/// which are taken; the one on top is the last. `Stop::Stuck` where there are not so many.
+/// Dimensions of an ALLOCATE, each with its lower bound and how many subscripts follow its first, if there is one (6.3.1), so many, which are taken; the one on top is the last. `Stop::Stuck` where there are not so many.
 pub fn pop_extents(
     alloc: Global,
     stack: &mut Vec<Cell>,

@@ -2,8 +2,7 @@
 
 ghost use Rattle.std.specs.Prelude.{◌≡◌, ◌<◌, ◌^◌, IfOk};
 ghost use Rattle.f3_rules.specs.declared.source.Place.{Place};
-ghost use Rattle.f3_code.specs.declared.instruction.Instruction.TheVariants.{Begin, SetPlace, Meets, Selecting, Leave, Depart};
-ghost use Rattle.f3_code.specs.declared.instruction.Instruction.TheVariants.{SelectVariable, SelectValue, Associated, NextObject, CountNext, Discard, Finish};
+ghost use Rattle.f3_code.specs.declared.instruction.Instruction.TheVariants.{Begin, SetPlace, Meets, Selecting, Leave, Depart, SelectVariable, SelectValue, Associated, NextObject, CountNext, Discard, Finish};
 ghost use Rattle.f3_code.specs.declared.instruction.Instruction.TheVariants as instruction;
 ghost use Rattle.f3_arithmetic.specs.Turns.{turns_of};
 ghost use Rattle.f3_program.specs.declared.program.Program.{Program};

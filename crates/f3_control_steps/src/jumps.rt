@@ -4,8 +4,7 @@ ghost use Rattle.std.specs.Prelude.{◌≡◌, ◌<◌, ◌^◌};
 ghost use Rattle.f3_meaning_whole.specs.Value.{number_of};
 ghost use Rattle.f3_meaning_whole.specs.Arithmetic.{is_zero};
 ghost use Rattle.f3_data.specs.Values.{value_of};
-ghost use Rattle.f3_code.specs.declared.instruction.Instruction.TheVariants.{GoOn, GoBack, SkipIfFalse, SkipIfTrue, SkipIfFailed, Finish};
-ghost use Rattle.f3_code.specs.declared.instruction.Instruction.TheVariants.{Check, NoError, TestStep, Drop, Unwind, Swap};
+ghost use Rattle.f3_code.specs.declared.instruction.Instruction.TheVariants.{GoOn, GoBack, SkipIfFalse, SkipIfTrue, SkipIfFailed, Finish, Check, NoError, TestStep, Drop, Unwind, Swap};
 ghost use Rattle.f3_cells.specs.Follows.{Does, DoesIn};
 
 use f3_cells::cell::Cell;

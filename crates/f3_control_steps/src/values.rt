@@ -1,8 +1,7 @@
 //! Values, arguments and subscripts.
 
 ghost use Rattle.std.specs.Prelude.{◌≡◌, ◌<◌, ◌^◌};
-ghost use Rattle.f3_code.specs.declared.instruction.Instruction.TheVariants.{Push, Plain, PassValue, PassVariable, BoundsOfValue};
-ghost use Rattle.f3_code.specs.declared.instruction.Instruction.TheVariants.{Subscript, Limit, NoLimit, Triplet, Dimension};
+ghost use Rattle.f3_code.specs.declared.instruction.Instruction.TheVariants.{Push, Plain, PassValue, PassVariable, BoundsOfValue, Subscript, Limit, NoLimit, Triplet, Dimension};
 ghost use Rattle.f3_meaning_whole.specs.Value.{spans_of};
 ghost use Rattle.f3_data.specs.Values as view;
 ghost use Rattle.f3_data.specs.Values.{value_of};

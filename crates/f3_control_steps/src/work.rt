@@ -108,8 +108,7 @@ pub fn pass_object(alloc: Global, state: &mut State) -> Result<(), Stop>
 
 /// The line with which the routine of a type begins, by its number; the newest type's stands first.
 fn routine_line(routines: &[usize], number: usize) -> Option<usize>
-    ensures { (go : ℕ → Next) (none : Next) → MatchOption result (routine_at routines.now number go none ≡ none)
-        (λ pc. routine_at routines.now number go none ≡ go pc) }
+    ensures { (go : ℕ → Next) (none : Next) → MatchOption result (routine_at routines.now number go none ≡ none) (λ pc. routine_at routines.now number go none ≡ go pc) }
 {
     let (first, others) = routines.split_first()?;
     if number == others.len() {

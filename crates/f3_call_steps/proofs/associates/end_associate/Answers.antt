@@ -6,7 +6,8 @@ pub returns-in_default : goal.returns-in_default
 returns-in_default c = λ p limit g code v here. ([], c.in_default.ensures {u = tt} p _, refl)
 
 pub returns-in_default-pop_going : goal.returns-in_default-pop_going
-returns-in_default-pop_going c = no_flow c.args.state.now c.pop_objects.new.stack _ (c.in-Some.ensures {u = tt}) c.args.state.now (c.in_default-pop_going.ensures {u = tt})
+returns-in_default-pop_going c = no_flow c.args.state.now c.pop_objects.new.stack _ (c.in-Some.ensures {u = tt}) c.args.state.now
+    (c.in_default-pop_going.ensures {u = tt})
 
 pub returns-in_default-pop_level : goal.returns-in_default-pop_level
 returns-in_default-pop_level c = no_level c.args.state.now c.pop_objects.new.stack _ (c.in-Some.ensures {u = tt}) c.pop_going.new.stack c.in-Some-pop_going.flow

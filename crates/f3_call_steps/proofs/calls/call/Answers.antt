@@ -1,4 +1,4 @@
-use Rattle.std.proofs.Common.{◌≡◌, ◌<◌, ◌≤◌, length, refl, arith}
+use Rattle.std.proofs.Common.{◌<◌, ◌≤◌, length, refl, arith}
 use Rattle.f3_call_steps.proofs.Calling.{no_arguments, too_deep, calls}
 use Rattle.f3_call_steps.proofs.calls.call.Goals as goal
 

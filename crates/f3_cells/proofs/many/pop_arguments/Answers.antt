@@ -7,15 +7,13 @@ use Rattle.f3_cells.proofs.many.pop_arguments.Goals as goal
 
 pub returns-in-None : goal.returns-in-None
 returns-in-None c =
-    so_far_stuck passed_of argument_of c.args.count c.loop-i._i c.args.stack.now.items c.loop-i.stack.items
-    c.pop_argument.new.stack.items c.loop-i.found.items
+    so_far_stuck passed_of argument_of c.args.count c.loop-i._i c.args.stack.now.items c.loop-i.stack.items c.pop_argument.new.stack.items c.loop-i.found.items
     (omega arith) c.loop-i.invariant c.in-None.ensures
 
 pub loop-i-preserved : goal.loop-i-preserved
 loop-i-preserved c =
     rw c.in_ok-push-in-Some.ensures.items
-    (so_far_more passed_of argument_of c.args.count c.loop-i._i c.args.stack.now.items c.loop-i.stack.items
-    c.pop_argument.new.stack.items c.loop-i.found.items c.in-Some.it
+    (so_far_more passed_of argument_of c.args.count c.loop-i._i c.args.stack.now.items c.loop-i.stack.items c.pop_argument.new.stack.items c.loop-i.found.items c.in-Some.it
     (omega arith) c.loop-i.invariant c.in-Some.ensures)
 
 pub returns : goal.returns

@@ -9,6 +9,4 @@ pub returns-in_default-level_at : goal.returns-in_default-level_at
 returns-in_default-level_at c = λ p limit g code v here. rw (c.in-Some.ensures p) (is_stuck (c.in_default-level_at.ensures p _))
 
 pub returns : goal.returns
-returns c = λ p limit g code v here.
-    went_on code here.place p c.go_on_with.ensures
-    (rw (c.in-Some.ensures p, c.in-Some-level_at.ensures p, c.in_ok-left.ensures, c.deref.ensures.value) refl)
+returns c = λ p limit g code v here. went_on code here.place p c.go_on_with.ensures (rw (c.in-Some.ensures p, c.in-Some-level_at.ensures p, c.in_ok-left.ensures, c.deref.ensures.value) refl)

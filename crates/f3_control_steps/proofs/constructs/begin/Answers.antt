@@ -8,9 +8,4 @@ use Rattle.f3_control_steps.proofs.Parts.{begun}
 use Rattle.f3_control_steps.proofs.constructs.begin.Goals as goal
 
 pub returns : goal.returns
-returns c = λ p limit g code v here. (
-  Began (record { store = store_of c.args.state.now.store; lent = here.lent }) ∷ [],
-  begun here _ _ ∙ ap (λ t. Goes
-      (Began (record { store = store_of c.args.state.now.store; lent = here.lent }) ∷ []) (state_of p t)) (sym c.advance.ensures.is),
-  refl,
-)
+returns c = λ p limit g code v here. (Began (record { store = store_of c.args.state.now.store; lent = here.lent }) ∷ [], begun here _ _ ∙ ap (λ t. Goes (Began (record { store = store_of c.args.state.now.store; lent = here.lent }) ∷ []) (state_of p t)) (sym c.advance.ensures.is), refl)

@@ -6,5 +6,4 @@ pub returns-in_default : goal.returns-in_default
 returns-in_default c = λ p limit g code v here size. is_stuck (c.in_default.ensures p _)
 
 pub returns : goal.returns
-returns c = λ p limit g code v here size.
-    went_ahead_with code here.place p size c.ahead_with.ensures (rw (c.in-Some.ensures p, c.flow_of-flow.ensures, c.replace.ensures.after) refl)
+returns c = λ p limit g code v here size. went_ahead_with code here.place p size c.ahead_with.ensures (rw (c.in-Some.ensures p, c.flow_of-flow.ensures, c.replace.ensures.after) refl)

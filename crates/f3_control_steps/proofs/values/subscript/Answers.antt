@@ -9,6 +9,4 @@ pub returns-in_default : goal.returns-in_default
 returns-in_default c = λ p limit g code v here. is_stuck (c.in_default.ensures p _)
 
 pub returns : goal.returns
-returns c = λ p limit g code v here.
-    let fits : SFits w64 c.number_of-number.result = search rules in
-    went_on code here.place p c.go_on_with.ensures (rw (c.in-Some.ensures p, to_z-of_z w64 _ fits, c.number_of-number.ensures) refl)
+returns c = λ p limit g code v here. let fits : SFits w64 c.number_of-number.result = search rules in went_on code here.place p c.go_on_with.ensures (rw (c.in-Some.ensures p, to_z-of_z w64 _ fits, c.number_of-number.ensures) refl)

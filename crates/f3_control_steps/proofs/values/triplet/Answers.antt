@@ -12,11 +12,7 @@ pub returns-in_default-pop_bound : goal.returns-in_default-pop_bound
 returns-in_default-pop_bound c = λ p limit g code v here. rw (c.in-Some.ensures p) (is_stuck (c.in_default-pop_bound.ensures p _))
 
 pub returns-in_default-pop_bound-2 : goal.returns-in_default-pop_bound-2
-returns-in_default-pop_bound-2 c = λ p limit g code v here.
-    rw (c.in-Some.ensures p, c.in-Some-pop_bound.ensures p) (is_stuck (c.in_default-pop_bound-2.ensures p _))
+returns-in_default-pop_bound-2 c = λ p limit g code v here. rw (c.in-Some.ensures p, c.in-Some-pop_bound.ensures p) (is_stuck (c.in_default-pop_bound-2.ensures p _))
 
 pub returns : goal.returns
-returns c = λ p limit g code v here.
-    let fits : SFits w64 c.number_of-step.result = search rules in
-    went_on code here.place p c.go_on_with.ensures
-    (rw (c.in-Some.ensures p, c.in-Some-pop_bound.ensures p, c.in-Some-pop_bound-2.ensures p, to_z-of_z w64 _ fits, c.number_of-step.ensures) refl)
+returns c = λ p limit g code v here. let fits : SFits w64 c.number_of-step.result = search rules in went_on code here.place p c.go_on_with.ensures (rw (c.in-Some.ensures p, c.in-Some-pop_bound.ensures p, c.in-Some-pop_bound-2.ensures p, to_z-of_z w64 _ fits, c.number_of-step.ensures) refl)

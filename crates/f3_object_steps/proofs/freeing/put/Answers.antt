@@ -1,7 +1,0 @@
-use Rattle.f3_data.specs.Values.{value_of}
-use Rattle.f3_data.specs.References.{reference_of}
-use Rattle.f3_object_steps.proofs.Running.{set_comes}
-use Rattle.f3_object_steps.proofs.freeing.put.Goals as goal
-
-pub returns-in-Ok : goal.returns-in-Ok
-returns-in-Ok c = λ here. set_comes (reference_of c.args.object.now) (value_of c.args.value) here c.args.store.now c.set.new.store c.in-Ok.ensures
