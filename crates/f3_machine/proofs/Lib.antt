@@ -1,0 +1,5 @@
+pub mod Course
+pub mod Stepping
+pub mod Silent
+pub mod Beginning
+pub mod Printed

@@ -1,0 +1,55 @@
+//! One instruction.
+
+ghost use Rattle.std.specs.Prelude.{◌≡◌, MatchOption, None, Some, slice_get};
+ghost use Rattle.f3_output.specs.Output.{state_of};
+ghost use Rattle.f3_machine.specs.Steps.{StepsTo, ended_by};
+
+use crate::table::perform;
+use f3_cells::scene::Scene;
+use f3_cells::state::{State, Stop};
+use f3_gen_values::line::Line;
+use f3_machine_laws::ended::Ended;
+use f3_output::output::Output;
+use f3_rules::source::Place;
+use std::alloc::Global;
+use std::io::Write;
+
+/// The line of a number.
+fn line_at(lines: &[Line], pc: usize) -> Option<Line>
+    ensures { result ≡ slice_get lines.now pc }
+{
+    lines.get(pc).copied()
+}
+
+/// How a run ends where an instruction at a place stops it.
+fn end_of(stop: Stop, place: Place) -> Ended
+    ensures { result ≡ ended_by stop place }
+{
+    match stop {
+        Stop::Done => Ended::Done,
+        Stop::Stopped(number) => Ended::Stopped(number),
+        Stop::Failed(error) => Ended::Failed(error, place),
+        Stop::Stuck | Stop::Lost => Ended::Stuck,
+        Stop::Refused => Ended::WriteFault,
+        Stop::Memory => Ended::Memory,
+    }
+}
+
+/// The next instruction.
+pub(crate) fn step<W: Write>(
+    alloc: Global,
+    scene: &Scene<'_>,
+    state: &mut State,
+    output: &mut Output<W>,
+) -> Result<(), Ended>
+    ensures { StepsTo scene.now result state.old state.new (state_of W.contents output.old) (state_of W.contents output.new) }
+{
+    let Some(line) = line_at(&scene.emission.lines, state.pc) else {
+        return Err(Ended::Stuck);
+    };
+    let place = line.place.unwrap_or(state.here.place);
+    match perform(alloc, scene, line.act, line.initial, place, state, output) {
+        Ok(()) => Ok(()),
+        Err(stop) => Err(end_of(stop, place)),
+    }
+}
