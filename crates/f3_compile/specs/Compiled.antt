@@ -1,4 +1,4 @@
--- Programs that were accepted.
+-- Programs that can be run.
 use Rattle.f3_program.specs.declared.program.Program.{Program}
 use Rattle.f3_compile.specs.declared.compiled.Compiled.{Compiled}
 

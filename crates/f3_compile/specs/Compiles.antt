@@ -1,5 +1,5 @@
--- What compiling sources answers.
-use Rattle.std.specs.Prelude.{◌≡◌, ℕ, List, Result, Ok, Err}
+-- What compiling and running sources answers.
+use Rattle.std.specs.Prelude.{◌≡◌, ℕ, List, [], Result, Ok, Err}
 use Rattle.f3_rules.specs.declared.source.Source.{Source}
 use Rattle.f3_rules.specs.declared.refusal.Refusal.{Refusal}
 use Rattle.f3_tree.specs.Tree.{Tree}
@@ -14,7 +14,10 @@ use Rattle.f3_accepted.specs.Refusals.{First}
 use Rattle.f3_program.specs.declared.program.Program.{Program}
 use Rattle.f3_elaboration.specs.DeclaredViews.{program_view}
 use Rattle.f3_elaboration.specs.Program.{elaborated}
+use Rattle.f3_output.specs.Output.{State, Wrote}
 use Rattle.f3_compile.specs.declared.compiled.Compiled.{Compiled}
+use Rattle.f3_compile.specs.declared.end.End.{End}
+use Rattle.f3_compile.specs.Answers.{Answers}
 use Rattle.f3_compile.specs.Compiled.{program_of}
 
 -- The sources spell a program that breaks no rule, and this is it with each name replaced by what it means, along an order of
@@ -38,3 +41,10 @@ abbrev pub Compiles : List Source → Result Compiled CheckFault → Type 0
 Compiles sources (Ok compiled) = Means sources (program_of compiled) × ((refusal : Refusal) → First sources refusal → ⊥)
 Compiles sources (Err (Refused refusal)) = IsRefused sources refusal
 Compiles sources (Err Memory) = Unit {0}
+
+-- What `check_and_run` answers, of the instructions that the run may make, and of the output before and now: nothing is
+-- written where the sources are refused, or memory is wanting before the run.
+abbrev pub ChecksAndRuns : List Source → ℕ → State → State → Result End CheckFault → Type 0
+ChecksAndRuns sources steps old new (Ok end) = (p : Program) × Means sources p × ((refusal : Refusal) → First sources refusal → ⊥) × Answers p steps old new end
+ChecksAndRuns sources steps old new (Err (Refused refusal)) = IsRefused sources refusal × Wrote old new []
+ChecksAndRuns sources steps old new (Err Memory) = Wrote old new []

@@ -9,7 +9,7 @@ use f3_gen_laws::generate;
 use f3_listing::listing;
 use std::alloc::{AllocError, Global};
 
-/// The text of the code of a program: a line for each instruction, its number from 0, its name and its operands in decimal
+/// The text of the code that `run` runs: a line for each instruction, its number from 0, its name and its operands in decimal
 /// (own rule).
 ///
 /// `AllocError` where memory runs out.

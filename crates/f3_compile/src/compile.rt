@@ -1,4 +1,4 @@
-//! From sources to elaborated programs.
+//! From source bytes to output bytes.
 
 ghost use Rattle.std.specs.Prelude.{◌≡◌, IfOk};
 ghost use Rattle.f3_tree.specs.Tree.{view};
@@ -8,18 +8,23 @@ ghost use Rattle.f3_types.specs.Types.{AreTypesAlong};
 ghost use Rattle.f3_accepted.specs.Checked as accepted;
 ghost use Rattle.f3_elaboration.specs.DeclaredViews.{program_view};
 ghost use Rattle.f3_elaboration.specs.Program.{elaborated};
+ghost use Rattle.f3_output.specs.Output.{state_of};
 ghost use Rattle.f3_compile.specs.Compiled.{program_of};
-ghost use Rattle.f3_compile.specs.Compiles.{Compiles};
+ghost use Rattle.f3_compile.specs.Compiles.{Compiles, ChecksAndRuns};
 
 use crate::compiled::Compiled;
+use crate::end::{End, Limits};
+use crate::run::run;
 use f3_accepted::check::check;
 use f3_accepted::checked::{Checked, Parts};
 use f3_elaborate::elaborate::elaborate;
 use f3_graph::CheckFault;
+use f3_output::output::Output;
 use f3_rules::source::Source;
 use std::alloc::{AllocError, Global};
+use std::io::Write;
 
-/// The program that the sources spell, with each name replaced by what it means, where it breaks no rule. Else the refusal of the first break by phase,
+/// The program that the sources spell, ready to run, where it breaks no rule. Else the refusal of the first break by phase,
 /// place and the order of the rules, or Memory where a growth was refused.
 pub fn compile(alloc: Global, sources: &[Source]) -> Result<Compiled, CheckFault>
     ensures { Compiles sources.now result }
@@ -52,4 +57,19 @@ fn elaborated(alloc: Global, checked: Checked) -> Result<Compiled, AllocError>
     drop(program);
     let program = made?;
     Ok(Compiled { program })
+}
+
+/// Compiles and runs: the answers of `compile` where it refuses, with nothing written, and else those of `run`.
+pub fn check_and_run<W: Write>(
+    alloc: Global,
+    sources: &[Source],
+    limits: Limits,
+    output: &mut Output<W>,
+) -> Result<End, CheckFault>
+    ensures { ChecksAndRuns sources.now limits.steps (state_of W.contents output.old) (state_of W.contents output.new) result }
+{
+    let compiled = compile(alloc, sources)?;
+    let end = run(alloc, &compiled, limits, output);
+    drop(compiled);
+    Ok(end)
 }

@@ -1,11 +1,11 @@
-//! Programs that were accepted.
+//! Programs that can be run.
 
 ghost use Rattle.std.specs.Prelude.{◌≡◌};
 ghost use Rattle.f3_compile.specs.Compiled.{program_of};
 
 use f3_program::program::Program;
 
-/// A program that was accepted: only `compile` makes one.
+/// A program that was accepted and can be run.
 #[derive(Drop)]
 pub struct Compiled {
     pub(crate) program: Program,

@@ -1,0 +1,63 @@
+//! Runs of programs.
+
+ghost use Rattle.std.specs.Prelude.{◌≡◌};
+ghost use Rattle.f3_core.specs.Lower.{lowered_program};
+ghost use Rattle.f3_code.specs.Code.{program_code};
+ghost use Rattle.f3_gen_program.specs.Emission.{code_in};
+ghost use Rattle.f3_output.specs.Output.{state_of};
+ghost use Rattle.f3_compile.specs.Answers.{Answers};
+ghost use Rattle.f3_compile.specs.Compiled.{program_of};
+
+use crate::compiled::Compiled;
+use crate::end::{End, Limits};
+use f3_cells::scene::Scene;
+use f3_gen_laws::generate;
+use f3_gen_program::program::Emission;
+use f3_machine_laws::answers_mean;
+use f3_machine_laws::ended::Ended;
+use f3_output::output::Output;
+use f3_program::program::Program;
+use std::alloc::Global;
+use std::io::Write;
+
+/// Runs a program: its code is made, and a machine runs it into the output.
+pub fn run<W: Write>(
+    alloc: Global,
+    compiled: &Compiled,
+    limits: Limits,
+    output: &mut Output<W>,
+) -> End
+    ensures { Answers (program_of compiled.now) limits.steps (state_of W.contents output.old) (state_of W.contents output.new) result }
+{
+    let Ok(emission) = generate(alloc, &compiled.program) else {
+        return End::Memory;
+    };
+    let end = run_code(alloc, &compiled.program, &emission, limits.steps, output);
+    drop(emission);
+    end
+}
+
+/// Runs the code of a program.
+fn run_code<W: Write>(
+    alloc: Global,
+    program: &Program,
+    emission: &Emission,
+    steps: u64,
+    output: &mut Output<W>,
+) -> End
+    requires { code_in program.now emission.now ≡ program_code (lowered_program program.now) }
+    ensures { Answers program.now steps (state_of W.contents output.old) (state_of W.contents output.new) result }
+{
+    let scene = Scene { program, emission };
+    let ended = f3_machine::machine::run(alloc, &scene, steps, output);
+    answers_mean();
+    match ended {
+        Ended::Done => End::Done,
+        Ended::Stopped(number) => End::Stopped(number),
+        Ended::Failed(error, place) => End::Error { error, place },
+        Ended::StepLimit => End::StepLimit,
+        Ended::WriteFault => End::WriteFault,
+        Ended::Memory => End::Memory,
+        Ended::Stuck => unreachable!(),
+    }
+}
