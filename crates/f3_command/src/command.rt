@@ -9,7 +9,7 @@ const STEPS: &str = "100000000";
 const HEAP_WORDS: &str = "1048576";
 
 /// The version of f3, and the toolchain that proved it.
-const VERSION: &str = "0.1.0 (rattle-kit-13b, logic dac8208d650f15bf)";
+const VERSION: &str = "0.1.0 (rattle-kit-13f, logic dac8208d650f15bf)";
 
 /// The command line of f3: `check FILE...`, `run [--steps N] [--heap WORDS] FILE...` and `names FILE...`.
 pub fn command<'a>(alloc: Global) -> Result<Command<'a>, AllocError> {
