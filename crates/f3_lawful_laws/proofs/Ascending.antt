@@ -22,29 +22,29 @@ Ascends l [] = ⊤
 Ascends l (x ∷ xs) = (l ≤ x) × Ascends (suc x) xs
 
 -- and stay below a number
-abbrev Spans : ℕ → ℕ → List ℕ → Type 0
+abbrev pub Spans : ℕ → ℕ → List ℕ → Type 0
 Spans l m [] = l ≤ m
 Spans l m (x ∷ xs) = (l ≤ x) × Spans (suc x) m xs
 
-lower : (l m : ℕ) (xs : List ℕ) → l ≤ m → Ascends m xs → Ascends l xs
+pub lower : (l m : ℕ) (xs : List ℕ) → l ≤ m → Ascends m xs → Ascends l xs
 lower l m [] le h = tt
 lower l m (x ∷ xs) le h = ((let a : m ≤ x = h.0 in omega (arith, le, a)), h.1)
 
-joined : (l m : ℕ) (xs ys : List ℕ) → Spans l m xs → Ascends m ys → Ascends l (xs ++ ys)
+pub joined : (l m : ℕ) (xs ys : List ℕ) → Spans l m xs → Ascends m ys → Ascends l (xs ++ ys)
 joined l m [] ys h k = lower l m ys h k
 joined l m (x ∷ xs) ys h k = (h.0, joined (suc x) m xs ys h.1 k)
 
-wider : (l k m : ℕ) (xs : List ℕ) → l ≤ k → Spans k m xs → Spans l m xs
+pub wider : (l k m : ℕ) (xs : List ℕ) → l ≤ k → Spans k m xs → Spans l m xs
 wider l k m [] le h = let a : k ≤ m = h in omega (arith, le, a)
 wider l k m (x ∷ xs) le h = ((let a : k ≤ x = h.0 in omega (arith, le, a)), h.1)
 
-at_least : (l : ℕ) (xs : List ℕ) (k e : ℕ) → Ascends l xs → slice_get xs k ≡ Some e → l ≤ e
+pub at_least : (l : ℕ) (xs : List ℕ) (k e : ℕ) → Ascends l xs → slice_get xs k ≡ Some e → l ≤ e
 at_least l [] k e h at = nothing at
 at_least l (x ∷ xs) zero e h at = let a : l ≤ x = h.0 in let s : x ≡ e = same at in omega (arith, a, s)
 at_least l (x ∷ xs) (suc k) e h at =
     let a : l ≤ x = h.0 in let b : suc x ≤ e = at_least (suc x) xs k e h.1 at in omega (arith, a, b)
 
-unlike : (e x : ℕ) → suc x ≤ e → nat_eq e x ≡ false
+pub unlike : (e x : ℕ) → suc x ≤ e → nat_eq e x ≡ false
 unlike e x le = elim (eqb_tells e x) [ inl k ↦ (let s : e ≡ x = k.1 in absurd (omega (arith, le, s))) | inr k ↦ k.0 ]
 
 -- what stands at a place is first found there
@@ -59,7 +59,7 @@ position_at l (x ∷ xs) (suc k) e h at =
 
 -- ---- where the entities of scopes begin
 
-first_next : (scopes : List Scope) (n : ℕ) (s : Scope) → slice_get scopes n ≡ Some s → first_entity scopes (suc n) ≡ first_entity scopes n + length s.declared
+pub first_next : (scopes : List Scope) (n : ℕ) (s : Scope) → slice_get scopes n ≡ Some s → first_entity scopes (suc n) ≡ first_entity scopes n + length s.declared
 first_next [] n s at = nothing at
 first_next (x ∷ xs) zero s at =
     let long = length-append x.declared [] in
@@ -71,7 +71,7 @@ first_next (x ∷ xs) (suc n) s at =
     let two = length-append x.declared (entities_of (take n xs)) in
     omega (arith, more, one, two)
 
-first_grows : (scopes : List Scope) (a b : ℕ) → a ≤ b → first_entity scopes a ≤ first_entity scopes b
+pub first_grows : (scopes : List Scope) (a b : ℕ) → a ≤ b → first_entity scopes a ≤ first_entity scopes b
 first_grows scopes zero b le = omega arith
 first_grows scopes (suc a) zero le = absurd (omega (arith, le))
 first_grows [] (suc a) (suc b) le = omega arith
@@ -86,7 +86,7 @@ first_grows (x ∷ xs) (suc a) (suc b) le =
 abbrev entity : Member → ℕ
 entity m = m.entity
 
-members_span : (scopes : List Scope) (e n : ℕ) (ps : List ProcedureTree) → Spans e (e + length ps) (map entity (members_from scopes e n ps))
+pub members_span : (scopes : List Scope) (e n : ℕ) (ps : List ProcedureTree) → Spans e (e + length ps) (map entity (members_from scopes e n ps))
 members_span scopes e n [] = let a : e ≤ e + 0 = omega arith in a
 members_span scopes e n (p ∷ ps) =
     let next : ℕ = n + 1 + length (constructs_of_block p.body) in

@@ -1,37 +1,37 @@
-mod Facts
-mod Typed
-mod Positions
-mod Designating
-mod Alike
-mod Walking
-mod Reaching
-mod Objects
-mod Calling
-mod Passing
-mod Given
-mod Intrinsics
-mod Meant
-mod Chains
-mod Expressions
-mod Defining
-mod Variables
-mod Bounded
-mod Requests
-mod Moving
-mod Actions
-mod Naming
-mod Inside
-mod Statements
-mod Trees
-mod Ascending
-mod Numbered
-mod Numbering
-mod Finals
-mod Roots
-mod Whole
-mod Parts
-mod Opening
-mod Placing
-mod Primed
-mod SeenExpressions
-mod SeenStatements
+pub mod Facts
+pub mod Typed
+pub mod Positions
+pub mod Designating
+pub mod Alike
+pub mod Walking
+pub mod Reaching
+pub mod Objects
+pub mod Calling
+pub mod Passing
+pub mod Given
+pub mod Intrinsics
+pub mod Meant
+pub mod Chains
+pub mod Expressions
+pub mod Defining
+pub mod Variables
+pub mod Bounded
+pub mod Requests
+pub mod Moving
+pub mod Actions
+pub mod Naming
+pub mod Inside
+pub mod Statements
+pub mod Trees
+pub mod Ascending
+pub mod Numbered
+pub mod Numbering
+pub mod Finals
+pub mod Roots
+pub mod Whole
+pub mod Parts
+pub mod Opening
+pub mod Placing
+pub mod Primed
+pub mod SeenExpressions
+pub mod SeenStatements

@@ -1,0 +1,3 @@
+pub mod Outer
+pub mod Join
+pub mod Accepted

@@ -1,0 +1,10 @@
+pub mod Lists
+pub mod Constructs
+pub mod Owns
+pub mod Where
+pub mod Stands
+pub mod Natures
+pub mod Entities
+pub mod Names
+pub mod Spans
+pub mod Found

@@ -1,0 +1,12 @@
+pub mod Lists
+pub mod Alone
+pub mod Visible
+pub mod Natures
+pub mod Parts
+pub mod Owned
+pub mod Headers
+pub mod Statics
+pub mod Fits
+pub mod Members
+pub mod Mains
+pub mod Bodies
