@@ -3,6 +3,7 @@ use Rattle.std.specs.Prelude.{◌≡◌, ◌+◌, Bool, if◌then◌else◌, Lis
 use Rattle.f3_rules.specs.declared.source.Place.{Place}
 use Rattle.f3_program.specs.declared.declarations.Base.{Base}
 use Rattle.f3_program.specs.declared.expression.Expression.{Expression}
+use Rattle.f3_program.specs.declared.expression.Expression as e
 use Rattle.f3_meaning_whole.specs.Value.{Value, Unallocated}
 use Rattle.f3_meaning_whole.specs.Act.{Setting}
 use Rattle.f3_core.specs.Lower.{initial}
@@ -31,3 +32,8 @@ pub record Emitted (old new : List Line) (code : List c.Line) : Type 0 where
 -- a bound of a triplet, if there is one (ISO/IEC 1539-1:2004, 6.2.2.3.1)
 abbrev pub limit_code : Option Place → Bool → Expression → List c.Line
 limit_code o is_there x = if is_there then value_code o x ++ c.line o i.Limit ∷ [] else c.line o i.NoLimit ∷ []
+
+-- an expression that is no operator between two operands (ISO/IEC 1539-1:2004, 7.1.1)
+abbrev pub IsOperand : Expression → Type 0
+IsOperand (e.Binary' c t p x q y) = ⊥
+IsOperand _ = Unit {0}

@@ -4,7 +4,7 @@ ghost use Rattle.std.specs.Prelude.{◌∷◌, [], ◌++◌, OnOk};
 ghost use Rattle.std.specs.List.{flat_map};
 ghost use Rattle.f3_code.specs.State.{line};
 ghost use Rattle.f3_code.specs.Code.{value_code, bounds_code, argument_code, locate_code, select_code, select_of_code, subscript_code};
-ghost use Rattle.f3_gen_values.specs.Emitted.{Emitted, limit_code};
+ghost use Rattle.f3_gen_values.specs.Emitted.{Emitted, IsOperand, limit_code};
 
 use crate::line::{Line, put};
 use f3_code::instruction::Instruction;
@@ -12,7 +12,8 @@ use f3_program::expression::{Argument, Designator, Expression, Selection, Subscr
 use f3_rules::source::Place;
 use std::alloc::AllocError;
 
-/// The value of an expression (ISO/IEC 1539-1:2004, 7.1).
+/// The value of an expression (ISO/IEC 1539-1:2004, 7.1). The operands of operators are taken one by one, the last first,
+/// and those before it wait: so a long chain of operators takes no more of the stack than a short one.
 #[cycle(value)]
 pub fn emit_value(
     code: &mut Vec<Line>,
@@ -21,17 +22,44 @@ pub fn emit_value(
 ) -> Result<(), AllocError>
     ensures { OnOk result (Emitted code.old.items code.new.items (value_code place expression.now)) }
 {
-    match expression {
+    let mut waiting: Vec<&Expression> = Vec::new(*code.allocator());
+    let mut current = expression;
+    loop {
+        match current {
+            Expression::Binary(operator, of, x, y) => {
+                put(code, place, Instruction::Binary(*operator, *of))?;
+                waiting.push(x)?;
+                current = y;
+            }
+            _ => {
+                emit_operand(code, place, current)?;
+                match waiting.pop() {
+                    Some(x) => current = x,
+                    None => return Ok(()),
+                }
+            }
+        }
+    }
+}
+
+/// The value of an expression whose operator, if it has one, has one operand (7.1.1).
+#[cycle(value)]
+fn emit_operand(
+    code: &mut Vec<Line>,
+    place: Option<Place>,
+    operand: &Expression,
+) -> Result<(), AllocError>
+    requires { IsOperand operand.now }
+    ensures { OnOk result (Emitted code.old.items code.new.items (value_code place operand.now)) }
+{
+    match operand {
         Expression::Literal(constant) => put(code, place, Instruction::Push(*constant)),
         Expression::Variable(x) => emit_object_then(code, place, x, Instruction::Load),
         Expression::Group(x) => emit_value_then(code, place, x, Instruction::Plain),
         Expression::Unary(operator, of, x) => {
             emit_value_then(code, place, x, Instruction::Unary(*operator, *of))
         }
-        Expression::Binary(operator, of, x, y) => {
-            emit_value_then(code, place, y, Instruction::Binary(*operator, *of))?;
-            emit_value(code, place, x)
-        }
+        Expression::Binary(_, _, _, _) => unreachable!(),
         Expression::Array(values) => {
             put(code, place, Instruction::Array(values.len()))?;
             emit_arguments(code, place, values)
