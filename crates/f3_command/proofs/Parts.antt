@@ -1,5 +1,5 @@
 -- Outputs and files, part by part.
-use Rattle.std.proofs.Common.{◌≡◌, ℕ, List, [], ◌∷◌, ◌++◌, Option, refl, sym, ap, subst, ◌∙◌, append-nil}
+use Rattle.std.proofs.Common.{◌≡◌, ℕ, List, [], ◌∷◌, ◌++◌, Option, refl, sym, ap, subst, inl, inr, ◌∙◌, append-nil}
 use Rattle.std.specs.Prelude.{Result, Ok, Err, OnOk, OnErr, String, string_bytes}
 use Rattle.std.specs.Global.{Global}
 use Rattle.std.specs.Io.KnownBytes.{Appends}
@@ -9,17 +9,18 @@ use Rattle.f3_graph.specs.declared.CheckFault.TheVariants as fault
 use Rattle.f3_name_table.specs.Answers as table
 use Rattle.f3_accepted.specs.Refusals.{Checks}
 use Rattle.f3_rules.specs.declared.source.Source.{Source}
-use Rattle.f3_meaning.specs.declared.elaborated.Elaborated.{Elaborated}
-use Rattle.f3_meaning.specs.Event.{output}
-use Rattle.f3_meaning.specs.Meaning.{prints}
+use Rattle.f3_rules.specs.declared.refusal.Refusal.{Refusal}
+use Rattle.f3_accepted.specs.Refusals.{First}
+use Rattle.f3_program.specs.declared.program.Program.{Program}
+use Rattle.f3_machine_laws.specs.RunAnswers.{Cut, Refuses}
 use Rattle.f3_output.specs.Output.{State, Wrote, Faulted}
 use Rattle.f3_output.proofs.Outputs.{wrote_none, wrote_more, faulted_behind, faulted_before}
 use Rattle.f3_run.specs.declared.end.End.{End}
 use Rattle.f3_run.specs.declared.end.End.TheVariants.{Done, Stopped, Error, StepLimit, WriteFault, Memory}
-use Rattle.f3_run.specs.Answers.{Answers, Refuses}
-use Rattle.f3_run.specs.Compiles.{Means}
+use Rattle.f3_run.specs.Answers.{Answers}
+use Rattle.f3_run.specs.Compiles.{Means, ChecksAndRuns, ChecksAndLists}
 use Rattle.f3_command.specs.declared.report.Outcome.TheVariants.{Ended}
-use Rattle.f3_command.specs.Work.{AreAccepted, Accepts, Runs, Shows, Shown, outcome_of}
+use Rattle.f3_command.specs.Work.{AreAccepted, Accepts, Ran, Runs, Shows, Lists, Shown, outcome_of}
 use Rattle.f3_command.specs.Reading.{IsOf, AreOf}
 
 pub on_ok : {T E : Type 0} {P Q : Type 0} (r : Result T E) → (P → Q) → OnOk r P → OnOk r Q
@@ -67,32 +68,70 @@ faulted_again {a} {b} {c} f g = record {
   refused = g.refused;
 }
 
+-- what was written until an instruction, handed on
+cut_on : (p : Program) (k : ℕ) (a b c : State) → Cut p k a b → Wrote b c [] → Cut p k a c
+cut_on p k a b c h w = record { so_far = record { goes_on = h.so_far.goes_on; wrote = wrote_on h.so_far.wrote w }; begins = h.begins }
+
 -- an answer of a run stays one when the output is handed on
-pub handed_on : (p : Elaborated) (steps : ℕ) (a b c : State) (end : End) → Answers p steps a b end → Wrote b c [] → Answers p steps a c end
-handed_on p steps a b c Done h w = (h.0, record { turns = h.1.turns; ends = h.1.ends; wrote = wrote_on h.1.wrote w }, h.2)
-handed_on p steps a b c (Stopped code) h w = absurd h
+pub handed_on : (p : Program) (steps : ℕ) (a b c : State) (end : End) → Answers p steps a b end → Wrote b c [] → Answers p steps a c end
+handed_on p steps a b c Done h w = (record { turns = h.0.turns; ends = h.0.ends; wrote = wrote_on h.0.wrote w }, h.1)
+handed_on p steps a b c (Stopped code) h w = (record { turns = h.0.turns; ends = h.0.ends; wrote = wrote_on h.0.wrote w }, h.1)
 handed_on p steps a b c (Error error place) h w = (record { turns = h.0.turns; ends = h.0.ends; wrote = wrote_on h.0.wrote w }, h.1)
-handed_on p steps a b c StepLimit h w = record { store = h.store; runs = h.runs; wrote = wrote_on h.wrote w; begins = h.begins }
+handed_on p steps a b c StepLimit h w = cut_on p steps a b c h w
 handed_on p steps a b c WriteFault h w = record { turns = h.turns; faulted = faulted_kept h.faulted w }
-handed_on p steps a b c Memory h w = wrote_on h w
+handed_on p steps a b c Memory h w = (h.0, h.1, cut_on p h.0 a b c h.2 w)
+
+cut_off : (p : Program) (k : ℕ) (a b c : State) → Cut p k a b → Faulted b c [] → Refuses p a c
+cut_off p k a b c h f = record { turns = h.begins.turns; faulted = rw h.begins.whole (faulted_before h.begins.more (faulted_on h.so_far.wrote f)) }
 
 -- and is a write fault where the writer refuses then
-pub not_handed_on : (p : Elaborated) (steps : ℕ) (a b c : State) (end : End) → Answers p steps a b end → Faulted b c [] → Refuses p a c
-not_handed_on p steps a b c Done h f = record { turns = h.1.turns; faulted = faulted_on h.1.wrote f }
-not_handed_on p steps a b c (Stopped code) h f = absurd h
+pub not_handed_on : (p : Program) (steps : ℕ) (a b c : State) (end : End) → Answers p steps a b end → Faulted b c [] → Refuses p a c
+not_handed_on p steps a b c Done h f = record { turns = h.0.turns; faulted = faulted_on h.0.wrote f }
+not_handed_on p steps a b c (Stopped code) h f = record { turns = h.0.turns; faulted = faulted_on h.0.wrote f }
 not_handed_on p steps a b c (Error error place) h f = record { turns = h.0.turns; faulted = faulted_on h.0.wrote f }
-not_handed_on p steps a b c StepLimit h f = record { turns = h.begins.turns; faulted = rw h.begins.whole (faulted_before h.begins.more (faulted_on h.wrote f)) }
+not_handed_on p steps a b c StepLimit h f = cut_off p steps a b c h f
 not_handed_on p steps a b c WriteFault h f = record { turns = h.turns; faulted = faulted_again h.faulted f }
-not_handed_on p steps a b c Memory h f = record { turns = 0; faulted = faulted_before (output (prints p 0 []).out) (faulted_on h f) }
+not_handed_on p steps a b c Memory h f = cut_off p h.0 a b c h.2 f
+
+-- sources whose program has a meaning are accepted
+accepted_by : (sources : List Source) (p : Program) → Means sources p → ((refusal : Refusal) → First sources refusal → ⊥) → AreAccepted sources
+accepted_by sources p m never = record { tree = m.tree; accepted = m.accepted; never = never }
 
 -- what runs answer, memory wanting among it
-pub runs_so : (sources : List Source) (steps : ℕ) (a b : State) (end : End) (p : Elaborated) → AreAccepted sources → Means sources p → Answers p steps a b end → Runs sources steps a b (Ended end)
-runs_so sources steps a b Done p are m h = (are, p, m, h)
-runs_so sources steps a b (Stopped code) p are m h = (are, p, m, h)
-runs_so sources steps a b (Error error place) p are m h = (are, p, m, h)
-runs_so sources steps a b StepLimit p are m h = (are, p, m, h)
-runs_so sources steps a b WriteFault p are m h = (are, p, m, h)
-runs_so sources steps a b Memory p are m h = h
+pub runs_so : (sources : List Source) (steps : ℕ) (a b : State) (end : End) → Ran sources steps a b end → Runs sources steps a b (Ended end)
+runs_so sources steps a b Done h = h
+runs_so sources steps a b (Stopped code) h = h
+runs_so sources steps a b (Error error place) h = h
+runs_so sources steps a b StepLimit h = h
+runs_so sources steps a b WriteFault h = h
+runs_so sources steps a b Memory h = inr h
+
+-- a run whose output is handed on
+pub ran_so : (sources : List Source) (steps : ℕ) (a b c : State) (e end : End) → ChecksAndRuns sources steps a b (Ok e)
+    → ((p : Program) (steps : ℕ) (before : State) → Answers p steps before b e → Answers p steps before c end) → Runs sources steps a c (Ended end)
+ran_so sources steps a b c e end h on =
+    runs_so sources steps a c end (accepted_by sources h.0 h.1 h.2, h.0, h.1, on h.0 steps a h.3)
+
+-- sources that are refused, or memory wanting before a run
+pub not_run : (sources : List Source) (steps : ℕ) (a b : State) (f : CheckFault) → ChecksAndRuns sources steps a b (Err f)
+    → Runs sources steps a b (outcome_of f)
+not_run sources steps a b (fault.Refused refusal) h = h
+not_run sources steps a b fault.Memory h = inl h
+
+-- the text of code that is shown
+pub lists_so : (sources : List Source) (text : String Global) (a b : State) (end : End) → ChecksAndLists sources (Ok text) → Shown a b (string_bytes text) end
+    → Lists sources a b (Ended end)
+lists_so sources text a b Done h w = (text, (accepted_by sources h.0 h.1 h.2, h.0, h.1, h.3), w)
+lists_so sources text a b (Stopped code) h w = absurd w
+lists_so sources text a b (Error error place) h w = absurd w
+lists_so sources text a b StepLimit h w = absurd w
+lists_so sources text a b WriteFault h w = (text, (accepted_by sources h.0 h.1 h.2, h.0, h.1, h.3), w)
+lists_so sources text a b Memory h w = absurd w
+
+-- a fault of the code, with nothing written
+pub not_listed : (sources : List Source) (s : State) (f : CheckFault) → ChecksAndLists sources (Err f) → Lists sources s s (outcome_of f)
+not_listed sources s (fault.Refused refusal) h = (h, wrote_none)
+not_listed sources s fault.Memory h = wrote_none
 
 -- the table of names that is shown
 pub shows_so : (sources : List Source) (text : String Global) (a b : State) (end : End) → table.Answers (Ok text) sources → Shown a b (string_bytes text) end → Shows sources a b (Ended end)

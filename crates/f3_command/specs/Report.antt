@@ -3,8 +3,8 @@ use Rattle.std.specs.Prelude.{◌≡◌, ℕ, List, [], ◌∷◌, ◌++◌, ◌
 use Rattle.f3_rules.specs.declared.source.Place.{Place}
 use Rattle.f3_rules.specs.declared.source.Source.{Source}
 use Rattle.f3_rules.specs.Line.{file_name, line_of}
-use Rattle.f3_meaning.specs.declared.run_error.RunError.{RunError}
-use Rattle.f3_meaning.specs.RunError.{number, words}
+use Rattle.f3_meaning_whole.specs.declared.run_error.RunError.{RunError}
+use Rattle.f3_meaning_whole.specs.Error.{error_number, error_words}
 use Rattle.f3_output.specs.Output.{State, Wrote, Faulted}
 use Rattle.f3_run.specs.declared.end.End.TheVariants.{Done, Stopped, Error, StepLimit, WriteFault, Memory}
 use Rattle.f3_command.specs.declared.report.Outcome.{Outcome}
@@ -21,20 +21,20 @@ status_of (Refused refusal) = 1
 status_of (Unreadable name) = 2
 
 -- file:line:column: error 9: in use by an argument
-abbrev pub error_words : List Source → RunError → Place → List ℕ
-error_words sources error place =
+abbrev pub error_line : List Source → RunError → Place → List ℕ
+error_line sources error place =
     file_name sources place.file
     ++ codes ":" ++ decimal place.line
     ++ codes ":" ++ decimal place.column
-    ++ codes ": error " ++ decimal (number error)
-    ++ codes ": " ++ words error
+    ++ codes ": error " ++ decimal (error_number error)
+    ++ codes ": " ++ error_words error
 
 -- what is told; nothing where there is nothing to tell
 abbrev pub words_of : List Source → Outcome → List ℕ
 words_of sources (Ended Done) = []
 words_of sources (Ended (Stopped None)) = []
 words_of sources (Ended (Stopped (Some code))) = codes "STOP " ++ decimal code
-words_of sources (Ended (Error error place)) = error_words sources error place
+words_of sources (Ended (Error error place)) = error_line sources error place
 words_of sources (Ended StepLimit) = codes "step limit"
 words_of sources (Ended WriteFault) = codes "write fault"
 words_of sources (Ended Memory) = codes "want of memory"

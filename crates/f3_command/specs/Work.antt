@@ -7,12 +7,13 @@ use Rattle.f3_tree.specs.Tree.{Tree}
 use Rattle.f3_graph.specs.declared.CheckFault.{CheckFault}
 use Rattle.f3_graph.specs.declared.CheckFault.TheVariants as fault
 use Rattle.f3_name_table.specs.Answers as table
-use Rattle.f3_meaning.specs.declared.elaborated.Elaborated.{Elaborated}
+use Rattle.f3_program.specs.declared.program.Program.{Program}
 use Rattle.f3_output.specs.Output.{State, Wrote, Faulted}
 use Rattle.f3_run.specs.declared.end.End.{End}
 use Rattle.f3_run.specs.declared.end.End.TheVariants.{Done, WriteFault, Memory}
 use Rattle.f3_run.specs.Answers.{Answers}
 use Rattle.f3_run.specs.Compiles.{Means, IsRefused}
+use Rattle.f3_run.specs.Listings.{IsListing}
 use Rattle.f3_accepted.specs.Accepted.{Accepted}
 use Rattle.f3_accepted.specs.Refusals.{First}
 use Rattle.f3_command.specs.declared.report.Outcome.{Outcome}
@@ -33,22 +34,17 @@ pub record AreAccepted (sources : List Source) : Type 0 where
   pub accepted : Accepted sources tree
   pub never : (refusal : Refusal) → First sources refusal → ⊥
 
--- A refusal is that of the first break of all rules, and the sources are not accepted.
-pub record AreRefused (sources : List Source) (refusal : Refusal) : Type 0 where
-  pub first : First sources refusal
-  pub never : (tree : Tree) → Accepted sources tree → ⊥
-
 -- the sources are accepted, or refused; or memory is wanting
 abbrev pub Checks : List Source → Outcome → Type 0
 Checks sources (Ended Done) = AreAccepted sources
-Checks sources (Refused refusal) = AreRefused sources refusal
+Checks sources (Refused refusal) = IsRefused sources refusal
 Checks sources (Ended Memory) = Unit {0}
 Checks sources outcome = ⊥
 
 -- what the check of the sources answers
 abbrev pub Accepts : List Source → Result Unit CheckFault → Type 0
 Accepts sources (Ok done) = AreAccepted sources
-Accepts sources (Err (fault.Refused refusal)) = AreRefused sources refusal
+Accepts sources (Err (fault.Refused refusal)) = IsRefused sources refusal
 Accepts sources (Err fault.Memory) = Unit {0}
 
 -- a text is written, or a front of it where the writer refuses
@@ -65,28 +61,42 @@ Shows sources old new (Refused refusal) = table.Answers (Err (fault.Refused refu
 Shows sources old new (Ended Memory) = Wrote old new []
 Shows sources old new outcome = ⊥
 
--- refused as they break a rule, or accepted and refused since they are not run yet
-abbrev pub NotRun : List Source → Refusal → Type 0
-NotRun sources refusal = AreRefused sources refusal ⊎ (AreAccepted sources × IsRefused sources refusal)
+-- the text of the code that runs, of accepted sources
+abbrev pub IsCode : List Source → String Global → Type 0
+IsCode sources text = AreAccepted sources × (p : Program) × Means sources p × IsListing p text
 
--- the answers of a run, of the steps that it may make; or the sources are refused
-abbrev pub Runs : List Source → ℕ → State → State → Outcome → Type 0
-Runs sources steps old new (Ended Memory) = Wrote old new []
-Runs sources steps old new (Ended end) = AreAccepted sources × (p : Elaborated) × Means sources p × Answers p steps old new end
-Runs sources steps old new (Refused refusal) = NotRun sources refusal × Wrote old new []
+-- that text is written, or a front of it where the writer refuses; or the sources are refused
+abbrev pub Lists : List Source → State → State → Outcome → Type 0
+Lists sources old new (Ended Done) = (text : String Global) × IsCode sources text × Wrote old new (string_bytes text)
+Lists sources old new (Ended WriteFault) = (text : String Global) × IsCode sources text × Faulted old new (string_bytes text)
+Lists sources old new (Refused refusal) = IsRefused sources refusal × Wrote old new []
+Lists sources old new (Ended Memory) = Wrote old new []
+Lists sources old new outcome = ⊥
+
+-- the program that the sources spell answers so, of the steps that it may make
+abbrev pub Ran : List Source → (steps : ℕ) → State → State → End → Type 0
+Ran sources steps old new end = AreAccepted sources × (p : Program) × Means sources p × Answers p steps old new end
+
+-- the answers of a run; where memory is wanting it may not have begun; or the sources are refused
+abbrev pub Runs : List Source → (steps : ℕ) → State → State → Outcome → Type 0
+Runs sources steps old new (Ended Memory) = Wrote old new [] ⊎ Ran sources steps old new Memory
+Runs sources steps old new (Ended end) = Ran sources steps old new end
+Runs sources steps old new (Refused refusal) = IsRefused sources refusal × Wrote old new []
 Runs sources steps old new (Unreadable name) = ⊥
 
 -- What becomes of a task, of the output before and now.
 abbrev pub Works : Task → List Source → State → State → Outcome → Type 0
 Works task.Check sources old new outcome = Checks sources outcome × Wrote old new []
 Works task.Names sources old new outcome = Shows sources old new outcome
+Works task.Code sources old new outcome = Lists sources old new outcome
 Works (task.Run limits) sources old new outcome = Runs sources limits.steps old new outcome
 
--- What becomes of a task on files of these names: one of them cannot be read, or memory is wanting, and nothing is written;
--- else the task is done with their sources.
+-- What becomes of a task on files of these names: one of them cannot be read, or memory is wanting to read them, and nothing is
+-- written; else the task is done with their sources.
 abbrev pub Does : (List ℕ → Option (List ℕ)) → List (List ℕ) → Task → List Source → State → State → Outcome → Type 0
 Does contents names task sources old new (Unreadable name) = Contains names name.now × Wrote old new []
-Does contents names task sources old new (Ended Memory) = Wrote old new []
+Does contents names task sources old new (Ended Memory) =
+    Wrote old new [] ⊎ (AreOf contents names sources × Works task sources old new (Ended Memory))
 Does contents names task sources old new outcome = AreOf contents names sources × Works task sources old new outcome
 
 -- What a call of f3 does: this becomes of its task, and its line is told with its status.

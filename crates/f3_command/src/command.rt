@@ -11,7 +11,7 @@ const HEAP_WORDS: &str = "1048576";
 /// The version of f3, and the toolchain that proved it.
 const VERSION: &str = "0.1.0 (rattle-kit-13f, logic dac8208d650f15bf)";
 
-/// The command line of f3: `check FILE...`, `run [--steps N] [--heap WORDS] FILE...` and `names FILE...`.
+/// The command line of f3: `check FILE...`, `run [--steps N] [--heap WORDS] FILE...`, `names FILE...` and `code FILE...`.
 pub fn command<'a>(alloc: Global) -> Result<Command<'a>, AllocError> {
     let f3 = Command::new(alloc, "f3")
         .version(VERSION)
@@ -19,7 +19,8 @@ pub fn command<'a>(alloc: Global) -> Result<Command<'a>, AllocError> {
         .subcommand_required(true);
     let f3 = with_subcommand(f3, check(alloc))?;
     let f3 = with_subcommand(f3, run(alloc))?;
-    with_subcommand(f3, names(alloc))
+    let f3 = with_subcommand(f3, names(alloc))?;
+    with_subcommand(f3, code(alloc))
 }
 
 fn with_subcommand<'a>(
@@ -52,6 +53,12 @@ fn run<'a>(alloc: Global) -> Result<Command<'a>, AllocError> {
 fn names<'a>(alloc: Global) -> Result<Command<'a>, AllocError> {
     Command::new(alloc, "names")
         .about("Checks the names of the sources, and shows what each program unit sees")
+        .arg(files(alloc))
+}
+
+fn code<'a>(alloc: Global) -> Result<Command<'a>, AllocError> {
+    Command::new(alloc, "code")
+        .about("Checks the sources, and shows the code that runs")
         .arg(files(alloc))
 }
 

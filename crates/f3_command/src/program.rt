@@ -81,6 +81,9 @@ pub fn task(name: &str, inner: &ArgMatches<'_>) -> Task
     if name == "names" {
         return Task::Names;
     }
+    if name == "code" {
+        return Task::Code;
+    }
     Task::Run(Limits {
         steps: inner.get_one::<u64>("steps").unwrap_or(0),
         heap_words: inner.get_one::<usize>("heap").unwrap_or(0),

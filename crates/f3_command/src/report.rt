@@ -3,9 +3,9 @@
 ghost use Rattle.std.specs.Prelude.{◌≡◌, ◌++◌, [], ◌∷◌, IfOk, codes, string_bytes, OnOk, OnErr};
 ghost use Rattle.f3_rules.specs.Line.{file_name};
 ghost use Rattle.f3_output.specs.Output.{state_of, Wrote, Faulted};
-ghost use Rattle.f3_command.specs.Report.{status_of, words_of, error_words, as_line, Told, Finishes};
+ghost use Rattle.f3_command.specs.Report.{status_of, words_of, error_line, as_line, Told, Finishes};
 
-use f3_meaning::run_error::RunError;
+use f3_meaning_whole::run_error::RunError;
 use f3_output::output::{Output, Refused};
 use f3_rules::refusal::{Refusal, render};
 use f3_rules::source::{Place, Source};
@@ -159,7 +159,7 @@ fn error_line(
     error: RunError,
     place: Place,
 ) -> Result<String, AllocError>
-    ensures { IfOk result (λ text. string_bytes text ≡ error_words sources.now error place) }
+    ensures { IfOk result (λ text. string_bytes text ≡ error_line sources.now error place) }
 {
     let file = file_name(sources, place.file);
     let line = place.line;

@@ -1,10 +1,10 @@
 //! What f3 does with its files.
 
 ghost use Rattle.std.specs.Prelude.{◌≡◌, ℕ, [], map, OnOk, OnErr};
-ghost use Rattle.f3_meaning.specs.declared.elaborated.Elaborated.{Elaborated};
+ghost use Rattle.f3_program.specs.declared.program.Program.{Program};
 ghost use Rattle.f3_output.specs.Output.{State, state_of, Wrote, Faulted};
 ghost use Rattle.f3_run.specs.Answers.{Answers};
-ghost use Rattle.f3_command.specs.Work.{outcome_of, AreAccepted, Accepts, Checks, Shown, Shows, Runs, Works, Performs};
+ghost use Rattle.f3_command.specs.Work.{outcome_of, AreAccepted, Accepts, Checks, Shown, Shows, Lists, Runs, Works, Performs};
 
 use crate::files::{Opener, ReadFault, read_sources};
 use crate::report::{Outcome, finish};
@@ -12,6 +12,7 @@ use f3_graph::CheckFault;
 use f3_name_table::name_table;
 use f3_output::output::{Output, Refused};
 use f3_rules::source::Source;
+use f3_run::code::check_and_code;
 use f3_run::compile::check_and_run;
 use f3_run::end::{End, Limits};
 use std::alloc::Global;
@@ -22,6 +23,7 @@ use std::io::Write;
 pub enum Task {
     Check,
     Names,
+    Code,
     Run(Limits),
 }
 
@@ -61,6 +63,7 @@ fn work<O: Write>(
     match task {
         Task::Check => check(alloc, sources),
         Task::Names => names(alloc, sources, output),
+        Task::Code => code(alloc, sources, output),
         Task::Run(limits) => run(alloc, sources, limits, output),
     }
 }
@@ -94,6 +97,16 @@ fn names<O: Write>(alloc: Global, sources: &[Source], output: &mut Output<O>) ->
     }
 }
 
+/// `f3 code`
+fn code<O: Write>(alloc: Global, sources: &[Source], output: &mut Output<O>) -> Outcome<'static>
+    ensures { Lists sources.now (state_of O.contents output.old) (state_of O.contents output.new) result }
+{
+    match check_and_code(alloc, sources) {
+        Ok(text) => Outcome::Ended(shown(text.as_str(), output)),
+        Err(fault) => outcome(fault),
+    }
+}
+
 /// `f3 run`
 fn run<O: Write>(
     alloc: Global,
@@ -101,22 +114,6 @@ fn run<O: Write>(
     limits: Limits,
     output: &mut Output<O>,
 ) -> Outcome<'static>
-    ensures { Runs sources.now limits.steps (state_of O.contents output.old) (state_of O.contents output.new) result }
-{
-    match accept(alloc, sources) {
-        Ok(()) => run_accepted(alloc, sources, limits, output),
-        Err(fault) => outcome(fault),
-    }
-}
-
-/// Runs sources that break no rule, where each of their statements is run.
-fn run_accepted<O: Write>(
-    alloc: Global,
-    sources: &[Source],
-    limits: Limits,
-    output: &mut Output<O>,
-) -> Outcome<'static>
-    requires { AreAccepted sources.now }
     ensures { Runs sources.now limits.steps (state_of O.contents output.old) (state_of O.contents output.new) result }
 {
     match check_and_run(alloc, sources, limits, output) {
@@ -158,7 +155,7 @@ pub fn shown<O: Write>(text: &str, output: &mut Output<O>) -> End
 
 /// The end of a run whose output is handed on.
 fn flushed<O: Write>(end: End, output: &mut Output<O>) -> End
-    ensures { (p : Elaborated) (steps : ℕ) (before : State) → Answers p steps before (state_of O.contents output.old) end
+    ensures { (p : Program) (steps : ℕ) (before : State) → Answers p steps before (state_of O.contents output.old) end
         → Answers p steps before (state_of O.contents output.new) result }
 {
     match output.flush() {

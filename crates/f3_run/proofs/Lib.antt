@@ -1,7 +1,2 @@
-pub mod Outputs
-pub mod Statements
-pub mod Course
-pub mod Elaborating
-pub mod Meant
-pub mod Compiling
-pub mod Entities
+mod Parts
+mod Beginning

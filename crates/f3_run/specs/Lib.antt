@@ -1,7 +1,4 @@
-pub mod Answers
 pub mod Compiled
-pub mod Elaboration
-pub mod Protection
+pub mod Answers
 pub mod Compiles
-pub mod Variables
-pub mod Inner
+pub mod Listings

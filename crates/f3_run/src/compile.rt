@@ -1,31 +1,62 @@
 //! From source bytes to output bytes.
 
+ghost use Rattle.std.specs.Prelude.{◌≡◌, IfOk};
+ghost use Rattle.f3_tree.specs.Tree.{view};
+ghost use Rattle.f3_graph.specs.Order.{numbers_of};
+ghost use Rattle.f3_names.specs.Tables.{AreNames, lookup_at};
+ghost use Rattle.f3_types.specs.Types.{AreTypesAlong};
+ghost use Rattle.f3_accepted.specs.Checked as accepted;
+ghost use Rattle.f3_elaboration.specs.DeclaredViews.{program_view};
+ghost use Rattle.f3_elaboration.specs.Program.{elaborated};
 ghost use Rattle.f3_output.specs.Output.{state_of};
+ghost use Rattle.f3_run.specs.Compiled.{program_of};
 ghost use Rattle.f3_run.specs.Compiles.{Compiles, ChecksAndRuns};
 
 use crate::compiled::Compiled;
-use crate::elaborate::elaborate;
 use crate::end::{End, Limits};
 use crate::run::run;
-use f3_check::check::check;
+use f3_accepted::check::check;
+use f3_accepted::checked::{Checked, Parts};
+use f3_elaborate::elaborate::elaborate;
 use f3_graph::CheckFault;
 use f3_output::output::Output;
 use f3_rules::source::Source;
-use std::alloc::Global;
+use std::alloc::{AllocError, Global};
 use std::io::Write;
 
-/// The program that the sources spell, ready to run, where it breaks no rule. Else the refusal of the
-/// first break by phase, place and the order of the rules, or Memory where a growth was refused.
+/// The program that the sources spell, ready to run, where it breaks no rule. Else the refusal of the first break by phase,
+/// place and the order of the rules, or Memory where a growth was refused.
 pub fn compile(alloc: Global, sources: &[Source]) -> Result<Compiled, CheckFault>
     ensures { Compiles sources.now result }
 {
     let checked = check(alloc, sources)?;
-    let compiled = elaborate(alloc, &checked);
-    checked.release();
-    match compiled {
+    match elaborated(alloc, checked) {
         Ok(compiled) => Ok(compiled),
         Err(_) => Err(CheckFault::Memory),
     }
+}
+
+/// The elaborated program of what was accepted.
+fn elaborated(alloc: Global, checked: Checked) -> Result<Compiled, AllocError>
+    requires names { AreNames (view (accepted.program_of checked)) (accepted.names_of checked) }
+    requires types { AreTypesAlong (view (accepted.program_of checked)) (lookup_at (accepted.names_of checked)) (numbers_of (accepted.order_of checked))
+        (accepted.types_of checked) }
+    ensures { IfOk result (λ c. program_view (program_of c)
+        ≡ elaborated (view (accepted.program_of checked)) (lookup_at (accepted.names_of checked)) (numbers_of (accepted.order_of checked))) }
+{
+    let Parts {
+        program,
+        order,
+        names,
+        types,
+        ..
+    } = checked.parts();
+    let made = elaborate(alloc, &program, &order, &names, types);
+    drop(names);
+    drop(order);
+    drop(program);
+    let program = made?;
+    Ok(Compiled { program })
 }
 
 /// Compiles and runs: the answers of `compile` where it refuses, with nothing written, and else those of `run`.

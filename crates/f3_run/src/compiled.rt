@@ -3,24 +3,24 @@
 ghost use Rattle.std.specs.Prelude.{◌≡◌};
 ghost use Rattle.f3_run.specs.Compiled.{program_of};
 
-use f3_meaning::elaborated::Elaborated;
+use f3_program::program::Program;
+use f3_release::program::release;
 
 /// A program that was accepted and can be run.
-#[derive(Drop)]
 pub struct Compiled {
-    program: Elaborated,
+    pub(crate) program: Program,
+}
+
+impl Drop for Compiled {
+    fn drop(self) {
+        let Compiled { program } = self;
+        release(program);
+    }
 }
 
 impl Compiled {
-    // A program without names, to be run.
-    pub(crate) fn new(program: Elaborated) -> Compiled
-        ensures { program_of result ≡ program }
-    {
-        Compiled { program }
-    }
-
-    /// The program, in which each name is replaced by the entity that it means.
-    pub fn program(&self) -> &Elaborated
+    /// The program, in which each name is replaced by what it means.
+    pub fn program(&self) -> &Program
         ensures { result.now ≡ program_of self.now }
     {
         &self.program

@@ -1,6 +1,6 @@
 //! How runs end.
 
-use f3_meaning::run_error::RunError;
+use f3_meaning_whole::run_error::RunError;
 use f3_rules::source::Place;
 
 /// How a run ends.
@@ -8,11 +8,11 @@ use f3_rules::source::Place;
 pub enum End {
     /// At the END of the main program.
     Done,
-    /// At a STOP statement, with its digits where it has any. No statement of today stops.
+    /// At a STOP, with its digits where it has any (ISO/IEC 1539-1:2004, 8.4).
     Stopped(Option<u32>),
-    /// With a run error, and the first token of the statement at work.
+    /// With a run error, and the first token of the innermost statement at work (own rule).
     Error { error: RunError, place: Place },
-    /// After as many steps as it may make.
+    /// After as many instructions as it may make.
     StepLimit,
     /// Where the writer failed, or took no byte.
     WriteFault,
@@ -23,22 +23,8 @@ pub enum End {
 /// What a run may use.
 #[derive(Clone, Copy, PartialEq, Eq, Debug)]
 pub struct Limits {
-    /// The most steps: a step is one executed statement, and the END of the main program is one.
+    /// The most instructions; the first takes the storage of the main program.
     pub steps: u64,
-    /// The size of the heap in words. Nothing of today needs the heap.
+    /// The size of the heap in words. Values of a run are in the host's memory, so nothing asks for the heap yet.
     pub heap_words: usize,
-}
-
-// A run error, and the first token of the statement at work.
-#[derive(Clone, Copy, PartialEq, Eq, Debug)]
-pub(crate) struct RunFault {
-    pub(crate) error: RunError,
-    pub(crate) place: Place,
-}
-
-// Why a statement stops.
-#[derive(Clone, Copy, PartialEq, Eq, Debug)]
-pub(crate) enum Stop {
-    Error(RunFault),
-    WriteFault,
 }

@@ -1,11 +1,8 @@
-//! Runs programs, from source bytes to output bytes.
+//! Compiles and runs programs of the whole language, from source bytes to output bytes.
 #![tactic(auto)]
 
+pub mod code;
 pub mod compile;
 pub mod compiled;
-mod elaborate;
 pub mod end;
-mod evaluate;
-mod execute;
-pub mod laws;
 pub mod run;

@@ -1,28 +1,26 @@
-//! The run of a program.
+//! Runs of programs.
 
-ghost use Rattle.std.specs.Prelude.{◌≡◌, map, IfOk};
-ghost use Rattle.f3_meaning.specs.declared.elaborated.Variable.{Variable};
+ghost use Rattle.std.specs.Prelude.{◌≡◌};
+ghost use Rattle.f3_core.specs.Lower.{lowered_program};
+ghost use Rattle.f3_code.specs.Code.{program_code};
+ghost use Rattle.f3_gen_program.specs.Emission.{code_in};
 ghost use Rattle.f3_output.specs.Output.{state_of};
 ghost use Rattle.f3_run.specs.Answers.{Answers};
 ghost use Rattle.f3_run.specs.Compiled.{program_of};
-ghost use Rattle.f3_run.specs.Inner.Performs.{end_of};
 
 use crate::compiled::Compiled;
-use crate::end::{End, Limits, Stop};
-use crate::execute::execute;
-use f3_meaning::elaborated::Elaborated;
+use crate::end::{End, Limits};
+use f3_cells::scene::Scene;
+use f3_gen_laws::generate;
+use f3_gen_program::program::Emission;
+use f3_machine_laws::answers_mean;
+use f3_machine_laws::ended::Ended;
 use f3_output::output::Output;
-use std::alloc::{AllocError, Global};
+use f3_program::program::Program;
+use std::alloc::Global;
 use std::io::Write;
 
-/// Runs a program within limits, and writes what it prints.
-///
-/// Done and Error: the meaning of the program has this end, what was written is its whole output, and it
-/// was reached in at most `limits.steps` steps. StepLimit: the program has come to no end after so many
-/// steps, and what it has printed by then was written. WriteFault: the writer failed or took no byte; what
-/// it took begins the output. Memory: a growth was refused before the first statement, and nothing was
-/// written. The writer has refused nothing but at WriteFault. What each item of a PRINT prints is written before
-/// the next is evaluated (own rule).
+/// Runs a program: its code is made, and a machine runs it into the output.
 pub fn run<W: Write>(
     alloc: Global,
     compiled: &Compiled,
@@ -31,56 +29,35 @@ pub fn run<W: Write>(
 ) -> End
     ensures { Answers (program_of compiled.now) limits.steps (state_of W.contents output.old) (state_of W.contents output.new) result }
 {
-    run_steps(alloc, compiled.program(), limits.steps, output)
+    let Ok(emission) = generate(alloc, &compiled.program) else {
+        return End::Memory;
+    };
+    let end = run_code(alloc, &compiled.program, &emission, limits.steps, output);
+    drop(emission);
+    end
 }
 
-// Runs a program, for so many steps at most.
-fn run_steps<W: Write>(
+/// Runs the code of a program.
+fn run_code<W: Write>(
     alloc: Global,
-    program: &Elaborated,
+    program: &Program,
+    emission: &Emission,
     steps: u64,
     output: &mut Output<W>,
 ) -> End
+    requires { code_in program.now emission.now ≡ program_code (lowered_program program.now) }
     ensures { Answers program.now steps (state_of W.contents output.old) (state_of W.contents output.new) result }
 {
-    let mut variables = match initial_values(alloc, program) {
-        Ok(variables) => variables,
-        Err(_) => return End::Memory,
-    };
-    let mut left = steps;
-    for statement in &program.statements {
-        if left == 0 {
-            return End::StepLimit;
-        }
-        left -= 1;
-        match execute(statement, &mut variables, output) {
-            Ok(()) => {}
-            Err(stop) => return end_of(stop),
-        }
-    }
-    if left == 0 { End::StepLimit } else { End::Done }
-}
-
-// The values of the variables as the run begins.
-fn initial_values(alloc: Global, program: &Elaborated) -> Result<Vec<i32>, AllocError>
-    ensures { IfOk result (λ values. values.items ≡ map (λ (v : Variable). v.initial) program.now.variables.items) }
-{
-    program
-        .variables
-        .iter()
-        .map(|variable| variable.initial)
-        .collect(alloc)
-}
-
-// The end of a run that a statement stops.
-fn end_of(stop: Stop) -> End
-    ensures { result ≡ end_of stop }
-{
-    match stop {
-        Stop::Error(fault) => End::Error {
-            error: fault.error,
-            place: fault.place,
-        },
-        Stop::WriteFault => End::WriteFault,
+    let scene = Scene { program, emission };
+    let ended = f3_machine::machine::run(alloc, &scene, steps, output);
+    answers_mean();
+    match ended {
+        Ended::Done => End::Done,
+        Ended::Stopped(number) => End::Stopped(number),
+        Ended::Failed(error, place) => End::Error { error, place },
+        Ended::StepLimit => End::StepLimit,
+        Ended::WriteFault => End::WriteFault,
+        Ended::Memory => End::Memory,
+        Ended::Stuck => unreachable!(),
     }
 }

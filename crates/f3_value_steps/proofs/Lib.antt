@@ -1,4 +1,3 @@
 pub mod Ends
 pub mod Many
-pub mod Prints
 pub mod Components

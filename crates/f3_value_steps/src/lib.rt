@@ -1,10 +1,9 @@
-//! Instructions that make values of values, and print them.
+//! Instructions that make values of values.
 #![tactic(auto)]
 
 pub mod constructors;
 mod finish;
 pub mod operations;
-pub mod printing;
 pub mod queries;
 pub mod results;
 pub mod structures;

@@ -1,32 +1,15 @@
 //! Operations on values.
 
 ghost use Rattle.std.specs.Prelude.{◌<◌, ◌^◌};
-ghost use Rattle.f3_code.specs.declared.instruction.Instruction.TheVariants.{Plain, Unary, Binary, Convert, TestStep, Meets};
+ghost use Rattle.f3_code.specs.declared.instruction.Instruction.TheVariants.{Unary, Binary, Convert};
 ghost use Rattle.f3_cells.specs.Follows.{Does};
-ghost use Rattle.f3_value_steps.specs.Ends.{DoesHere};
 
 use crate::finish::finish;
-use f3_cells::cell::Cell;
-use f3_cells::look::datum_at;
 use f3_cells::stacks::pop_datum;
 use f3_cells::state::{State, Stop};
-use f3_data::value::{Value, number_of};
-use f3_meaning_whole::run_error::RunError;
 use f3_program::declarations::Base;
 use f3_program::expression::{BinaryOperator, UnaryOperator};
-use f3_program::statement::Range;
-use f3_shaping::{bounds, operators};
-
-/// A value that is no variable: its bounds are from 1 on.
-pub fn plain(state: &mut State) -> Result<(), Stop>
-    requires { state.old.pc < 2 ^ 63 }
-    ensures { Does Plain result state.old state.new }
-{
-    let Some(value) = pop_datum(&mut state.stack) else {
-        return Err(Stop::Stuck);
-    };
-    state.go_on_with(Cell::Datum(bounds::plain(value)))
-}
+use f3_shaping::operators;
 
 /// An operation on a value, with the type of the result (ISO/IEC 1539-1:2004, 7.1.4, 7.1.5, 13.7.1).
 ///
@@ -71,30 +54,4 @@ pub fn convert(state: &mut State, of: Base) -> Result<(), Stop>
         return Err(Stop::Stuck);
     };
     finish(state, operators::converted(of, value))
-}
-
-/// The step of a DO is not zero (8.1.6.1).
-///
-/// `StepIsZero` where it is.
-pub fn test_step(state: &mut State) -> Result<(), Stop>
-    requires { state.old.pc < 2 ^ 63 }
-    ensures { Does TestStep result state.old state.new }
-{
-    let Some(step) = datum_at(&state.stack, 0) else {
-        return Err(Stop::Stuck);
-    };
-    if number_of(step) == 0 {
-        return Err(Stop::Failed(RunError::StepIsZero));
-    }
-    state.advance();
-    Ok(())
-}
-
-/// Whether the value of the SELECT CASE meets a range (8.1.3.1).
-pub fn meets(state: &mut State, range: Range) -> Result<(), Stop>
-    requires { state.old.pc < 2 ^ 63 }
-    ensures { DoesHere (Meets range) result state.old state.new }
-{
-    let found = operators::meets(range, &state.here.selected);
-    state.go_on_with(Cell::Datum(Value::Truth(found)))
 }

@@ -1,4 +1,4 @@
-//! Bounds of arrays, as expressions ask for them, and those of an ALLOCATE.
+//! Bounds of arrays, as expressions ask for them.
 
 ghost use Rattle.std.specs.Prelude.{◌≡◌, ◌<◌, ◌^◌, pos};
 ghost use Rattle.f3_rules.specs.declared.source.Place.{Place};
@@ -7,14 +7,12 @@ ghost use Rattle.f3_meaning_whole.specs.Value as m;
 ghost use Rattle.f3_meaning_whole.specs.Arithmetic.{converted};
 ghost use Rattle.f3_meaning_whole.specs.Act.{Here};
 ghost use Rattle.f3_meaning_whole.specs.Eval.{ask, asked};
-ghost use Rattle.f3_code.specs.declared.instruction.Instruction.TheVariants.{Size, Bound, Dimension};
+ghost use Rattle.f3_code.specs.declared.instruction.Instruction.TheVariants.{Size, Bound};
 ghost use Rattle.f3_data.specs.Values.{span_of, spans_of};
 ghost use Rattle.f3_shaping.specs.Results.{value_ran};
 ghost use Rattle.f3_cells.specs.Follows.{Does};
 
 use crate::finish::finish;
-use f3_arithmetic::turns::turns;
-use f3_cells::cell::Cell;
 use f3_cells::stacks::{pop_bounds, pop_datum};
 use f3_cells::state::{State, Stop};
 use f3_data::value::{Span, Value, number_of};
@@ -110,22 +108,4 @@ pub fn bound(state: &mut State, query: Query) -> Result<(), Stop>
     let given = asked(query, &spans, dimension);
     drop(spans);
     finish(state, given)
-}
-
-/// A dimension of an ALLOCATE, from its bounds (6.3.1).
-pub fn dimension(state: &mut State) -> Result<(), Stop>
-    requires { state.old.pc < 2 ^ 63 }
-    ensures { Does Dimension result state.old state.new }
-{
-    let Some(last) = pop_datum(&mut state.stack) else {
-        return Err(Stop::Stuck);
-    };
-    let upper = number_of(&last);
-    drop(last);
-    let Some(first) = pop_datum(&mut state.stack) else {
-        return Err(Stop::Stuck);
-    };
-    let lower = number_of(&first);
-    drop(first);
-    state.go_on_with(Cell::Extent(lower, turns(lower, upper, 1)))
 }

@@ -1,2 +1,0 @@
-pub mod Phases
-pub mod Joined

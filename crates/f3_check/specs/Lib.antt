@@ -1,4 +1,0 @@
-pub mod Accepted
-pub mod Checked
-pub mod Refusals
-pub mod Inner

@@ -1,5 +1,0 @@
-//! All rules together: what is accepted, and the first break of what is not.
-#![tactic(auto)]
-
-pub mod check;
-pub mod checked;

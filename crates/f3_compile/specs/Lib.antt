@@ -1,4 +1,0 @@
-pub mod Compiled
-pub mod Answers
-pub mod Compiles
-pub mod Listings

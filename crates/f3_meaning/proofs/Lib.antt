@@ -1,9 +1,0 @@
-pub mod Behind
-pub mod Growth
-pub mod Quiet
-pub mod Changes
-pub mod Beginning
-pub mod Agreeing
-pub mod Owns
-pub mod Stages
-pub mod Holding

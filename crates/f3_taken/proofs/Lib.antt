@@ -1,4 +1,0 @@
-pub mod Views
-pub mod Lists
-pub mod Units
-pub mod Keeping

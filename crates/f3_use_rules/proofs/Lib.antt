@@ -1,4 +1,0 @@
-pub mod Counting
-pub mod Fused
-pub mod Said
-pub mod Walk
