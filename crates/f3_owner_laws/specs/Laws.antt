@@ -1,5 +1,5 @@
 -- What owners of modules rely on, of each program that accepted sources spell.
-use Rattle.std.specs.Prelude.{◌≡◌, ℕ, Bool, false, true, List, Some, slice_get}
+use Rattle.std.specs.Prelude.{◌≡◌, ℕ, Bool, true, List, Some, slice_get}
 use Rattle.f3_rules.specs.declared.source.Source.{Source}
 use Rattle.f3_program.specs.declared.declarations.Base.{Base}
 use Rattle.f3_program.specs.declared.declarations.Component.{Component}

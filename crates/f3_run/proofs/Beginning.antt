@@ -1,5 +1,5 @@
 -- A run that did not begin.
-use Rattle.std.proofs.Common.{◌≡◌, ℕ, ◌≤◌, refl, arith}
+use Rattle.std.proofs.Common.{ℕ, ◌≤◌, refl, arith}
 use Rattle.f3_program.specs.declared.program.Program.{Program}
 use Rattle.f3_code.specs.Run.{after}
 use Rattle.f3_meaning_whole.specs.Run.{run_of, output}

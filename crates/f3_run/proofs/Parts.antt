@@ -1,5 +1,5 @@
 -- What compiling answers.
-use Rattle.std.specs.Prelude.{Result, Ok, Err, List}
+use Rattle.std.specs.Prelude.{Err, List}
 use Rattle.f3_rules.specs.declared.source.Source.{Source}
 use Rattle.f3_graph.specs.declared.CheckFault.{CheckFault}
 use Rattle.f3_graph.specs.declared.CheckFault.TheVariants as fault

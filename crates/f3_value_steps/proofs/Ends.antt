@@ -1,21 +1,17 @@
 -- What a part of a run comes to.
-use Rattle.std.proofs.Common.{◌≡◌, List, [], ◌∷◌, Result, Ok, Err, Bool, true, false, cond, ℤ, refl, sym, ap, ◌∙◌, subst}
+use Rattle.std.proofs.Common.{◌≡◌, [], ◌∷◌, Result, Ok, Err, Bool, true, false, refl, sym, ap, ◌∙◌, subst}
 use Rattle.std.specs.Prelude.{⊤, if◌then◌else◌}
 use Rattle.f3_rules.specs.declared.source.Place.{Place}
 use Rattle.f3_program.specs.declared.program.Program.{Program}
 use Rattle.f3_meaning_whole.specs.Value as m
-use Rattle.f3_meaning_whole.specs.Value.{number_of}
-use Rattle.f3_meaning_whole.specs.Arithmetic.{is_zero}
 use Rattle.f3_meaning_whole.specs.Act.{Here, needs_storage, claim}
 use Rattle.f3_meaning_whole.specs.Eval.{built}
-use Rattle.f3_meaning_whole.specs.Exec.{unless_zero}
-use Rattle.f3_meaning_whole.specs.declared.run_error.RunError.TheVariants.{StepIsZero}
 use Rattle.f3_meaning_whole.specs.declared.run_error.RunError.{RunError}
 use Rattle.f3_meaning_whole.specs.Ran.{World, Ran, gives, fails, asks, ◌>>=◌}
 use Rattle.f3_meaning_whole.specs.Store.{Store}
 use Rattle.f3_code.specs.State.{Code, Next, Goes, Stays, Failed, Datum}
 use Rattle.f3_code.specs.State as s
-use Rattle.f3_code.specs.Machine.{on, on_datum, performs}
+use Rattle.f3_code.specs.Machine.{on, performs}
 use Rattle.f3_data.specs.declared.value.Value.{Value}
 use Rattle.f3_data.specs.Values.{value_of}
 use Rattle.f3_data.specs.Stores.{store_of}
@@ -48,30 +44,6 @@ pub finished : (code : Code) (next : Next) (given : Result Value RunError) (run 
 finished code next given run r place p mid new h e q =
     let f : m.Value → World → s.State = λ y. on (state_of p mid) (Datum y ∷ cells_of p mid.stack.items) in
     subst (λ n. Follows code n r (state_of p new) place) (sym (q ∙ ap (λ a. performs a (world_of mid.store) f) (sym e))) (h p code place)
-
--- a value on top, looked at
-pub shown_datum : (cs : List s.Cell) (x : m.Value) (rest : List s.Cell) (f : m.Value → List s.Cell → Next) → cs ≡ Datum x ∷ rest → on_datum cs f ≡ f x rest
-shown_datum cs x rest f e = ap (λ xs. on_datum xs f) e
-
-step_passes : (z : ℤ) (here : Here) (w : World) (f : ⊤ → World → s.State) → false ≡ is_zero z → performs (unless_zero z here) w f ≡ Goes [] (f tt w)
-step_passes z here w f e = ap (λ (b : Bool). performs (cond b (fails StepIsZero here.place) (gives tt)) w f) (sym e) ∙ performs_gives tt w f
-
-step_fails : (z : ℤ) (here : Here) (w : World) (f : ⊤ → World → s.State) → true ≡ is_zero z → performs (unless_zero z here) w f ≡ Stays []
-    (Failed StepIsZero here.place)
-step_fails z here w f e = ap (λ (b : Bool). performs (cond b (fails StepIsZero here.place) (gives tt)) w f) (sym e) ∙ performs_fails StepIsZero here.place w f
-
--- a step is tested, and stays
-pub step_is_zero : (cs : List s.Cell) (x : m.Value) (rest : List s.Cell) (z : ℤ) (here : Here) (w : World) (f : ⊤ → World → s.State) → cs ≡ Datum x ∷ rest
-    → z ≡ number_of x → true ≡ is_zero z
-    → on_datum cs (λ x st. performs (unless_zero (number_of x) here) w f) ≡ Stays [] (Failed StepIsZero here.place)
-step_is_zero cs x rest z here w f e n h =
-    shown_datum cs x rest (λ x st. performs (unless_zero (number_of x) here) w f) e ∙ step_fails (number_of x) here w f (h ∙ ap is_zero n)
-
-pub step_is_none : (cs : List s.Cell) (x : m.Value) (rest : List s.Cell) (z : ℤ) (here : Here) (w : World) (f : ⊤ → World → s.State) → cs ≡ Datum x ∷ rest
-    → z ≡ number_of x → false ≡ is_zero z
-    → on_datum cs (λ x st. performs (unless_zero (number_of x) here) w f) ≡ Goes [] (f tt w)
-step_is_none cs x rest z here w f e n h =
-    shown_datum cs x rest (λ x st. performs (unless_zero (number_of x) here) w f) e ∙ step_passes (number_of x) here w f (h ∙ ap is_zero n)
 
 -- storage is granted
 claimed : (v : m.Value) (here : Here) (store : Store) (f : m.Value → World → s.State) (b : Bool) → b ≡ needs_storage v

@@ -1,5 +1,5 @@
 -- How instructions end.
-use Rattle.std.specs.Prelude.{⊤, ℕ, pos, List, [], ◌∷◌, length, Result, Ok, Err}
+use Rattle.std.specs.Prelude.{⊤, ℕ, pos, List, [], ◌∷◌, length, Result}
 use Rattle.f3_rules.specs.declared.source.Place.{Place}
 use Rattle.f3_program.specs.declared.program.Program.{Program}
 use Rattle.f3_meaning_whole.specs.Value as m

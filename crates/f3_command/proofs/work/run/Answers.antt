@@ -1,4 +1,3 @@
-use Rattle.f3_output.specs.Output.{state_of}
 use Rattle.f3_command.proofs.Parts.{ran_so, not_run}
 use Rattle.f3_command.proofs.work.run.Goals as goal
 
