@@ -24,7 +24,7 @@ abbrev ways : ℕ → ℕ → ℕ → ℕ → Ways
 ways a b d k = record { cycle = a; exit = b; ret = d; cells = k }
 
 -- with more lines behind
-further : (a b : List Line) (e : Exits) (k : ℕ) → LeadInto a e → length b ≡ k + length a → ways_from b e ≡ farther k (ways_from a e)
+pub further : (a b : List Line) (e : Exits) (k : ℕ) → LeadInto a e → length b ≡ k + length a → ways_from b e ≡ farther k (ways_from a e)
 further a b e k p n =
     let h : e.cycle ≤ length a = p.cycle in
     let j : e.exit ≤ length a = p.exit in
@@ -35,42 +35,9 @@ further a b e k p n =
     ap (λ v. ways v (length b - e.exit) (length b - e.ret) e.cells) x ∙ ap (λ v. ways (k + (length a - e.cycle)) v (length b - e.ret) e.cells) y
     ∙ ap (λ v. ways (k + (length a - e.cycle)) (k + (length a - e.exit)) v e.cells) z
 
-ways_same : {a b d k a' b' d' k' : ℕ} → a ≡ a' → b ≡ b' → d ≡ d' → k ≡ k' → ways a b d k ≡ ways a' b' d' k'
+pub ways_same : {a b d k a' b' d' k' : ℕ} → a ≡ a' → b ≡ b' → d ≡ d' → k ≡ k' → ways a b d k ≡ ways a' b' d' k'
 ways_same {a = a} {b = b} {d = d} {k = k} {a' = a'} {b' = b'} {d' = d'} x y z w =
     ap (λ v. ways v b d k) x ∙ ap (λ v. ways a' v d k) y ∙ ap (λ v. ways a' b' v k) z ∙ ap (λ v. ways a' b' d' v) w
-
--- ---- branches
-
-abbrev two_code : Option Place → (ℕ → Instruction) → List c.Line → List c.Line → List c.Line → ℕ → ℕ → List c.Line
-two_code p jump test x y k j = test ++ (c.line p (jump k) ∷ (x ++ (c.line p (i.GoOn j) ∷ y)))
-
-pub two_in : {t : List Derived} {a b d f h r : List Line} {e : Exits} {test : List c.Line} (p : Option Place) (jump : ℕ → Instruction) (j k : ℕ) (x y : Setting → o.Core)
-    → LeadInto a e → EmittedIn t a b (λ g. code_of (length t) p (y g) (ways_from a e)) → Emitted b d (c.line p (i.GoOn j) ∷ [])
-    → EmittedIn t d f (λ g. code_of (length t) p (x g) (ways_from d e)) → Emitted f h (c.line p (jump k) ∷ []) → Emitted h r test
-    → j ≡ length b - length a → k ≡ length f - length b
-    → EmittedIn t a r (λ g. two_code p jump test
-    (code_of (length t) p (x g) (farther (1 + length (code_of (length t) p (y g) (ways_from a e))) (ways_from a e))) (code_of (length t) p (y g) (ways_from a e))
-    (length (code_of (length t) p (x g) (farther (1 + length (code_of (length t) p (y g) (ways_from a e))) (ways_from a e))) + 1)
-    (length (code_of (length t) p (y g) (ways_from a e))))
-two_in {t = t} {a = a} {b = b} {d = d} {f = f} {h = h} {r = r} {e = e} {test = test} p jump j k x y w u q v s l ej ek = record {
-  in_front = λ (g : Setting) same.
-      let nb : length b ≡ length a + length (code_of (length t) p (y g) (ways_from a e)) = counted_in u g same in
-      let nd : length d ≡ length b + 1 = q.longer in
-      let nf : length f ≡ length d + length (code_of (length t) p (x g) (ways_from d e)) = counted_in v g same in
-      let fj : j ≡ length (code_of (length t) p (y g) (ways_from a e)) = omega arith in
-      let fk : k ≡ length (code_of (length t) p (x g) (ways_from d e)) + 1 = omega arith in
-      let fw : ways_from d e ≡ farther (1 + length (code_of (length t) p (y g) (ways_from a e))) (ways_from a e)
-      = further a d e (1 + length (code_of (length t) p (y g) (ways_from a e))) w (omega arith) in
-      let all : lines_in g r ≡ lines_in g a ++ reverse (two_code p jump test (code_of (length t) p (x g) (ways_from d e)) (code_of (length t) p (y g) (ways_from a e)) k j)
-      = (then_in (then_in (then_in (then_in u (in_types q)) v) (in_types s)) (in_types l)).in_front g same in
-      all
-      ∙ ap (λ m. lines_in g a ++ reverse (two_code p jump test (code_of (length t) p (x g) (ways_from d e)) (code_of (length t) p (y g) (ways_from a e)) m j)) fk
-      ∙ ap (λ n. lines_in g a ++ reverse (two_code p jump test (code_of (length t) p (x g) (ways_from d e)) (code_of (length t) p (y g) (ways_from a e))
-      (length (code_of (length t) p (x g) (ways_from d e)) + 1) n)) fj
-      ∙ ap (λ z. lines_in g a ++ reverse (two_code p jump test (code_of (length t) p (x g) z) (code_of (length t) p (y g) (ways_from a e))
-      (length (code_of (length t) p (x g) z) + 1) (length (code_of (length t) p (y g) (ways_from a e))))) fw;
-  longer = (then_in (then_in (then_in (then_in u (in_types q)) v) (in_types s)) (in_types l)).longer;
-}
 
 -- ---- loops
 

@@ -6,12 +6,14 @@ ghost use Rattle.f3_code.specs.State.{line};
 ghost use Rattle.f3_code.specs.Code.{allocate_code, deallocate_code, departing_code, discards_code, limits_code, status_code};
 ghost use Rattle.f3_gen_values.specs.Emitted.{Emitted};
 ghost use Rattle.f3_gen_work.specs.EmittedIn.{EmittedBy, EmittedIn};
+ghost use Rattle.f3_gen_statements.specs.Chain.{test_code};
 ghost use Rattle.f3_gen_statements.specs.Leading.{LeadInto, ways_from};
 
+use crate::chain::Test;
 use crate::leaving::emit_departing;
 use crate::site::{Exits, Site};
 use f3_code::instruction::Instruction;
-use f3_gen_actions::selecting::emit_discards;
+use f3_gen_actions::selecting::{emit_discards, emit_ranges};
 use f3_gen_actions::storage::{emit_allocations, emit_deallocations, emit_status};
 use f3_gen_values::line::{Line, put};
 use f3_gen_values::value::emit_value_then;
@@ -63,6 +65,24 @@ pub fn emit_limits(
     emit_value_then(code, place, by, Instruction::Convert(kind.of))?;
     emit_value_then(code, place, to, Instruction::Convert(kind.of))?;
     emit_value_then(code, place, from, Instruction::Convert(kind.of))
+}
+
+/// What a link of a chain is taken by; where it is not, the code goes on so many lines behind (8.1.2, 8.1.3).
+pub fn emit_test(
+    code: &mut Vec<Line>,
+    place: Option<Place>,
+    test: Test<'_>,
+    distance: usize,
+) -> Result<(), AllocError>
+    ensures { OnOk result (Emitted code.old.items code.new.items (test_code place test.entry distance)) }
+{
+    match test {
+        Test::Condition(e) => emit_value_then(code, place, e, Instruction::SkipIfFalse(distance)),
+        Test::Ranges(ranges) => {
+            put(code, place, Instruction::GoOn(distance))?;
+            emit_ranges(code, place, ranges)
+        }
+    }
 }
 
 /// The end of an ASSOCIATE: its values end, and it is left as its statements were (8.1.4.3).

@@ -1,31 +1,34 @@
 //! The code of statements, with the ways out of blocks, and of the constructs that hold them.
 
-ghost use Rattle.std.specs.Prelude.{◌∷◌, ◌++◌, [], length, map, OnOk};
+ghost use Rattle.std.specs.Prelude.{◌∷◌, ◌++◌, [], true, length, map, OnOk};
 ghost use Rattle.f3_core.specs.Core as c;
 ghost use Rattle.f3_core.specs.Lower.{lowered, selecting};
 ghost use Rattle.f3_code.specs.State.{line};
-ghost use Rattle.f3_code.specs.Code.{code_of, counting, locate_code, turns_code, up_code};
+ghost use Rattle.f3_code.specs.Code.{code_of, counting, farther, locate_code, turns_code, up_code};
 ghost use Rattle.f3_gen_work.specs.EmittedIn.{EmittedIn};
+ghost use Rattle.f3_gen_statements.specs.Chain.{IsSingle, taken_code};
 ghost use Rattle.f3_gen_statements.specs.Leading.{LeadInto, lowered_list, ways_from};
 
+use crate::chain::{Link, chain_of};
 use crate::leaving::{
     close_loop, emit_cycle, emit_departing, emit_exit, emit_leaving, emit_return,
 };
-use crate::parts::{emit_allocate, emit_deallocate, emit_limits, emit_scope_end};
+use crate::parts::{emit_allocate, emit_deallocate, emit_limits, emit_scope_end, emit_test};
 use crate::site::{Exits, Site};
 use f3_code::instruction::Instruction;
 use f3_gen_actions::actions::{emit_assignment, emit_move};
 use f3_gen_actions::output::emit_items;
-use f3_gen_actions::selecting::{emit_ranges, emit_selectors};
+use f3_gen_actions::selecting::emit_selectors;
 use f3_gen_values::line::{Line, put};
 use f3_gen_values::value::{emit_object_then, emit_value, emit_value_then};
 use f3_program::declarations::Kind;
 use f3_program::expression::{Designator, Expression};
-use f3_program::statement::{Range, Selector, Statement};
+use f3_program::statement::{Selector, Statement};
 use f3_rules::source::Place;
 use std::alloc::AllocError;
 
-/// A statement at its site: behind it the code goes on, or it leads out by the site's exits.
+/// A statement at its site: behind it the code goes on, or it leads out by the site's exits. The links of a chain are taken
+/// one by one, the last first: so a long chain takes no more of the stack than a short one.
 #[cycle(statement)]
 pub fn emit_statement(
     code: &mut Vec<Line>,
@@ -36,9 +39,35 @@ pub fn emit_statement(
     ensures { OnOk result (EmittedIn site.entry.types.now code.old.items code.new.items (λ g.
         code_of (length site.entry.types.now) site.entry.place (lowered g statement.now) (ways_from code.old.items site.entry.exits))) }
 {
+    let chain = chain_of(*code.allocator(), site.place, statement)?;
+    let place = chain.place;
+    let behind = code.len();
+    emit_single(code, Site { place, ..site }, chain.last)?;
+    let mut i = chain.links.len();
+    while i > 0 {
+        i -= 1;
+        let others = code.len() - behind;
+        emit_link(code, site, chain.links[i], others)?;
+    }
+    Ok(())
+}
+
+/// A statement that is no IF, ELSE IF or case.
+#[cycle(statement)]
+fn emit_single(
+    code: &mut Vec<Line>,
+    site: Site<'_>,
+    statement: &Statement,
+) -> Result<(), AllocError>
+    requires leads { LeadInto code.old.items site.exits }
+    requires single { IsSingle statement.now }
+    ensures { OnOk result (EmittedIn site.entry.types.now code.old.items code.new.items (λ g.
+        code_of (length site.entry.types.now) site.entry.place (lowered g statement.now) (ways_from code.old.items site.entry.exits))) }
+{
     let place = site.place;
     match statement {
-        Statement::At(at, begins, inner) => emit_at(code, site, *at, *begins, inner),
+        Statement::At(at, true, inner) => emit_at(code, site, *at, inner),
+        Statement::At(_, false, _) => unreachable!(),
         Statement::Block(list) => emit_block(code, site, list),
         Statement::Assign(x, kind, e) => emit_assignment(code, place, site.types, x, *kind, e),
         Statement::Call(e) => emit_value_then(code, place, e, Instruction::Drop),
@@ -52,9 +81,9 @@ pub fn emit_statement(
         Statement::Return => emit_return(code, place, site.exits),
         Statement::Cycle => emit_cycle(code, place, site.exits),
         Statement::Exit => emit_exit(code, place, site.exits),
-        Statement::If(e, then, other) => emit_if(code, site, e, then, other),
+        Statement::If(_, _, _) => unreachable!(),
         Statement::Select(e, cases) => emit_select(code, site, e, cases),
-        Statement::Case(ranges, then, other) => emit_case(code, site, ranges, then, other),
+        Statement::Case(_, _, _) => unreachable!(),
         Statement::While(e, body) => emit_while(code, site, e, body),
         Statement::Count(x, kind, from, to, by, body) => {
             emit_count(code, site, x, *kind, body)?;
@@ -64,26 +93,21 @@ pub fn emit_statement(
     }
 }
 
-/// An action or a construct at a place, which begins there, or an ELSE IF (2.3.1, 8.1.2).
+/// An action or a construct that begins at a place (2.3.1).
 #[cycle(statement)]
 fn emit_at(
     code: &mut Vec<Line>,
     site: Site<'_>,
     at: Place,
-    begins: bool,
     inner: &Statement,
 ) -> Result<(), AllocError>
     requires { LeadInto code.old.items site.exits }
     ensures { OnOk result (EmittedIn site.entry.types.now code.old.items code.new.items (λ g.
-        code_of (length site.entry.types.now) site.entry.place (c.At at begins (lowered g inner.now)) (ways_from code.old.items site.entry.exits))) }
+        code_of (length site.entry.types.now) site.entry.place (c.At at true (lowered g inner.now)) (ways_from code.old.items site.entry.exits))) }
 {
     let place = Some(at);
     emit_statement(code, Site { place, ..site }, inner)?;
-    if begins {
-        put(code, place, Instruction::Begin)
-    } else {
-        Ok(())
-    }
+    put(code, place, Instruction::Begin)
 }
 
 /// Statements, one after another (8.1.1).
@@ -101,50 +125,24 @@ fn emit_block(code: &mut Vec<Line>, site: Site<'_>, list: &[Statement]) -> Resul
     Ok(())
 }
 
-/// What is done where a condition holds, and where not (8.1.2).
+/// An IF, an ELSE IF or a case, in front of so many lines for what is done where it is not taken (8.1.2, 8.1.3).
 #[cycle(statement)]
-fn emit_if(
+fn emit_link(
     code: &mut Vec<Line>,
     site: Site<'_>,
-    condition: &Expression,
-    then: &Statement,
-    other: &Statement,
+    link: Link<'_>,
+    others: usize,
 ) -> Result<(), AllocError>
     requires { LeadInto code.old.items site.exits }
-    ensures { OnOk result (EmittedIn site.entry.types.now code.old.items code.new.items (λ g.
-        code_of (length site.entry.types.now) site.entry.place (c.If condition.now (lowered g then.now) (lowered g other.now)) (ways_from code.old.items site.entry.exits))) }
+    ensures { OnOk result (EmittedIn site.entry.types.now code.old.items code.new.items (λ g. taken_code link.entry.place link.entry.test
+        (code_of (length site.entry.types.now) link.entry.place (lowered g link.entry.then.now) (farther 1 (ways_from code.old.items site.entry.exits))) others)) }
 {
+    let place = link.place;
     let behind = code.len();
-    emit_statement(code, site, other)?;
-    let others = code.len();
-    put(code, site.place, Instruction::GoOn(others - behind))?;
-    emit_statement(code, site, then)?;
-    let within = code.len() - others;
-    put(code, site.place, Instruction::SkipIfFalse(within))?;
-    emit_value(code, site.place, condition)
-}
-
-/// What is done where the value of the SELECT CASE around is in a range, and where not (8.1.3).
-#[cycle(statement)]
-fn emit_case(
-    code: &mut Vec<Line>,
-    site: Site<'_>,
-    ranges: &[Range],
-    then: &Statement,
-    other: &Statement,
-) -> Result<(), AllocError>
-    requires { LeadInto code.old.items site.exits }
-    ensures { OnOk result (EmittedIn site.entry.types.now code.old.items code.new.items (λ g.
-        code_of (length site.entry.types.now) site.entry.place (c.Case ranges.now (lowered g then.now) (lowered g other.now)) (ways_from code.old.items site.entry.exits))) }
-{
-    let behind = code.len();
-    emit_statement(code, site, other)?;
-    let others = code.len();
-    put(code, site.place, Instruction::GoOn(others - behind))?;
-    emit_statement(code, site, then)?;
-    let within = code.len() - others;
-    put(code, site.place, Instruction::GoOn(within))?;
-    emit_ranges(code, site.place, ranges)
+    put(code, place, Instruction::GoOn(others))?;
+    emit_statement(code, Site { place, ..site }, link.then)?;
+    let within = code.len() - behind;
+    emit_test(code, place, link.test, within)
 }
 
 /// A DO WHILE (8.1.6).

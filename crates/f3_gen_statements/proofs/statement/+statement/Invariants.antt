@@ -1,7 +1,9 @@
-use Rattle.std.proofs.Common.{◌+◌, ◌*◌, ◌≤◌, max, length, drop}
+use Rattle.std.proofs.Common.{◌+◌, ◌*◌, ◌≤◌, length, drop}
 use Rattle.f3_program.specs.declared.statement.Statement.{size-Statement}
+use Rattle.f3_core.specs.Lower.{lowered}
 use Rattle.f3_code.specs.Code.{code_of}
 use Rattle.f3_gen_work.specs.EmittedIn.{EmittedIn}
+use Rattle.f3_gen_statements.specs.Chain.{chain_code}
 use Rattle.f3_gen_statements.specs.Leading.{lowered_list, ways_from}
 use Rattle.f3_gen_statements.proofs.statement.+statement.Given as goal
 
@@ -14,29 +16,39 @@ invariant-emit_block-loop-i l = record {
 abbrev pub decreases-emit_block-loop-i : goal.decreases-emit_block-loop-i
 decreases-emit_block-loop-i l = l.i
 
+abbrev pub invariant-emit_statement-loop-i : goal.invariant-emit_statement-loop-i
+invariant-emit_statement-loop-i l = record {
+  within : l.i ≤ length l.chain.links.items;
+  emitted : EmittedIn l.site.types.now l.fn.code.items l.code.items (λ g. chain_code (length l.site.types.now) g (drop l.i l.chain.links.items)
+      (code_of (length l.site.types.now) l.chain.place (lowered g l.chain.last.now) (ways_from l.fn.code.items l.site.exits)) (ways_from l.fn.code.items l.site.exits));
+}
+
+abbrev pub decreases-emit_statement-loop-i : goal.decreases-emit_statement-loop-i
+decreases-emit_statement-loop-i l = l.i
+
 abbrev pub decreases-emit_statement : goal.decreases-emit_statement
-decreases-emit_statement l = 2 * size-Statement l.statement.now
+decreases-emit_statement l = 3 * size-Statement l.statement.now + 1
+
+abbrev pub decreases-emit_single : goal.decreases-emit_single
+decreases-emit_single l = 3 * size-Statement l.statement.now
 
 abbrev pub decreases-emit_at : goal.decreases-emit_at
-decreases-emit_at l = 2 * size-Statement l.inner.now + 1
+decreases-emit_at l = 3 * size-Statement l.inner.now + 2
 
 abbrev pub decreases-emit_block : goal.decreases-emit_block
-decreases-emit_block l = 2 * goal.size-emit_block l + 1
+decreases-emit_block l = 3 * goal.size-emit_block l + 2
 
-abbrev pub decreases-emit_if : goal.decreases-emit_if
-decreases-emit_if l = 2 * max (size-Statement l.then.now) (size-Statement l.other.now) + 1
-
-abbrev pub decreases-emit_case : goal.decreases-emit_case
-decreases-emit_case l = 2 * max (size-Statement l.then.now) (size-Statement l.other.now) + 1
+abbrev pub decreases-emit_link : goal.decreases-emit_link
+decreases-emit_link l = 3 * size-Statement l.link.then.now + 2
 
 abbrev pub decreases-emit_while : goal.decreases-emit_while
-decreases-emit_while l = 2 * size-Statement l.body.now + 1
+decreases-emit_while l = 3 * size-Statement l.body.now + 2
 
 abbrev pub decreases-emit_count : goal.decreases-emit_count
-decreases-emit_count l = 2 * size-Statement l.body.now + 1
+decreases-emit_count l = 3 * size-Statement l.body.now + 2
 
 abbrev pub decreases-emit_select : goal.decreases-emit_select
-decreases-emit_select l = 2 * size-Statement l.cases.now + 1
+decreases-emit_select l = 3 * size-Statement l.cases.now + 2
 
 abbrev pub decreases-emit_associate : goal.decreases-emit_associate
-decreases-emit_associate l = 2 * size-Statement l.body.now + 1
+decreases-emit_associate l = 3 * size-Statement l.body.now + 2
