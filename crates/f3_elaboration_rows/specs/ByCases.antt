@@ -1,7 +1,6 @@
 -- The data of elaborated programs, by cases: they compute.
-use Rattle.std.specs.Prelude.{◌≡◌, pos, map, if◌then◌else◌}
+use Rattle.std.specs.Prelude.{◌≡◌, map}
 use Rattle.std.specs.Option.{option_map}
-use Rattle.f3_program.specs.declared.declarations.Constant.TheVariants as constant
 use Rattle.f3_program.specs.declared.expression.Argument as a
 use Rattle.f3_program.specs.declared.expression.Designator as d
 use Rattle.f3_program.specs.declared.expression.Expression as e
@@ -20,11 +19,7 @@ use Rattle.f3_elaboration.specs.DeclaredViews.{declared_view, derived_view, stat
 use Rattle.f3_elaboration.specs.Nodes as n
 use Rattle.f3_elaboration.specs.Nodes.{StatementNode, ProcedureNode, ProgramNode}
 
-abbrev pub one : n.ExpressionNode
-one = n.literal (constant.Number (pos 1))
-
 abbrev mutual
-  -- what stands for an absent bound is told as 1
   pub expression : e.Expression → n.ExpressionNode
   expression (e.Literal c) = n.literal c
   expression (e.Variable' p x) = n.variable (designator x)
@@ -61,7 +56,7 @@ abbrev mutual
 
   pub subscript : u.Subscript → n.SubscriptNode
   subscript (u.At' p x) = n.subscript (expression x)
-  subscript (u.Range' b p x c q y r z) = n.triplet b (if b then expression x else one) c (if c then expression y else one) (expression z)
+  subscript (u.Range' b p x c q y r z) = n.triplet b (expression x) c (expression y) (expression z)
 
 abbrev pub bounds : Bounds → n.BoundsNode
 bounds b = record { lower = expression b.lower; upper = expression b.upper }
@@ -102,25 +97,6 @@ abbrev mutual
   statements s.end_of-Statement = n.no_statements
   statements (s.more_of-Statement x rest) = n.statements (statement x) (statements rest)
 
--- the numbers of units left out
-abbrev pub unit_less : ProcedureNode → ProcedureNode
-unit_less q = record q { unit = 0 }
-
-abbrev pub home_less_type : n.DerivedNode → n.DerivedNode
-home_less_type t = record t { home = 0 }
-
-abbrev pub home_less : n.StaticNode → n.StaticNode
-home_less x = record x { home = 0 }
-
-abbrev pub all_unit_less : ProgramNode → ProgramNode
-all_unit_less p = record {
-  types = map home_less_type p.types;
-  statics = map home_less p.statics;
-  procedures = map unit_less p.procedures;
-  main = unit_less p.main;
-  start = p.start;
-}
-
 abbrev pub procedure : Procedure → ProcedureNode
 procedure q = record {
   unit = q.unit;
@@ -140,6 +116,6 @@ program p = record {
   start = p.start;
 }
 
--- the same program, but for the numbers of units, which may be numbered in another way
+-- what is told of a program
 abbrev pub Same : Program → ProgramNode → Type 0
-Same p q = all_unit_less (program p) ≡ all_unit_less q
+Same p q = program p ≡ q

@@ -16,7 +16,7 @@ use Rattle.f3_tree.specs.Statements.{AssociationTree, Block}
 use Rattle.f3_tree.specs.Tree.{ProcedureTree, UnitTree, Tree}
 
 abbrev pub at : ℕ → ℕ → Place
-at l c = record { file = 0; line = l; column = c }
+at l c = record { file = 1; line = l; column = c }
 
 abbrev pub name : ℕ → ℕ → ℕ → Name
 name s l c = record { symbol = s; place = at l c }

@@ -18,8 +18,8 @@ abbrev is_define : Right → Bool
 is_define Define = true
 is_define Read = false
 
-abbrev is_second : ℕ → Bool
-is_second n = nat_eq n 2
+abbrev is_fourth : ℕ → Bool
+is_fourth n = nat_eq n 4
 
 abbrev is_empty : List ℕ → Bool
 is_empty [] = true
@@ -59,4 +59,4 @@ unfolding digits converted divided prints_bytes fitted run_of runs calls_of ◌>
 prying_shows h = (refl, λ p. no (ap is_zero (p.by_makers.0 _ _ refl refl refl)))
 
 pub forged_are_not : ForgedAreNot
-forged_are_not h = (λ p. no (sym (ap is_second (p.from_home 0 _ refl refl refl))), λ p. no (ap is_empty p.by_steps.0.1), λ p. no (ap is_first (p.by_types.0 ∙ p.by_root 1 _ refl refl)))
+forged_are_not h = (λ p. no (sym (ap is_fourth (p.from_home 0 _ refl refl refl))), λ p. no (ap is_empty p.by_steps.0.1), λ p. no (ap is_first (p.by_types.0 ∙ p.by_root 1 _ refl refl)))

@@ -70,7 +70,7 @@ abbrev pub box : {X : Type 0} → Global → X → Box X Global
 box h x = record { ptr = null_ptr; alloc = h; value = x }
 
 abbrev pub place : ℕ → ℕ → Place
-place l c = record { file = 0; line = l; column = c }
+place l c = record { file = 1; line = l; column = c }
 
 abbrev pub kind : Base → ℕ → Bool → Kind
 kind of rank is_allocatable = record { of = of; rank = rank; is_allocatable = is_allocatable }

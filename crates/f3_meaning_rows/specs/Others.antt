@@ -86,7 +86,7 @@ abbrev pub no_room_for_a_call : Global → Program
 no_room_for_a_call h = program h [] tt
     [] tt
     (procedure h 0 [] tt [] tt None (block h (at h 2 17 true (s.Print (vec h (item.Value (num (pos 2)) ∷ []) tt)) ∷ []) tt) (place 2 29) ∷ []) tt
-    (procedure h 1 [] tt [] tt None (block h (at h 4 19 true (s.Print (vec h (item.Value (num (pos 1)) ∷ []) tt)) ∷ at h 5 1 true (s.Call (call h 0 [] tt)) ∷ []) tt) (place 6 1))
+    (procedure h 2 [] tt [] tt None (block h (at h 4 19 true (s.Print (vec h (item.Value (num (pos 1)) ∷ []) tt)) ∷ at h 5 1 true (s.Call (call h 0 [] tt)) ∷ []) tt) (place 6 1))
     (place 4 1)
 
 abbrev pub no_room_for_a_call_shows : Global → Type 0
@@ -100,7 +100,7 @@ abbrev pub depth_of_three : Global → Program
 depth_of_three h = program h [] tt
     [] tt
     (procedure h 0 (dummy h (kind base.Integer 0 false) intent.In [] tt ∷ []) tt [] tt None (block h (at h 2 44 true (s.Print (vec h (item.Value (var h (name (n.Lent 0) l.Whole)) ∷ []) tt)) ∷ at h 2 56 true (s.Call (call h 0 (val h 0 (bin h o.Add base.Integer (var h (name (n.Lent 0) l.Whole)) (num (pos 1))) ∷ []) tt)) ∷ []) tt) (place 2 71) ∷ []) tt
-    (procedure h 1 [] tt [] tt None (block h (at h 4 19 true (s.Call (call h 0 (val h 0 (num (pos 1)) ∷ []) tt)) ∷ []) tt) (place 4 30))
+    (procedure h 2 [] tt [] tt None (block h (at h 4 19 true (s.Call (call h 0 (val h 0 (num (pos 1)) ∷ []) tt)) ∷ []) tt) (place 4 30))
     (place 4 1)
 
 abbrev pub depth_of_three_shows : Global → Type 0
@@ -146,7 +146,7 @@ abbrev pub intent_in : Global → Program
 intent_in h = program h [] tt
     [] tt
     (procedure h 0 (dummy h (kind base.Integer 0 false) intent.In [] tt ∷ []) tt [] tt None (block h (at h 2 44 true (s.Assign (name (n.Lent 0) l.Whole) (kind base.Integer 0 false) (num (pos 1))) ∷ []) tt) (place 2 51) ∷ []) tt
-    (procedure h 1 [] tt [] tt None (block h [] tt) (place 4 12))
+    (procedure h 2 [] tt [] tt None (block h [] tt) (place 4 12))
     (place 4 1)
 
 --     module k; contains
@@ -156,9 +156,9 @@ intent_in h = program h [] tt
 --     program p; use m; use k; call bump(n); end
 abbrev pub protected_passed_on : Global → Program
 protected_passed_on h = program h [] tt
-    (static (declared h (kind base.Integer 0 false) [] tt ((constant.Number (pos 3)) ∷ []) tt) 1 true ∷ []) tt
+    (static (declared h (kind base.Integer 0 false) [] tt ((constant.Number (pos 3)) ∷ []) tt) 2 true ∷ []) tt
     (procedure h 0 (dummy h (kind base.Integer 0 false) intent.InOut [] tt ∷ []) tt [] tt None (block h (at h 2 50 true (s.Assign (name (n.Lent 0) l.Whole) (kind base.Integer 0 false) (bin h o.Add base.Integer (var h (name (n.Lent 0) l.Whole)) (num (pos 1)))) ∷ []) tt) (place 2 61) ∷ []) tt
-    (procedure h 2 [] tt [] tt None (block h (at h 5 26 true (s.Call (call h 0 (ref h 0 (name (n.Static 0) l.Whole) ∷ []) tt)) ∷ []) tt) (place 5 40))
+    (procedure h 3 [] tt [] tt None (block h (at h 5 26 true (s.Call (call h 0 (ref h 0 (name (n.Static 0) l.Whole) ∷ []) tt)) ∷ []) tt) (place 5 40))
     (place 5 1)
 
 --     module m; type box; integer, private :: secret = 1; end type; end

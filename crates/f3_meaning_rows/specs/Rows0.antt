@@ -70,7 +70,7 @@ abbrev pub allocatable_03_assumed_shape : Global → Program
 allocatable_03_assumed_shape h = program h [] tt
     [] tt
     (procedure h 0 (dummy h (kind base.Integer 1 false) intent.InOut ((pos 5) ∷ []) tt ∷ []) tt [] tt None (block h (at h 2 51 true (s.Assign (name (n.Lent 0) (elements h false (sub h (num (pos 7)) ∷ []) tt)) (kind base.Integer 0 false) (var h (name (n.Lent 0) (elements h false (sub h (num (pos 5)) ∷ []) tt)))) ∷ at h 2 64 true (s.Print (vec h (item.Value (asks h query.Lower (ref h 0 (name (n.Lent 0) l.Whole)) (num (pos 1))) ∷ item.Value (asks h query.Upper (ref h 0 (name (n.Lent 0) l.Whole)) (num (pos 1))) ∷ []) tt)) ∷ []) tt) (place 2 99) ∷ []) tt
-    (procedure h 1 [] tt ((declared h (kind base.Integer 1 false) (dim (pos 1) 6 ∷ []) tt [] tt) ∷ []) tt None (block h (at h 4 36 true (s.Assign (name (n.Local 0) l.Whole) (kind base.Integer 1 false) (array h (val h 0 (num (pos 1)) ∷ val h 0 (num (pos 2)) ∷ val h 0 (num (pos 3)) ∷ val h 0 (num (pos 4)) ∷ val h 0 (num (pos 5)) ∷ val h 0 (num (pos 6)) ∷ []) tt)) ∷ at h 5 1 true (s.Call (call h 0 (ref h 0 (name (n.Local 0) (elements h false (triplet h true (num (pos 6)) true (num (pos 2)) (unary h c.Negate base.Integer (num (pos 2))) ∷ []) tt)) ∷ []) tt)) ∷ at h 5 20 true (s.Print (vec h (item.Value (var h (name (n.Local 0) l.Whole)) ∷ []) tt)) ∷ []) tt) (place 6 1))
+    (procedure h 2 [] tt ((declared h (kind base.Integer 1 false) (dim (pos 1) 6 ∷ []) tt [] tt) ∷ []) tt None (block h (at h 4 36 true (s.Assign (name (n.Local 0) l.Whole) (kind base.Integer 1 false) (array h (val h 0 (num (pos 1)) ∷ val h 0 (num (pos 2)) ∷ val h 0 (num (pos 3)) ∷ val h 0 (num (pos 4)) ∷ val h 0 (num (pos 5)) ∷ val h 0 (num (pos 6)) ∷ []) tt)) ∷ at h 5 1 true (s.Call (call h 0 (ref h 0 (name (n.Local 0) (elements h false (triplet h true (num (pos 6)) true (num (pos 2)) (unary h c.Negate base.Integer (num (pos 2))) ∷ []) tt)) ∷ []) tt)) ∷ at h 5 20 true (s.Print (vec h (item.Value (var h (name (n.Local 0) l.Whole)) ∷ []) tt)) ∷ []) tt) (place 6 1))
     (place 4 1)
 
 --     program p; integer, allocatable :: v(:); allocate(v(2:3)); v = 5
@@ -106,7 +106,7 @@ abbrev pub associate_03_return : Global → Program
 associate_03_return h = program h [] tt
     [] tt
     (procedure h 0 [] tt ((declared h (kind base.Integer 1 true) [] tt [] tt) ∷ []) tt None (block h (at h 2 47 true (s.Allocate (vec h (request h (name (n.Local 0) l.Whole) (kind base.Integer 1 true) (bounds (num (pos 1)) (num (pos 2)) ∷ []) tt ∷ []) tt) None) ∷ at h 2 63 true (s.Assign (name (n.Local 0) l.Whole) (kind base.Integer 1 true) (num (pos 1))) ∷ at h 3 1 true (associate h (selector.Variable (name (n.Local 0) l.Contents) ∷ []) tt (block h (at h 3 21 true (s.Print (vec h (item.Value (var h (name (n.Lent 0) l.Whole)) ∷ []) tt)) ∷ at h 3 33 true s.Return ∷ []) tt)) ∷ []) tt) (place 3 56) ∷ []) tt
-    (procedure h 1 [] tt [] tt None (block h (at h 5 19 true (s.Call (call h 0 [] tt)) ∷ at h 5 29 true (s.Print (vec h (item.Value (num (pos 7)) ∷ []) tt)) ∷ []) tt) (place 5 41))
+    (procedure h 3 [] tt [] tt None (block h (at h 5 19 true (s.Call (call h 0 [] tt)) ∷ at h 5 29 true (s.Print (vec h (item.Value (num (pos 7)) ∷ []) tt)) ∷ []) tt) (place 5 41))
     (place 5 1)
 
 --     module m; type t; integer :: id = 0; contains; final :: fin; end type; type(t), allocatable :: v; contains
@@ -117,7 +117,7 @@ abbrev pub finalizer_01_frees_its_holder : Global → Program
 finalizer_01_frees_its_holder h = program h (derived h 0 (comp (declared h (kind base.Integer 0 false) [] tt ((constant.Number (pos 0)) ∷ []) tt) false ∷ []) tt (final 0 0 ∷ []) tt ∷ []) tt
     (static (declared h (kind (base.Derived 0) 0 true) [] tt [] tt) 0 false ∷ []) tt
     (procedure h 0 (dummy h (kind (base.Derived 0) 0 false) intent.InOut [] tt ∷ []) tt [] tt None (block h (at h 2 49 true (when h (allocated h (name (n.Static 0) l.Whole)) (s.Deallocate (vec h (request h (name (n.Static 0) l.Whole) (kind (base.Derived 0) 0 true) [] tt ∷ []) tt) None) (block h [] tt)) ∷ []) tt) (place 2 82) ∷ []) tt
-    (procedure h 1 [] tt [] tt None (block h (at h 4 19 true (s.Allocate (vec h (request h (name (n.Static 0) l.Whole) (kind (base.Derived 0) 0 true) [] tt ∷ []) tt) None) ∷ at h 4 32 true (s.Deallocate (vec h (request h (name (n.Static 0) l.Whole) (kind (base.Derived 0) 0 true) [] tt ∷ []) tt) None) ∷ []) tt) (place 4 47))
+    (procedure h 2 [] tt [] tt None (block h (at h 4 19 true (s.Allocate (vec h (request h (name (n.Static 0) l.Whole) (kind (base.Derived 0) 0 true) [] tt ∷ []) tt) None) ∷ at h 4 32 true (s.Deallocate (vec h (request h (name (n.Static 0) l.Whole) (kind (base.Derived 0) 0 true) [] tt ∷ []) tt) None) ∷ []) tt) (place 4 47))
     (place 4 1)
 
 --     module m; type c; integer :: id = 1; contains; final :: fc; end type
@@ -131,7 +131,7 @@ abbrev pub finalizer_02_order : Global → Program
 finalizer_02_order h = program h (derived h 0 (comp (declared h (kind base.Integer 0 false) [] tt ((constant.Number (pos 1)) ∷ []) tt) false ∷ []) tt (final 0 0 ∷ []) tt ∷ derived h 0 (comp (declared h (kind (base.Derived 0) 0 false) [] tt [] tt) false ∷ comp (declared h (kind (base.Derived 0) 1 true) [] tt [] tt) false ∷ []) tt (final 0 1 ∷ []) tt ∷ []) tt
     [] tt
     (procedure h 0 (dummy h (kind (base.Derived 0) 0 false) intent.InOut [] tt ∷ []) tt [] tt None (block h (at h 3 48 true (s.Print (vec h (text h (99 ∷ []) tt ∷ item.Value (var h (member h (name (n.Lent 0) l.Whole) 0 l.Whole)) ∷ []) tt)) ∷ []) tt) (place 3 68) ∷ procedure h 0 (dummy h (kind (base.Derived 1) 0 false) intent.InOut [] tt ∷ []) tt [] tt None (block h (at h 4 48 true (s.Print (vec h (text h (116 ∷ []) tt ∷ item.Value (allocated h (member h (name (n.Lent 0) l.Whole) 1 l.Whole)) ∷ []) tt)) ∷ []) tt) (place 4 78) ∷ procedure h 0 [] tt ((declared h (kind (base.Derived 1) 0 false) [] tt [] tt) ∷ []) tt None (block h (at h 5 32 true (s.Allocate (vec h (request h (member h (name (n.Local 0) l.Whole) 1 l.Whole) (kind (base.Derived 0) 1 true) (bounds (num (pos 1)) (num (pos 2)) ∷ []) tt ∷ []) tt) None) ∷ at h 5 50 true (s.Print (vec h (text h (103 ∷ []) tt ∷ []) tt)) ∷ []) tt) (place 5 64) ∷ []) tt
-    (procedure h 1 [] tt [] tt None (block h (at h 7 19 true (s.Call (call h 2 [] tt)) ∷ []) tt) (place 7 30))
+    (procedure h 4 [] tt [] tt None (block h (at h 7 19 true (s.Call (call h 2 [] tt)) ∷ []) tt) (place 7 30))
     (place 7 1)
 
 --     program p; integer, allocatable :: a(:); integer :: s; s = 1
@@ -152,7 +152,7 @@ abbrev pub heap_04_other_shape : Global → Program
 heap_04_other_shape h = program h [] tt
     (static (declared h (kind base.Integer 1 true) [] tt [] tt) 0 false ∷ static (declared h (kind base.Integer 1 true) [] tt [] tt) 0 false ∷ []) tt
     (procedure h 0 (dummy h (kind base.Integer 0 false) intent.InOut [] tt ∷ []) tt [] tt None (block h (at h 2 47 true (s.Assign (name (n.Static 0) l.Whole) (kind base.Integer 1 true) (array h (val h 0 (num (pos 1)) ∷ val h 0 (num (pos 2)) ∷ []) tt)) ∷ []) tt) (place 2 59) ∷ []) tt
-    (procedure h 1 [] tt [] tt None (block h (at h 4 19 true (s.Allocate (vec h (request h (name (n.Static 0) l.Whole) (kind base.Integer 1 true) (bounds (num (pos 1)) (num (pos 3)) ∷ []) tt ∷ []) tt) None) ∷ at h 4 35 true (s.Call (call h 0 (ref h 0 (name (n.Static 0) (elements h true (sub h (num (pos 1)) ∷ []) tt)) ∷ []) tt)) ∷ at h 4 49 true (s.Print (vec h (item.Value (var h (name (n.Static 0) (elements h true (sub h (num (pos 1)) ∷ []) tt))) ∷ []) tt)) ∷ []) tt) (place 4 64))
+    (procedure h 2 [] tt [] tt None (block h (at h 4 19 true (s.Allocate (vec h (request h (name (n.Static 0) l.Whole) (kind base.Integer 1 true) (bounds (num (pos 1)) (num (pos 3)) ∷ []) tt ∷ []) tt) None) ∷ at h 4 35 true (s.Call (call h 0 (ref h 0 (name (n.Static 0) (elements h true (sub h (num (pos 1)) ∷ []) tt)) ∷ []) tt)) ∷ at h 4 49 true (s.Print (vec h (item.Value (var h (name (n.Static 0) (elements h true (sub h (num (pos 1)) ∷ []) tt))) ∷ []) tt)) ∷ []) tt) (place 4 64))
     (place 4 1)
 
 --     module w; integer, allocatable :: v(:), u(:); contains
@@ -163,7 +163,7 @@ abbrev pub heap_04_same_shape : Global → Program
 heap_04_same_shape h = program h [] tt
     (static (declared h (kind base.Integer 1 true) [] tt [] tt) 0 false ∷ static (declared h (kind base.Integer 1 true) [] tt [] tt) 0 false ∷ []) tt
     (procedure h 0 (dummy h (kind base.Integer 0 false) intent.InOut [] tt ∷ []) tt [] tt None (block h (at h 2 47 true (s.Assign (name (n.Static 0) l.Whole) (kind base.Integer 1 true) (array h (val h 0 (num (pos 1)) ∷ val h 0 (num (pos 2)) ∷ val h 0 (num (pos 3)) ∷ []) tt)) ∷ []) tt) (place 2 62) ∷ []) tt
-    (procedure h 1 [] tt [] tt None (block h (at h 4 19 true (s.Allocate (vec h (request h (name (n.Static 0) l.Whole) (kind base.Integer 1 true) (bounds (num (pos 1)) (num (pos 3)) ∷ []) tt ∷ []) tt) None) ∷ at h 4 35 true (s.Call (call h 0 (ref h 0 (name (n.Static 0) (elements h true (sub h (num (pos 1)) ∷ []) tt)) ∷ []) tt)) ∷ at h 4 49 true (s.Print (vec h (item.Value (var h (name (n.Static 0) (elements h true (sub h (num (pos 1)) ∷ []) tt))) ∷ []) tt)) ∷ []) tt) (place 4 64))
+    (procedure h 2 [] tt [] tt None (block h (at h 4 19 true (s.Allocate (vec h (request h (name (n.Static 0) l.Whole) (kind base.Integer 1 true) (bounds (num (pos 1)) (num (pos 3)) ∷ []) tt ∷ []) tt) None) ∷ at h 4 35 true (s.Call (call h 0 (ref h 0 (name (n.Static 0) (elements h true (sub h (num (pos 1)) ∷ []) tt)) ∷ []) tt)) ∷ at h 4 49 true (s.Print (vec h (item.Value (var h (name (n.Static 0) (elements h true (sub h (num (pos 1)) ∷ []) tt))) ∷ []) tt)) ∷ []) tt) (place 4 64))
     (place 4 1)
 
 --     module w; contains
@@ -174,7 +174,7 @@ abbrev pub heap_05_dummy_itself : Global → Program
 heap_05_dummy_itself h = program h [] tt
     [] tt
     (procedure h 0 (dummy h (kind base.Integer 1 true) intent.InOut [] tt ∷ []) tt [] tt None (block h (at h 2 63 true (s.Deallocate (vec h (request h (name (n.Lent 0) l.Whole) (kind base.Integer 1 true) [] tt ∷ []) tt) None) ∷ []) tt) (place 2 78) ∷ []) tt
-    (procedure h 1 [] tt ((declared h (kind base.Integer 1 true) [] tt [] tt) ∷ []) tt None (block h (at h 4 49 true (s.Allocate (vec h (request h (name (n.Local 0) l.Whole) (kind base.Integer 1 true) (bounds (num (pos 1)) (num (pos 3)) ∷ []) tt ∷ []) tt) None) ∷ at h 4 65 true (s.Call (call h 0 (ref h 0 (name (n.Local 0) l.Whole) ∷ []) tt)) ∷ at h 4 76 true (s.Print (vec h (item.Value (allocated h (name (n.Local 0) l.Whole)) ∷ []) tt)) ∷ []) tt) (place 4 99))
+    (procedure h 2 [] tt ((declared h (kind base.Integer 1 true) [] tt [] tt) ∷ []) tt None (block h (at h 4 49 true (s.Allocate (vec h (request h (name (n.Local 0) l.Whole) (kind base.Integer 1 true) (bounds (num (pos 1)) (num (pos 3)) ∷ []) tt ∷ []) tt) None) ∷ at h 4 65 true (s.Call (call h 0 (ref h 0 (name (n.Local 0) l.Whole) ∷ []) tt)) ∷ at h 4 76 true (s.Print (vec h (item.Value (allocated h (name (n.Local 0) l.Whole)) ∷ []) tt)) ∷ []) tt) (place 4 99))
     (place 4 1)
 
 --     module w; integer, allocatable :: v(:); contains
@@ -185,7 +185,7 @@ abbrev pub heap_06_held_value : Global → Program
 heap_06_held_value h = program h [] tt
     (static (declared h (kind base.Integer 1 true) [] tt [] tt) 0 false ∷ []) tt
     (procedure h 0 (dummy h (kind base.Integer 0 false) intent.In [] tt ∷ []) tt [] tt None (block h (at h 2 44 true (s.Deallocate (vec h (request h (name (n.Static 0) l.Whole) (kind base.Integer 1 true) [] tt ∷ []) tt) None) ∷ at h 2 59 true (s.Print (vec h (item.Value (var h (name (n.Lent 0) l.Whole)) ∷ []) tt)) ∷ []) tt) (place 2 71) ∷ []) tt
-    (procedure h 1 [] tt [] tt None (block h (at h 4 19 true (s.Allocate (vec h (request h (name (n.Static 0) l.Whole) (kind base.Integer 1 true) (bounds (num (pos 1)) (num (pos 3)) ∷ []) tt ∷ []) tt) None) ∷ at h 4 35 true (s.Assign (name (n.Static 0) l.Whole) (kind base.Integer 1 true) (num (pos 7))) ∷ at h 4 42 true (s.Call (call h 0 (val h 0 (group h (var h (name (n.Static 0) (elements h true (sub h (num (pos 1)) ∷ []) tt)))) ∷ []) tt)) ∷ at h 4 58 true (s.Print (vec h (item.Value (allocated h (name (n.Static 0) l.Whole)) ∷ []) tt)) ∷ []) tt) (place 4 81))
+    (procedure h 2 [] tt [] tt None (block h (at h 4 19 true (s.Allocate (vec h (request h (name (n.Static 0) l.Whole) (kind base.Integer 1 true) (bounds (num (pos 1)) (num (pos 3)) ∷ []) tt ∷ []) tt) None) ∷ at h 4 35 true (s.Assign (name (n.Static 0) l.Whole) (kind base.Integer 1 true) (num (pos 7))) ∷ at h 4 42 true (s.Call (call h 0 (val h 0 (group h (var h (name (n.Static 0) (elements h true (sub h (num (pos 1)) ∷ []) tt)))) ∷ []) tt)) ∷ at h 4 58 true (s.Print (vec h (item.Value (allocated h (name (n.Static 0) l.Whole)) ∷ []) tt)) ∷ []) tt) (place 4 81))
     (place 4 1)
 
 --     module w; integer, allocatable :: v(:), u(:); contains
@@ -198,7 +198,7 @@ abbrev pub heap_07_lent_element_deallocate : Global → Program
 heap_07_lent_element_deallocate h = program h [] tt
     (static (declared h (kind base.Integer 1 true) [] tt [] tt) 0 false ∷ static (declared h (kind base.Integer 1 true) [] tt [] tt) 0 false ∷ []) tt
     (procedure h 0 (dummy h (kind base.Integer 0 false) intent.InOut [] tt ∷ []) tt [] tt None (block h (at h 3 1 true (s.Deallocate (vec h (request h (name (n.Static 0) l.Whole) (kind base.Integer 1 true) [] tt ∷ []) tt) None) ∷ at h 4 1 true (s.Assign (name (n.Lent 0) l.Whole) (kind base.Integer 0 false) (num (pos 1))) ∷ []) tt) (place 4 8) ∷ []) tt
-    (procedure h 1 [] tt [] tt None (block h (at h 6 19 true (s.Allocate (vec h (request h (name (n.Static 0) l.Whole) (kind base.Integer 1 true) (bounds (num (pos 1)) (num (pos 3)) ∷ []) tt ∷ []) tt) None) ∷ at h 6 35 true (s.Call (call h 0 (ref h 0 (name (n.Static 0) (elements h true (sub h (num (pos 1)) ∷ []) tt)) ∷ []) tt)) ∷ at h 6 49 true (s.Print (vec h (item.Value (size h (ref h 0 (name (n.Static 0) l.Contents))) ∷ []) tt)) ∷ []) tt) (place 6 67))
+    (procedure h 2 [] tt [] tt None (block h (at h 6 19 true (s.Allocate (vec h (request h (name (n.Static 0) l.Whole) (kind base.Integer 1 true) (bounds (num (pos 1)) (num (pos 3)) ∷ []) tt ∷ []) tt) None) ∷ at h 6 35 true (s.Call (call h 0 (ref h 0 (name (n.Static 0) (elements h true (sub h (num (pos 1)) ∷ []) tt)) ∷ []) tt)) ∷ at h 6 49 true (s.Print (vec h (item.Value (size h (ref h 0 (name (n.Static 0) l.Contents))) ∷ []) tt)) ∷ []) tt) (place 6 67))
     (place 6 1)
 
 abbrev pub allocatable_01_deep_copy_shows : Global → Type 0

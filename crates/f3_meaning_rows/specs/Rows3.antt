@@ -24,7 +24,7 @@ abbrev pub heap_40_lent_allocatable_dummy_deallocate_stat : Global → Program
 heap_40_lent_allocatable_dummy_deallocate_stat h = program h (derived h 0 (comp (declared h (kind base.Integer 1 true) [] tt [] tt) false ∷ []) tt [] tt ∷ []) tt
     (static (declared h (kind (base.Derived 0) 0 true) [] tt [] tt) 0 false ∷ static (declared h (kind (base.Derived 0) 0 true) [] tt [] tt) 0 false ∷ static (declared h (kind base.Integer 0 false) [] tt [] tt) 0 false ∷ []) tt
     (procedure h 0 (dummy h (kind base.Integer 1 true) intent.InOut [] tt ∷ []) tt [] tt None (block h (at h 3 1 true (s.Deallocate (vec h (request h (name (n.Static 0) l.Whole) (kind (base.Derived 0) 0 true) [] tt ∷ []) tt) (Some (name (n.Static 2) l.Whole))) ∷ at h 4 1 true (s.Assign (name (n.Lent 0) l.Whole) (kind base.Integer 1 true) (num (pos 1))) ∷ []) tt) (place 4 8) ∷ []) tt
-    (procedure h 1 [] tt [] tt None (block h (at h 6 19 true (s.Allocate (vec h (request h (name (n.Static 0) l.Whole) (kind (base.Derived 0) 0 true) [] tt ∷ []) tt) None) ∷ at h 6 32 true (s.Allocate (vec h (request h (member h (name (n.Static 0) l.Contents) 0 l.Whole) (kind base.Integer 1 true) (bounds (num (pos 1)) (num (pos 3)) ∷ []) tt ∷ []) tt) None) ∷ at h 6 50 true (s.Call (call h 0 (ref h 0 (member h (name (n.Static 0) l.Contents) 0 l.Whole) ∷ []) tt)) ∷ at h 6 63 true (s.Print (vec h (item.Value (var h (name (n.Static 2) l.Whole)) ∷ item.Value (size h (ref h 0 (member h (name (n.Static 0) l.Contents) 0 l.Contents))) ∷ []) tt)) ∷ []) tt) (place 6 86))
+    (procedure h 2 [] tt [] tt None (block h (at h 6 19 true (s.Allocate (vec h (request h (name (n.Static 0) l.Whole) (kind (base.Derived 0) 0 true) [] tt ∷ []) tt) None) ∷ at h 6 32 true (s.Allocate (vec h (request h (member h (name (n.Static 0) l.Contents) 0 l.Whole) (kind base.Integer 1 true) (bounds (num (pos 1)) (num (pos 3)) ∷ []) tt ∷ []) tt) None) ∷ at h 6 50 true (s.Call (call h 0 (ref h 0 (member h (name (n.Static 0) l.Contents) 0 l.Whole) ∷ []) tt)) ∷ at h 6 63 true (s.Print (vec h (item.Value (var h (name (n.Static 2) l.Whole)) ∷ item.Value (size h (ref h 0 (member h (name (n.Static 0) l.Contents) 0 l.Contents))) ∷ []) tt)) ∷ []) tt) (place 6 86))
     (place 6 1)
 
 --     module w; type t; integer, allocatable :: c(:); end type; type(t), allocatable :: o(:); type(t) :: e(3); contains
@@ -37,7 +37,7 @@ abbrev pub heap_41_lent_allocatable_dummy_assign_shape : Global → Program
 heap_41_lent_allocatable_dummy_assign_shape h = program h (derived h 0 (comp (declared h (kind base.Integer 1 true) [] tt [] tt) false ∷ []) tt [] tt ∷ []) tt
     (static (declared h (kind (base.Derived 0) 1 true) [] tt [] tt) 0 false ∷ static (declared h (kind (base.Derived 0) 1 false) (dim (pos 1) 3 ∷ []) tt [] tt) 0 false ∷ []) tt
     (procedure h 0 (dummy h (kind base.Integer 1 true) intent.InOut [] tt ∷ []) tt [] tt None (block h (at h 3 1 true (s.Assign (name (n.Static 0) l.Whole) (kind (base.Derived 0) 1 true) (var h (name (n.Static 1) l.Whole))) ∷ at h 4 1 true (s.Assign (name (n.Lent 0) l.Whole) (kind base.Integer 1 true) (num (pos 1))) ∷ []) tt) (place 4 8) ∷ []) tt
-    (procedure h 1 [] tt [] tt None (block h (at h 6 19 true (s.Allocate (vec h (request h (name (n.Static 0) l.Whole) (kind (base.Derived 0) 1 true) (bounds (num (pos 1)) (num (pos 2)) ∷ []) tt ∷ []) tt) None) ∷ at h 6 35 true (s.Allocate (vec h (request h (member h (name (n.Static 0) (elements h true (sub h (num (pos 1)) ∷ []) tt)) 0 l.Whole) (kind base.Integer 1 true) (bounds (num (pos 1)) (num (pos 3)) ∷ []) tt ∷ []) tt) None) ∷ at h 6 56 true (s.Call (call h 0 (ref h 0 (member h (name (n.Static 0) (elements h true (sub h (num (pos 1)) ∷ []) tt)) 0 l.Whole) ∷ []) tt)) ∷ at h 6 72 true (s.Print (vec h (item.Value (size h (ref h 0 (member h (name (n.Static 0) (elements h true (sub h (num (pos 1)) ∷ []) tt)) 0 l.Contents))) ∷ []) tt)) ∷ []) tt) (place 6 95))
+    (procedure h 2 [] tt [] tt None (block h (at h 6 19 true (s.Allocate (vec h (request h (name (n.Static 0) l.Whole) (kind (base.Derived 0) 1 true) (bounds (num (pos 1)) (num (pos 2)) ∷ []) tt ∷ []) tt) None) ∷ at h 6 35 true (s.Allocate (vec h (request h (member h (name (n.Static 0) (elements h true (sub h (num (pos 1)) ∷ []) tt)) 0 l.Whole) (kind base.Integer 1 true) (bounds (num (pos 1)) (num (pos 3)) ∷ []) tt ∷ []) tt) None) ∷ at h 6 56 true (s.Call (call h 0 (ref h 0 (member h (name (n.Static 0) (elements h true (sub h (num (pos 1)) ∷ []) tt)) 0 l.Whole) ∷ []) tt)) ∷ at h 6 72 true (s.Print (vec h (item.Value (size h (ref h 0 (member h (name (n.Static 0) (elements h true (sub h (num (pos 1)) ∷ []) tt)) 0 l.Contents))) ∷ []) tt)) ∷ []) tt) (place 6 95))
     (place 6 1)
 
 --     module w; type t; integer, allocatable :: c(:); end type; type s; type(t), allocatable :: o; end type; type(s) :: h, g; contains
@@ -50,7 +50,7 @@ abbrev pub heap_42_lent_allocatable_dummy_assign_object : Global → Program
 heap_42_lent_allocatable_dummy_assign_object h = program h (derived h 0 (comp (declared h (kind base.Integer 1 true) [] tt [] tt) false ∷ []) tt [] tt ∷ derived h 0 (comp (declared h (kind (base.Derived 0) 0 true) [] tt [] tt) false ∷ []) tt [] tt ∷ []) tt
     (static (declared h (kind (base.Derived 1) 0 false) [] tt [] tt) 0 false ∷ static (declared h (kind (base.Derived 1) 0 false) [] tt [] tt) 0 false ∷ []) tt
     (procedure h 0 (dummy h (kind base.Integer 1 true) intent.InOut [] tt ∷ []) tt [] tt None (block h (at h 3 1 true (s.Assign (name (n.Static 0) l.Whole) (kind (base.Derived 1) 0 false) (var h (name (n.Static 1) l.Whole))) ∷ at h 4 1 true (s.Assign (name (n.Lent 0) l.Whole) (kind base.Integer 1 true) (num (pos 1))) ∷ []) tt) (place 4 8) ∷ []) tt
-    (procedure h 1 [] tt [] tt None (block h (at h 6 19 true (s.Allocate (vec h (request h (member h (name (n.Static 0) l.Whole) 0 l.Whole) (kind (base.Derived 0) 0 true) [] tt ∷ []) tt) None) ∷ at h 6 34 true (s.Allocate (vec h (request h (member h (member h (name (n.Static 0) l.Whole) 0 l.Contents) 0 l.Whole) (kind base.Integer 1 true) (bounds (num (pos 1)) (num (pos 3)) ∷ []) tt ∷ []) tt) None) ∷ at h 6 54 true (s.Call (call h 0 (ref h 0 (member h (member h (name (n.Static 0) l.Whole) 0 l.Contents) 0 l.Whole) ∷ []) tt)) ∷ at h 6 69 true (s.Print (vec h (item.Value (size h (ref h 0 (member h (member h (name (n.Static 0) l.Whole) 0 l.Contents) 0 l.Contents))) ∷ []) tt)) ∷ []) tt) (place 6 91))
+    (procedure h 2 [] tt [] tt None (block h (at h 6 19 true (s.Allocate (vec h (request h (member h (name (n.Static 0) l.Whole) 0 l.Whole) (kind (base.Derived 0) 0 true) [] tt ∷ []) tt) None) ∷ at h 6 34 true (s.Allocate (vec h (request h (member h (member h (name (n.Static 0) l.Whole) 0 l.Contents) 0 l.Whole) (kind base.Integer 1 true) (bounds (num (pos 1)) (num (pos 3)) ∷ []) tt ∷ []) tt) None) ∷ at h 6 54 true (s.Call (call h 0 (ref h 0 (member h (member h (name (n.Static 0) l.Whole) 0 l.Contents) 0 l.Whole) ∷ []) tt)) ∷ at h 6 69 true (s.Print (vec h (item.Value (size h (ref h 0 (member h (member h (name (n.Static 0) l.Whole) 0 l.Contents) 0 l.Contents))) ∷ []) tt)) ∷ []) tt) (place 6 91))
     (place 6 1)
 
 --     module w; type t; integer, allocatable :: c(:); end type; type(t), allocatable :: o, u; contains
@@ -63,7 +63,7 @@ abbrev pub heap_43_lent_allocatable_dummy_move_from : Global → Program
 heap_43_lent_allocatable_dummy_move_from h = program h (derived h 0 (comp (declared h (kind base.Integer 1 true) [] tt [] tt) false ∷ []) tt [] tt ∷ []) tt
     (static (declared h (kind (base.Derived 0) 0 true) [] tt [] tt) 0 false ∷ static (declared h (kind (base.Derived 0) 0 true) [] tt [] tt) 0 false ∷ []) tt
     (procedure h 0 (dummy h (kind base.Integer 1 true) intent.InOut [] tt ∷ []) tt [] tt None (block h (at h 3 1 true (s.MoveAlloc (kind (base.Derived 0) 0 true) true (name (n.Static 0) l.Whole) (name (n.Static 1) l.Whole)) ∷ at h 4 1 true (s.Assign (name (n.Lent 0) l.Whole) (kind base.Integer 1 true) (num (pos 1))) ∷ []) tt) (place 4 8) ∷ []) tt
-    (procedure h 1 [] tt [] tt None (block h (at h 6 19 true (s.Allocate (vec h (request h (name (n.Static 0) l.Whole) (kind (base.Derived 0) 0 true) [] tt ∷ []) tt) None) ∷ at h 6 32 true (s.Allocate (vec h (request h (member h (name (n.Static 0) l.Contents) 0 l.Whole) (kind base.Integer 1 true) (bounds (num (pos 1)) (num (pos 3)) ∷ []) tt ∷ []) tt) None) ∷ at h 6 50 true (s.Call (call h 0 (ref h 0 (member h (name (n.Static 0) l.Contents) 0 l.Whole) ∷ []) tt)) ∷ at h 6 63 true (s.Print (vec h (item.Value (size h (ref h 0 (member h (name (n.Static 0) l.Contents) 0 l.Contents))) ∷ []) tt)) ∷ []) tt) (place 6 83))
+    (procedure h 2 [] tt [] tt None (block h (at h 6 19 true (s.Allocate (vec h (request h (name (n.Static 0) l.Whole) (kind (base.Derived 0) 0 true) [] tt ∷ []) tt) None) ∷ at h 6 32 true (s.Allocate (vec h (request h (member h (name (n.Static 0) l.Contents) 0 l.Whole) (kind base.Integer 1 true) (bounds (num (pos 1)) (num (pos 3)) ∷ []) tt ∷ []) tt) None) ∷ at h 6 50 true (s.Call (call h 0 (ref h 0 (member h (name (n.Static 0) l.Contents) 0 l.Whole) ∷ []) tt)) ∷ at h 6 63 true (s.Print (vec h (item.Value (size h (ref h 0 (member h (name (n.Static 0) l.Contents) 0 l.Contents))) ∷ []) tt)) ∷ []) tt) (place 6 83))
     (place 6 1)
 
 --     module w; type t; integer, allocatable :: c(:); end type; type(t), allocatable :: o, u; contains
@@ -76,7 +76,7 @@ abbrev pub heap_44_lent_allocatable_dummy_move_to : Global → Program
 heap_44_lent_allocatable_dummy_move_to h = program h (derived h 0 (comp (declared h (kind base.Integer 1 true) [] tt [] tt) false ∷ []) tt [] tt ∷ []) tt
     (static (declared h (kind (base.Derived 0) 0 true) [] tt [] tt) 0 false ∷ static (declared h (kind (base.Derived 0) 0 true) [] tt [] tt) 0 false ∷ []) tt
     (procedure h 0 (dummy h (kind base.Integer 1 true) intent.InOut [] tt ∷ []) tt [] tt None (block h (at h 3 1 true (s.MoveAlloc (kind (base.Derived 0) 0 true) true (name (n.Static 1) l.Whole) (name (n.Static 0) l.Whole)) ∷ at h 4 1 true (s.Assign (name (n.Lent 0) l.Whole) (kind base.Integer 1 true) (num (pos 1))) ∷ []) tt) (place 4 8) ∷ []) tt
-    (procedure h 1 [] tt [] tt None (block h (at h 6 19 true (s.Allocate (vec h (request h (name (n.Static 0) l.Whole) (kind (base.Derived 0) 0 true) [] tt ∷ []) tt) None) ∷ at h 6 32 true (s.Allocate (vec h (request h (name (n.Static 1) l.Whole) (kind (base.Derived 0) 0 true) [] tt ∷ []) tt) None) ∷ at h 6 45 true (s.Allocate (vec h (request h (member h (name (n.Static 0) l.Contents) 0 l.Whole) (kind base.Integer 1 true) (bounds (num (pos 1)) (num (pos 3)) ∷ []) tt ∷ []) tt) None) ∷ at h 6 63 true (s.Call (call h 0 (ref h 0 (member h (name (n.Static 0) l.Contents) 0 l.Whole) ∷ []) tt)) ∷ at h 6 76 true (s.Print (vec h (item.Value (size h (ref h 0 (member h (name (n.Static 0) l.Contents) 0 l.Contents))) ∷ []) tt)) ∷ []) tt) (place 6 96))
+    (procedure h 2 [] tt [] tt None (block h (at h 6 19 true (s.Allocate (vec h (request h (name (n.Static 0) l.Whole) (kind (base.Derived 0) 0 true) [] tt ∷ []) tt) None) ∷ at h 6 32 true (s.Allocate (vec h (request h (name (n.Static 1) l.Whole) (kind (base.Derived 0) 0 true) [] tt ∷ []) tt) None) ∷ at h 6 45 true (s.Allocate (vec h (request h (member h (name (n.Static 0) l.Contents) 0 l.Whole) (kind base.Integer 1 true) (bounds (num (pos 1)) (num (pos 3)) ∷ []) tt ∷ []) tt) None) ∷ at h 6 63 true (s.Call (call h 0 (ref h 0 (member h (name (n.Static 0) l.Contents) 0 l.Whole) ∷ []) tt)) ∷ at h 6 76 true (s.Print (vec h (item.Value (size h (ref h 0 (member h (name (n.Static 0) l.Contents) 0 l.Contents))) ∷ []) tt)) ∷ []) tt) (place 6 96))
     (place 6 1)
 
 --     module w; type t; integer, allocatable :: c(:); end type; type(t), allocatable :: o, u; contains
@@ -90,7 +90,7 @@ abbrev pub heap_45_lent_allocatable_dummy_out_allocatable : Global → Program
 heap_45_lent_allocatable_dummy_out_allocatable h = program h (derived h 0 (comp (declared h (kind base.Integer 1 true) [] tt [] tt) false ∷ []) tt [] tt ∷ []) tt
     (static (declared h (kind (base.Derived 0) 0 true) [] tt [] tt) 0 false ∷ static (declared h (kind (base.Derived 0) 0 true) [] tt [] tt) 0 false ∷ []) tt
     (procedure h 0 (dummy h (kind base.Integer 1 true) intent.InOut [] tt ∷ []) tt [] tt None (block h (at h 3 1 true (s.Call (call h 1 (ref h 0 (name (n.Static 0) l.Whole) ∷ []) tt)) ∷ at h 4 1 true (s.Assign (name (n.Lent 0) l.Whole) (kind base.Integer 1 true) (num (pos 1))) ∷ []) tt) (place 4 8) ∷ procedure h 0 (dummy h (kind (base.Derived 0) 0 true) intent.Out [] tt ∷ []) tt [] tt None (block h [] tt) (place 5 61) ∷ []) tt
-    (procedure h 1 [] tt [] tt None (block h (at h 7 19 true (s.Allocate (vec h (request h (name (n.Static 0) l.Whole) (kind (base.Derived 0) 0 true) [] tt ∷ []) tt) None) ∷ at h 7 32 true (s.Allocate (vec h (request h (member h (name (n.Static 0) l.Contents) 0 l.Whole) (kind base.Integer 1 true) (bounds (num (pos 1)) (num (pos 3)) ∷ []) tt ∷ []) tt) None) ∷ at h 7 50 true (s.Call (call h 0 (ref h 0 (member h (name (n.Static 0) l.Contents) 0 l.Whole) ∷ []) tt)) ∷ at h 7 63 true (s.Print (vec h (item.Value (size h (ref h 0 (member h (name (n.Static 0) l.Contents) 0 l.Contents))) ∷ []) tt)) ∷ []) tt) (place 7 83))
+    (procedure h 3 [] tt [] tt None (block h (at h 7 19 true (s.Allocate (vec h (request h (name (n.Static 0) l.Whole) (kind (base.Derived 0) 0 true) [] tt ∷ []) tt) None) ∷ at h 7 32 true (s.Allocate (vec h (request h (member h (name (n.Static 0) l.Contents) 0 l.Whole) (kind base.Integer 1 true) (bounds (num (pos 1)) (num (pos 3)) ∷ []) tt ∷ []) tt) None) ∷ at h 7 50 true (s.Call (call h 0 (ref h 0 (member h (name (n.Static 0) l.Contents) 0 l.Whole) ∷ []) tt)) ∷ at h 7 63 true (s.Print (vec h (item.Value (size h (ref h 0 (member h (name (n.Static 0) l.Contents) 0 l.Contents))) ∷ []) tt)) ∷ []) tt) (place 7 83))
     (place 7 1)
 
 --     module w; type t; integer, allocatable :: c(:); end type; type s; type(t), allocatable :: o; end type; type(s) :: h, g; contains
@@ -104,7 +104,7 @@ abbrev pub heap_46_lent_allocatable_dummy_out_object : Global → Program
 heap_46_lent_allocatable_dummy_out_object h = program h (derived h 0 (comp (declared h (kind base.Integer 1 true) [] tt [] tt) false ∷ []) tt [] tt ∷ derived h 0 (comp (declared h (kind (base.Derived 0) 0 true) [] tt [] tt) false ∷ []) tt [] tt ∷ []) tt
     (static (declared h (kind (base.Derived 1) 0 false) [] tt [] tt) 0 false ∷ static (declared h (kind (base.Derived 1) 0 false) [] tt [] tt) 0 false ∷ []) tt
     (procedure h 0 (dummy h (kind base.Integer 1 true) intent.InOut [] tt ∷ []) tt [] tt None (block h (at h 3 1 true (s.Call (call h 1 (ref h 0 (name (n.Static 0) l.Whole) ∷ []) tt)) ∷ at h 4 1 true (s.Assign (name (n.Lent 0) l.Whole) (kind base.Integer 1 true) (num (pos 1))) ∷ []) tt) (place 4 8) ∷ procedure h 0 (dummy h (kind (base.Derived 1) 0 false) intent.Out [] tt ∷ []) tt [] tt None (block h [] tt) (place 5 48) ∷ []) tt
-    (procedure h 1 [] tt [] tt None (block h (at h 7 19 true (s.Allocate (vec h (request h (member h (name (n.Static 0) l.Whole) 0 l.Whole) (kind (base.Derived 0) 0 true) [] tt ∷ []) tt) None) ∷ at h 7 34 true (s.Allocate (vec h (request h (member h (member h (name (n.Static 0) l.Whole) 0 l.Contents) 0 l.Whole) (kind base.Integer 1 true) (bounds (num (pos 1)) (num (pos 3)) ∷ []) tt ∷ []) tt) None) ∷ at h 7 54 true (s.Call (call h 0 (ref h 0 (member h (member h (name (n.Static 0) l.Whole) 0 l.Contents) 0 l.Whole) ∷ []) tt)) ∷ at h 7 69 true (s.Print (vec h (item.Value (size h (ref h 0 (member h (member h (name (n.Static 0) l.Whole) 0 l.Contents) 0 l.Contents))) ∷ []) tt)) ∷ []) tt) (place 7 91))
+    (procedure h 3 [] tt [] tt None (block h (at h 7 19 true (s.Allocate (vec h (request h (member h (name (n.Static 0) l.Whole) 0 l.Whole) (kind (base.Derived 0) 0 true) [] tt ∷ []) tt) None) ∷ at h 7 34 true (s.Allocate (vec h (request h (member h (member h (name (n.Static 0) l.Whole) 0 l.Contents) 0 l.Whole) (kind base.Integer 1 true) (bounds (num (pos 1)) (num (pos 3)) ∷ []) tt ∷ []) tt) None) ∷ at h 7 54 true (s.Call (call h 0 (ref h 0 (member h (member h (name (n.Static 0) l.Whole) 0 l.Contents) 0 l.Whole) ∷ []) tt)) ∷ at h 7 69 true (s.Print (vec h (item.Value (size h (ref h 0 (member h (member h (name (n.Static 0) l.Whole) 0 l.Contents) 0 l.Contents))) ∷ []) tt)) ∷ []) tt) (place 7 91))
     (place 7 1)
 
 --     module w; type t; integer :: id = 0; contains; final :: fin; end type; type(t), allocatable :: v, u; contains
@@ -117,7 +117,7 @@ abbrev pub heap_47_lent_final_deallocate : Global → Program
 heap_47_lent_final_deallocate h = program h (derived h 0 (comp (declared h (kind base.Integer 0 false) [] tt ((constant.Number (pos 0)) ∷ []) tt) false ∷ []) tt (final 0 0 ∷ []) tt ∷ []) tt
     (static (declared h (kind (base.Derived 0) 0 true) [] tt [] tt) 0 false ∷ static (declared h (kind (base.Derived 0) 0 true) [] tt [] tt) 0 false ∷ []) tt
     (procedure h 0 (dummy h (kind (base.Derived 0) 0 false) intent.InOut [] tt ∷ []) tt [] tt None (block h (at h 3 1 true (s.Deallocate (vec h (request h (name (n.Static 0) l.Whole) (kind (base.Derived 0) 0 true) [] tt ∷ []) tt) None) ∷ []) tt) (place 4 1) ∷ []) tt
-    (procedure h 1 [] tt [] tt None (block h (at h 6 19 true (s.Allocate (vec h (request h (name (n.Static 0) l.Whole) (kind (base.Derived 0) 0 true) [] tt ∷ []) tt) None) ∷ at h 6 32 true (s.Deallocate (vec h (request h (name (n.Static 0) l.Whole) (kind (base.Derived 0) 0 true) [] tt ∷ []) tt) None) ∷ at h 6 47 true (s.Print (vec h (item.Value (allocated h (name (n.Static 0) l.Whole)) ∷ []) tt)) ∷ []) tt) (place 6 70))
+    (procedure h 2 [] tt [] tt None (block h (at h 6 19 true (s.Allocate (vec h (request h (name (n.Static 0) l.Whole) (kind (base.Derived 0) 0 true) [] tt ∷ []) tt) None) ∷ at h 6 32 true (s.Deallocate (vec h (request h (name (n.Static 0) l.Whole) (kind (base.Derived 0) 0 true) [] tt ∷ []) tt) None) ∷ at h 6 47 true (s.Print (vec h (item.Value (allocated h (name (n.Static 0) l.Whole)) ∷ []) tt)) ∷ []) tt) (place 6 70))
     (place 6 1)
 
 --     module w; type t; integer :: id = 0; contains; final :: fin; end type; type(t), allocatable :: v, u; integer :: k; contains
@@ -130,7 +130,7 @@ abbrev pub heap_48_lent_final_deallocate_stat : Global → Program
 heap_48_lent_final_deallocate_stat h = program h (derived h 0 (comp (declared h (kind base.Integer 0 false) [] tt ((constant.Number (pos 0)) ∷ []) tt) false ∷ []) tt (final 0 0 ∷ []) tt ∷ []) tt
     (static (declared h (kind (base.Derived 0) 0 true) [] tt [] tt) 0 false ∷ static (declared h (kind (base.Derived 0) 0 true) [] tt [] tt) 0 false ∷ static (declared h (kind base.Integer 0 false) [] tt [] tt) 0 false ∷ []) tt
     (procedure h 0 (dummy h (kind (base.Derived 0) 0 false) intent.InOut [] tt ∷ []) tt [] tt None (block h (at h 3 1 true (s.Deallocate (vec h (request h (name (n.Static 0) l.Whole) (kind (base.Derived 0) 0 true) [] tt ∷ []) tt) (Some (name (n.Static 2) l.Whole))) ∷ []) tt) (place 4 1) ∷ []) tt
-    (procedure h 1 [] tt [] tt None (block h (at h 6 19 true (s.Allocate (vec h (request h (name (n.Static 0) l.Whole) (kind (base.Derived 0) 0 true) [] tt ∷ []) tt) None) ∷ at h 6 32 true (s.Deallocate (vec h (request h (name (n.Static 0) l.Whole) (kind (base.Derived 0) 0 true) [] tt ∷ []) tt) None) ∷ at h 6 47 true (s.Print (vec h (item.Value (var h (name (n.Static 2) l.Whole)) ∷ item.Value (allocated h (name (n.Static 0) l.Whole)) ∷ []) tt)) ∷ []) tt) (place 6 73))
+    (procedure h 2 [] tt [] tt None (block h (at h 6 19 true (s.Allocate (vec h (request h (name (n.Static 0) l.Whole) (kind (base.Derived 0) 0 true) [] tt ∷ []) tt) None) ∷ at h 6 32 true (s.Deallocate (vec h (request h (name (n.Static 0) l.Whole) (kind (base.Derived 0) 0 true) [] tt ∷ []) tt) None) ∷ at h 6 47 true (s.Print (vec h (item.Value (var h (name (n.Static 2) l.Whole)) ∷ item.Value (allocated h (name (n.Static 0) l.Whole)) ∷ []) tt)) ∷ []) tt) (place 6 73))
     (place 6 1)
 
 --     module w; type t; integer :: id = 0; contains; final :: fin; end type; type(t), allocatable :: v(:); type(t) :: e(3); contains
@@ -143,7 +143,7 @@ abbrev pub heap_49_lent_final_assign_shape : Global → Program
 heap_49_lent_final_assign_shape h = program h (derived h 0 (comp (declared h (kind base.Integer 0 false) [] tt ((constant.Number (pos 0)) ∷ []) tt) false ∷ []) tt (final 1 0 ∷ []) tt ∷ []) tt
     (static (declared h (kind (base.Derived 0) 1 true) [] tt [] tt) 0 false ∷ static (declared h (kind (base.Derived 0) 1 false) (dim (pos 1) 3 ∷ []) tt [] tt) 0 false ∷ []) tt
     (procedure h 0 (dummy h (kind (base.Derived 0) 1 false) intent.InOut ((pos 1) ∷ []) tt ∷ []) tt [] tt None (block h (at h 3 1 true (s.Assign (name (n.Static 0) l.Whole) (kind (base.Derived 0) 1 true) (var h (name (n.Static 1) l.Whole))) ∷ []) tt) (place 4 1) ∷ []) tt
-    (procedure h 1 [] tt [] tt None (block h (at h 6 19 true (s.Allocate (vec h (request h (name (n.Static 0) l.Whole) (kind (base.Derived 0) 1 true) (bounds (num (pos 1)) (num (pos 2)) ∷ []) tt ∷ []) tt) None) ∷ at h 6 35 true (s.Deallocate (vec h (request h (name (n.Static 0) l.Whole) (kind (base.Derived 0) 1 true) [] tt ∷ []) tt) None) ∷ at h 6 50 true (s.Print (vec h (item.Value (allocated h (name (n.Static 0) l.Whole)) ∷ []) tt)) ∷ []) tt) (place 6 73))
+    (procedure h 2 [] tt [] tt None (block h (at h 6 19 true (s.Allocate (vec h (request h (name (n.Static 0) l.Whole) (kind (base.Derived 0) 1 true) (bounds (num (pos 1)) (num (pos 2)) ∷ []) tt ∷ []) tt) None) ∷ at h 6 35 true (s.Deallocate (vec h (request h (name (n.Static 0) l.Whole) (kind (base.Derived 0) 1 true) [] tt ∷ []) tt) None) ∷ at h 6 50 true (s.Print (vec h (item.Value (allocated h (name (n.Static 0) l.Whole)) ∷ []) tt)) ∷ []) tt) (place 6 73))
     (place 6 1)
 
 --     module w; type t; integer :: id = 0; contains; final :: fin; end type; type s; type(t), allocatable :: o; end type; type(s) :: h, g; contains
@@ -156,7 +156,7 @@ abbrev pub heap_50_lent_final_assign_object : Global → Program
 heap_50_lent_final_assign_object h = program h (derived h 0 (comp (declared h (kind base.Integer 0 false) [] tt ((constant.Number (pos 0)) ∷ []) tt) false ∷ []) tt (final 0 0 ∷ []) tt ∷ derived h 0 (comp (declared h (kind (base.Derived 0) 0 true) [] tt [] tt) false ∷ []) tt [] tt ∷ []) tt
     (static (declared h (kind (base.Derived 1) 0 false) [] tt [] tt) 0 false ∷ static (declared h (kind (base.Derived 1) 0 false) [] tt [] tt) 0 false ∷ []) tt
     (procedure h 0 (dummy h (kind (base.Derived 0) 0 false) intent.InOut [] tt ∷ []) tt [] tt None (block h (at h 3 1 true (s.Assign (name (n.Static 0) l.Whole) (kind (base.Derived 1) 0 false) (var h (name (n.Static 1) l.Whole))) ∷ []) tt) (place 4 1) ∷ []) tt
-    (procedure h 1 [] tt [] tt None (block h (at h 6 19 true (s.Allocate (vec h (request h (member h (name (n.Static 0) l.Whole) 0 l.Whole) (kind (base.Derived 0) 0 true) [] tt ∷ []) tt) None) ∷ at h 6 34 true (s.Deallocate (vec h (request h (member h (name (n.Static 0) l.Whole) 0 l.Whole) (kind (base.Derived 0) 0 true) [] tt ∷ []) tt) None) ∷ at h 6 51 true (s.Print (vec h (item.Value (allocated h (member h (name (n.Static 0) l.Whole) 0 l.Whole)) ∷ []) tt)) ∷ []) tt) (place 6 76))
+    (procedure h 2 [] tt [] tt None (block h (at h 6 19 true (s.Allocate (vec h (request h (member h (name (n.Static 0) l.Whole) 0 l.Whole) (kind (base.Derived 0) 0 true) [] tt ∷ []) tt) None) ∷ at h 6 34 true (s.Deallocate (vec h (request h (member h (name (n.Static 0) l.Whole) 0 l.Whole) (kind (base.Derived 0) 0 true) [] tt ∷ []) tt) None) ∷ at h 6 51 true (s.Print (vec h (item.Value (allocated h (member h (name (n.Static 0) l.Whole) 0 l.Whole)) ∷ []) tt)) ∷ []) tt) (place 6 76))
     (place 6 1)
 
 --     module w; type t; integer :: id = 0; contains; final :: fin; end type; type(t), allocatable :: v, u; contains
@@ -169,7 +169,7 @@ abbrev pub heap_51_lent_final_move_from : Global → Program
 heap_51_lent_final_move_from h = program h (derived h 0 (comp (declared h (kind base.Integer 0 false) [] tt ((constant.Number (pos 0)) ∷ []) tt) false ∷ []) tt (final 0 0 ∷ []) tt ∷ []) tt
     (static (declared h (kind (base.Derived 0) 0 true) [] tt [] tt) 0 false ∷ static (declared h (kind (base.Derived 0) 0 true) [] tt [] tt) 0 false ∷ []) tt
     (procedure h 0 (dummy h (kind (base.Derived 0) 0 false) intent.InOut [] tt ∷ []) tt [] tt None (block h (at h 3 1 true (s.MoveAlloc (kind (base.Derived 0) 0 true) true (name (n.Static 0) l.Whole) (name (n.Static 1) l.Whole)) ∷ []) tt) (place 4 1) ∷ []) tt
-    (procedure h 1 [] tt [] tt None (block h (at h 6 19 true (s.Allocate (vec h (request h (name (n.Static 0) l.Whole) (kind (base.Derived 0) 0 true) [] tt ∷ []) tt) None) ∷ at h 6 32 true (s.Deallocate (vec h (request h (name (n.Static 0) l.Whole) (kind (base.Derived 0) 0 true) [] tt ∷ []) tt) None) ∷ at h 6 47 true (s.Print (vec h (item.Value (allocated h (name (n.Static 0) l.Whole)) ∷ []) tt)) ∷ []) tt) (place 6 70))
+    (procedure h 2 [] tt [] tt None (block h (at h 6 19 true (s.Allocate (vec h (request h (name (n.Static 0) l.Whole) (kind (base.Derived 0) 0 true) [] tt ∷ []) tt) None) ∷ at h 6 32 true (s.Deallocate (vec h (request h (name (n.Static 0) l.Whole) (kind (base.Derived 0) 0 true) [] tt ∷ []) tt) None) ∷ at h 6 47 true (s.Print (vec h (item.Value (allocated h (name (n.Static 0) l.Whole)) ∷ []) tt)) ∷ []) tt) (place 6 70))
     (place 6 1)
 
 --     module w; type t; integer :: id = 0; contains; final :: fin; end type; type(t), allocatable :: v, u; contains
@@ -182,7 +182,7 @@ abbrev pub heap_52_lent_final_move_to : Global → Program
 heap_52_lent_final_move_to h = program h (derived h 0 (comp (declared h (kind base.Integer 0 false) [] tt ((constant.Number (pos 0)) ∷ []) tt) false ∷ []) tt (final 0 0 ∷ []) tt ∷ []) tt
     (static (declared h (kind (base.Derived 0) 0 true) [] tt [] tt) 0 false ∷ static (declared h (kind (base.Derived 0) 0 true) [] tt [] tt) 0 false ∷ []) tt
     (procedure h 0 (dummy h (kind (base.Derived 0) 0 false) intent.InOut [] tt ∷ []) tt [] tt None (block h (at h 3 1 true (s.MoveAlloc (kind (base.Derived 0) 0 true) true (name (n.Static 1) l.Whole) (name (n.Static 0) l.Whole)) ∷ []) tt) (place 4 1) ∷ []) tt
-    (procedure h 1 [] tt [] tt None (block h (at h 6 19 true (s.Allocate (vec h (request h (name (n.Static 0) l.Whole) (kind (base.Derived 0) 0 true) [] tt ∷ []) tt) None) ∷ at h 6 32 true (s.Deallocate (vec h (request h (name (n.Static 0) l.Whole) (kind (base.Derived 0) 0 true) [] tt ∷ []) tt) None) ∷ at h 6 47 true (s.Print (vec h (item.Value (allocated h (name (n.Static 0) l.Whole)) ∷ []) tt)) ∷ []) tt) (place 6 70))
+    (procedure h 2 [] tt [] tt None (block h (at h 6 19 true (s.Allocate (vec h (request h (name (n.Static 0) l.Whole) (kind (base.Derived 0) 0 true) [] tt ∷ []) tt) None) ∷ at h 6 32 true (s.Deallocate (vec h (request h (name (n.Static 0) l.Whole) (kind (base.Derived 0) 0 true) [] tt ∷ []) tt) None) ∷ at h 6 47 true (s.Print (vec h (item.Value (allocated h (name (n.Static 0) l.Whole)) ∷ []) tt)) ∷ []) tt) (place 6 70))
     (place 6 1)
 
 --     module w; type t; integer :: id = 0; contains; final :: fin; end type; type(t), allocatable :: v, u; contains
@@ -196,7 +196,7 @@ abbrev pub heap_53_lent_final_out_allocatable : Global → Program
 heap_53_lent_final_out_allocatable h = program h (derived h 0 (comp (declared h (kind base.Integer 0 false) [] tt ((constant.Number (pos 0)) ∷ []) tt) false ∷ []) tt (final 0 0 ∷ []) tt ∷ []) tt
     (static (declared h (kind (base.Derived 0) 0 true) [] tt [] tt) 0 false ∷ static (declared h (kind (base.Derived 0) 0 true) [] tt [] tt) 0 false ∷ []) tt
     (procedure h 0 (dummy h (kind (base.Derived 0) 0 false) intent.InOut [] tt ∷ []) tt [] tt None (block h (at h 3 1 true (s.Call (call h 1 (ref h 0 (name (n.Static 0) l.Whole) ∷ []) tt)) ∷ []) tt) (place 4 1) ∷ procedure h 0 (dummy h (kind (base.Derived 0) 0 true) intent.Out [] tt ∷ []) tt [] tt None (block h [] tt) (place 5 61) ∷ []) tt
-    (procedure h 1 [] tt [] tt None (block h (at h 7 19 true (s.Allocate (vec h (request h (name (n.Static 0) l.Whole) (kind (base.Derived 0) 0 true) [] tt ∷ []) tt) None) ∷ at h 7 32 true (s.Deallocate (vec h (request h (name (n.Static 0) l.Whole) (kind (base.Derived 0) 0 true) [] tt ∷ []) tt) None) ∷ at h 7 47 true (s.Print (vec h (item.Value (allocated h (name (n.Static 0) l.Whole)) ∷ []) tt)) ∷ []) tt) (place 7 70))
+    (procedure h 3 [] tt [] tt None (block h (at h 7 19 true (s.Allocate (vec h (request h (name (n.Static 0) l.Whole) (kind (base.Derived 0) 0 true) [] tt ∷ []) tt) None) ∷ at h 7 32 true (s.Deallocate (vec h (request h (name (n.Static 0) l.Whole) (kind (base.Derived 0) 0 true) [] tt ∷ []) tt) None) ∷ at h 7 47 true (s.Print (vec h (item.Value (allocated h (name (n.Static 0) l.Whole)) ∷ []) tt)) ∷ []) tt) (place 7 70))
     (place 7 1)
 
 --     module w; type t; integer :: id = 0; contains; final :: fin; end type; type s; type(t), allocatable :: o; end type; type(s) :: h, g; contains
@@ -210,7 +210,7 @@ abbrev pub heap_54_lent_final_out_object : Global → Program
 heap_54_lent_final_out_object h = program h (derived h 0 (comp (declared h (kind base.Integer 0 false) [] tt ((constant.Number (pos 0)) ∷ []) tt) false ∷ []) tt (final 0 0 ∷ []) tt ∷ derived h 0 (comp (declared h (kind (base.Derived 0) 0 true) [] tt [] tt) false ∷ []) tt [] tt ∷ []) tt
     (static (declared h (kind (base.Derived 1) 0 false) [] tt [] tt) 0 false ∷ static (declared h (kind (base.Derived 1) 0 false) [] tt [] tt) 0 false ∷ []) tt
     (procedure h 0 (dummy h (kind (base.Derived 0) 0 false) intent.InOut [] tt ∷ []) tt [] tt None (block h (at h 3 1 true (s.Call (call h 1 (ref h 0 (name (n.Static 0) l.Whole) ∷ []) tt)) ∷ []) tt) (place 4 1) ∷ procedure h 0 (dummy h (kind (base.Derived 1) 0 false) intent.Out [] tt ∷ []) tt [] tt None (block h [] tt) (place 5 48) ∷ []) tt
-    (procedure h 1 [] tt [] tt None (block h (at h 7 19 true (s.Allocate (vec h (request h (member h (name (n.Static 0) l.Whole) 0 l.Whole) (kind (base.Derived 0) 0 true) [] tt ∷ []) tt) None) ∷ at h 7 34 true (s.Deallocate (vec h (request h (member h (name (n.Static 0) l.Whole) 0 l.Whole) (kind (base.Derived 0) 0 true) [] tt ∷ []) tt) None) ∷ at h 7 51 true (s.Print (vec h (item.Value (allocated h (member h (name (n.Static 0) l.Whole) 0 l.Whole)) ∷ []) tt)) ∷ []) tt) (place 7 76))
+    (procedure h 3 [] tt [] tt None (block h (at h 7 19 true (s.Allocate (vec h (request h (member h (name (n.Static 0) l.Whole) 0 l.Whole) (kind (base.Derived 0) 0 true) [] tt ∷ []) tt) None) ∷ at h 7 34 true (s.Deallocate (vec h (request h (member h (name (n.Static 0) l.Whole) 0 l.Whole) (kind (base.Derived 0) 0 true) [] tt ∷ []) tt) None) ∷ at h 7 51 true (s.Print (vec h (item.Value (allocated h (member h (name (n.Static 0) l.Whole) 0 l.Whole)) ∷ []) tt)) ∷ []) tt) (place 7 76))
     (place 7 1)
 
 --     program p; integer :: aaaaaaaaaaaaaaaaaaaaaaaaaaaaaaaaaaaaaaaaaaaaaaaaaaaaaaaaaaaaaaa = 5; print *, aaaaaaaaaaaaaaaaaaaaaaaaaaaaaaaaaaaaaaaaaaaaaaaaaaaaaaaaaaaaaaa; end

@@ -205,7 +205,7 @@ abbrev pub machine_02_depth : Global → Program
 machine_02_depth h = program h [] tt
     [] tt
     (procedure h 0 (dummy h (kind base.Integer 0 false) intent.In [] tt ∷ []) tt [] tt None (block h (at h 2 44 true (s.Call (call h 0 (val h 0 (bin h o.Add base.Integer (var h (name (n.Lent 0) l.Whole)) (num (pos 1))) ∷ []) tt)) ∷ []) tt) (place 2 59) ∷ []) tt
-    (procedure h 1 [] tt [] tt None (block h (at h 4 19 true (s.Call (call h 0 (val h 0 (num (pos 1)) ∷ []) tt)) ∷ []) tt) (place 4 30))
+    (procedure h 2 [] tt [] tt None (block h (at h 4 19 true (s.Call (call h 0 (val h 0 (num (pos 1)) ∷ []) tt)) ∷ []) tt) (place 4 30))
     (place 4 1)
 
 --     module a; integer :: n = 1, o = 2; end
@@ -241,8 +241,8 @@ sample_02_print h = program h [] tt
 abbrev pub sample_04_bump : Global → Program
 sample_04_bump h = program h [] tt
     (static (declared h (kind base.Integer 0 false) [] tt ((constant.Number (pos 3)) ∷ []) tt) 0 true ∷ []) tt
-    (procedure h 0 [] tt [] tt None (block h (at h 1 74 true (s.Call (call h 1 (ref h 0 (name (n.Static 0) l.Whole) ∷ []) tt)) ∷ []) tt) (place 1 88) ∷ procedure h 1 (dummy h (kind base.Integer 0 false) intent.InOut [] tt ∷ []) tt [] tt None (block h (at h 2 70 true (s.Assign (name (n.Lent 0) l.Whole) (kind base.Integer 0 false) (bin h o.Add base.Integer (var h (name (n.Lent 0) l.Whole)) (num (pos 1)))) ∷ []) tt) (place 2 81) ∷ []) tt
-    (procedure h 2 [] tt [] tt None (block h (at h 3 19 true (s.Call (call h 0 [] tt)) ∷ at h 3 30 true (s.Print (vec h (item.Value (var h (name (n.Static 0) l.Whole)) ∷ []) tt)) ∷ []) tt) (place 3 42))
+    (procedure h 0 [] tt [] tt None (block h (at h 1 74 true (s.Call (call h 1 (ref h 0 (name (n.Static 0) l.Whole) ∷ []) tt)) ∷ []) tt) (place 1 88) ∷ procedure h 2 (dummy h (kind base.Integer 0 false) intent.InOut [] tt ∷ []) tt [] tt None (block h (at h 2 70 true (s.Assign (name (n.Lent 0) l.Whole) (kind base.Integer 0 false) (bin h o.Add base.Integer (var h (name (n.Lent 0) l.Whole)) (num (pos 1)))) ∷ []) tt) (place 2 81) ∷ []) tt
+    (procedure h 4 [] tt [] tt None (block h (at h 3 19 true (s.Call (call h 0 [] tt)) ∷ at h 3 30 true (s.Print (vec h (item.Value (var h (name (n.Static 0) l.Whole)) ∷ []) tt)) ∷ []) tt) (place 3 42))
     (place 3 1)
 
 --     module m; type box; private; integer :: secret = 1; end type; contains
@@ -256,7 +256,7 @@ abbrev pub sample_06_whole_object : Global → Program
 sample_06_whole_object h = program h (derived h 0 (comp (declared h (kind base.Integer 0 false) [] tt ((constant.Number (pos 1)) ∷ []) tt) true ∷ []) tt [] tt ∷ []) tt
     [] tt
     (procedure h 0 (dummy h (kind (base.Derived 0) 0 false) intent.In [] tt ∷ []) tt [] tt None (block h (at h 2 49 true (s.Print (vec h (item.Value (var h (member h (name (n.Lent 0) l.Whole) 0 l.Whole)) ∷ []) tt)) ∷ []) tt) (place 2 68) ∷ procedure h 0 (dummy h (kind (base.Derived 0) 0 false) intent.InOut [] tt ∷ dummy h (kind base.Integer 0 false) intent.In [] tt ∷ []) tt [] tt None (block h (at h 3 80 true (s.Assign (member h (name (n.Lent 0) l.Whole) 0 l.Whole) (kind base.Integer 0 false) (var h (name (n.Lent 1) l.Whole))) ∷ []) tt) (place 3 94) ∷ []) tt
-    (procedure h 1 [] tt ((declared h (kind (base.Derived 0) 0 false) [] tt [] tt) ∷ (declared h (kind (base.Derived 0) 0 false) [] tt [] tt) ∷ []) tt None (block h (at h 6 1 true (s.Call (call h 1 (ref h 0 (name (n.Local 1) l.Whole) ∷ val h 1 (num (pos 5)) ∷ []) tt)) ∷ at h 6 17 true (s.Assign (name (n.Local 0) l.Whole) (kind (base.Derived 0) 0 false) (var h (name (n.Local 1) l.Whole))) ∷ at h 6 24 true (s.Call (call h 0 (ref h 0 (name (n.Local 0) l.Whole) ∷ []) tt)) ∷ []) tt) (place 7 1))
+    (procedure h 3 [] tt ((declared h (kind (base.Derived 0) 0 false) [] tt [] tt) ∷ (declared h (kind (base.Derived 0) 0 false) [] tt [] tt) ∷ []) tt None (block h (at h 6 1 true (s.Call (call h 1 (ref h 0 (name (n.Local 1) l.Whole) ∷ val h 1 (num (pos 5)) ∷ []) tt)) ∷ at h 6 17 true (s.Assign (name (n.Local 0) l.Whole) (kind (base.Derived 0) 0 false) (var h (name (n.Local 1) l.Whole))) ∷ at h 6 24 true (s.Call (call h 0 (ref h 0 (name (n.Local 0) l.Whole) ∷ []) tt)) ∷ []) tt) (place 7 1))
     (place 5 1)
 
 --     program p; integer, allocatable :: a(:), b(:), c(:), d(:)
@@ -289,7 +289,7 @@ abbrev pub sample_09_finals : Global → Program
 sample_09_finals h = program h (derived h 0 (comp (declared h (kind base.Integer 0 false) [] tt ((constant.Number (pos 0)) ∷ []) tt) false ∷ []) tt (final 0 0 ∷ []) tt ∷ []) tt
     [] tt
     (procedure h 0 (dummy h (kind (base.Derived 0) 0 false) intent.InOut [] tt ∷ []) tt [] tt None (block h (at h 2 49 true (s.Print (vec h (text h (102 ∷ []) tt ∷ item.Value (var h (member h (name (n.Lent 0) l.Whole) 0 l.Whole)) ∷ []) tt)) ∷ []) tt) (place 2 69) ∷ procedure h 0 [] tt ((declared h (kind (base.Derived 0) 0 false) [] tt [] tt) ∷ (declared h (kind (base.Derived 0) 0 false) [] tt [] tt) ∷ []) tt None (block h (at h 3 35 true (s.Assign (member h (name (n.Local 0) l.Whole) 0 l.Whole) (kind base.Integer 0 false) (num (pos 1))) ∷ at h 3 45 true (s.Assign (member h (name (n.Local 1) l.Whole) 0 l.Whole) (kind base.Integer 0 false) (num (pos 2))) ∷ at h 3 55 true (s.Assign (name (n.Local 0) l.Whole) (kind (base.Derived 0) 0 false) (var h (name (n.Local 1) l.Whole))) ∷ at h 3 62 true (s.Print (vec h (text h (103 ∷ []) tt ∷ []) tt)) ∷ []) tt) (place 3 76) ∷ []) tt
-    (procedure h 1 [] tt [] tt None (block h (at h 5 19 true (s.Call (call h 1 [] tt)) ∷ []) tt) (place 5 30))
+    (procedure h 3 [] tt [] tt None (block h (at h 5 19 true (s.Call (call h 1 [] tt)) ∷ []) tt) (place 5 30))
     (place 5 1)
 
 --     module m; type t; integer :: id = 0; contains; final :: fin, fin1; end type; contains
@@ -304,7 +304,7 @@ abbrev pub sample_10_array_final : Global → Program
 sample_10_array_final h = program h (derived h 0 (comp (declared h (kind base.Integer 0 false) [] tt ((constant.Number (pos 0)) ∷ []) tt) false ∷ []) tt (final 0 0 ∷ final 1 2 ∷ []) tt ∷ []) tt
     [] tt
     (procedure h 0 (dummy h (kind (base.Derived 0) 0 false) intent.InOut [] tt ∷ []) tt [] tt None (block h (at h 2 49 true (s.Print (vec h (text h (102 ∷ []) tt ∷ item.Value (var h (member h (name (n.Lent 0) l.Whole) 0 l.Whole)) ∷ []) tt)) ∷ []) tt) (place 2 69) ∷ procedure h 0 [] tt ((declared h (kind (base.Derived 0) 0 false) [] tt [] tt) ∷ (declared h (kind (base.Derived 0) 0 false) [] tt [] tt) ∷ []) tt None (block h (at h 3 35 true (s.Assign (member h (name (n.Local 0) l.Whole) 0 l.Whole) (kind base.Integer 0 false) (num (pos 1))) ∷ at h 3 45 true (s.Assign (member h (name (n.Local 1) l.Whole) 0 l.Whole) (kind base.Integer 0 false) (num (pos 2))) ∷ at h 3 55 true (s.Assign (name (n.Local 0) l.Whole) (kind (base.Derived 0) 0 false) (var h (name (n.Local 1) l.Whole))) ∷ at h 3 62 true (s.Print (vec h (text h (103 ∷ []) tt ∷ []) tt)) ∷ []) tt) (place 3 76) ∷ procedure h 0 (dummy h (kind (base.Derived 0) 1 false) intent.InOut ((pos 1) ∷ []) tt ∷ []) tt [] tt None (block h (at h 4 53 true (s.Print (vec h (text h (118 ∷ []) tt ∷ item.Value (size h (ref h 0 (name (n.Lent 0) l.Whole))) ∷ []) tt)) ∷ []) tt) (place 4 76) ∷ []) tt
-    (procedure h 1 [] tt ((declared h (kind (base.Derived 0) 1 true) [] tt [] tt) ∷ (declared h (kind (base.Derived 0) 0 false) [] tt [] tt) ∷ []) tt None (block h (at h 7 1 true (s.Allocate (vec h (request h (name (n.Local 0) l.Whole) (kind (base.Derived 0) 1 true) (bounds (num (pos 1)) (num (pos 2)) ∷ []) tt ∷ []) tt) None) ∷ at h 7 17 true (s.Deallocate (vec h (request h (name (n.Local 0) l.Whole) (kind (base.Derived 0) 1 true) [] tt ∷ []) tt) None) ∷ at h 7 32 true (s.Print (vec h (text h (101 ∷ []) tt ∷ []) tt)) ∷ []) tt) (place 8 1))
+    (procedure h 4 [] tt ((declared h (kind (base.Derived 0) 1 true) [] tt [] tt) ∷ (declared h (kind (base.Derived 0) 0 false) [] tt [] tt) ∷ []) tt None (block h (at h 7 1 true (s.Allocate (vec h (request h (name (n.Local 0) l.Whole) (kind (base.Derived 0) 1 true) (bounds (num (pos 1)) (num (pos 2)) ∷ []) tt ∷ []) tt) None) ∷ at h 7 17 true (s.Deallocate (vec h (request h (name (n.Local 0) l.Whole) (kind (base.Derived 0) 1 true) [] tt ∷ []) tt) None) ∷ at h 7 32 true (s.Print (vec h (text h (101 ∷ []) tt ∷ []) tt)) ∷ []) tt) (place 8 1))
     (place 6 1)
 
 abbrev pub hostile_03_do_64_shows : Global → Type 0

@@ -27,7 +27,7 @@ abbrev pub sample_10_scalar_final : Global → Program
 sample_10_scalar_final h = program h (derived h 0 (comp (declared h (kind base.Integer 0 false) [] tt ((constant.Number (pos 0)) ∷ []) tt) false ∷ []) tt (final 0 0 ∷ []) tt ∷ []) tt
     [] tt
     (procedure h 0 (dummy h (kind (base.Derived 0) 0 false) intent.InOut [] tt ∷ []) tt [] tt None (block h (at h 2 49 true (s.Print (vec h (text h (102 ∷ []) tt ∷ item.Value (var h (member h (name (n.Lent 0) l.Whole) 0 l.Whole)) ∷ []) tt)) ∷ []) tt) (place 2 69) ∷ procedure h 0 [] tt ((declared h (kind (base.Derived 0) 0 false) [] tt [] tt) ∷ (declared h (kind (base.Derived 0) 0 false) [] tt [] tt) ∷ []) tt None (block h (at h 3 35 true (s.Assign (member h (name (n.Local 0) l.Whole) 0 l.Whole) (kind base.Integer 0 false) (num (pos 1))) ∷ at h 3 45 true (s.Assign (member h (name (n.Local 1) l.Whole) 0 l.Whole) (kind base.Integer 0 false) (num (pos 2))) ∷ at h 3 55 true (s.Assign (name (n.Local 0) l.Whole) (kind (base.Derived 0) 0 false) (var h (name (n.Local 1) l.Whole))) ∷ at h 3 62 true (s.Print (vec h (text h (103 ∷ []) tt ∷ []) tt)) ∷ []) tt) (place 3 76) ∷ []) tt
-    (procedure h 1 [] tt ((declared h (kind (base.Derived 0) 1 true) [] tt [] tt) ∷ (declared h (kind (base.Derived 0) 0 false) [] tt [] tt) ∷ []) tt None (block h (at h 6 1 true (s.Allocate (vec h (request h (name (n.Local 0) l.Whole) (kind (base.Derived 0) 1 true) (bounds (num (pos 1)) (num (pos 2)) ∷ []) tt ∷ []) tt) None) ∷ at h 6 17 true (s.Deallocate (vec h (request h (name (n.Local 0) l.Whole) (kind (base.Derived 0) 1 true) [] tt ∷ []) tt) None) ∷ at h 6 32 true (s.Print (vec h (text h (101 ∷ []) tt ∷ []) tt)) ∷ []) tt) (place 7 1))
+    (procedure h 3 [] tt ((declared h (kind (base.Derived 0) 1 true) [] tt [] tt) ∷ (declared h (kind (base.Derived 0) 0 false) [] tt [] tt) ∷ []) tt None (block h (at h 6 1 true (s.Allocate (vec h (request h (name (n.Local 0) l.Whole) (kind (base.Derived 0) 1 true) (bounds (num (pos 1)) (num (pos 2)) ∷ []) tt ∷ []) tt) None) ∷ at h 6 17 true (s.Deallocate (vec h (request h (name (n.Local 0) l.Whole) (kind (base.Derived 0) 1 true) [] tt ∷ []) tt) None) ∷ at h 6 32 true (s.Print (vec h (text h (101 ∷ []) tt ∷ []) tt)) ∷ []) tt) (place 7 1))
     (place 5 1)
 
 --     module w; integer, allocatable :: v(:), u(:); contains
@@ -38,7 +38,7 @@ abbrev pub sample_11_deallocate : Global → Program
 sample_11_deallocate h = program h [] tt
     (static (declared h (kind base.Integer 1 true) [] tt [] tt) 0 false ∷ static (declared h (kind base.Integer 1 true) [] tt [] tt) 0 false ∷ []) tt
     (procedure h 0 (dummy h (kind base.Integer 0 false) intent.InOut [] tt ∷ []) tt [] tt None (block h (at h 2 47 true (s.Deallocate (vec h (request h (name (n.Static 0) l.Whole) (kind base.Integer 1 true) [] tt ∷ []) tt) None) ∷ at h 2 62 true (s.Assign (name (n.Lent 0) l.Whole) (kind base.Integer 0 false) (num (pos 1))) ∷ []) tt) (place 2 69) ∷ []) tt
-    (procedure h 1 [] tt [] tt None (block h (at h 4 19 true (s.Allocate (vec h (request h (name (n.Static 0) l.Whole) (kind base.Integer 1 true) (bounds (num (pos 1)) (num (pos 3)) ∷ []) tt ∷ []) tt) None) ∷ at h 4 35 true (s.Call (call h 0 (ref h 0 (name (n.Static 0) (elements h true (sub h (num (pos 1)) ∷ []) tt)) ∷ []) tt)) ∷ at h 4 49 true (s.Print (vec h (item.Value (var h (name (n.Static 0) (elements h true (sub h (num (pos 1)) ∷ []) tt))) ∷ []) tt)) ∷ []) tt) (place 4 64))
+    (procedure h 2 [] tt [] tt None (block h (at h 4 19 true (s.Allocate (vec h (request h (name (n.Static 0) l.Whole) (kind base.Integer 1 true) (bounds (num (pos 1)) (num (pos 3)) ∷ []) tt ∷ []) tt) None) ∷ at h 4 35 true (s.Call (call h 0 (ref h 0 (name (n.Static 0) (elements h true (sub h (num (pos 1)) ∷ []) tt)) ∷ []) tt)) ∷ at h 4 49 true (s.Print (vec h (item.Value (var h (name (n.Static 0) (elements h true (sub h (num (pos 1)) ∷ []) tt))) ∷ []) tt)) ∷ []) tt) (place 4 64))
     (place 4 1)
 
 --     module w; integer, allocatable :: v(:), u(:); contains
@@ -49,7 +49,7 @@ abbrev pub sample_11_move_alloc : Global → Program
 sample_11_move_alloc h = program h [] tt
     (static (declared h (kind base.Integer 1 true) [] tt [] tt) 0 false ∷ static (declared h (kind base.Integer 1 true) [] tt [] tt) 0 false ∷ []) tt
     (procedure h 0 (dummy h (kind base.Integer 0 false) intent.InOut [] tt ∷ []) tt [] tt None (block h (at h 2 47 true (s.MoveAlloc (kind base.Integer 1 true) true (name (n.Static 0) l.Whole) (name (n.Static 1) l.Whole)) ∷ at h 2 70 true (s.Assign (name (n.Lent 0) l.Whole) (kind base.Integer 0 false) (num (pos 1))) ∷ []) tt) (place 2 77) ∷ []) tt
-    (procedure h 1 [] tt [] tt None (block h (at h 4 19 true (s.Allocate (vec h (request h (name (n.Static 0) l.Whole) (kind base.Integer 1 true) (bounds (num (pos 1)) (num (pos 3)) ∷ []) tt ∷ []) tt) None) ∷ at h 4 35 true (s.Call (call h 0 (ref h 0 (name (n.Static 0) (elements h true (sub h (num (pos 1)) ∷ []) tt)) ∷ []) tt)) ∷ at h 4 49 true (s.Print (vec h (item.Value (var h (name (n.Static 0) (elements h true (sub h (num (pos 1)) ∷ []) tt))) ∷ []) tt)) ∷ []) tt) (place 4 64))
+    (procedure h 2 [] tt [] tt None (block h (at h 4 19 true (s.Allocate (vec h (request h (name (n.Static 0) l.Whole) (kind base.Integer 1 true) (bounds (num (pos 1)) (num (pos 3)) ∷ []) tt ∷ []) tt) None) ∷ at h 4 35 true (s.Call (call h 0 (ref h 0 (name (n.Static 0) (elements h true (sub h (num (pos 1)) ∷ []) tt)) ∷ []) tt)) ∷ at h 4 49 true (s.Print (vec h (item.Value (var h (name (n.Static 0) (elements h true (sub h (num (pos 1)) ∷ []) tt))) ∷ []) tt)) ∷ []) tt) (place 4 64))
     (place 4 1)
 
 --     module w; integer, allocatable :: v(:), u(:); contains
@@ -60,7 +60,7 @@ abbrev pub sample_11_stat : Global → Program
 sample_11_stat h = program h [] tt
     (static (declared h (kind base.Integer 1 true) [] tt [] tt) 0 false ∷ static (declared h (kind base.Integer 1 true) [] tt [] tt) 0 false ∷ []) tt
     (procedure h 0 (dummy h (kind base.Integer 0 false) intent.InOut [] tt ∷ []) tt [] tt None (block h (at h 2 47 true (s.Deallocate (vec h (request h (name (n.Static 0) l.Whole) (kind base.Integer 1 true) [] tt ∷ []) tt) (Some (name (n.Lent 0) l.Whole))) ∷ []) tt) (place 2 70) ∷ []) tt
-    (procedure h 1 [] tt [] tt None (block h (at h 4 19 true (s.Allocate (vec h (request h (name (n.Static 0) l.Whole) (kind base.Integer 1 true) (bounds (num (pos 1)) (num (pos 3)) ∷ []) tt ∷ []) tt) None) ∷ at h 4 35 true (s.Call (call h 0 (ref h 0 (name (n.Static 0) (elements h true (sub h (num (pos 1)) ∷ []) tt)) ∷ []) tt)) ∷ at h 4 49 true (s.Print (vec h (item.Value (var h (name (n.Static 0) (elements h true (sub h (num (pos 1)) ∷ []) tt))) ∷ []) tt)) ∷ []) tt) (place 4 64))
+    (procedure h 2 [] tt [] tt None (block h (at h 4 19 true (s.Allocate (vec h (request h (name (n.Static 0) l.Whole) (kind base.Integer 1 true) (bounds (num (pos 1)) (num (pos 3)) ∷ []) tt ∷ []) tt) None) ∷ at h 4 35 true (s.Call (call h 0 (ref h 0 (name (n.Static 0) (elements h true (sub h (num (pos 1)) ∷ []) tt)) ∷ []) tt)) ∷ at h 4 49 true (s.Print (vec h (item.Value (var h (name (n.Static 0) (elements h true (sub h (num (pos 1)) ∷ []) tt))) ∷ []) tt)) ∷ []) tt) (place 4 64))
     (place 4 1)
 
 --     program p; integer, allocatable :: x; x = 5; call move_alloc(x, x); print *, allocated(x); end
@@ -120,7 +120,7 @@ abbrev pub sample_17_fresh_words : Global → Program
 sample_17_fresh_words h = program h [] tt
     [] tt
     (procedure h 0 [] tt ((declared h (kind base.Integer 1 true) [] tt [] tt) ∷ []) tt None (block h (at h 2 50 true (s.Allocate (vec h (request h (name (n.Local 0) l.Whole) (kind base.Integer 1 true) (bounds (num (pos 1)) (num (pos 4)) ∷ []) tt ∷ []) tt) None) ∷ at h 2 66 true (s.Assign (name (n.Local 0) l.Whole) (kind base.Integer 1 true) (num (pos 7))) ∷ []) tt) (place 2 73) ∷ procedure h 0 [] tt ((declared h (kind base.Integer 1 true) [] tt [] tt) ∷ []) tt None (block h (at h 3 50 true (s.Allocate (vec h (request h (name (n.Local 0) l.Whole) (kind base.Integer 1 true) (bounds (num (pos 1)) (num (pos 4)) ∷ []) tt ∷ []) tt) None) ∷ at h 3 66 true (s.Print (vec h (item.Value (var h (name (n.Local 0) l.Contents)) ∷ []) tt)) ∷ []) tt) (place 3 78) ∷ []) tt
-    (procedure h 1 [] tt [] tt None (block h (at h 5 19 true (s.Call (call h 0 [] tt)) ∷ at h 5 32 true (s.Call (call h 1 [] tt)) ∷ []) tt) (place 5 45))
+    (procedure h 3 [] tt [] tt None (block h (at h 5 19 true (s.Call (call h 0 [] tt)) ∷ at h 5 32 true (s.Call (call h 1 [] tt)) ∷ []) tt) (place 5 45))
     (place 5 1)
 
 --     program p

@@ -52,7 +52,7 @@ abbrev pub choice_17_1 : Global → Program
 choice_17_1 h = program h (derived h 0 (comp (declared h (kind base.Integer 0 false) [] tt ((constant.Number (pos 4)) ∷ []) tt) false ∷ []) tt [] tt ∷ []) tt
     [] tt
     (procedure h 1 [] tt [] tt (Some (declared h (kind (base.Derived 0) 0 false) [] tt [] tt)) (block h (at h 2 50 true (s.Assign (name (n.Local 0) l.Whole) (kind (base.Derived 0) 0 false) (struct h 0 (val h 0 (num (pos 5)) ∷ []) tt)) ∷ []) tt) (place 2 60) ∷ []) tt
-    (procedure h 2 [] tt [] tt None (block h [] tt) (place 3 12))
+    (procedure h 3 [] tt [] tt None (block h [] tt) (place 3 12))
     (place 3 1)
 
 --     module m; save; integer, save :: q; save; end
@@ -102,7 +102,7 @@ abbrev pub choice_52_1 : Global → Program
 choice_52_1 h = program h [] tt
     [] tt
     [] tt
-    (procedure h 0 [] tt ((declared h (kind base.Integer 1 true) [] tt [] tt) ∷ []) tt None (block h (at h 1 42 true (s.Allocate (vec h (request h (name (n.Local 0) l.Whole) (kind base.Integer 1 true) (bounds (num (pos 5)) (num (pos 4)) ∷ []) tt ∷ []) tt) None) ∷ at h 1 60 true (s.Print (vec h (item.Value (size h (ref h 0 (name (n.Local 0) (elements h true (triplet h false (num (pos 0)) true (num (pos 2)) (num (pos 1)) ∷ []) tt)))) ∷ []) tt)) ∷ []) tt) (place 1 82))
+    (procedure h 0 [] tt ((declared h (kind base.Integer 1 true) [] tt [] tt) ∷ []) tt None (block h (at h 1 42 true (s.Allocate (vec h (request h (name (n.Local 0) l.Whole) (kind base.Integer 1 true) (bounds (num (pos 5)) (num (pos 4)) ∷ []) tt ∷ []) tt) None) ∷ at h 1 60 true (s.Print (vec h (item.Value (size h (ref h 0 (name (n.Local 0) (elements h true (triplet h false (num (pos 1)) true (num (pos 2)) (num (pos 1)) ∷ []) tt)))) ∷ []) tt)) ∷ []) tt) (place 1 82))
     (place 1 1)
 
 --     program p; integer, allocatable :: a(:); allocate(a(5:4)); print *, size(a(2:)); end
@@ -110,7 +110,7 @@ abbrev pub choice_52_2 : Global → Program
 choice_52_2 h = program h [] tt
     [] tt
     [] tt
-    (procedure h 0 [] tt ((declared h (kind base.Integer 1 true) [] tt [] tt) ∷ []) tt None (block h (at h 1 42 true (s.Allocate (vec h (request h (name (n.Local 0) l.Whole) (kind base.Integer 1 true) (bounds (num (pos 5)) (num (pos 4)) ∷ []) tt ∷ []) tt) None) ∷ at h 1 60 true (s.Print (vec h (item.Value (size h (ref h 0 (name (n.Local 0) (elements h true (triplet h true (num (pos 2)) false (num (pos 0)) (num (pos 1)) ∷ []) tt)))) ∷ []) tt)) ∷ []) tt) (place 1 82))
+    (procedure h 0 [] tt ((declared h (kind base.Integer 1 true) [] tt [] tt) ∷ []) tt None (block h (at h 1 42 true (s.Allocate (vec h (request h (name (n.Local 0) l.Whole) (kind base.Integer 1 true) (bounds (num (pos 5)) (num (pos 4)) ∷ []) tt ∷ []) tt) None) ∷ at h 1 60 true (s.Print (vec h (item.Value (size h (ref h 0 (name (n.Local 0) (elements h true (triplet h true (num (pos 2)) false (num (pos 1)) (num (pos 1)) ∷ []) tt)))) ∷ []) tt)) ∷ []) tt) (place 1 82))
     (place 1 1)
 
 --     program p; use m; integer, allocatable :: a; call s(a, 1/0); end
@@ -152,7 +152,7 @@ abbrev pub choice_58_1 : Global → Program
 choice_58_1 h = program h [] tt
     (static (declared h (kind base.Integer 0 false) [] tt [] tt) 0 false ∷ []) tt
     (procedure h 0 [] tt [] tt None (block h (at h 1 51 true (s.Assign (name (n.Static 0) l.Whole) (kind base.Integer 0 false) (bin h o.Add base.Integer (var h (name (n.Static 0) l.Whole)) (num (pos 10)))) ∷ []) tt) (place 1 63) ∷ []) tt
-    (procedure h 1 [] tt [] tt None (block h (at h 2 19 true (for h (name (n.Static 0) l.Whole) (kind base.Integer 0 false) (num (pos 1)) (num (pos 3)) (num (pos 1)) (block h (at h 2 32 true (s.Call (call h 0 [] tt)) ∷ at h 2 42 true (s.Print (vec h (item.Value (var h (name (n.Static 0) l.Whole)) ∷ []) tt)) ∷ []) tt)) ∷ []) tt) (place 2 62))
+    (procedure h 2 [] tt [] tt None (block h (at h 2 19 true (for h (name (n.Static 0) l.Whole) (kind base.Integer 0 false) (num (pos 1)) (num (pos 3)) (num (pos 1)) (block h (at h 2 32 true (s.Call (call h 0 [] tt)) ∷ at h 2 42 true (s.Print (vec h (item.Value (var h (name (n.Static 0) l.Whole)) ∷ []) tt)) ∷ []) tt)) ∷ []) tt) (place 2 62))
     (place 2 1)
 
 abbrev pub choice_06_1_shows : Global → Type 0

@@ -32,7 +32,7 @@ abbrev pub choice_61_1 : Global → Program
 choice_61_1 h = program h (derived h 0 (comp (declared h (kind base.Integer 0 false) [] tt [] tt) false ∷ []) tt (final 1 0 ∷ []) tt ∷ []) tt
     [] tt
     (procedure h 0 (dummy h (kind (base.Derived 0) 1 false) intent.In ((pos 1) ∷ []) tt ∷ []) tt [] tt None (block h (at h 1 121 true (s.Print (vec h (item.Value (size h (ref h 0 (name (n.Lent 0) l.Whole))) ∷ []) tt)) ∷ []) tt) (place 1 139) ∷ []) tt
-    (procedure h 1 [] tt ((declared h (kind (base.Derived 0) 1 true) [] tt [] tt) ∷ []) tt None (block h (at h 2 49 true (s.Allocate (vec h (request h (name (n.Local 0) l.Whole) (kind (base.Derived 0) 1 true) (bounds (num (pos 1)) (num (pos 0)) ∷ []) tt ∷ []) tt) None) ∷ at h 2 65 true (s.Deallocate (vec h (request h (name (n.Local 0) l.Whole) (kind (base.Derived 0) 1 true) [] tt ∷ []) tt) None) ∷ []) tt) (place 2 80))
+    (procedure h 2 [] tt ((declared h (kind (base.Derived 0) 1 true) [] tt [] tt) ∷ []) tt None (block h (at h 2 49 true (s.Allocate (vec h (request h (name (n.Local 0) l.Whole) (kind (base.Derived 0) 1 true) (bounds (num (pos 1)) (num (pos 0)) ∷ []) tt ∷ []) tt) None) ∷ at h 2 65 true (s.Deallocate (vec h (request h (name (n.Local 0) l.Whole) (kind (base.Derived 0) 1 true) [] tt ∷ []) tt) None) ∷ []) tt) (place 2 80))
     (place 2 1)
 
 --     program p; use m; integer :: i; i = 5; call s(i); print *, i; end

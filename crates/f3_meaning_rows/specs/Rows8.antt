@@ -22,7 +22,7 @@ abbrev pub usage_54_stop_in_procedure : Global → Program
 usage_54_stop_in_procedure h = program h [] tt
     [] tt
     (procedure h 0 [] tt [] tt None (block h (at h 1 37 true (s.Print (vec h (item.Value (num (pos 1)) ∷ []) tt)) ∷ at h 1 49 true (s.Stop (Some 99999)) ∷ []) tt) (place 1 61) ∷ []) tt
-    (procedure h 1 [] tt [] tt None (block h (at h 2 19 true (s.Call (call h 0 [] tt)) ∷ at h 2 29 true (s.Print (vec h (item.Value (num (pos 2)) ∷ []) tt)) ∷ []) tt) (place 2 41))
+    (procedure h 2 [] tt [] tt None (block h (at h 2 19 true (s.Call (call h 0 [] tt)) ∷ at h 2 29 true (s.Print (vec h (item.Value (num (pos 2)) ∷ []) tt)) ∷ []) tt) (place 2 41))
     (place 2 1)
 
 --     program p; integer :: i; do i = 1, 3; print *, i; end do; print *, i; end

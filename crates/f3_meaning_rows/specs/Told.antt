@@ -20,16 +20,17 @@ use Rattle.f3_meaning_whole.specs.Store.{Root, Static, Local, Store, Path, Step,
 use Rattle.f3_meaning_whole.specs.Reference.{Define, Read, Maker, Selected, Language, Made, One, Reference}
 use Rattle.f3_meaning_whole.specs.Ran.{Change, Stage}
 
---     module k (unit 0); contains; subroutine bump(x); integer, intent(inout) :: x; x = x + 1; end; end
---     module m (unit 1); use k; integer, protected :: n = 3; type t; integer, allocatable, private :: c; end type; type(t) :: y
+-- Units: k is 0, m 2, p 4.
+--     module k; contains; subroutine bump(x); integer, intent(inout) :: x; x = x + 1; end; end
+--     module m; use k; integer, protected :: n = 3; type t; integer, allocatable, private :: c; end type; type(t) :: y
 --     contains; subroutine work(); call bump(n); y%c = 5; end; end
---     program p (unit 2); use m; type(t) :: z; call work(); y = z; end
+--     program p; use m; type(t) :: z; call work(); y = z; end
 abbrev pub changing : Global → Program
-changing h = program h (derived h 1 (comp (declared h (kind base.Integer 0 true) [] tt [] tt) true ∷ []) tt [] tt ∷ []) tt
-    (static (declared h (kind base.Integer 0 false) [] tt ((constant.Number (pos 3)) ∷ []) tt) 1 true ∷ static (declared h (kind (base.Derived 0) 0 false) [] tt [] tt) 1 false ∷ []) tt
-    (procedure h 0 (dummy h (kind base.Integer 0 false) intent.InOut [] tt ∷ []) tt [] tt None (block h (at h 1 70 true (s.Assign (name (n.Lent 0) l.Whole) (kind base.Integer 0 false) (bin h o.Add base.Integer (var h (name (n.Lent 0) l.Whole)) (num (pos 1)))) ∷ []) tt) (place 1 81) ∷ procedure h 1 [] tt [] tt None (block h (at h 3 18 true (s.Call (call h 0 (ref h 0 (name (n.Static 0) l.Whole) ∷ []) tt)) ∷ at h 3 32 true (s.Assign (member h (name (n.Static 1) l.Whole) 0 l.Whole) (kind base.Integer 0 true) (num (pos 5))) ∷ []) tt) (place 3 41) ∷ []) tt
-    (procedure h 2 [] tt ((declared h (kind (base.Derived 0) 0 false) [] tt [] tt) ∷ []) tt None (block h (at h 5 33 true (s.Call (call h 1 [] tt)) ∷ at h 5 44 true (s.Assign (name (n.Static 1) l.Whole) (kind (base.Derived 0) 0 false) (var h (name (n.Local 0) l.Whole))) ∷ []) tt) (place 5 51))
-    (place 5 1)
+changing h = program h (derived h 2 (comp (declared h (kind base.Integer 0 true) [] tt [] tt) true ∷ []) tt [] tt ∷ []) tt
+    (static (declared h (kind base.Integer 0 false) [] tt ((constant.Number (pos 3)) ∷ []) tt) 2 true ∷ static (declared h (kind (base.Derived 0) 0 false) [] tt [] tt) 2 false ∷ []) tt
+    (procedure h 0 (dummy h (kind base.Integer 0 false) intent.InOut [] tt ∷ []) tt [] tt None (block h (at h 1 70 true (s.Assign (name (n.Lent 0) l.Whole) (kind base.Integer 0 false) (bin h o.Add base.Integer (var h (name (n.Lent 0) l.Whole)) (num (pos 1)))) ∷ []) tt) (place 1 81) ∷ procedure h 2 [] tt [] tt None (block h (at h 3 30 true (s.Call (call h 0 (ref h 0 (name (n.Static 0) l.Whole) ∷ []) tt)) ∷ at h 3 44 true (s.Assign (member h (name (n.Static 1) l.Whole) 0 l.Whole) (kind base.Integer 0 true) (num (pos 5))) ∷ []) tt) (place 3 53) ∷ []) tt
+    (procedure h 4 [] tt ((declared h (kind (base.Derived 0) 0 false) [] tt [] tt) ∷ []) tt None (block h (at h 4 33 true (s.Call (call h 1 [] tt)) ∷ at h 4 46 true (s.Assign (name (n.Static 1) l.Whole) (kind (base.Derived 0) 0 false) (var h (name (n.Local 0) l.Whole))) ∷ []) tt) (place 4 53))
+    (place 4 1)
 
 abbrev pub way : Root → List Step → Path
 way root steps = record { root = root; steps = steps }
@@ -44,12 +45,12 @@ made t k maker = record { of = base.Derived t; component = k; maker = maker }
 -- component, in two changes. The program assigns the whole: the language deallocates the component.
 abbrev pub ChangesStand : Type 0
 ChangesStand = (h : Global) → changes (run_of (changing h) 5 granted).out ≡
-    changed (way (Static 0) []) base.Integer 1 [] 0
-    ∷ changed (way (Static 1) (Component 0 ∷ [])) base.Integer 1 (made 0 0 (Selected 1) ∷ []) 1
-    ∷ changed (way (Static 1) (Component 0 ∷ Contents ∷ [])) base.Integer 1 (made 0 0 (Selected 1) ∷ []) 1
-    ∷ changed (way (Static 1) (Component 0 ∷ [])) base.Integer 2 (made 0 0 Language ∷ []) 2
-    ∷ changed (way (Static 1) []) (base.Derived 0) 2 [] 2
-    ∷ changed (way (Static 1) []) (base.Derived 0) 2 [] 2
+    changed (way (Static 0) []) base.Integer 2 [] 0
+    ∷ changed (way (Static 1) (Component 0 ∷ [])) base.Integer 2 (made 0 0 (Selected 2) ∷ []) 2
+    ∷ changed (way (Static 1) (Component 0 ∷ Contents ∷ [])) base.Integer 2 (made 0 0 (Selected 2) ∷ []) 2
+    ∷ changed (way (Static 1) (Component 0 ∷ [])) base.Integer 4 (made 0 0 Language ∷ []) 4
+    ∷ changed (way (Static 1) []) (base.Derived 0) 4 [] 4
+    ∷ changed (way (Static 1) []) (base.Derived 0) 4 [] 4
     ∷ []
 
 abbrev pub one : ℤ → Value
@@ -71,8 +72,8 @@ abbrev pub staged : Global → Program
 staged h = program h [] tt
     (static (declared h (kind base.Integer 1 true) [] tt [] tt) 0 false ∷ []) tt
     (procedure h 0 (dummy h (kind base.Integer 1 false) intent.InOut ((pos 1) ∷ []) tt ∷ []) tt [] tt None (block h (at h 3 1 true (s.Assign (name (n.Lent 0) (elements h false (sub h (num (pos 1)) ∷ []) tt)) (kind base.Integer 0 false) (num (pos 2))) ∷ []) tt) (place 4 1) ∷ []) tt
-    (procedure h 1 [] tt [] tt None (block h (at h 6 19 true (s.Allocate (vec h (request h (name (n.Static 0) l.Whole) (kind base.Integer 1 true) (bounds (num (pos 1)) (num (pos 1)) ∷ []) tt ∷ []) tt) None) ∷ at h 6 35 true (when h (allocated h (name (n.Static 0) l.Whole)) (s.Call (call h 0 (ref h 0 (name (n.Static 0) l.Contents) ∷ []) tt)) (block h [] tt)) ∷ []) tt) (place 7 1))
-    (place 6 1)
+    (procedure h 2 [] tt [] tt None (block h (at h 5 19 true (s.Allocate (vec h (request h (name (n.Static 0) l.Whole) (kind base.Integer 1 true) (bounds (num (pos 1)) (num (pos 1)) ∷ []) tt ∷ []) tt) None) ∷ at h 5 37 true (when h (allocated h (name (n.Static 0) l.Whole)) (s.Call (call h 0 (ref h 0 (name (n.Static 0) l.Contents) ∷ []) tt)) (block h [] tt)) ∷ []) tt) (place 6 1))
+    (place 5 1)
 
 -- the stores and the lent paths at the ALLOCATE, the logical IF, the assignment in the procedure, its END, the END of the program
 abbrev pub StoresStand : Type 0
@@ -92,10 +93,11 @@ StoresStand = (h : Global) →
 --     subroutine s(); type(u) :: y; end; end
 --     program p; use m; call s(); end
 abbrev pub nested : Global → Program
-nested h = program h (derived h 0 (comp (declared h (kind base.Integer 0 false) ([]) tt ([]) tt) false ∷ []) tt (final 0 0 ∷ []) tt ∷ derived h 0 (comp (declared h (kind (base.Derived 0) 0 false) ([]) tt ([]) tt) false ∷ []) tt ([]) tt ∷ []) tt
-    ([]) tt
-    (procedure h 0 (dummy h (kind (base.Derived 0) 0 false) intent.InOut ([]) tt ∷ []) tt ([]) tt None (block h ([]) tt) (place 1 1) ∷ procedure h 0 ([]) tt ((declared h (kind (base.Derived 1) 0 false) ([]) tt ([]) tt) ∷ []) tt None (block h ([]) tt) (place 2 1) ∷ []) tt
-    (procedure h 1 ([]) tt ([]) tt None (block h (at h 3 1 true (s.Call (call h 1 ([]) tt)) ∷ []) tt) (place 4 1)) (place 1 1)
+nested h = program h (derived h 0 (comp (declared h (kind base.Integer 0 false) [] tt [] tt) false ∷ []) tt (final 0 0 ∷ []) tt ∷ derived h 0 (comp (declared h (kind (base.Derived 0) 0 false) [] tt [] tt) false ∷ []) tt [] tt ∷ []) tt
+    [] tt
+    (procedure h 0 (dummy h (kind (base.Derived 0) 0 false) intent.InOut [] tt ∷ []) tt [] tt None (block h [] tt) (place 2 47) ∷ procedure h 0 [] tt ((declared h (kind (base.Derived 1) 0 false) [] tt [] tt) ∷ []) tt None (block h [] tt) (place 3 31) ∷ []) tt
+    (procedure h 3 [] tt [] tt None (block h (at h 4 19 true (s.Call (call h 1 [] tt)) ∷ []) tt) (place 4 29))
+    (place 4 1)
 
 -- At the CALL, at the END of s, in its variable's part's final (lent by the call, by the destruction of the part, by that of the
 -- whole), at the END of the program; while s is active there is its level and the one of the values held for it, and so for f.
@@ -104,7 +106,7 @@ DestroyedLent = (h : Global) →
     (lent_at (stages (run_of (nested h) 5 granted).out) ≡ [] ∷ [] ∷ (way (Local 2 0) (Component 0 ∷ []) ∷ way (Local 2 0) (Component 0 ∷ []) ∷ way (Local 2 0) [] ∷ []) ∷ [] ∷ [])
     × (map (λ (s : Stage). length s.store.levels) (stages (run_of (nested h) 5 granted).out) ≡ 1 ∷ 3 ∷ 5 ∷ 1 ∷ [])
 
---     program p; integer :: i; integer, allocatable :: v(:); if (.false.) then; return
+--     program p; integer :: i; integer, allocatable :: v(:); if (.false.) then; stop
 --     else if (.true.) then; i = 7; end if
 --     do i = 1, 2; cycle; end do
 --     allocate(v(1))
@@ -112,10 +114,11 @@ DestroyedLent = (h : Global) →
 --     deallocate(v)
 --     end
 abbrev pub forms : Global → Program
-forms h = program h ([]) tt
-    ([]) tt
-    ([]) tt
-    (procedure h 0 ([]) tt ((declared h (kind base.Integer 0 false) ([]) tt ([]) tt) ∷ (declared h (kind base.Integer 1 true) ([]) tt ([]) tt) ∷ []) tt None (block h (at h 1 1 true (when h (truth false) (block h (at h 1 20 true s.Return ∷ []) tt) (at h 2 1 false (when h (truth true) (block h (at h 2 30 true (s.Assign (name (n.Local 0) l.Whole) (kind base.Integer 0 false) (num (pos 7))) ∷ []) tt) (block h ([]) tt)))) ∷ at h 3 1 true (for h (name (n.Local 0) l.Whole) (kind base.Integer 0 false) (num (pos 1)) (num (pos 2)) (num (pos 1)) (block h (at h 3 20 true s.Cycle ∷ []) tt)) ∷ at h 4 1 true (s.Allocate (vec h (request h (name (n.Local 1) l.Whole) (kind base.Integer 1 true) (bounds (num (pos 1)) (num (pos 1)) ∷ []) tt ∷ []) tt) None) ∷ at h 5 1 true (associate h (selector.Variable (name (n.Local 1) l.Contents) ∷ selector.Value (kind base.Integer 0 false) (num (pos 9)) ∷ []) tt (block h (at h 5 30 true (s.Print (vec h [] tt)) ∷ []) tt)) ∷ at h 6 1 true (s.Deallocate (vec h (request h (name (n.Local 1) l.Whole) (kind base.Integer 1 true) ([]) tt ∷ []) tt) None) ∷ []) tt) (place 7 1)) (place 1 1)
+forms h = program h [] tt
+    [] tt
+    [] tt
+    (procedure h 0 [] tt ((declared h (kind base.Integer 0 false) [] tt [] tt) ∷ (declared h (kind base.Integer 1 true) [] tt [] tt) ∷ []) tt None (block h (at h 1 56 true (when h (truth false) (block h (at h 1 75 true (s.Stop None) ∷ []) tt) (at h 2 1 false (when h (truth true) (block h (at h 2 24 true (s.Assign (name (n.Local 0) l.Whole) (kind base.Integer 0 false) (num (pos 7))) ∷ []) tt) (block h [] tt)))) ∷ at h 3 1 true (for h (name (n.Local 0) l.Whole) (kind base.Integer 0 false) (num (pos 1)) (num (pos 2)) (num (pos 1)) (block h (at h 3 14 true s.Cycle ∷ []) tt)) ∷ at h 4 1 true (s.Allocate (vec h (request h (name (n.Local 1) l.Whole) (kind base.Integer 1 true) (bounds (num (pos 1)) (num (pos 1)) ∷ []) tt ∷ []) tt) None) ∷ at h 5 1 true (associate h (selector.Variable (name (n.Local 1) l.Contents) ∷ selector.Value (kind base.Integer 0 false) (num (pos 9)) ∷ []) tt (block h (at h 5 29 true (s.Print (vec h [] tt)) ∷ []) tt)) ∷ at h 6 1 true (s.Deallocate (vec h (request h (name (n.Local 1) l.Whole) (kind base.Integer 1 true) [] tt ∷ []) tt) None) ∷ []) tt) (place 7 1))
+    (place 1 1)
 
 -- The first variable, and what is lent, at the IF (the ELSE IF is no stage), the assignment, the DO, each CYCLE, the ALLOCATE,
 -- the ASSOCIATE, the PRINT in it, where v and the value that is held are lent, the DEALLOCATE, the END.
@@ -129,14 +132,15 @@ FormsStand = (h : Global) →
     first ([] ∷ levels) = Unallocated
     first ((v ∷ vs) ∷ levels) = v
 
---     module k (unit 0); contains; subroutine a(x); integer, intent(in) :: x; x = 1; end; subroutine b(x); integer, intent(inout) :: x; x = x + 1; end; end
---     module m (unit 1); integer, protected :: n = 3; end
---     program p (unit 2); use k; use m; integer :: i; call a(i); call b(n); associate (z => n); z = 4; end associate; end
+-- Units: k is 0, m 3, p 4.
+--     module k; contains; subroutine a(x); integer, intent(in) :: x; x = 1; end; subroutine b(x); integer, intent(inout) :: x; x = x + 1; end; end
+--     module m; integer, protected :: n = 3; end
+--     program p; use k; use m; integer :: i; call a(i); call b(n); associate (z => n); z = 4; end associate; end
 abbrev pub unlawful : Global → Program
 unlawful h = program h [] tt
-    (static (declared h (kind base.Integer 0 false) [] tt ((constant.Number (pos 3)) ∷ []) tt) 1 true ∷ []) tt
+    (static (declared h (kind base.Integer 0 false) [] tt ((constant.Number (pos 3)) ∷ []) tt) 3 true ∷ []) tt
     (procedure h 0 (dummy h (kind base.Integer 0 false) intent.In [] tt ∷ []) tt [] tt None (block h (at h 1 64 true (s.Assign (name (n.Lent 0) l.Whole) (kind base.Integer 0 false) (num (pos 1))) ∷ []) tt) (place 1 71) ∷ procedure h 0 (dummy h (kind base.Integer 0 false) intent.InOut [] tt ∷ []) tt [] tt None (block h (at h 1 125 true (s.Assign (name (n.Lent 0) l.Whole) (kind base.Integer 0 false) (bin h o.Add base.Integer (var h (name (n.Lent 0) l.Whole)) (num (pos 1)))) ∷ []) tt) (place 1 136) ∷ []) tt
-    (procedure h 2 [] tt ((declared h (kind base.Integer 0 false) [] tt [] tt) ∷ []) tt None (block h (at h 3 40 true (s.Call (call h 0 (ref h 0 (name (n.Local 0) l.Whole) ∷ []) tt)) ∷ at h 3 51 true (s.Call (call h 1 (ref h 0 (name (n.Static 0) l.Whole) ∷ []) tt)) ∷ at h 3 65 true (associate h (selector.Variable (name (n.Static 0) l.Whole) ∷ []) tt (block h (at h 3 85 true (s.Assign (name (n.Lent 0) l.Whole) (kind base.Integer 0 false) (num (pos 4))) ∷ []) tt)) ∷ []) tt) (place 3 107))
+    (procedure h 4 [] tt ((declared h (kind base.Integer 0 false) [] tt [] tt) ∷ []) tt None (block h (at h 3 40 true (s.Call (call h 0 (ref h 0 (name (n.Local 0) l.Whole) ∷ []) tt)) ∷ at h 3 51 true (s.Call (call h 1 (ref h 0 (name (n.Static 0) l.Whole) ∷ []) tt)) ∷ at h 3 65 true (associate h (selector.Variable (name (n.Static 0) l.Whole) ∷ []) tt (block h (at h 3 85 true (s.Assign (name (n.Lent 0) l.Whole) (kind base.Integer 0 false) (num (pos 4))) ∷ []) tt)) ∷ []) tt) (place 3 107))
     (place 3 1)
 
 abbrev pub changed_by_read : Path → ℕ → ℕ → Change
@@ -146,16 +150,17 @@ changed_by_read p origin executing = record { reference = record { path = p; rea
 -- associate name. Each change is by the right to read, and is not permitted.
 abbrev pub ReadsShow : Type 0
 ReadsShow = (h : Global) →
-    (changes (run_of (unlawful h) 5 granted).out ≡ changed_by_read (way (Local 0 0) []) 2 0 ∷ changed_by_read (way (Static 0) []) 2 0 ∷ changed_by_read (way (Static 0) []) 2 2 ∷ [])
-    × (Permitted (unlawful h) (changed_by_read (way (Static 0) []) 2 0) → ⊥)
+    (changes (run_of (unlawful h) 5 granted).out ≡ changed_by_read (way (Local 0 0) []) 4 0 ∷ changed_by_read (way (Static 0) []) 4 0 ∷ changed_by_read (way (Static 0) []) 4 4 ∷ [])
+    × (Permitted (unlawful h) (changed_by_read (way (Static 0) []) 4 0) → ⊥)
 
---     module m (unit 0); type box; integer, private :: secret; end type; end
---     program p (unit 1); use m; type(box) :: a; a%secret = 1; end
+-- Units: m is 0, p 1.
+--     module m; type box; integer, private :: secret; end type; end
+--     program p; use m; type(box) :: a; a%secret = 1; end
 abbrev pub prying : Global → Program
-prying h = program h (derived h 0 (comp (declared h (kind base.Integer 0 false) ([]) tt ([]) tt) true ∷ []) tt ([]) tt ∷ []) tt
-    ([]) tt
-    ([]) tt
-    (procedure h 1 ([]) tt ((declared h (kind (base.Derived 0) 0 false) ([]) tt ([]) tt) ∷ []) tt None (block h (at h 2 1 true (s.Assign (member h (name (n.Local 0) l.Whole) 0 l.Whole) (kind base.Integer 0 false) (num (pos 1))) ∷ []) tt) (place 2 20)) (place 1 1)
+prying h = program h (derived h 0 (comp (declared h (kind base.Integer 0 false) [] tt [] tt) true ∷ []) tt [] tt ∷ []) tt
+    [] tt
+    [] tt
+    (procedure h 1 [] tt ((declared h (kind (base.Derived 0) 0 false) [] tt [] tt) ∷ []) tt None (block h (at h 2 1 true (s.Assign (member h (name (n.Local 0) l.Whole) 0 l.Whole) (kind base.Integer 0 false) (num (pos 1))) ∷ []) tt) (place 2 20)) (place 1 1)
 
 -- Not lawful: the program selects a private component. Its change is not permitted.
 abbrev pub PryingShows : Type 0
@@ -167,6 +172,6 @@ PryingShows = (h : Global) →
 -- is not told, of one whose type is not the declared one.
 abbrev pub ForgedAreNot : Type 0
 ForgedAreNot = (h : Global) →
-    (Permitted (changing h) (changed (way (Static 0) []) base.Integer 2 [] 2) → ⊥)
-    × (Permitted (changing h) (changed (way (Static 1) (Component 0 ∷ [])) base.Integer 1 [] 1) → ⊥)
-    × (Permitted (changing h) (changed (way (Static 1) (Component 0 ∷ [])) base.Integer 2 (made 1 0 (Selected 2) ∷ []) 2) → ⊥)
+    (Permitted (changing h) (changed (way (Static 0) []) base.Integer 4 [] 4) → ⊥)
+    × (Permitted (changing h) (changed (way (Static 1) (Component 0 ∷ [])) base.Integer 2 [] 2) → ⊥)
+    × (Permitted (changing h) (changed (way (Static 1) (Component 0 ∷ [])) base.Integer 4 (made 1 0 (Selected 4) ∷ []) 4) → ⊥)
