@@ -1,5 +1,5 @@
 -- Outputs and files, part by part.
-use Rattle.std.proofs.Common.{◌≡◌, ℕ, List, [], ◌∷◌, ◌++◌, Option, refl, sym, ap, subst, inl, inr, ◌∙◌, append-nil}
+use Rattle.std.proofs.Common.{◌≡◌, ℕ, Bool, List, [], ◌∷◌, ◌++◌, Option, refl, sym, ap, subst, inl, inr, ◌∙◌, append-nil}
 use Rattle.std.specs.Prelude.{Result, Ok, Err, OnOk, OnErr, String, string_bytes}
 use Rattle.std.specs.Global.{Global}
 use Rattle.std.specs.Io.KnownBytes.{Appends}
@@ -17,6 +17,7 @@ use Rattle.f3_output.specs.Output.{State, Wrote, Faulted}
 use Rattle.f3_output.proofs.Outputs.{wrote_none, wrote_more, faulted_behind, faulted_before}
 use Rattle.f3_run.specs.declared.end.End.{End}
 use Rattle.f3_run.specs.declared.end.End.TheVariants.{Done, Stopped, Error, StepLimit, WriteFault, Memory}
+use Rattle.f3_run.specs.declared.end.Limits.{Limits}
 use Rattle.f3_run.specs.Answers.{Answers}
 use Rattle.f3_run.specs.Compiles.{Means, ChecksAndRuns, ChecksAndLists}
 use Rattle.f3_command.specs.declared.report.Outcome.TheVariants.{Ended}
@@ -69,54 +70,55 @@ faulted_again {a} {b} {c} f g = record {
 }
 
 -- what was written until an instruction, handed on
-cut_on : (p : Program) (k : ℕ) (a b c : State) → Cut p k a b → Wrote b c [] → Cut p k a c
-cut_on p k a b c h w = record { so_far = record { goes_on = h.so_far.goes_on; wrote = wrote_on h.so_far.wrote w }; begins = h.begins }
+cut_on : (size : ℕ) (p : Program) (answers : ℕ → Bool) (k : ℕ) (a b c : State) → Cut size p answers k a b → Wrote b c [] → Cut size p answers k a c
+cut_on size p answers k a b c h w = record { so_far = record { goes_on = h.so_far.goes_on; wrote = wrote_on h.so_far.wrote w }; begins = h.begins }
 
 -- an answer of a run stays one when the output is handed on
-pub handed_on : (p : Program) (steps : ℕ) (a b c : State) (end : End) → Answers p steps a b end → Wrote b c [] → Answers p steps a c end
-handed_on p steps a b c Done h w = (record { turns = h.0.turns; ends = h.0.ends; wrote = wrote_on h.0.wrote w }, h.1)
-handed_on p steps a b c (Stopped code) h w = (record { turns = h.0.turns; ends = h.0.ends; wrote = wrote_on h.0.wrote w }, h.1)
-handed_on p steps a b c (Error error place) h w = (record { turns = h.0.turns; ends = h.0.ends; wrote = wrote_on h.0.wrote w }, h.1)
-handed_on p steps a b c StepLimit h w = cut_on p steps a b c h w
-handed_on p steps a b c WriteFault h w = record { turns = h.turns; faulted = faulted_kept h.faulted w }
-handed_on p steps a b c Memory h w = (h.0, h.1, cut_on p h.0 a b c h.2 w)
+pub handed_on : (p : Program) (limits : Limits) (a b c : State) (end : End) → Answers p limits a b end → Wrote b c [] → Answers p limits a c end
+handed_on p limits a b c Done h w = (h.0, h.1, (record { turns = h.2.0.turns; ends = h.2.0.ends; wrote = wrote_on h.2.0.wrote w }, h.2.1))
+handed_on p limits a b c (Stopped code) h w = (h.0, h.1, (record { turns = h.2.0.turns; ends = h.2.0.ends; wrote = wrote_on h.2.0.wrote w }, h.2.1))
+handed_on p limits a b c (Error error place) h w = (h.0, h.1, (record { turns = h.2.0.turns; ends = h.2.0.ends; wrote = wrote_on h.2.0.wrote w }, h.2.1))
+handed_on p limits a b c StepLimit h w = (h.0, h.1, cut_on limits.heap_words p h.0 limits.steps a b c h.2 w)
+handed_on p limits a b c WriteFault h w = (h.0, h.1, record { turns = h.2.turns; faulted = faulted_kept h.2.faulted w })
+handed_on p limits a b c Memory h w = (h.0, h.1, (h.2.0, h.2.1, cut_on limits.heap_words p h.0 h.2.0 a b c h.2.2 w))
 
-cut_off : (p : Program) (k : ℕ) (a b c : State) → Cut p k a b → Faulted b c [] → Refuses p a c
-cut_off p k a b c h f = record { turns = h.begins.turns; faulted = rw h.begins.whole (faulted_before h.begins.more (faulted_on h.so_far.wrote f)) }
+cut_off : (size : ℕ) (p : Program) (answers : ℕ → Bool) (k : ℕ) (a b c : State) → Cut size p answers k a b → Faulted b c [] → Refuses p answers a c
+cut_off size p answers k a b c h f = record { turns = h.begins.turns; faulted = rw h.begins.whole (faulted_before h.begins.more (faulted_on h.so_far.wrote f)) }
 
 -- and is a write fault where the writer refuses then
-pub not_handed_on : (p : Program) (steps : ℕ) (a b c : State) (end : End) → Answers p steps a b end → Faulted b c [] → Refuses p a c
-not_handed_on p steps a b c Done h f = record { turns = h.0.turns; faulted = faulted_on h.0.wrote f }
-not_handed_on p steps a b c (Stopped code) h f = record { turns = h.0.turns; faulted = faulted_on h.0.wrote f }
-not_handed_on p steps a b c (Error error place) h f = record { turns = h.0.turns; faulted = faulted_on h.0.wrote f }
-not_handed_on p steps a b c StepLimit h f = cut_off p steps a b c h f
-not_handed_on p steps a b c WriteFault h f = record { turns = h.turns; faulted = faulted_again h.faulted f }
-not_handed_on p steps a b c Memory h f = cut_off p h.0 a b c h.2 f
+pub not_handed_on : (p : Program) (limits : Limits) (a b c : State) (end : End) → Answers p limits a b end → Faulted b c []
+    → Answers p limits a c WriteFault
+not_handed_on p limits a b c Done h f = (h.0, h.1, record { turns = h.2.0.turns; faulted = faulted_on h.2.0.wrote f })
+not_handed_on p limits a b c (Stopped code) h f = (h.0, h.1, record { turns = h.2.0.turns; faulted = faulted_on h.2.0.wrote f })
+not_handed_on p limits a b c (Error error place) h f = (h.0, h.1, record { turns = h.2.0.turns; faulted = faulted_on h.2.0.wrote f })
+not_handed_on p limits a b c StepLimit h f = (h.0, h.1, cut_off limits.heap_words p h.0 limits.steps a b c h.2 f)
+not_handed_on p limits a b c WriteFault h f = (h.0, h.1, record { turns = h.2.turns; faulted = faulted_again h.2.faulted f })
+not_handed_on p limits a b c Memory h f = (h.0, h.1, cut_off limits.heap_words p h.0 h.2.0 a b c h.2.2 f)
 
 -- sources whose program has a meaning are accepted
 accepted_by : (sources : List Source) (p : Program) → Means sources p → ((refusal : Refusal) → First sources refusal → ⊥) → AreAccepted sources
 accepted_by sources p m never = record { tree = m.tree; accepted = m.accepted; never = never }
 
 -- what runs answer, memory wanting among it
-pub runs_so : (sources : List Source) (steps : ℕ) (a b : State) (end : End) → Ran sources steps a b end → Runs sources steps a b (Ended end)
-runs_so sources steps a b Done h = h
-runs_so sources steps a b (Stopped code) h = h
-runs_so sources steps a b (Error error place) h = h
-runs_so sources steps a b StepLimit h = h
-runs_so sources steps a b WriteFault h = h
-runs_so sources steps a b Memory h = inr h
+pub runs_so : (sources : List Source) (limits : Limits) (a b : State) (end : End) → Ran sources limits a b end → Runs sources limits a b (Ended end)
+runs_so sources limits a b Done h = h
+runs_so sources limits a b (Stopped code) h = h
+runs_so sources limits a b (Error error place) h = h
+runs_so sources limits a b StepLimit h = h
+runs_so sources limits a b WriteFault h = h
+runs_so sources limits a b Memory h = inr h
 
 -- a run whose output is handed on
-pub ran_so : (sources : List Source) (steps : ℕ) (a b c : State) (e end : End) → ChecksAndRuns sources steps a b (Ok e)
-    → ((p : Program) (steps : ℕ) (before : State) → Answers p steps before b e → Answers p steps before c end) → Runs sources steps a c (Ended end)
-ran_so sources steps a b c e end h on =
-    runs_so sources steps a c end (accepted_by sources h.0 h.1 h.2, h.0, h.1, on h.0 steps a h.3)
+pub ran_so : (sources : List Source) (limits : Limits) (a b c : State) (e end : End) → ChecksAndRuns sources limits a b (Ok e)
+    → ((p : Program) (limits : Limits) (before : State) → Answers p limits before b e → Answers p limits before c end) → Runs sources limits a c (Ended end)
+ran_so sources limits a b c e end h on =
+    runs_so sources limits a c end (accepted_by sources h.0 h.1 h.2, h.0, h.1, on h.0 limits a h.3)
 
 -- sources that are refused, or memory wanting before a run
-pub not_run : (sources : List Source) (steps : ℕ) (a b : State) (f : CheckFault) → ChecksAndRuns sources steps a b (Err f)
-    → Runs sources steps a b (outcome_of f)
-not_run sources steps a b (fault.Refused refusal) h = h
-not_run sources steps a b fault.Memory h = inl h
+pub not_run : (sources : List Source) (limits : Limits) (a b : State) (f : CheckFault) → ChecksAndRuns sources limits a b (Err f)
+    → Runs sources limits a b (outcome_of f)
+not_run sources limits a b (fault.Refused refusal) h = h
+not_run sources limits a b fault.Memory h = inl h
 
 -- the text of code that is shown
 pub lists_so : (sources : List Source) (text : String Global) (a b : State) (end : End) → ChecksAndLists sources (Ok text) → Shown a b (string_bytes text) end

@@ -11,6 +11,7 @@ use Rattle.f3_program.specs.declared.program.Program.{Program}
 use Rattle.f3_output.specs.Output.{State, Wrote, Faulted}
 use Rattle.f3_run.specs.declared.end.End.{End}
 use Rattle.f3_run.specs.declared.end.End.TheVariants.{Done, WriteFault, Memory}
+use Rattle.f3_run.specs.declared.end.Limits.{Limits}
 use Rattle.f3_run.specs.Answers.{Answers}
 use Rattle.f3_run.specs.Compiles.{Means, IsRefused}
 use Rattle.f3_run.specs.Listings.{IsListing}
@@ -73,23 +74,23 @@ Lists sources old new (Refused refusal) = IsRefused sources refusal × Wrote old
 Lists sources old new (Ended Memory) = Wrote old new []
 Lists sources old new outcome = ⊥
 
--- the program that the sources spell answers so, of the steps that it may make
-abbrev pub Ran : List Source → (steps : ℕ) → State → State → End → Type 0
-Ran sources steps old new end = AreAccepted sources × (p : Program) × Means sources p × Answers p steps old new end
+-- the program that the sources spell answers so, of the heap and the steps that it may use
+abbrev pub Ran : List Source → Limits → State → State → End → Type 0
+Ran sources limits old new end = AreAccepted sources × (p : Program) × Means sources p × Answers p limits old new end
 
 -- the answers of a run; where memory is wanting it may not have begun; or the sources are refused
-abbrev pub Runs : List Source → (steps : ℕ) → State → State → Outcome → Type 0
-Runs sources steps old new (Ended Memory) = Wrote old new [] ⊎ Ran sources steps old new Memory
-Runs sources steps old new (Ended end) = Ran sources steps old new end
-Runs sources steps old new (Refused refusal) = IsRefused sources refusal × Wrote old new []
-Runs sources steps old new (Unreadable name) = ⊥
+abbrev pub Runs : List Source → Limits → State → State → Outcome → Type 0
+Runs sources limits old new (Ended Memory) = Wrote old new [] ⊎ Ran sources limits old new Memory
+Runs sources limits old new (Ended end) = Ran sources limits old new end
+Runs sources limits old new (Refused refusal) = IsRefused sources refusal × Wrote old new []
+Runs sources limits old new (Unreadable name) = ⊥
 
 -- What becomes of a task, of the output before and now.
 abbrev pub Works : Task → List Source → State → State → Outcome → Type 0
 Works task.Check sources old new outcome = Checks sources outcome × Wrote old new []
 Works task.Names sources old new outcome = Shows sources old new outcome
 Works task.Code sources old new outcome = Lists sources old new outcome
-Works (task.Run limits) sources old new outcome = Runs sources limits.steps old new outcome
+Works (task.Run limits) sources old new outcome = Runs sources limits old new outcome
 
 -- What becomes of a task on files of these names: one of them cannot be read, or memory is wanting to read them, and nothing is
 -- written; else the task is done with their sources.

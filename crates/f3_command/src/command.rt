@@ -87,5 +87,5 @@ fn heap<'a>(alloc: Global) -> Arg<'a> {
         .value_parser(value_parser!(usize).range(0..=134_217_728))
         .default_value(HEAP_WORDS)
         .action(ArgAction::Set)
-        .help("The size of the run's heap")
+        .help("The words of the run's heap: what needs more is refused")
 }

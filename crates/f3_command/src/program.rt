@@ -73,7 +73,9 @@ fn act<'a, F: Opener, O: Write, E: Write>(
 pub fn task(name: &str, inner: &ArgMatches<'_>) -> Task
     ensures name { IsTask name.now result }
     ensures steps { (text : List ℕ) → one_text (found_of inner.now) (codes "steps") ≡ Some text
-        → OfRun result (λ steps. (number : Option ℕ) × ReadsOne ⟦<u64 as FromStr>⟧.from_str_gives text number × (steps ≡ unwrap_or number 0)) }
+        → OfRun result (λ limits. (number : Option ℕ) × ReadsOne ⟦<u64 as FromStr>⟧.from_str_gives text number × (limits.steps ≡ unwrap_or number 0)) }
+    ensures heap { (text : List ℕ) → one_text (found_of inner.now) (codes "heap") ≡ Some text
+        → OfRun result (λ limits. (number : Option ℕ) × ReadsOne ⟦<usize as FromStr>⟧.from_str_gives text number × (limits.heap_words ≡ unwrap_or number 0)) }
 {
     if name == "check" {
         return Task::Check;

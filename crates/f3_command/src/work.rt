@@ -1,6 +1,7 @@
 //! What f3 does with its files.
 
-ghost use Rattle.std.specs.Prelude.{◌≡◌, ℕ, [], map, OnOk, OnErr};
+ghost use Rattle.std.specs.Prelude.{◌≡◌, [], map, OnOk, OnErr};
+ghost use Rattle.f3_run.specs.declared.end.Limits.{Limits};
 ghost use Rattle.f3_program.specs.declared.program.Program.{Program};
 ghost use Rattle.f3_output.specs.Output.{State, state_of, Wrote, Faulted};
 ghost use Rattle.f3_run.specs.Answers.{Answers};
@@ -114,7 +115,7 @@ fn run<O: Write>(
     limits: Limits,
     output: &mut Output<O>,
 ) -> Outcome<'static>
-    ensures { Runs sources.now limits.steps (state_of O.contents output.old) (state_of O.contents output.new) result }
+    ensures { Runs sources.now limits (state_of O.contents output.old) (state_of O.contents output.new) result }
 {
     match check_and_run(alloc, sources, limits, output) {
         Ok(end) => Outcome::Ended(flushed(end, output)),
@@ -155,8 +156,8 @@ pub fn shown<O: Write>(text: &str, output: &mut Output<O>) -> End
 
 /// The end of a run whose output is handed on.
 fn flushed<O: Write>(end: End, output: &mut Output<O>) -> End
-    ensures { (p : Program) (steps : ℕ) (before : State) → Answers p steps before (state_of O.contents output.old) end
-        → Answers p steps before (state_of O.contents output.new) result }
+    ensures { (p : Program) (limits : Limits) (before : State) → Answers p limits before (state_of O.contents output.old) end
+        → Answers p limits before (state_of O.contents output.new) result }
 {
     match output.flush() {
         Ok(()) => end,

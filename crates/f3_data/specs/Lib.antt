@@ -1,3 +1,4 @@
 pub mod Values
+pub mod Taken
 pub mod Stores
 pub mod References

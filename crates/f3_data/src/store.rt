@@ -1,15 +1,12 @@
 //! Stores, and paths into them.
 
-ghost use Rattle.std.specs.Prelude.{◌≡◌, ◌∷◌, [], OnOk, slice_index_or};
-ghost use Rattle.f3_meaning_whole.specs.Value as m;
-ghost use Rattle.f3_meaning_whole.specs.Value.{joined};
-ghost use Rattle.f3_meaning_whole.specs.Store.{part, part_at, with_part, with_part_at, at_root, get, put};
-ghost use Rattle.f3_meaning_whole.specs.Ran.{Entered, Ended, effect};
-ghost use Rattle.f3_data.specs.Values.{value_of, values_of};
-ghost use Rattle.f3_data.specs.Stores.{step_of, steps_of, root_of, path_of, levels_of, store_of, Found, LeadsTo, replaced, replaced_in_level};
+ghost use Rattle.std.specs.Prelude.{◌≡◌, ◌%◌, ◌^◌};
+ghost use Rattle.f3_data.specs.Taken.{taken};
 
+use crate::account::{block, level_words, levels_words};
+use crate::parts::{object, objects, part, replace_in, replace_in_level};
 use crate::value::Value;
-use std::alloc::AllocError;
+use std::alloc::{AllocError, Global};
 
 /// An object that is part of no other: a variable that lives for the whole run, by its number; or, by its number on a level,
 /// a variable of an activation or a value that is held for a call or an ASSOCIATE.
@@ -35,127 +32,43 @@ pub struct Path {
     pub steps: Vec<Step>,
 }
 
-/// What lives for the whole run, and what lives on each level.
+/// What lives for the whole run, and what lives on each level; and how many words of a heap these take, up to multiples of
+/// 2 ^ 64 (own rule).
 #[derive(Drop)]
 pub struct Store {
     pub statics: Vec<Value>,
     pub levels: Vec<Vec<Value>>,
-}
-
-/// A component or an element.
-fn at(values: &[Value], k: usize) -> Option<&Value>
-    ensures { LeadsTo (part_at (joined (values_of values.now)) k) result }
-{
-    match values.get(k) {
-        Some(value) => Some(value),
-        None => None,
-    }
-}
-
-/// What a step leads to, in a value.
-fn inner(value: &Value, step: Step) -> Option<&Value>
-    ensures { LeadsTo (λ way. part (value_of value.now) (step_of step ∷ way)) result }
-{
-    match (value, step) {
-        (Value::Composite(values), Step::Component(k)) => at(values, k),
-        (Value::Array(_, values), Step::Element(k)) => at(values, k),
-        (Value::Allocated(held), Step::Contents) => Some(held),
-        _ => None,
-    }
-}
-
-/// A part of a value: none where there is none.
-pub fn part<'a>(value: &'a Value, steps: &[Step]) -> Option<&'a Value>
-    ensures { Found (part (value_of value.now) (steps_of steps.now)) result }
-{
-    let Some((step, rest)) = steps.split_first() else {
-        return Some(value);
-    };
-    match inner(value, *step) {
-        Some(held) => part(held, rest),
-        None => None,
-    }
-}
-
-/// A component or an element takes another value in a part of it.
-#[cycle(replacing)]
-fn replace_at(values: &mut Vec<Value>, k: usize, rest: &[Step], new: Value)
-    ensures { joined (values_of values.new.items) ≡ with_part_at (joined (values_of values.old.items)) k (steps_of rest.now) (value_of new) }
-{
-    if k < values.len() {
-        replace(&mut values[k], rest, new);
-    } else {
-        drop(new);
-    }
-}
-
-/// The part takes another value; nothing happens where there is no such part.
-#[cycle(replacing)]
-pub fn replace(value: &mut Value, steps: &[Step], new: Value)
-    ensures { value_of value.new ≡ with_part (value_of value.old) (steps_of steps.now) (value_of new) }
-{
-    let Some((step, rest)) = steps.split_first() else {
-        *value = new;
-        return;
-    };
-    match (value, step) {
-        (Value::Composite(values), Step::Component(k)) => replace_at(values, *k, rest, new),
-        (Value::Array(_, values), Step::Element(k)) => replace_at(values, *k, rest, new),
-        (Value::Allocated(held), Step::Contents) => replace(held, rest, new),
-        (Value::Number(_) | Value::Truth(_) | Value::Unallocated, _) => drop(new),
-        _ => drop(new),
-    }
-}
-
-/// An object among those of a level, or of the whole run.
-fn object(values: &[Value], i: usize) -> Option<&Value>
-    ensures { Found (slice_index_or (values_of values.now) i m.Unallocated) result }
-{
-    match values.get(i) {
-        Some(value) => Some(value),
-        None => None,
-    }
-}
-
-/// The objects of a level: none where there is no such level.
-fn objects(levels: &[Vec<Value>], level: usize) -> &[Value]
-    ensures { values_of result.now ≡ slice_index_or (levels_of levels.now) level [] }
-{
-    match levels.get(level) {
-        Some(values) => values,
-        None => &[],
-    }
-}
-
-/// An object of a level takes another value in a part of it; nothing happens where there is no such object.
-fn replace_in(values: &mut Vec<Value>, i: usize, steps: &[Step], new: Value)
-    ensures { values_of values.new.items ≡ replaced (values_of values.old.items) i (steps_of steps.now) (value_of new) }
-{
-    if i < values.len() {
-        replace(&mut values[i], steps, new);
-    } else {
-        drop(new);
-    }
-}
-
-/// The same, in the levels.
-fn replace_in_level(
-    levels: &mut Vec<Vec<Value>>,
-    level: usize,
-    i: usize,
-    steps: &[Step],
-    new: Value,
-)
-    ensures { levels_of levels.new.items ≡ replaced_in_level (levels_of levels.old.items) level i (steps_of steps.now) (value_of new) }
-{
-    if level < levels.len() {
-        replace_in(&mut levels[level], i, steps, new);
-    } else {
-        drop(new);
-    }
+    used: u64,
+    ghost counted: { used ≡ taken statics.items levels.items % 2 ^ 64 },
 }
 
 impl Store {
+    ghost use Rattle.std.specs.Prelude.{[], OnOk};
+    ghost use Rattle.f3_meaning_whole.specs.Store.{at_root, get, put};
+    ghost use Rattle.f3_meaning_whole.specs.Ran.{Entered, Ended, effect};
+    ghost use Rattle.f3_account.specs.Account.{used};
+    ghost use Rattle.f3_data.specs.Values.{value_of, values_of};
+    ghost use Rattle.f3_data.specs.Stores.{root_of, path_of, store_of, Found};
+
+    /// The store with these values for the whole run, and no level.
+    pub fn new(alloc: Global, statics: Vec<Value>) -> Store
+        ensures { store_of result ≡ record { statics = values_of statics.items; levels = [] } }
+    {
+        let used = block(level_words(&statics));
+        Store {
+            statics,
+            levels: Vec::new(alloc),
+            used,
+        }
+    }
+
+    /// How many words of a heap all values take, up to multiples of 2 ^ 64 (own rule).
+    pub fn used(&self) -> u64
+        ensures { result ≡ used (store_of self.now) % 2 ^ 64 }
+    {
+        self.used
+    }
+
     /// An object that is part of no other: none where there is none.
     pub fn object(&self, root: Root) -> Option<&Value>
         ensures { Found (at_root (store_of self.now) (root_of root)) result }
@@ -180,12 +93,11 @@ impl Store {
     pub fn put(&mut self, path: &Path, new: Value)
         ensures { store_of self.new ≡ put (store_of self.old) (path_of path.now) (value_of new) }
     {
-        match path.root {
+        let grown = match path.root {
             Root::Static(i) => replace_in(&mut self.statics, i, &path.steps, new),
-            Root::Local(level, i) => {
-                replace_in_level(&mut self.levels, level, i, &path.steps, new);
-            }
-        }
+            Root::Local(level, i) => replace_in_level(&mut self.levels, level, i, &path.steps, new),
+        };
+        self.used = self.used.wrapping_add(grown);
     }
 
     /// A level with these values begins.
@@ -194,7 +106,9 @@ impl Store {
     pub fn enter(&mut self, values: Vec<Value>) -> Result<(), AllocError>
         ensures { OnOk result (store_of self.new ≡ effect (Entered (values_of values.items)) (store_of self.old)) }
     {
+        let words = level_words(&values);
         self.levels.push(values)?;
+        self.used = self.used.wrapping_add(block(words));
         Ok(())
     }
 
@@ -202,6 +116,10 @@ impl Store {
     pub fn leave(&mut self, level: usize)
         ensures { store_of self.new ≡ effect (Ended level) (store_of self.old) }
     {
-        self.levels.truncate(level);
+        if level < self.levels.len() {
+            let ended = levels_words(&self.levels[level..]);
+            self.levels.truncate(level);
+            self.used = self.used.wrapping_sub(ended);
+        }
     }
 }

@@ -18,6 +18,7 @@ use Rattle.f3_elaboration.specs.Program.{elaborated}
 use Rattle.f3_output.specs.Output.{State, Wrote}
 use Rattle.f3_run.specs.declared.compiled.Compiled.{Compiled}
 use Rattle.f3_run.specs.declared.end.End.{End}
+use Rattle.f3_run.specs.declared.end.Limits.{Limits}
 use Rattle.f3_run.specs.Answers.{Answers}
 use Rattle.f3_run.specs.Compiled.{program_of}
 use Rattle.f3_run.specs.Listings.{IsListing}
@@ -44,12 +45,12 @@ Compiles sources (Ok compiled) = Means sources (program_of compiled) × ((refusa
 Compiles sources (Err (Refused refusal)) = IsRefused sources refusal
 Compiles sources (Err Memory) = Unit {0}
 
--- What `check_and_run` answers, of the instructions that the run may make, and of the output before and now: nothing is
+-- What `check_and_run` answers, of the heap and the instructions that the run may use, and of the output before and now: nothing is
 -- written where the sources are refused, or memory is wanting before the run.
-abbrev pub ChecksAndRuns : List Source → ℕ → State → State → Result End CheckFault → Type 0
-ChecksAndRuns sources steps old new (Ok end) = (p : Program) × Means sources p × ((refusal : Refusal) → First sources refusal → ⊥) × Answers p steps old new end
-ChecksAndRuns sources steps old new (Err (Refused refusal)) = IsRefused sources refusal × Wrote old new []
-ChecksAndRuns sources steps old new (Err Memory) = Wrote old new []
+abbrev pub ChecksAndRuns : List Source → Limits → State → State → Result End CheckFault → Type 0
+ChecksAndRuns sources limits old new (Ok end) = (p : Program) × Means sources p × ((refusal : Refusal) → First sources refusal → ⊥) × Answers p limits old new end
+ChecksAndRuns sources limits old new (Err (Refused refusal)) = IsRefused sources refusal × Wrote old new []
+ChecksAndRuns sources limits old new (Err Memory) = Wrote old new []
 
 -- What `check_and_code` answers.
 abbrev pub ChecksAndLists : List Source → Result (String Global) CheckFault → Type 0

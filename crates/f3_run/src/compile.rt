@@ -66,7 +66,7 @@ pub fn check_and_run<W: Write>(
     limits: Limits,
     output: &mut Output<W>,
 ) -> Result<End, CheckFault>
-    ensures { ChecksAndRuns sources.now limits.steps (state_of W.contents output.old) (state_of W.contents output.new) result }
+    ensures { ChecksAndRuns sources.now limits (state_of W.contents output.old) (state_of W.contents output.new) result }
 {
     let compiled = compile(alloc, sources)?;
     let end = run(alloc, &compiled, limits, output);

@@ -25,6 +25,6 @@ pub enum End {
 pub struct Limits {
     /// The most instructions; the first takes the storage of the main program.
     pub steps: u64,
-    /// The size of the heap in words. Values of a run are in the host's memory, so nothing asks for the heap yet.
+    /// The size of the heap in words (own rule): what variables and objects take of it is counted, and no more is given.
     pub heap_words: usize,
 }

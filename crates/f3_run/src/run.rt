@@ -20,19 +20,19 @@ use f3_program::program::Program;
 use std::alloc::Global;
 use std::io::Write;
 
-/// Runs a program: its code is made, and a machine runs it into the output.
+/// Runs a program: its code is made, and a machine runs it into the output, over a heap of a size.
 pub fn run<W: Write>(
     alloc: Global,
     compiled: &Compiled,
     limits: Limits,
     output: &mut Output<W>,
 ) -> End
-    ensures { Answers (program_of compiled.now) limits.steps (state_of W.contents output.old) (state_of W.contents output.new) result }
+    ensures { Answers (program_of compiled.now) limits (state_of W.contents output.old) (state_of W.contents output.new) result }
 {
     let Ok(emission) = generate(alloc, &compiled.program) else {
         return End::Memory;
     };
-    let end = run_code(alloc, &compiled.program, &emission, limits.steps, output);
+    let end = run_code(alloc, &compiled.program, &emission, limits, output);
     drop(emission);
     end
 }
@@ -42,14 +42,15 @@ fn run_code<W: Write>(
     alloc: Global,
     program: &Program,
     emission: &Emission,
-    steps: u64,
+    limits: Limits,
     output: &mut Output<W>,
 ) -> End
     requires { code_in program.now emission.now ≡ program_code (lowered_program program.now) }
-    ensures { Answers program.now steps (state_of W.contents output.old) (state_of W.contents output.new) result }
+    ensures { Answers program.now limits (state_of W.contents output.old) (state_of W.contents output.new) result }
 {
     let scene = Scene { program, emission };
-    let ended = f3_machine::machine::run(alloc, &scene, steps, output);
+    let size = limits.heap_words as u64;
+    let ended = f3_machine::machine::run(alloc, &scene, limits.steps, size, output);
     answers_mean();
     match ended {
         Ended::Done => End::Done,

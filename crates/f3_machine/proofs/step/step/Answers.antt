@@ -8,12 +8,12 @@ returns-in-Err g c =
     let is : Some c.in-Some.line ≡ slice_get c.args.scene.now.emission.now.lines.items c.args.state.now.pc =
     sym c.in-Some.is ∙ rw c.deref.ensures.value at c.line_at.ensures in
     rw c.end_of.ensures
-    (stops c.args.scene.now c.args.state.now c.perform.new.state c.in-Some.line c.unwrap_or-place.result _ _ is c.unwrap_or-place.ensures c.in-Err.stop
-    (c.in-Err.ensures {u = tt}))
+    (stops c.args.size c.args.scene.now c.args.state.now c.do_line.new.state c.in-Some.line c.unwrap_or-place.result _ _ is
+    c.unwrap_or-place.ensures c.in-Err.stop (c.in-Err.ensures {u = tt}))
 
 pub returns-in-Ok : goal.returns-in-Ok
 returns-in-Ok g c =
     let is : Some c.in-Some.line ≡ slice_get c.args.scene.now.emission.now.lines.items c.args.state.now.pc =
     sym c.in-Some.is ∙ rw c.deref.ensures.value at c.line_at.ensures in
-    goes c.args.scene.now c.args.state.now c.perform.new.state c.in-Some.line c.unwrap_or-place.result _ _ is c.unwrap_or-place.ensures (c.in-Ok.ensures {u
-    = tt})
+    goes c.args.size c.args.scene.now c.args.state.now c.do_line.new.state c.in-Some.line c.unwrap_or-place.result _ _ is
+    c.unwrap_or-place.ensures (c.in-Ok.ensures {u = tt})

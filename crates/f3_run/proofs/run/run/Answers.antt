@@ -4,4 +4,4 @@ use Rattle.f3_run.proofs.Beginning.{none_yet}
 use Rattle.f3_run.proofs.run.run.Goals as goal
 
 pub returns-in_default : goal.returns-in_default
-returns-in_default g c = none_yet (program_of c.args.compiled.now) c.args.limits.steps (state_of g.W.Write.contents c.args.output.now)
+returns-in_default g c = none_yet (program_of c.args.compiled.now) c.args.limits (state_of g.W.Write.contents c.args.output.now)

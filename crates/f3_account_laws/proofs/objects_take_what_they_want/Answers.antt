@@ -1,0 +1,5 @@
+use Rattle.f3_account_laws.proofs.Placing as placing
+use Rattle.f3_account_laws.proofs.objects_take_what_they_want.Goals as goal
+
+pub returns : goal.returns
+returns c = placing.objects_take_what_they_want

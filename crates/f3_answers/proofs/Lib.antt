@@ -1,0 +1,5 @@
+pub mod Regular
+pub mod Parts
+pub mod Steered
+pub mod Acting
+pub mod Answering

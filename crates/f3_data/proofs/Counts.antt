@@ -1,0 +1,101 @@
+-- What values and levels in memory take.
+use Rattle.std.proofs.Common.{◌≡◌, ℕ, ◌+◌, ◌*◌, ◌-◌, ◌%◌, ◌^◌, ◌<◌, List, [], ◌∷◌, ◌++◌, length, take, drop, map, sym, ap, ◌∙◌, arith, Vec, Global, get_or}
+use Rattle.std.proofs.lemmas.List.{map-set, map-append, take_more, length-map, length-drop, take_all, take-append-drop}
+use Rattle.std.specs.Prelude.{slice_set}
+use Rattle.f3_meaning_whole.specs.Value.{joined}
+use Rattle.f3_account.specs.Account.{block, words, row, objects, all_objects, level_words, levels_words}
+use Rattle.f3_account.proofs.Rows.{row_joined, level_words_append, all_objects_append, levels_words_append, level_words_set, levels_words_set}
+use Rattle.f3_data.specs.declared.value.Span.{Span}
+use Rattle.f3_data.specs.declared.value.Value as v
+use Rattle.f3_data.specs.Values.{value_of, values_of, span_of}
+use Rattle.f3_data.specs.Stores.{levels_of}
+use Rattle.f3_data.specs.Taken.{taken}
+use Rattle.f3_data.proofs.Rows.{composite_is, array_is, object_stands, level_stands}
+
+pub composite_words : (vs : Vec v.Value Global) → words (value_of (v.Composite vs)) ≡ level_words (values_of vs.items)
+composite_words vs = ap words (composite_is vs) ∙ row_joined (values_of vs.items)
+
+pub array_words : (ss : Vec Span Global) (vs : Vec v.Value Global) →
+    words (value_of (v.Array ss vs)) ≡ 2 * length ss.items + level_words (values_of vs.items)
+array_words ss vs = let e = row_joined (values_of vs.items) in let f = length-map ss.items span_of in ap words (array_is ss vs) ∙ omega arith
+
+pub array_objects : (ss : Vec Span Global) (vs : Vec v.Value Global) →
+    objects (value_of (v.Array ss vs)) ≡ all_objects (joined (values_of vs.items))
+array_objects ss vs = ap objects (array_is ss vs)
+
+-- one more of a list
+
+next_of : {X Y : Type 0} (f : X → Y) (xs : List X) (i : ℕ) (x : X) → i < length xs → x ≡ get_or xs i x →
+    map f (take (i + 1) xs) ≡ map f (take i xs) ++ f x ∷ []
+next_of f xs i x h e = ap (map f) (take_more xs i x h ∙ ap (λ y. take i xs ++ y ∷ []) (sym e)) ∙ map-append f (take i xs) (x ∷ [])
+
+pub words_more : (vs : List v.Value) (i : ℕ) (x : v.Value) → i < length vs → x ≡ get_or vs i x →
+    level_words (values_of (take (i + 1) vs)) ≡ level_words (values_of (take i vs)) + words (value_of x)
+words_more vs i x h e = ap level_words (next_of value_of vs i x h e) ∙ level_words_append (values_of (take i vs)) (value_of x ∷ []) ∙ omega arith
+
+pub objects_more : (vs : List v.Value) (i : ℕ) (x : v.Value) → i < length vs → x ≡ get_or vs i x →
+    all_objects (joined (values_of (take (i + 1) vs))) ≡ all_objects (joined (values_of (take i vs))) + objects (value_of x)
+objects_more vs i x h e = ap (λ xs. all_objects (joined xs)) (next_of value_of vs i x h e)
+    ∙ all_objects_append (values_of (take i vs)) (value_of x ∷ []) ∙ omega arith
+
+pub levels_more : (ls : List (Vec v.Value Global)) (i : ℕ) (l : Vec v.Value Global) → i < length ls → l ≡ get_or ls i l →
+    levels_words (levels_of (take (i + 1) ls)) ≡ levels_words (levels_of (take i ls)) + block (level_words (values_of l.items))
+levels_more ls i l h e = ap levels_words (next_of (λ (u : Vec v.Value Global). values_of u.items) ls i l h e)
+    ∙ levels_words_append (levels_of (take i ls)) (values_of l.items ∷ []) ∙ omega arith
+
+-- one of a list has grown
+
+pub one_grown : (vs : List v.Value) (i g : ℕ) (d y : v.Value) → i < length vs → d ≡ get_or vs i d →
+    (words (value_of d) + g) % 2 ^ 64 ≡ words (value_of y) % 2 ^ 64 →
+    (level_words (values_of vs) + g) % 2 ^ 64 ≡ level_words (values_of (slice_set vs i y)) % 2 ^ 64
+one_grown vs i g d y h e f =
+    let a = ap level_words (map-set value_of vs i y) in
+    let b = level_words_set (values_of vs) i (value_of y) (omega (arith, length-map vs value_of)) in
+    let c = ap words (object_stands vs i d h e) in
+    omega arith
+
+pub one_grown_in_row : (vs : List v.Value) (i g : ℕ) (d y : v.Value) → i < length vs → d ≡ get_or vs i d →
+    (words (value_of d) + g) % 2 ^ 64 ≡ words (value_of y) % 2 ^ 64 →
+    (row (joined (values_of vs)) + g) % 2 ^ 64 ≡ row (joined (values_of (slice_set vs i y))) % 2 ^ 64
+one_grown_in_row vs i g d y h e f =
+    let a = row_joined (values_of vs) in
+    let b = row_joined (values_of (slice_set vs i y)) in
+    let c = one_grown vs i g d y h e f in
+    omega arith
+
+pub level_grown : (ls : List (Vec v.Value Global)) (l g : ℕ) (d y : Vec v.Value Global) → l < length ls → d ≡ get_or ls l d →
+    (level_words (values_of d.items) + g) % 2 ^ 64 ≡ level_words (values_of y.items) % 2 ^ 64 →
+    (levels_words (levels_of ls) + g) % 2 ^ 64 ≡ levels_words (levels_of (slice_set ls l y)) % 2 ^ 64
+level_grown ls l g d y h e f =
+    let a = ap levels_words (map-set (λ (u : Vec v.Value Global). values_of u.items) ls l y) in
+    let b = levels_words_set (levels_of ls) l (values_of y.items) (omega (arith, length-map ls (λ (u : Vec v.Value Global). values_of u.items))) in
+    let c = ap level_words (level_stands ls l d h e) in
+    omega arith
+
+-- what holds values has grown as much as these
+
+pub array_grown : (ss : Vec Span Global) (vs ws : Vec v.Value Global) (g : ℕ) →
+    (row (joined (values_of vs.items)) + g) % 2 ^ 64 ≡ row (joined (values_of ws.items)) % 2 ^ 64 →
+    (words (value_of (v.Array ss vs)) + g) % 2 ^ 64 ≡ words (value_of (v.Array ss ws)) % 2 ^ 64
+array_grown ss vs ws g h =
+    let a = ap words (array_is ss vs) in
+    let b = ap words (array_is ss ws) in
+    omega arith
+
+-- levels that begin and end
+
+pub entered : (ss : List v.Value) (ls : List (Vec v.Value Global)) (l : Vec v.Value Global) →
+    taken ss (ls ++ l ∷ []) ≡ taken ss ls + block (level_words (values_of l.items))
+entered ss ls l =
+    let a = ap levels_words (map-append (λ (u : Vec v.Value Global). values_of u.items) ls (l ∷ [])) in
+    let b = levels_words_append (levels_of ls) (values_of l.items ∷ []) in
+    omega arith
+
+pub ended : (ss : List v.Value) (n : ℕ) (ls : List (Vec v.Value Global)) →
+    taken ss (take n ls) + levels_words (levels_of (take (length ls - n) (drop n ls))) ≡ taken ss ls
+ended ss n ls =
+    let rest = ap (λ ms. levels_words (levels_of ms)) (take_all (length ls - n) (drop n ls) (omega (arith, length-drop n ls))) in
+    let a = ap levels_words (sym (map-append (λ (u : Vec v.Value Global). values_of u.items) (take n ls) (drop n ls))
+    ∙ ap levels_of (take-append-drop n ls)) in
+    let b = levels_words_append (levels_of (take n ls)) (levels_of (drop n ls)) in
+    omega arith

@@ -1,0 +1,11 @@
+use Rattle.std.proofs.Common.{arith}
+use Rattle.f3_data.proofs.Counts.{objects_more, array_objects}
+use Rattle.f3_data.proofs.account.+holding.Goals as goal
+
+pub all_objects-loop-value-preserved : goal.all_objects-loop-value-preserved
+all_objects-loop-value-preserved t c =
+    let more = objects_more c.args.values.now c.loop-value.value-index c.value-item.result c.loop-value-test.true c.value-item.is in
+    omega arith
+
+pub objects-returns-in-Array : goal.objects-returns-in-Array
+objects-returns-in-Array t c = rw (c.in-Array.is, array_objects) (rw c.deref-in-Array.ensures.value at c.all_objects-in-Array.ensures)

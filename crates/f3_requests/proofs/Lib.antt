@@ -1,0 +1,4 @@
+pub mod Wording
+pub mod Tops
+pub mod Wanting
+pub mod Requested
