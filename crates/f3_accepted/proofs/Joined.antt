@@ -12,12 +12,12 @@ use Rattle.f3_graph.specs.declared.CheckFault.TheVariants.{Refused, Memory}
 use Rattle.f3_graph.specs.Breaks.{UnitBreaks}
 use Rattle.f3_graph.specs.Order.{Orders}
 use Rattle.f3_names.specs.Answers.{BreaksOfNames, NamesAnswer}
-use Rattle.f3_types.specs.Breaks.{TypeBreaks}
-use Rattle.f3_types.specs.Answers.{TypesAnswer}
+use Rattle.f3_types.specs.Breaks.{TypeBreaks, BreaksOfTypes, BreaksOfDefinitions}
+use Rattle.f3_types.specs.Answers.{TypesAnswer, DefinitionsAnswer}
 use Rattle.f3_accepted.specs.Accepted.{Breaks, of_units, of_names, of_types, Accepted}
-use Rattle.f3_accepted.specs.Inner.Phases.{Named}
+use Rattle.f3_accepted.specs.Inner.Phases.{Named, Defined}
 use Rattle.f3_accepted.specs.Refusals.{First, of_text, of_program, Checks, fault_of_text}
-use Rattle.f3_accepted.proofs.Phases.{least_of_units, least_of_names, least_of_types}
+use Rattle.f3_accepted.proofs.Phases.{least_of_units, least_of_names, least_of_types, least_of_5_and_6, least_of_7, nothing_of_5_to_7}
 
 pub text_refused : (sources : List Source) (fault : TextFault) → Parses (Err fault) sources → Checks (Err (fault_of_text fault)) sources
 text_refused sources (text_fault.Refused r) h = (of_text h.0, λ t a. h.1 t a.spelled)
@@ -46,6 +46,14 @@ module _ (sources : List Source) (w : Tree) (spelled : Spells w sources) (only :
 -- ---- phases 2 to 7
 
 module _ (w : Tree) where
+  pub types_refused : (fault : CheckFault) → TypesAnswer w (Err fault) → Defined w (Err fault)
+  types_refused (Refused r) h = (h.0, least_of_5_and_6 w h.0 h.1, h.2)
+  types_refused Memory h = tt
+
+  pub definitions_refused : ((b : Break) → BreaksOfTypes w b → ⊥) → (fault : CheckFault) → DefinitionsAnswer w (Err fault) → Defined w (Err fault)
+  definitions_refused types (Refused r) h = (h.0, least_of_7 w h.0 types h.1, h.2)
+  definitions_refused types Memory h = tt
+
   pub units_refused : (fault : CheckFault) → Orders w (Err fault) → Named w (Err fault)
   units_refused (Refused r) h = (h.0, least_of_units w h.0 h.1, h.2)
   units_refused Memory h = tt
@@ -56,9 +64,9 @@ module _ (w : Tree) where
     names_refused Memory h = tt
 
     module _ (names : (b : Break) → BreaksOfNames w b → ⊥) where
-      pub types_refused : (fault : CheckFault) → TypesAnswer w (Err fault) → Named w (Err fault)
-      types_refused (Refused r) h = (h.0, least_of_types w h.0 units names h.1, h.2)
-      types_refused Memory h = tt
+      pub defined_refused : (fault : CheckFault) → Defined w (Err fault) → Named w (Err fault)
+      defined_refused (Refused r) h = (h.0, least_of_types w h.0 units names h.1, h.2)
+      defined_refused Memory h = tt
 
       pub nothing_broken : ((b : Break) → TypeBreaks w b → ⊥) → (b : Break) → Breaks w b → ⊥
       nothing_broken types b (of_units h) = units b h

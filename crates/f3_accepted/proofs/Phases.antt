@@ -1,6 +1,6 @@
 -- The breaks of a program, phase by phase.
-use Rattle.std.proofs.Common.{◌≡◌, ℕ, ◌<◌, ◌≤◌, List, [], ◌∷◌, false, refl, ap, arith, inl, inr, Some}
-use Rattle.std.proofs.lemmas.Bool.{le-ltb, ne_eqb}
+use Rattle.std.proofs.Common.{◌≡◌, ℕ, ◌<◌, ◌≤◌, List, [], ◌∷◌, ◌⊎◌, false, refl, ap, arith, inl, inr, Some}
+use Rattle.std.proofs.lemmas.Bool.{cases_order, le-ltb, ne_eqb}
 use Rattle.std.proofs.lemmas.List.Elements.{All-contains}
 use Rattle.f3_rules.specs.declared.breaks.Break.{Break}
 use Rattle.f3_rules.specs.Rule.{row_of}
@@ -13,7 +13,7 @@ use Rattle.f3_name_rules.specs.NameBreaks.{NameBreaks, AccessBreaks}
 use Rattle.f3_name_rules.specs.NameBreaks as name_rules
 use Rattle.f3_names.specs.Answers.{BreaksOfNames}
 use Rattle.f3_type_rules.specs.Program.{program_breaks}
-use Rattle.f3_types.specs.Breaks.{TypeBreaks}
+use Rattle.f3_types.specs.Breaks.{TypeBreaks, BreaksOfTypes, BreaksOfDefinitions}
 use Rattle.f3_phase_laws.proofs.Program.{late}
 use Rattle.f3_accepted.specs.Accepted.{Breaks, of_units, of_names, of_types}
 
@@ -90,8 +90,41 @@ of_phase_3 : (t : Tree) (b : Break) → BreaksOfNames t b → IsOfNames b
 of_phase_3 t b (inl h) = in_4 b (scope_of_4 h.0 b h.2)
 of_phase_3 t b (inr h) = of_access _ _ b h
 
+late_in : (t : Tree) (b : Break) → TypeBreaks t b → (5 ≤ b.phase) × (b.phase ≤ 7)
+late_in t b h = All-contains (λ (b : Break). (5 ≤ b.phase) × (b.phase ≤ 7)) (program_breaks t h.0 h.1) b (late t h.0 h.1) h.4
+
 past_phase_4 : (t : Tree) (b : Break) → TypeBreaks t b → 4 < b.phase
-past_phase_4 t b h = let e : 5 ≤ b.phase = (All-contains (λ (b : Break). (5 ≤ b.phase) × (b.phase ≤ 7)) (program_breaks t h.0 h.1) b (late t h.0 h.1) h.4).0 in omega (arith, e)
+past_phase_4 t b h = let e = (late_in t b h).0 in omega (arith, e)
+
+-- ---- phases 5 and 6 apart from phase 7
+
+module _ (t : Tree) where
+  below_or_at_7 : (b : Break) → TypeBreaks t b → BreaksOfTypes t b ⊎ BreaksOfDefinitions t b
+  below_or_at_7 b h =
+      let e = (late_in t b h).1 in
+      elim (cases_order b.phase 7) [
+        | inl same ↦ inr (h, same)
+        | inr (inl less) ↦ inl (h, less)
+        | inr (inr more) ↦ absurd (omega (arith, e, more))
+      ]
+
+  pub nothing_of_5_to_7 : ((b : Break) → BreaksOfTypes t b → ⊥) → ((b : Break) → BreaksOfDefinitions t b → ⊥) → (b : Break) → TypeBreaks t b → ⊥
+  nothing_of_5_to_7 types definitions b h = elim (below_or_at_7 b h) [ inl x ↦ types b x | inr x ↦ definitions b x ]
+
+  pub least_of_5_and_6 : (f : Break) → Least (Some f) (BreaksOfTypes t) → Least (Some f) (TypeBreaks t)
+  least_of_5_and_6 f l = record { as_said = (l.as_said.0.0, others) }
+    where
+      others : (b : Break) → TypeBreaks t b → is_before b f ≡ false
+      others b h = elim (below_or_at_7 b h) [
+        | inl x ↦ l.as_said.1 b x
+        | inr x ↦ (let p = l.as_said.0.1 in let q = x.1 in later_phase f b (omega (arith, p, q)))
+      ]
+
+  pub least_of_7 : (f : Break) → ((b : Break) → BreaksOfTypes t b → ⊥) → Least (Some f) (BreaksOfDefinitions t) → Least (Some f) (TypeBreaks t)
+  least_of_7 f types l = record { as_said = (l.as_said.0.0, others) }
+    where
+      others : (b : Break) → TypeBreaks t b → is_before b f ≡ false
+      others b h = elim (below_or_at_7 b h) [ inl x ↦ absurd (types b x) | inr x ↦ l.as_said.1 b x ]
 
 -- ---- the least break of the first phase that has one is the least of all
 

@@ -1,9 +1,14 @@
 //! The check of sources against all rules.
 
-ghost use Rattle.std.specs.Prelude.{◌≡◌};
+ghost use Rattle.std.specs.Prelude.{◌≡◌, IfOk};
+ghost use Rattle.f3_rules.specs.declared.breaks.Break.{Break};
 ghost use Rattle.f3_tree.specs.Tree.{view};
+ghost use Rattle.f3_graph.specs.Order.{IsOrder, numbers_of};
+ghost use Rattle.f3_names.specs.Answers.{BreaksOfNames};
+ghost use Rattle.f3_names.specs.Tables.{AreNames, lookup_at};
+ghost use Rattle.f3_types.specs.Types.{AreTypesAlong};
 ghost use Rattle.f3_accepted.specs.Refusals.{Checks, fault_of_text};
-ghost use Rattle.f3_accepted.specs.Inner.Phases.{Named};
+ghost use Rattle.f3_accepted.specs.Inner.Phases.{Named, Defined};
 
 use crate::checked::Checked;
 use f3_graph::{CheckFault, UnitOrder, order};
@@ -13,7 +18,7 @@ use f3_rules::source::Source;
 use f3_text::statement::TextFault;
 use f3_tree::program::Program;
 use f3_types::table::Types;
-use f3_types::typed::typed;
+use f3_types::typed::{definitions, typed};
 use std::alloc::Global;
 
 /// The program that the sources spell, where it breaks no rule; else the refusal of the first break of all phases. Memory
@@ -46,10 +51,33 @@ fn named(alloc: Global, program: &Program) -> Result<(UnitOrder, Names, Types), 
 {
     let order = order(alloc, program)?;
     let names = f3_names::names(alloc, program, &order)?;
-    match typed(alloc, program, &order, &names) {
+    match defined(alloc, program, &order, &names) {
         Ok(types) => Ok((order, names, types)),
         Err(fault) => {
             drop(names);
+            Err(fault)
+        }
+    }
+}
+
+/// What the entities of a program are, where it breaks no rule of phases 5 to 7; else the refusal of the first break.
+fn defined(
+    alloc: Global,
+    program: &Program,
+    order: &UnitOrder,
+    names: &Names,
+) -> Result<Types, CheckFault>
+    requires names { AreNames (view program.now) names.now }
+    requires order { IsOrder (view program.now) order.now }
+    requires unbroken { (b : Break) → BreaksOfNames (view program.now) b → ⊥ }
+    ensures answer { Defined (view program.now) result }
+    ensures along { IfOk result (λ types. AreTypesAlong (view program.now) (lookup_at names.now) (numbers_of order.now) types) }
+{
+    let types = typed(alloc, program, order, names)?;
+    match definitions(alloc, program, &types) {
+        Ok(()) => Ok(types),
+        Err(fault) => {
+            drop(types);
             Err(fault)
         }
     }

@@ -56,13 +56,18 @@ pub record FitsIn (spans : List Span) (ss : List m.Span) : Type 0 where
 
 -- a part of a run gives this wherever it is, and the store becomes that, and no byte is printed
 abbrev pub Performs : {A : Type 0} → (Here → Ran A) → Store → A → Store → Type 0
-Performs m old x new = (here : Here) → (out : List Event) × ((m here).from (world_of old) ≡ record { out = out; end = Gives x (world_of new) }) × (output out ≡ [])
+Performs m old x new = (here : Here) → (out : List Event)
+    × ((m here).from (world_of old) ≡ record { out = out; end = Gives x (world_of new) })
+    × (output out ≡ [])
 
 -- what an object holds goes to another, wherever these are lent, or it is in use; of want of memory nothing is said here
 abbrev pub TakesOver : Reference → Reference → List Reference → Result ⊤ Stop → Store → Store → Type 0
 TakesOver from to lent (Ok done) old new = (g : Setting) (here : Here) → here.lent ≡ lent → (out : List Event)
-    × ((looks (λ store. s.get store from.path) >>= λ x. take_over g 0 no_calls from to x here).from (world_of old) ≡ record { out = out; end = Gives tt (world_of new) }) × (output out ≡ [])
+    × ((looks (λ store. s.get store from.path) >>= λ x. take_over g 0 no_calls from to x here).from (world_of old)
+    ≡ record { out = out; end = Gives tt (world_of new) })
+    × (output out ≡ [])
 TakesOver from to lent (Err (stop.Failed error)) old new = (g : Setting) (here : Here) → here.lent ≡ lent
-    → (looks (λ store. s.get store from.path) >>= λ x. take_over g 0 no_calls from to x here).from (world_of old) ≡ record { out = []; end = Fails error here.place }
+    → (looks (λ store. s.get store from.path) >>= λ x. take_over g 0 no_calls from to x here).from (world_of old)
+    ≡ record { out = []; end = Fails error here.place }
 TakesOver from to lent (Err stop.Memory) old new = ⊤
 TakesOver from to lent (Err e) old new = ⊥

@@ -2,3 +2,4 @@ pub mod Holding
 pub mod Returning
 pub mod Calling
 pub mod Associations
+pub mod Standing

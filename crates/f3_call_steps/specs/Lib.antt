@@ -1,3 +1,4 @@
 pub mod Returned
 pub mod Entering
 pub mod Associating
+pub mod Standing

@@ -1,11 +1,12 @@
 //! Arguments of a call, and what the dummies are for them.
 
-ghost use Rattle.std.specs.Prelude.{◌≡◌, ◌+◌, ◌<◌, ◌^◌, ◌++◌, ◌∷◌, [], IfOk, OnOk, length, map};
+ghost use Rattle.std.specs.Prelude.{◌≡◌, ◌+◌, ◌<◌, ◌^◌, ◌++◌, ◌∷◌, [], IfOk, OnOk, length, map, vec_len};
 ghost use Rattle.f3_meaning_whole.specs.Exec as x;
-ghost use Rattle.f3_meaning_whole.specs.Exec.{argument_at, bound, held};
+ghost use Rattle.f3_meaning_whole.specs.Exec.{bound, held};
 ghost use Rattle.f3_data.specs.Values.{values_of};
 ghost use Rattle.f3_data.specs.References.{reference_of, references_of};
 ghost use Rattle.f3_cells.specs.Cells.{passed_of};
+ghost use Rattle.f3_call_steps.specs.Standing.{Noted, AreFirsts, StandsIn, argument_of};
 
 use f3_cells::cell::Passed;
 use f3_data::copies;
@@ -18,22 +19,61 @@ use f3_program::declarations::Base;
 use f3_program::program::Dummy;
 use std::alloc::{AllocError, Global};
 
-/// The argument of a number for a dummy of a type (ISO/IEC 1539-1:2004, 12.4.1), where the values that are held stand on a
-/// level, from a slot on.
-fn argument_at(
+/// Where an argument stands: its position among the arguments, and the slot of its value among those that are held.
+#[derive(Clone, Copy)]
+struct Stand {
+    position: usize,
+    slot: usize,
+}
+
+/// Notes where an argument of a number stands, unless one of that number is noted.
+fn note(table: &mut [Option<Stand>], number: usize, stand: Stand)
+    ensures { Noted number stand table.old table.new }
+{
+    if number < table.len() && table[number].is_none() {
+        table[number] = Some(stand);
+    }
+}
+
+/// Where the first argument of each number below a count stands, if there is one.
+fn stands(
     alloc: Global,
-    number: usize,
+    count: usize,
+    arguments: &[Passed],
+) -> Result<Vec<Option<Stand>>, AllocError>
+    requires slots { length arguments.now < 2 ^ 63 }
+    ensures len { IfOk result (λ table. vec_len table ≡ count) }
+    ensures firsts { IfOk result (λ table. AreFirsts table.items (map passed_of arguments.now)) }
+{
+    let mut table = vec![in alloc; None; count]?;
+    let mut slot = 0;
+    for (position, argument) in arguments.iter().enumerate() {
+        match argument {
+            Passed::Given(number, _) => {
+                note(&mut table, *number, Stand { position, slot });
+                slot += 1;
+            }
+            Passed::Lent(number, _) => note(&mut table, *number, Stand { position, slot }),
+        }
+    }
+    Ok(table)
+}
+
+/// The argument that stands there for a dummy of a type (ISO/IEC 1539-1:2004, 12.4.1), where the values that are held stand
+/// on a level; without one, an object that is not allocated.
+fn argument_of(
+    alloc: Global,
+    stand: Option<Stand>,
     of: Base,
     arguments: &[Passed],
     level: usize,
-    slot: usize,
     unit: usize,
 ) -> Result<Reference, AllocError>
     requires levels { level < 2 ^ 63 }
-    requires slots { slot + length arguments.now < 2 ^ 63 }
-    ensures { IfOk result (λ r. reference_of r ≡ argument_at number of (map passed_of arguments.now) level slot unit) }
+    requires inside { StandsIn stand (length arguments.now) }
+    ensures { IfOk result (λ r. reference_of r ≡ argument_of stand of (map passed_of arguments.now) level unit) }
 {
-    let Some((first, others)) = arguments.split_first() else {
+    let Some(stand) = stand else {
         return to_value(
             alloc,
             Root::Local(level + 1, 0),
@@ -43,45 +83,33 @@ fn argument_at(
             &Value::Unallocated,
         );
     };
-    match first {
-        Passed::Given(i, value) => {
-            if *i == number {
-                to_value(
-                    alloc,
-                    Root::Local(level, slot),
-                    of,
-                    Right::Read,
-                    unit,
-                    value,
-                )
-            } else {
-                argument_at(alloc, number, of, others, level, slot + 1, unit)
-            }
-        }
-        Passed::Lent(i, object) => {
-            if *i == number {
-                copies::reference(alloc, object)
-            } else {
-                argument_at(alloc, number, of, others, level, slot, unit)
-            }
-        }
+    match &arguments[stand.position] {
+        Passed::Given(_, value) => to_value(
+            alloc,
+            Root::Local(level, stand.slot),
+            of,
+            Right::Read,
+            unit,
+            value,
+        ),
+        Passed::Lent(_, object) => copies::reference(alloc, object),
     }
 }
 
-/// What a dummy of a number is for its argument.
-fn dummy_at(
+/// What a dummy is for the argument that stands there.
+fn dummy_for(
     alloc: Global,
-    number: usize,
+    stand: Option<Stand>,
     dummy: &Dummy,
     arguments: &[Passed],
     level: usize,
     unit: usize,
 ) -> Result<Reference, AllocError>
     requires levels { level < 2 ^ 63 }
-    requires slots { length arguments.now < 2 ^ 63 }
-    ensures { IfOk result (λ r. reference_of r ≡ bound dummy.now (argument_at number dummy.now.kind.of (map passed_of arguments.now) level 0 unit)) }
+    requires inside { StandsIn stand (length arguments.now) }
+    ensures { IfOk result (λ r. reference_of r ≡ bound dummy.now (argument_of stand dummy.now.kind.of (map passed_of arguments.now) level unit)) }
 {
-    let mut object = argument_at(alloc, number, dummy.kind.of, arguments, level, 0, unit)?;
+    let mut object = argument_of(alloc, stand, dummy.kind.of, arguments, level, unit)?;
     bind(&mut object, dummy);
     Ok(object)
 }
@@ -98,9 +126,10 @@ pub(crate) fn dummies(
     requires slots { length arguments.now < 2 ^ 63 }
     ensures { IfOk result (λ rs. references_of rs.items ≡ x.dummies 0 declared.now (map passed_of arguments.now) level unit) }
 {
+    let table = stands(alloc, declared.len(), arguments)?;
     let mut objects = Vec::new(alloc);
     for (number, dummy) in declared.iter().enumerate() {
-        objects.push(dummy_at(alloc, number, dummy, arguments, level, unit)?)?;
+        objects.push(dummy_for(alloc, table[number], dummy, arguments, level, unit)?)?;
     }
     Ok(objects)
 }

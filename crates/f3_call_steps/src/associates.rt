@@ -66,32 +66,29 @@ fn add_objects(
     objects: &mut Vec<Reference>,
     selectors: &[Association],
     level: usize,
-    slot: usize,
+    mut slot: usize,
     unit: usize,
 ) -> Result<(), AllocError>
     requires { slot + length selectors.now < 2 ^ 63 }
     ensures { OnOk result (references_of objects.new.items ≡ references_of objects.old.items ++ associates (map association_of selectors.now) level slot unit) }
 {
-    let Some((first, others)) = selectors.split_first() else {
-        return Ok(());
-    };
-    match first {
-        Association::Holds(of, value) => {
-            objects.push(to_value(
-                alloc,
-                Root::Local(level, slot),
-                *of,
-                Right::Read,
-                unit,
-                value,
-            )?)?;
-            add_objects(alloc, objects, others, level, slot + 1, unit)
-        }
-        Association::Means(object) => {
-            objects.push(object_of(alloc, object)?)?;
-            add_objects(alloc, objects, others, level, slot, unit)
+    for selector in selectors {
+        match selector {
+            Association::Holds(of, value) => {
+                objects.push(to_value(
+                    alloc,
+                    Root::Local(level, slot),
+                    *of,
+                    Right::Read,
+                    unit,
+                    value,
+                )?)?;
+                slot += 1;
+            }
+            Association::Means(object) => objects.push(object_of(alloc, object)?)?,
         }
     }
+    Ok(())
 }
 
 /// On within an ASSOCIATE: what was around it, and its objects, are kept.

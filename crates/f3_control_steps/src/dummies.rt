@@ -1,6 +1,6 @@
 //! Dummies and arguments, at the end of a procedure.
 
-ghost use Rattle.std.specs.Prelude.{◌≡◌, ◌∷◌, ◌<◌, ◌^◌, List, [], map, drop, reverse, MatchOption};
+ghost use Rattle.std.specs.Prelude.{◌≡◌, ◌∷◌, ◌<◌, ◌^◌, ℕ, nat_eq, if◌then◌else◌, Some, List, [], map, drop, reverse, MatchOption};
 ghost use Rattle.f3_program.specs.declared.program.Program.{Program};
 ghost use Rattle.f3_meaning_whole.specs.Act as m;
 ghost use Rattle.f3_meaning_whole.specs.Act.{passed_at};
@@ -56,13 +56,23 @@ pub fn outward(alloc: Global, state: &mut State) -> Result<(), Stop>
     state.go_on_with(Cell::Objects(objects))
 }
 
-/// Whether the argument of a number is a value that is held, where this is known of the others.
-fn is_held_of(first: &Passed, number: usize, others: bool) -> bool
-    ensures { (ps : List m.Passed) → others ≡ is_held (passed_at number ps) → result ≡ is_held (passed_at number (passed_of first.now ∷ ps)) }
+/// The number of an argument.
+fn number_of(argument: &Passed) -> usize
+    ensures { (ps : List m.Passed) (k : ℕ) → passed_at k (passed_of argument.now ∷ ps) ≡ (if nat_eq result k then Some (passed_of argument.now) else passed_at k ps) }
 {
-    match first {
-        Passed::Given(at, _) => *at == number || others,
-        Passed::Lent(at, _) => *at != number && others,
+    match argument {
+        Passed::Given(at, _) => *at,
+        Passed::Lent(at, _) => *at,
+    }
+}
+
+/// Whether an argument is a value.
+fn is_value(argument: &Passed) -> bool
+    ensures { result ≡ is_held (Some (passed_of argument.now)) }
+{
+    match argument {
+        Passed::Given(_, _) => true,
+        Passed::Lent(_, _) => false,
     }
 }
 
@@ -70,10 +80,12 @@ fn is_held_of(first: &Passed, number: usize, others: bool) -> bool
 fn is_held(passed: &[Passed], number: usize) -> bool
     ensures { result ≡ is_held (passed_at number (map passed_of passed.now)) }
 {
-    let Some((first, others)) = passed.split_first() else {
-        return false;
-    };
-    is_held_of(first, number, is_held(others, number))
+    for argument in passed {
+        if number_of(argument) == number {
+            return is_value(argument);
+        }
+    }
+    false
 }
 
 /// Whether the argument of a number of the latest call is a value that is held.

@@ -110,11 +110,11 @@ pub fn pass_object(alloc: Global, state: &mut State) -> Result<(), Stop>
 fn routine_line(routines: &[usize], number: usize) -> Option<usize>
     ensures { (go : ℕ → Next) (none : Next) → MatchOption result (routine_at routines.now number go none ≡ none) (λ pc. routine_at routines.now number go none ≡ go pc) }
 {
-    let (first, others) = routines.split_first()?;
-    if number == others.len() {
-        Some(*first)
+    let count = routines.len();
+    if number < count {
+        Some(routines[count - number - 1])
     } else {
-        routine_line(others, number)
+        None
     }
 }
 

@@ -3,6 +3,5 @@ pub mod Entities
 pub mod Texts
 pub mod Parts
 pub mod Tables
-pub mod Meant
 pub mod Answers
 pub mod Inner

@@ -1,3 +1,4 @@
+pub mod Sums
 pub mod Wording
 pub mod Tops
 pub mod Wanting

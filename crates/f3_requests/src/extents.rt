@@ -1,12 +1,13 @@
 //! The elements and the words of new objects.
 
-ghost use Rattle.std.specs.Prelude.{◌≡◌, ℕ, ◌*◌, ◌≤◌, ◌%◌, ◌^◌, List, nat_lt, true, false, MatchOption, length};
+ghost use Rattle.std.specs.Prelude.{◌≡◌, ℕ, ◌*◌, ◌≤◌, ◌%◌, ◌^◌, List, [], ◌∷◌, nat_lt, true, false, MatchOption, length};
 ghost use Rattle.f3_meaning_whole.specs.Value as m;
 ghost use Rattle.f3_meaning_whole.specs.Value.{count};
 ghost use Rattle.f3_meaning_whole.specs.Exec.{too_many, vacant};
 ghost use Rattle.f3_account.specs.Account.{words};
 ghost use Rattle.f3_arithmetic.specs.Turns.{turns_of};
 ghost use Rattle.f3_data.specs.Values.{spans_of};
+ghost use Rattle.f3_cells.specs.declared.cell.Cell.{Cell};
 ghost use Rattle.f3_requests.specs.Counted.{extents, Sized};
 
 use f3_cells::cell::Cell;
@@ -19,14 +20,14 @@ const MOST_ELEMENTS: u64 = 16_777_216;
 const TOO_MANY: u64 = 0x7FFF_FFFF_FFFF_FFFF;
 
 /// How many elements an array of bounds has (6.2.2.2), modulo 2 to the 64.
-#[tactic(auto, using(f3_account::proofs::Modulo::product_right))]
 pub(crate) fn element_count(spans: &[Span]) -> u64
     ensures { result ≡ count (spans_of spans.now) % 2 ^ 64 }
 {
-    let Some((first, others)) = spans.split_first() else {
-        return 1;
-    };
-    first.extent.wrapping_mul(element_count(others))
+    let mut n: u64 = 1;
+    for span in spans {
+        n = n.wrapping_mul(span.extent);
+    }
+    n
 }
 
 /// The words of a new object of a rank, with so many bounds and elements, each of so many words (6.3.1), modulo 2 to the 64.
@@ -50,17 +51,21 @@ fn is_told(turns: Option<u64>) -> bool
     }
 }
 
+/// Whether a cell is a dimension of more subscripts than a signed number of 64 bits tells.
+fn is_untold(cell: &Cell) -> bool
+    ensures { result ≡ too_many (extents (cell.now ∷ [])) }
+{
+    match cell {
+        Cell::Extent(_, turns) => !is_told(*turns),
+        _ => false,
+    }
+}
+
 /// Whether one of the dimensions among cells has more subscripts than a signed number of 64 bits tells.
 fn too_many(cells: &[Cell]) -> bool
     ensures { result ≡ too_many (extents cells.now) }
 {
-    let Some((first, others)) = cells.split_first() else {
-        return false;
-    };
-    match first {
-        Cell::Extent(_, turns) => !is_told(*turns) || too_many(others),
-        _ => too_many(others),
-    }
+    cells.iter().any(|cell| is_untold(cell))
 }
 
 /// So many elements for each subscript of a dimension, given how many follow the first: none where they are 2 to the 64 or more.
@@ -79,16 +84,38 @@ fn repeated(turns: Option<u64>, n: Option<u64>) -> Option<u64>
     }
 }
 
+/// How many elements an array of the dimensions among a cell and others has, given how many it has by the others: none where
+/// they are 2 to the 64 or more.
+fn extended(cell: &Cell, n: Option<u64>) -> Option<u64>
+    ensures { (cs : List Cell) → MatchOption n (2 ^ 64 ≤ count (extents cs)) (λ x. x ≡ count (extents cs))
+        → MatchOption result (2 ^ 64 ≤ count (extents (cell.now ∷ cs))) (λ x. x ≡ count (extents (cell.now ∷ cs))) }
+{
+    match cell {
+        Cell::Extent(_, turns) => repeated(*turns, n),
+        _ => n,
+    }
+}
+
 /// How many elements an array of the dimensions among cells has (6.2.2.2): none where they are 2 to the 64 or more.
 fn count(cells: &[Cell]) -> Option<u64>
     ensures { MatchOption result (2 ^ 64 ≤ count (extents cells.now)) (λ n. n ≡ count (extents cells.now)) }
 {
-    let Some((first, others)) = cells.split_first() else {
-        return Some(1);
-    };
-    match first {
-        Cell::Extent(_, turns) => repeated(*turns, count(others)),
-        _ => count(others),
+    let mut n = Some(1);
+    let mut before = cells.len();
+    while before > 0 {
+        before -= 1;
+        n = extended(&cells[before], n);
+    }
+    n
+}
+
+/// How many dimensions a cell is: one or none.
+fn own_rank(cell: &Cell) -> u64
+    ensures { result ≡ length (extents (cell.now ∷ [])) }
+{
+    match cell {
+        Cell::Extent(_, _) => 1,
+        _ => 0,
     }
 }
 
@@ -96,13 +123,11 @@ fn count(cells: &[Cell]) -> Option<u64>
 pub(crate) fn rank_of(cells: &[Cell]) -> u64
     ensures { result ≡ length (extents cells.now) % 2 ^ 64 }
 {
-    let Some((first, others)) = cells.split_first() else {
-        return 0;
-    };
-    match first {
-        Cell::Extent(_, _) => rank_of(others).wrapping_add(1),
-        _ => rank_of(others),
+    let mut rank: u64 = 0;
+    for cell in cells {
+        rank = rank.wrapping_add(own_rank(cell));
     }
+    rank
 }
 
 /// How many elements a new array of the dimensions among cells has: none where it is too large (own rule for 6.3.1).

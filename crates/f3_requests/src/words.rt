@@ -14,14 +14,14 @@ use f3_program::declarations::{Base, Component, Constant, Declared, Derived, Dim
 use f3_program::program::{Procedure, Program};
 
 /// How many elements an array of dimensions has (ISO/IEC 1539-1:2004, 6.2.2.2).
-#[tactic(auto, using(f3_account::proofs::Modulo::product_right))]
 fn element_count(dimensions: &[Dimension]) -> u64
     ensures { result ≡ count (spans_declared dimensions.now) % 2 ^ 64 }
 {
-    let Some((first, others)) = dimensions.split_first() else {
-        return 1;
-    };
-    first.extent.wrapping_mul(element_count(others))
+    let mut n: u64 = 1;
+    for dimension in dimensions {
+        n = n.wrapping_mul(dimension.extent);
+    }
+    n
 }
 
 /// The words of so many elements that are initialized so, each of so many words where it is not.

@@ -48,7 +48,8 @@ Compiles sources (Err Memory) = Unit {0}
 -- What `check_and_run` answers, of the heap and the instructions that the run may use, and of the output before and now: nothing is
 -- written where the sources are refused, or memory is wanting before the run.
 abbrev pub ChecksAndRuns : List Source → Limits → State → State → Result End CheckFault → Type 0
-ChecksAndRuns sources limits old new (Ok end) = (p : Program) × Means sources p × ((refusal : Refusal) → First sources refusal → ⊥) × Answers p limits old new end
+ChecksAndRuns sources limits old new (Ok end) =
+    (p : Program) × Means sources p × ((refusal : Refusal) → First sources refusal → ⊥) × Answers p limits old new end
 ChecksAndRuns sources limits old new (Err (Refused refusal)) = IsRefused sources refusal × Wrote old new []
 ChecksAndRuns sources limits old new (Err Memory) = Wrote old new []
 

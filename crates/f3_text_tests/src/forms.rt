@@ -9,6 +9,7 @@ use f3_words::error::ReadError;
 use f3_words::items::line;
 use f3_words::line::Tables;
 use std::alloc::{AllocError, Global};
+use std::process::Abort;
 use std::test::Fail;
 
 /// What an action is called in these tests.
@@ -83,187 +84,482 @@ fn read(alloc: Global, text: &str) -> Result<&'static str, AllocError> {
     }
 }
 
-/// The first of these texts that is read as something else than what stands beside it.
-fn first_wrong<'a>(
-    alloc: Global,
-    cases: &[(&'a str, &str)],
-) -> Result<Option<&'a str>, AllocError> {
-    for (text, expected) in cases {
-        if read(alloc, text)? != *expected {
-            return Ok(Some(*text));
+/// The first line of a table, `KIND: TEXT`, whose text is read as something else.
+fn first_wrong<'a>(alloc: Global, table: &'a str) -> Result<Option<&'a str>, AllocError> {
+    for line in table.lines() {
+        let Some((expected, text)) = line.split_once(": ") else {
+            return Ok(Some(line));
+        };
+        if read(alloc, text)? != expected {
+            return Ok(Some(line));
         }
     }
     Ok(None)
 }
 
+/// Each text of a table is read as its line says.
+fn all_right(rt: &impl Abort, alloc: Global, table: &str) -> Result<(), Fail> {
+    assert_eq!(rt; first_wrong(alloc, table)?, None);
+    Ok(())
+}
+
+const UNITS: &str = "\
+unit: MODULE m
+unit: PROGRAM p
+none: MODULE m n
+none: MODULE
+none: PROGRAM
+none: PROGRAM 1
+contains: CONTAINS
+none: CONTAINS s";
+
 #[test]
 fn units(rt: HostRuntime) -> Result<(), Fail> {
-    let cases = [
-        ("MODULE m", "unit"),
-        ("PROGRAM p", "unit"),
-        ("MODULE m n", "none"),
-        ("CONTAINS", "contains"),
-        ("END", "end"),
-        ("END MODULE m", "end what name"),
-        ("ENDMODULE", "end what"),
-        ("END IF", "end if"),
-        ("END IF x", "none"),
-        ("END x", "none"),
-    ];
-    assert_eq!(rt; first_wrong(rt.alloc(), &cases)?, None);
-    Ok(())
+    all_right(&rt, rt.alloc(), UNITS)
 }
 
-#[test]
-fn procedures(rt: HostRuntime) -> Result<(), Fail> {
-    let cases = [
-        ("SUBROUTINE s", "procedure"),
-        ("PURE RECURSIVE SUBROUTINE s ( a , b )", "procedure"),
-        ("PURE PURE SUBROUTINE s", "none"),
-        ("INTEGER SUBROUTINE s", "none"),
-        ("RECURSIVE INTEGER PURE FUNCTION f ( )", "procedure"),
-        ("TYPE ( t ) FUNCTION f ( a ) RESULT ( r )", "procedure"),
-        ("INTEGER ( 8 ) PURE FUNCTION f ( )", "procedure"),
-        ("PURE INTEGER ( KIND = 4 ) FUNCTION f ( )", "procedure"),
-        ("INTEGER ( 8 ) SUBROUTINE s", "none"),
-        ("FUNCTION f", "none"),
-    ];
-    assert_eq!(rt; first_wrong(rt.alloc(), &cases)?, None);
-    Ok(())
-}
+const ENDS: &str = "\
+end: END
+end what name: END MODULE m
+end what: ENDMODULE
+end what name: END PROGRAM p
+end what: ENDPROGRAM
+end what name: END SUBROUTINE s
+end what: ENDSUBROUTINE
+end what name: END FUNCTION f
+end what name: ENDFUNCTION f
+end what name: END TYPE t
+end what: ENDTYPE
+end if: END IF
+end if: ENDIF
+end what: END SELECT
+end what: ENDSELECT
+end what: END DO
+end what: ENDDO
+none: END IF x
+none: END DO x
+none: END SELECT x
+none: END MODULE m n
+none: END x
+none: END CASE";
 
 #[test]
-fn specifications(rt: HostRuntime) -> Result<(), Fail> {
-    let cases = [
-        ("USE :: m , ONLY : a , b => c", "use"),
-        ("USE m , ONLY :", "use"),
-        ("USE m , ONLY => a , b => c", "use"),
-        ("USE m , a", "none"),
-        ("IMPLICIT NONE", "implicit none"),
-        ("PUBLIC", "access"),
-        ("PRIVATE :: a , b", "access"),
-        ("PUBLIC ::", "none"),
-        ("PROTECTED a", "protected"),
-        ("PROTECTED", "none"),
-        ("SAVE", "save"),
-        ("SAVE a", "none"),
-        ("TYPE t", "type"),
-        ("TYPE , PRIVATE :: t", "type access"),
-        ("TYPE , PRIVATE t", "none"),
-        ("FINAL a , b", "final"),
-    ];
-    assert_eq!(rt; first_wrong(rt.alloc(), &cases)?, None);
-    Ok(())
+fn ends(rt: HostRuntime) -> Result<(), Fail> {
+    all_right(&rt, rt.alloc(), ENDS)
 }
+
+const SUBROUTINES: &str = "\
+procedure: SUBROUTINE s
+procedure: SUBROUTINE s ( )
+procedure: SUBROUTINE s ( a , b )
+procedure: PURE RECURSIVE SUBROUTINE s ( a , b )
+procedure: RECURSIVE PURE SUBROUTINE s
+none: PURE PURE SUBROUTINE s
+none: RECURSIVE RECURSIVE SUBROUTINE s
+none: ELEMENTAL SUBROUTINE s
+none: INTEGER SUBROUTINE s
+none: INTEGER ( 8 ) SUBROUTINE s
+none: SUBROUTINE s ( a , )
+none: SUBROUTINE s ( a b )
+none: SUBROUTINE s ( ) RESULT ( r )
+none: SUBROUTINE";
+
+#[test]
+fn subroutines(rt: HostRuntime) -> Result<(), Fail> {
+    all_right(&rt, rt.alloc(), SUBROUTINES)
+}
+
+const FUNCTIONS: &str = "\
+procedure: FUNCTION f ( )
+procedure: FUNCTION f ( a , b ) RESULT ( r )
+procedure: RECURSIVE INTEGER PURE FUNCTION f ( )
+procedure: LOGICAL FUNCTION f ( a )
+procedure: PURE LOGICAL FUNCTION f ( a )
+procedure: TYPE ( t ) FUNCTION f ( a ) RESULT ( r )
+procedure: INTEGER ( 8 ) PURE FUNCTION f ( )
+procedure: PURE INTEGER ( KIND = 4 ) FUNCTION f ( )
+none: INTEGER LOGICAL FUNCTION f ( )
+none: INTEGER INTEGER FUNCTION f ( )
+none: PURE INTEGER PURE FUNCTION f ( )
+none: REAL FUNCTION f ( )
+none: FUNCTION f
+none: FUNCTION f ( ) RESULT r
+none: FUNCTION f ( ) RESULT ( )
+none: FUNCTION f ( ) RESULT ( r , q )";
+
+#[test]
+fn functions(rt: HostRuntime) -> Result<(), Fail> {
+    all_right(&rt, rt.alloc(), FUNCTIONS)
+}
+
+const USES: &str = "\
+use: USE m
+use: USE :: m
+use: USE m , k => n
+use: USE :: m , a => b , c => d
+use: USE m , ONLY : a
+use: USE :: m , ONLY : a , b => c
+use: USE m , ONLY :
+use: USE m , ONLY => a , b => c
+none: USE m , a
+none: USE m ,
+none: USE m ONLY : a
+none: USE m , ONLY a
+none: USE m , ONLY : a ,
+none: USE m , ONLY : a b
+none: USE , m
+none: USE";
+
+#[test]
+fn uses(rt: HostRuntime) -> Result<(), Fail> {
+    all_right(&rt, rt.alloc(), USES)
+}
+
+const ACCESS: &str = "\
+implicit none: IMPLICIT NONE
+none: IMPLICIT INTEGER ( a )
+none: IMPLICIT
+none: IMPLICIT NONE , a
+access: PUBLIC
+access: PRIVATE
+access: PUBLIC n
+access: PRIVATE a , b
+access: PUBLIC :: a
+access: PRIVATE :: a , b
+none: PUBLIC ::
+none: PRIVATE a ,
+none: PUBLIC a b
+protected: PROTECTED a
+protected: PROTECTED :: a , b
+none: PROTECTED
+none: PROTECTED ::
+save: SAVE
+none: SAVE a
+none: SAVE ::";
+
+#[test]
+fn access(rt: HostRuntime) -> Result<(), Fail> {
+    all_right(&rt, rt.alloc(), ACCESS)
+}
+
+const TYPES: &str = "\
+type: TYPE t
+type: TYPE :: t
+type access: TYPE , PRIVATE :: t
+type access: TYPE , PUBLIC :: t
+none: TYPE , PRIVATE t
+none: TYPE , SAVE :: t
+none: TYPE , PUBLIC , PRIVATE :: t
+none: TYPE
+none: TYPE t , u
+final: FINAL a
+final: FINAL a , b
+final: FINAL :: a , b
+none: FINAL
+none: FINAL ::
+none: FINAL a b";
+
+#[test]
+fn types(rt: HostRuntime) -> Result<(), Fail> {
+    all_right(&rt, rt.alloc(), TYPES)
+}
+
+const ATTRIBUTES: &str = "\
+declare: INTEGER , PUBLIC :: n
+declare: INTEGER , PRIVATE :: n
+declare: LOGICAL , PROTECTED :: n
+declare: INTEGER , PARAMETER :: n = 1
+declare: TYPE ( t ) , SAVE :: n
+declare: INTEGER , ALLOCATABLE :: n
+declare: INTEGER , DIMENSION ( 3 ) :: n
+declare: INTEGER , DIMENSION ( 0 : 2 , k ) :: n
+declare: INTEGER , DIMENSION ( : , : ) , ALLOCATABLE :: n
+declare: INTEGER , INTENT ( IN ) :: n
+declare: INTEGER , INTENT ( OUT ) :: n
+declare: INTEGER , INTENT ( INOUT ) , SAVE :: n
+declare: TYPE ( t ) , INTENT ( IN OUT ) :: n
+none: INTEGER , INTENT ( ) :: n
+none: INTEGER , INTENT IN :: n
+none: INTEGER , DIMENSION ( ) :: n
+none: INTEGER , DIMENSION :: n
+none: INTEGER , POINTER :: n
+none: INTEGER , TARGET :: n
+none: INTEGER , OPTIONAL :: n
+none: LOGICAL , SAVE n
+none: INTEGER , :: n
+none: INTEGER , SAVE ,";
+
+#[test]
+fn attributes(rt: HostRuntime) -> Result<(), Fail> {
+    all_right(&rt, rt.alloc(), ATTRIBUTES)
+}
+
+const DECLARATIONS: &str = "\
+declare: INTEGER n , PURE
+declare: INTEGER :: n
+declare: LOGICAL l , m ( 3 )
+declare: TYPE ( t ) x
+declare: TYPE ( t ) :: x ( 2 ) , y
+none: INTEGER n = 1
+declare: INTEGER :: n = 1 , m
+declare: LOGICAL :: l = .TRUE.
+declare: INTEGER :: a ( 3 ) = [ 1 , 2 , 3 ] , b
+declare: INTEGER a ( 1 : 2 , n )
+declare: INTEGER a ( : )
+declare: INTEGER a ( 1 : )
+declare: INTEGER , ALLOCATABLE :: a ( : , 1 : )
+none: INTEGER a ( 1 , : )
+none: INTEGER a ( )
+none: INTEGER a ( * )
+none: INTEGER
+none: INTEGER ::
+none: INTEGER n ,
+none: INTEGER n m
+none: REAL x
+none: TYPE ( ) x
+none: TYPE t x";
 
 #[test]
 fn declarations(rt: HostRuntime) -> Result<(), Fail> {
-    let cases = [
-        ("INTEGER n , PURE", "declare"),
-        ("INTEGER n = 1", "none"),
-        ("INTEGER :: n = 1 , m", "declare"),
-        ("LOGICAL , SAVE n", "none"),
-        ("TYPE ( t ) , INTENT ( IN OUT ) :: n", "declare"),
-        ("INTEGER , INTENT ( INOUT ) , SAVE :: n", "declare"),
-        ("INTEGER a ( 1 : 2 , n )", "declare"),
-        ("INTEGER , ALLOCATABLE :: a ( : , 1 : )", "declare"),
-        ("INTEGER a ( 1 , : )", "none"),
-    ];
-    assert_eq!(rt; first_wrong(rt.alloc(), &cases)?, None);
-    Ok(())
+    all_right(&rt, rt.alloc(), DECLARATIONS)
 }
+
+const KINDS: &str = "\
+declare: INTEGER ( 4 ) n
+declare: integer(kind=8), save :: n = 1_8
+declare: INTEGER ( KIND = 4 ) kind
+none: INTEGER ( 2 ) n
+none: INTEGER ( 04 ) n
+none: INTEGER ( 4_4 ) n
+none: INTEGER ( k ) n
+none: INTEGER ( ) n
+none: INTEGER ( 4 n
+none: INTEGER ( KIND 8 ) n
+none: INTEGER ( KIND = kind ) n
+none: LOGICAL ( 4 ) n
+assign: INTEGER ( 8 ) = 1
+print: PRINT * , 1_8 , 1_4
+none: PRINT * , 1_88
+none: PRINT * , 1_k
+none: PRINT * , 1 _8
+stop digits: STOP 4
+none: STOP 4_4";
 
 #[test]
 fn kinds(rt: HostRuntime) -> Result<(), Fail> {
-    let cases = [
-        ("INTEGER ( 4 ) n", "declare"),
-        ("integer(kind=8), save :: n = 1_8", "declare"),
-        ("INTEGER ( KIND = 4 ) kind", "declare"),
-        ("INTEGER ( 2 ) n", "none"),
-        ("INTEGER ( 04 ) n", "none"),
-        ("INTEGER ( 4_4 ) n", "none"),
-        ("INTEGER ( k ) n", "none"),
-        ("INTEGER ( ) n", "none"),
-        ("INTEGER ( 4 n", "none"),
-        ("INTEGER ( KIND 8 ) n", "none"),
-        ("INTEGER ( KIND = kind ) n", "none"),
-        ("LOGICAL ( 4 ) n", "none"),
-        ("INTEGER ( 8 ) = 1", "assign"),
-        ("PRINT * , 1_8 , 1_4", "print"),
-        ("PRINT * , 1_88", "none"),
-        ("PRINT * , 1_k", "none"),
-        ("PRINT * , 1 _8", "none"),
-        ("STOP 4", "stop digits"),
-        ("STOP 4_4", "none"),
-    ];
-    assert_eq!(rt; first_wrong(rt.alloc(), &cases)?, None);
-    Ok(())
+    all_right(&rt, rt.alloc(), KINDS)
 }
+
+const CALLS: &str = "\
+call: CALL s
+call: CALL s ( )
+call: CALL s ( 1 , a = 2 )
+call: CALL s ( a ( 1 : 2 ) , b % c )
+none: CALL s ( ) x
+none: CALL s ( 1 , )
+none: CALL s ( a = )
+none: CALL a % b
+none: CALL";
+
+#[test]
+fn calls(rt: HostRuntime) -> Result<(), Fail> {
+    all_right(&rt, rt.alloc(), CALLS)
+}
+
+const ACTIONS: &str = "\
+assign: n = 1
+assign: a % b ( 1 ) = 1
+assign: a ( 1 : 2 , : : 3 ) = b
+assign: END = 1
+assign: IF ( 1 ) = 2
+none: n = 
+none: n = 1 2
+none: 1 = n
+print: PRINT *
+print: PRINT * , 1 , a
+print: PRINT * , 'x' , \"y\"
+none: PRINT * 1
+none: PRINT * ,
+none: PRINT 1 , a
+none: PRINT
+stop: STOP
+stop digits: STOP 1
+stop digits: STOP 12345
+none: STOP 123456
+none: STOP n
+none: STOP 'x'
+none: STOP - 1
+return: RETURN
+none: RETURN 1";
 
 #[test]
 fn actions(rt: HostRuntime) -> Result<(), Fail> {
-    let cases = [
-        ("a % b ( 1 ) = 1", "assign"),
-        ("END = 1", "assign"),
-        ("IF ( 1 ) = 2", "assign"),
-        ("CALL s", "call"),
-        ("CALL s ( 1 , a = 2 )", "call"),
-        ("CALL s ( ) x", "none"),
-        ("ALLOCATE ( a , b , STAT = c )", "allocate status"),
-        ("ALLOCATE ( a , STAT )", "allocate"),
-        ("ALLOCATE ( STAT = c )", "none"),
-        ("DEALLOCATE ( a , STAT = c , b )", "none"),
-        ("DEALLOCATE ( a )", "deallocate"),
-        ("PRINT *", "print"),
-        ("PRINT * , 1 , a", "print"),
-        ("PRINT * 1", "none"),
-        ("STOP", "stop"),
-        ("STOP 1", "stop digits"),
-        ("STOP 123456", "none"),
-        ("RETURN 1", "none"),
-        ("CONTINUE", "continue"),
-    ];
-    assert_eq!(rt; first_wrong(rt.alloc(), &cases)?, None);
-    Ok(())
+    all_right(&rt, rt.alloc(), ACTIONS)
 }
+
+const SINGLE_WORDS: &str = "\
+cycle: CYCLE
+none: CYCLE a
+exit: EXIT
+none: EXIT a
+continue: CONTINUE
+none: CONTINUE 1
+none: GOTO 1
+none: GO TO 1
+none: NULLIFY ( p )
+none: WRITE ( * , * ) 1";
+
+#[test]
+fn single_words(rt: HostRuntime) -> Result<(), Fail> {
+    all_right(&rt, rt.alloc(), SINGLE_WORDS)
+}
+
+const ALLOCATIONS: &str = "\
+allocate: ALLOCATE ( a ( 3 ) )
+allocate: ALLOCATE ( a ( 1 : 3 ) , b ( 2 ) % c )
+allocate status: ALLOCATE ( a , b , STAT = c )
+allocate: ALLOCATE ( a , STAT )
+none: ALLOCATE ( STAT = c )
+none: ALLOCATE ( )
+none: ALLOCATE a
+none: ALLOCATE ( a , STAT = c , STAT = d )
+deallocate: DEALLOCATE ( a )
+deallocate: DEALLOCATE ( a , b % c )
+deallocate: DEALLOCATE ( a , STAT = c )
+none: DEALLOCATE ( a , STAT = c , b )
+none: DEALLOCATE ( STAT = c )
+none: DEALLOCATE ( )
+none: DEALLOCATE a";
+
+#[test]
+fn allocations(rt: HostRuntime) -> Result<(), Fail> {
+    all_right(&rt, rt.alloc(), ALLOCATIONS)
+}
+
+const ASSOCIATES: &str = "\
+associate: ASSOCIATE ( z => n )
+associate: associate (z => v, y => v(2) + 1)
+none: ASSOCIATE ( )
+none: ASSOCIATE ( z = n )
+none: ASSOCIATE ( z => n
+none: ASSOCIATE ( z => )
+none: ASSOCIATE ( z => n , )
+none: ASSOCIATE z => n
+none: ASSOCIATE ( z % y => n )
+assign: ASSOCIATE ( z ) = 1
+end what: END ASSOCIATE
+end what: endassociate
+none: END ASSOCIATE z";
 
 #[test]
 fn associates(rt: HostRuntime) -> Result<(), Fail> {
-    let cases = [
-        ("ASSOCIATE ( z => n )", "associate"),
-        ("associate (z => v, y => v(2) + 1)", "associate"),
-        ("ASSOCIATE ( )", "none"),
-        ("ASSOCIATE ( z = n )", "none"),
-        ("ASSOCIATE ( z => n", "none"),
-        ("ASSOCIATE ( z ) = 1", "assign"),
-        ("END ASSOCIATE", "end what"),
-        ("endassociate", "end what"),
-        ("END ASSOCIATE z", "none"),
-    ];
-    assert_eq!(rt; first_wrong(rt.alloc(), &cases)?, None);
-    Ok(())
+    all_right(&rt, rt.alloc(), ASSOCIATES)
 }
 
+const BRANCHES: &str = "\
+logical if: IF ( a ) n = 1
+logical if: IF ( a ) CALL s
+logical if: IF ( a ) PRINT * , 1
+if then: IF ( a ) THEN
+logical if: IF ( a ) THEN = 3
+none: IF ( a ) THEN n
+none: IF ( a ) IF ( a ) CYCLE
+none: IF ( a ) ELSE
+none: IF ( a ) END
+none: IF ( a )
+none: IF a THEN
+else: ELSE
+none: ELSE n
+else if: ELSE IF ( a ) THEN
+else if: ELSEIF ( a ) THEN
+none: ELSE IF ( a )
+select: SELECT CASE ( a )
+select: SELECTCASE ( a )
+none: SELECT CASE a
+none: SELECT ( a )";
+
 #[test]
-fn constructs(rt: HostRuntime) -> Result<(), Fail> {
-    let cases = [
-        ("IF ( a ) THEN", "if then"),
-        ("IF ( a ) THEN = 3", "logical if"),
-        ("IF ( a ) IF ( a ) CYCLE", "none"),
-        ("ELSE", "else"),
-        ("ELSE IF ( a ) THEN", "else if"),
-        ("ELSEIF ( a ) THEN", "else if"),
-        ("SELECT CASE ( a )", "select"),
-        ("SELECTCASE ( a )", "select"),
-        ("CASE ( 1 , 2 : , : 3 , 1 : 2 )", "case"),
-        ("CASE ( : )", "none"),
-        ("CASE DEFAULT", "case default"),
-        ("DO", "do"),
-        ("DO i = 1 , 2", "do counted"),
-        ("DO WHILE = 1 , 2 , 3", "do counted"),
-        ("DO WHILE ( a )", "do while"),
-        ("DO i = 1", "none"),
-    ];
-    assert_eq!(rt; first_wrong(rt.alloc(), &cases)?, None);
-    Ok(())
+fn branches(rt: HostRuntime) -> Result<(), Fail> {
+    all_right(&rt, rt.alloc(), BRANCHES)
+}
+
+const CASES: &str = "\
+case: CASE ( 1 )
+case: CASE ( 1 , 2 : , : 3 , 1 : 2 )
+case: CASE ( .TRUE. )
+case: CASE ( n + 1 : )
+none: CASE ( : )
+none: CASE ( )
+none: CASE ( 1 : 2 : 3 )
+none: CASE ( 1 , )
+none: CASE 1
+case default: CASE DEFAULT
+case: CASE ( DEFAULT )
+none: CASE DEFAULT n";
+
+#[test]
+fn cases(rt: HostRuntime) -> Result<(), Fail> {
+    all_right(&rt, rt.alloc(), CASES)
+}
+
+const LOOPS: &str = "\
+do: DO
+do counted: DO i = 1 , 2
+do counted: DO i = n , 1 , - 1
+do counted: DO WHILE = 1 , 2 , 3
+do while: DO WHILE ( a )
+none: DO i = 1
+none: DO i = 1 , 2 , 3 , 4
+none: DO i
+none: DO a % b = 1 , 2
+none: DO WHILE a
+none: DO WHILE ( )
+none: DO 10 i = 1 , 2";
+
+#[test]
+fn loops(rt: HostRuntime) -> Result<(), Fail> {
+    all_right(&rt, rt.alloc(), LOOPS)
+}
+
+const RELATIONS: &str = "\
+assign: n = a .EQ. b
+assign: n = a .NE. b
+assign: n = a .LT. b
+assign: n = a .LE. b
+assign: n = a .GT. b
+assign: n = a .GE. b
+assign: n = a == b
+assign: n = a /= b
+assign: n = a <= b
+assign: n = a >= b
+assign: n = a > b
+none: n = a < b < c
+none: n = a .EQ. b .EQ. c
+none: n = a = b";
+
+#[test]
+fn relations(rt: HostRuntime) -> Result<(), Fail> {
+    all_right(&rt, rt.alloc(), RELATIONS)
+}
+
+const OPERATIONS: &str = "\
+assign: n = a .AND. .NOT. b .OR. c
+assign: n = a .EQV. b .NEQV. c
+assign: n = - a ** 2
+none: n = a ** - 2
+none: n = a + - b
+none: n = .NOT. .NOT. a
+assign: n = ( a + b ) * [ 1 , 2 ]
+none: n = ( / 1 , 2 / )
+assign: n = (/ 1 , 2 /)
+none: n = [ ]
+none: n = ( )
+none: n = ( a
+assign: n = f ( a , b = 1 )
+assign: n = a % b ( 1 : 2 : 1 ) % c
+none: n = a %";
+
+#[test]
+fn operations(rt: HostRuntime) -> Result<(), Fail> {
+    all_right(&rt, rt.alloc(), OPERATIONS)
 }

@@ -326,6 +326,41 @@ fn out_of_place(rt: HostRuntime) -> Result<(), Fail> {
     check(&rt, alloc, "module m; use n; ", Rule::S7, 18)
 }
 
+/// Each source of a table, `COLUMN: SOURCE`, is refused by this rule at that column of its first line.
+fn check_all(rt: &impl Abort, alloc: Global, table: &str, rule: Rule) -> Result<(), Fail> {
+    for line in table.lines() {
+        let (column, text) = line.split_once(": ").unwrap_or(("", line));
+        let column = column.parse::<u32>().unwrap_or(0);
+        check(rt, alloc, text, rule, column)?;
+    }
+    Ok(())
+}
+
+const OUT_OF_ORDER: &str = "\
+12: program p; cycle; end
+27: program p; implicit none; implicit none; end
+23: program p; integer n; use m; end
+23: program p; integer n; implicit none; end
+12: program p; type t; integer n; end type; end
+12: program p; save; end
+30: module m; type t; integer n; private; end type; end
+28: module m; type t; private; private; integer n; end type; end
+30: module m; type t; integer n; final f; end type; end
+40: module m; type t; integer n; contains; integer k; end type; end
+19: program p; n = 1; integer m; end
+31: program p; if (a) then; else; else if (b) then; end if; end
+30: module m; type t; integer n; end type u; end
+11: module m; n = 1; end
+35: module m; contains; subroutine s; cycle; end; end
+24: program p; do; end do; exit; end
+12: program p; case (1); end
+12: program p; else; end";
+
+#[test]
+fn out_of_order(rt: HostRuntime) -> Result<(), Fail> {
+    check_all(&rt, rt.alloc(), OUT_OF_ORDER, Rule::S6)
+}
+
 #[test]
 fn deep(rt: HostRuntime) -> Result<(), Fail> {
     let alloc = rt.alloc();

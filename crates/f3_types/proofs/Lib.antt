@@ -5,3 +5,4 @@ pub mod Fitting
 pub mod Scenes
 pub mod Standing
 pub mod Ending
+pub mod Phases

@@ -1,5 +1,5 @@
 -- What phases 5 to 7 break of a program.
-use Rattle.std.specs.Prelude.{ℕ, List, Contains}
+use Rattle.std.specs.Prelude.{◌≡◌, ℕ, ◌<◌, List, Contains}
 use Rattle.f3_access.specs.declared.table.Lookup.{Lookup}
 use Rattle.f3_access.specs.Access.{IsVisible}
 use Rattle.f3_access.specs.Lookups.{Resolves}
@@ -18,3 +18,11 @@ Means t look = (scope symbol : ℕ) → Resolves (look scope symbol) (IsVisible 
 -- come first.
 abbrev pub TypeBreaks : Tree → Break → Type 0
 TypeBreaks t b = (look : ℕ → ℕ → Lookup) × (order : List ℕ) × Means t look × IsOrderOf (nodes_of t) order × Contains (program_breaks t look order) b
+
+-- a rule on types, shapes or constants is broken: those are of phases 5 and 6
+abbrev pub BreaksOfTypes : Tree → Break → Type 0
+BreaksOfTypes t b = TypeBreaks t b × (b.phase < 7)
+
+-- a rule on definitions is broken: those are of phase 7
+abbrev pub BreaksOfDefinitions : Tree → Break → Type 0
+BreaksOfDefinitions t b = TypeBreaks t b × (b.phase ≡ 7)

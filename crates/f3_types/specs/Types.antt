@@ -5,6 +5,8 @@ use Rattle.f3_tree.specs.Tree.{Tree}
 use Rattle.f3_kinds.specs.declared.types.Scalar.{Scalar}
 use Rattle.f3_kinds.specs.Things.{map_or}
 use Rattle.f3_types.specs.declared.table.Types.{Types}
+use Rattle.f3_rules.specs.Least.{Least}
+use Rattle.f3_types.specs.Breaks.{BreaksOfDefinitions}
 use Rattle.f3_types.specs.Parts.{AreTypesOf, AreAlong}
 
 -- what each entity is, the values of the named constants and the cells of the types are the program's
@@ -14,6 +16,10 @@ AreTypes t types = AreTypesOf t types.things.items types.values.items types.cell
 -- so they are with what names mean, and along this order of the units
 abbrev pub AreTypesAlong : Tree → (look : ℕ → ℕ → Lookup) → (order : List ℕ) → Types → Type 0
 AreTypesAlong t look order types = AreAlong t look order types.things.items types.values.items types.cells.items
+
+-- what is kept of definitions is the first break of their rules in the program, if there is one
+abbrev pub HasDefinitions : Tree → Types → Type 0
+HasDefinitions t types = Least types.definition (BreaksOfDefinitions t)
 
 -- the value of a named constant, by its entity
 abbrev pub value_in : Types → ℕ → Option Scalar

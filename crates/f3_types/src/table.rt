@@ -5,9 +5,10 @@ ghost use Rattle.f3_types.specs.Parts.{AreOfAProgram};
 use f3_access::table::EntityId;
 use f3_kinds::things::Thing;
 use f3_kinds::types::Scalar;
+use f3_rules::breaks::Break;
 
-/// What the entities of a program are, the values of its named constants, and the cells of its types. They are those of one
-/// program: only `typed` makes them.
+/// What the entities of a program are, the values of its named constants, the cells of its types, and whether a rule on
+/// definitions is broken. They are those of one program: only `typed` makes them.
 #[derive(Drop)]
 pub struct Types {
     /// What each entity is, by its number.
@@ -16,6 +17,8 @@ pub struct Types {
     pub(crate) values: Vec<Option<Scalar>>,
     /// The cells of each entity that is a derived type.
     pub(crate) cells: Vec<Option<u64>>,
+    /// The first break of the rules on definitions, if there is one.
+    pub(crate) definition: Option<Break>,
     pub ghost of_a_program: { ∥ AreOfAProgram things.items values.items cells.items ∥₁ },
 }
 

@@ -10,10 +10,11 @@ ghost use Rattle.f3_names.specs.Answers.{BreaksOfNames};
 ghost use Rattle.f3_names.specs.Tables.{AreNames};
 ghost use Rattle.f3_typed_parts.specs.Noted.{noted};
 ghost use Rattle.f3_extents.specs.Cells.{HasCells};
-ghost use Rattle.f3_types.specs.Answers.{TypesAnswer};
+ghost use Rattle.f3_types.specs.Answers.{TypesAnswer, DefinitionsAnswer};
 ghost use Rattle.f3_types.specs.Breaks.{TypeBreaks};
+ghost use Rattle.f3_types.specs.Inner.Phases.{of_types};
 ghost use Rattle.f3_types.specs.Parts.{scene_in, declared_along};
-ghost use Rattle.f3_types.specs.Types.{AreTypes, AreTypesAlong};
+ghost use Rattle.f3_types.specs.Types.{AreTypes, AreTypesAlong, HasDefinitions};
 ghost use Rattle.f3_types.specs.Inner.Rows.{body_rows};
 ghost use Rattle.f3_types.specs.Inner.Scenes.{Knows};
 
@@ -31,6 +32,9 @@ use f3_type_rules::definition::Holder;
 use f3_typed_parts::known::Known;
 use f3_unit_bodies::bodies::bodies;
 use std::alloc::{AllocError, Global};
+
+/// The phase of the rules on definitions.
+const DEFINITIONS: u32 = 7;
 
 /// What the entities of a program are, and its first break.
 #[derive(Drop)]
@@ -67,6 +71,7 @@ fn define(
         things,
         values,
         cells,
+        definition: None,
     })
 }
 
@@ -99,11 +104,21 @@ fn examine(
     Ok(Found { types, first })
 }
 
+/// A break, where it is of phase 5 or 6.
+fn of_types(first: Option<Break>) -> Option<Break>
+    ensures { result ≡ of_types first }
+{
+    match first {
+        Some(found) if found.phase < DEFINITIONS => Some(found),
+        _ => None,
+    }
+}
+
 /// What the entities of a program are, the values of its named constants and the cells of its types, along an order of its units in
 /// which used modules come first.
 ///
-/// Refused: a rule on types, shapes, constants or definitions is broken (T1 to T12, N10 to N13 in expressions, D1 to D6); it is the first
-/// such break by phase, then place. Memory: a growth of the host's memory was refused.
+/// Refused: a rule on types, shapes or constants is broken (T1 to T12, N10 to N13 in expressions); it is the first such break by
+/// phase, then place. Memory: a growth of the host's memory was refused.
 pub fn typed(
     alloc: Global,
     program: &Program,
@@ -115,12 +130,33 @@ pub fn typed(
     requires unbroken { (b : Break) → BreaksOfNames (view program.now) b → ⊥ }
     ensures answer { TypesAnswer (view program.now) result }
     ensures along { IfOk result (λ types. AreTypesAlong (view program.now) (lookup_of names.now.tables) (numbers_of order.now) types) }
+    ensures definition { IfOk result (λ types. HasDefinitions (view program.now) types) }
 {
-    let Found { types, first } = examine(alloc, program, order, names)?;
-    match first {
-        None => Ok(types),
+    let Found { mut types, first } = examine(alloc, program, order, names)?;
+    match of_types(first) {
+        None => {
+            types.definition = first;
+            Ok(types)
+        }
         Some(first) => {
             drop(types);
+            let refusal = refusal_of(alloc, &program.names, first)?;
+            Err(CheckFault::Refused(refusal))
+        }
+    }
+}
+
+/// Whether a program that breaks no rule on types, shapes or constants breaks none on definitions.
+///
+/// Refused: a rule on definitions is broken (D1 to D6, 16.5.5 and 16.5.6); it is the first such break by place. Memory: a growth of the
+/// host's memory was refused.
+pub fn definitions(alloc: Global, program: &Program, types: &Types) -> Result<(), CheckFault>
+    requires { HasDefinitions (view program.now) types.now }
+    ensures { DefinitionsAnswer (view program.now) result }
+{
+    match types.definition {
+        None => Ok(()),
+        Some(first) => {
             let refusal = refusal_of(alloc, &program.names, first)?;
             Err(CheckFault::Refused(refusal))
         }

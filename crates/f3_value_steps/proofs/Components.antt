@@ -1,12 +1,9 @@
 -- Components one by one.
-use Rattle.std.proofs.Common.{◌≡◌, ℕ, zero, suc, ◌+◌, ◌<◌, ◌≤◌, add-one, List, [], ◌∷◌, ◌++◌, length, take, drop, map}
-use Rattle.std.proofs.Common.{Option, Some, Result, Ok, Err, Bool, true, false, cond, eq-eqb, get_or, refl, sym, ap, ◌∙◌, arith}
+use Rattle.std.proofs.Common.{◌≡◌, ℕ, zero, suc, ◌+◌, ◌<◌, ◌≤◌, add-one, List, [], ◌∷◌, ◌++◌, length, take, drop}
+use Rattle.std.proofs.Common.{Option, Some, Result, Ok, Err, Bool, true, false, get_or, refl, sym, ap, ◌∙◌, arith}
 use Rattle.std.specs.Prelude.{IfOk, if◌then◌else◌, slice_index_or}
 use Rattle.std.proofs.Math.Seq.{drop-cons, get_or-append_seam}
 use Rattle.std.proofs.lemmas.List.{append-nil, drop_all, get_or_past, length-append, get_or_append_left}
-use Rattle.std.proofs.lemmas.Bool.{ne_eqb}
-use Rattle.f3_cells.specs.declared.cell.Passed as c
-use Rattle.f3_cells.specs.Cells.{passed_of}
 use Rattle.f3_program.specs.declared.declarations.Component.{Component}
 use Rattle.f3_program.specs.declared.declarations.Declared.{Declared}
 use Rattle.f3_program.specs.declared.declarations.Derived.{Derived}
@@ -17,7 +14,7 @@ use Rattle.f3_meaning_whole.specs.Reference.{Reference}
 use Rattle.f3_meaning_whole.specs.declared.run_error.RunError.{RunError}
 use Rattle.f3_meaning_whole.specs.Ran.{Event, World, End, Gives, Fails, Stops, Beyond, Outcome, Ran, after, ◌>>=◌, gives, fails, looks, asks}
 use Rattle.f3_meaning_whole.specs.Shape.{Shape, Whole, Record, parts_in, shapes_from, shapes_of, shape_in, initial_of, initial_declared}
-use Rattle.f3_meaning_whole.specs.Act.{fitted_contents, Here, Passed, Given, Lent, claim}
+use Rattle.f3_meaning_whole.specs.Act.{fitted_contents, Here, Passed, Lent, claim}
 use Rattle.f3_meaning_whole.specs.Act.{claim_for, needs_storage, passed_at, fitted_argument, structure, components_of}
 use Rattle.f3_code.specs.State.{State, Goes, Stays, Failed}
 use Rattle.f3_code.specs.Machine.{ends_so, performs}
@@ -26,31 +23,7 @@ use Rattle.f3_data.specs.Values.{value_of, values_of}
 use Rattle.f3_shaping.specs.Results.{value_ran}
 use Rattle.std.proofs.Math.Path.{fun_ext}
 use Rattle.f3_value_steps.proofs.Ends.{performs_gives, performs_fails}
-use Rattle.f3_value_steps.specs.Structures.{world_with, number_in, Takes, Builds}
-
--- ---- arguments
-
-pub here_at : (k : ℕ) (p : Passed) (ps : List Passed) → number_in p ≡ k → passed_at k (p ∷ ps) ≡ Some p
-here_at k (Given i v) ps e = ap (λ (b : Bool). cond b (Some (Given i v)) (passed_at k ps)) (eq-eqb i k e)
-here_at k (Lent i r) ps e = ap (λ (b : Bool). cond b (Some (Lent i r)) (passed_at k ps)) (eq-eqb i k e)
-
-pub further_at : (k : ℕ) (p : Passed) (ps : List Passed) → (number_in p ≡ k → ⊥) → passed_at k (p ∷ ps) ≡ passed_at k ps
-further_at k (Given i v) ps h = ap (λ (b : Bool). cond b (Some (Given i v)) (passed_at k ps)) (ne_eqb i k h)
-further_at k (Lent i r) ps h = ap (λ (b : Bool). cond b (Some (Lent i r)) (passed_at k ps)) (ne_eqb i k h)
-
--- the argument of a number is not among those before
-pub still : (k i : ℕ) (ps : List c.Passed) (x d : c.Passed) → i < length ps → x ≡ get_or ps i d → (number_in (passed_of x) ≡ k → ⊥)
-    → passed_at k (map passed_of (drop i ps)) ≡ passed_at k (map passed_of (drop (suc i) ps))
-still k i ps x d h e other =
-    ap (λ xs. passed_at k (map passed_of xs)) (drop-cons ps i d h)
-    ∙ further_at k (passed_of (get_or ps i d)) (map passed_of (drop (suc i) ps)) (λ n. other (ap (λ y. number_in (passed_of y)) e ∙ n))
-
-pub found_at : (k i : ℕ) (ps : List c.Passed) (x d : c.Passed) → i < length ps → x ≡ get_or ps i d → number_in (passed_of x) ≡ k
-    → passed_at k (map passed_of (drop i ps)) ≡ Some (passed_of x)
-found_at k i ps x d h e n =
-    ap (λ xs. passed_at k (map passed_of xs)) (drop-cons ps i d h)
-    ∙ here_at k (passed_of (get_or ps i d)) (map passed_of (drop (suc i) ps)) (ap (λ y. number_in (passed_of y)) (sym e) ∙ n)
-    ∙ ap (λ y. Some (passed_of y)) (sym e)
+use Rattle.f3_value_steps.specs.Structures.{world_with, Takes, Builds}
 
 -- ---- what follows a component
 

@@ -1,3 +1,4 @@
 pub mod Ends
 pub mod Many
 pub mod Components
+pub mod Positions

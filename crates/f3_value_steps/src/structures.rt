@@ -1,6 +1,6 @@
 //! Structure constructors.
 
-ghost use Rattle.std.specs.Prelude.{◌≡◌, ◌<◌, ◌^◌, MatchOption, None, Some, IfOk, map, slice_index_or};
+ghost use Rattle.std.specs.Prelude.{◌≡◌, ◌<◌, ◌^◌, MatchOption, None, Some, IfOk, length, map, slice_index_or, vec_len};
 ghost use Rattle.f3_meaning_whole.specs.Shape.{Whole, parts_in, shapes_of};
 ghost use Rattle.f3_meaning_whole.specs.Act.{passed_at, components_of};
 ghost use Rattle.f3_meaning_whole.specs.Store as meaning;
@@ -9,6 +9,7 @@ ghost use Rattle.f3_data.specs.Values.{value_of};
 ghost use Rattle.f3_data.specs.Stores.{path_of, store_of};
 ghost use Rattle.f3_cells.specs.Cells.{passed_of};
 ghost use Rattle.f3_value_steps.specs.Ends.{DoesOf};
+ghost use Rattle.f3_value_steps.specs.Positions.{Noted, AreFirsts};
 ghost use Rattle.f3_value_steps.specs.Structures.{number_in, Takes, Builds};
 
 use crate::finish::finish;
@@ -34,17 +35,46 @@ fn number_of(argument: &Passed) -> usize
     }
 }
 
-/// The first argument with a number.
-fn argument_at(passed: &[Passed], number: usize) -> Option<&Passed>
+/// Notes the position of an argument with a number, unless one with that number is noted.
+fn note(table: &mut [Option<usize>], number: usize, position: usize)
+    ensures { Noted number position table.old table.new }
+{
+    if number < table.len() && table[number].is_none() {
+        table[number] = Some(position);
+    }
+}
+
+/// The position of the first argument with each number below a count, if there is one.
+fn positions(
+    alloc: Global,
+    count: usize,
+    passed: &[Passed],
+) -> Result<Vec<Option<usize>>, AllocError>
+    ensures len { IfOk result (λ table. vec_len table ≡ count) }
+    ensures firsts { IfOk result (λ table. AreFirsts table.items (map passed_of passed.now)) }
+{
+    let mut table = vec![in alloc; None; count]?;
+    for (position, argument) in passed.iter().enumerate() {
+        note(&mut table, number_of(argument), position);
+    }
+    Ok(table)
+}
+
+/// The first argument with a number, by the table of positions.
+fn argument_at<'a>(
+    passed: &'a [Passed],
+    table: &[Option<usize>],
+    number: usize,
+) -> Option<&'a Passed>
+    requires inside { number < length table.now }
+    requires firsts { AreFirsts table.now (map passed_of passed.now) }
     ensures { MatchOption result (passed_at number (map passed_of passed.now) ≡ None)
         (λ x. passed_at number (map passed_of passed.now) ≡ Some (passed_of x.now)) }
 {
-    for argument in passed {
-        if number_of(argument) == number {
-            return Some(argument);
-        }
+    match table[number] {
+        Some(position) => Some(&passed[position]),
+        None => None,
     }
-    None
 }
 
 /// A copy of what stands at a path.
@@ -65,12 +95,15 @@ fn taken(
     types: &[Derived],
     declared: &Declared,
     passed: &[Passed],
+    table: &[Option<usize>],
     number: usize,
     store: &Store,
 ) -> Result<Result<Value, RunError>, AllocError>
+    requires inside { number < length table.now }
+    requires firsts { AreFirsts table.now (map passed_of passed.now) }
     ensures { IfOk result (λ r. Takes types.now declared.now (map passed_of passed.now) number (store_of store.now) r) }
 {
-    match argument_at(passed, number) {
+    match argument_at(passed, table, number) {
         Some(Passed::Given(_, value)) => fitted(alloc, declared, copies::value(alloc, value)?),
         Some(Passed::Lent(_, object)) => fitted_contents(
             alloc,
@@ -93,9 +126,18 @@ fn built_of(
 ) -> Result<Result<Value, RunError>, AllocError>
     ensures { IfOk result (λ r. Builds (parts_in (shapes_of types.now) components.now) (map passed_of passed.now) (store_of store.now) r) }
 {
+    let table = positions(alloc, components.len(), passed)?;
     let mut values = Vec::new(alloc);
     for (number, component) in components.iter().enumerate() {
-        match taken(alloc, types, &component.declared, passed, number, store)? {
+        match taken(
+            alloc,
+            types,
+            &component.declared,
+            passed,
+            &table,
+            number,
+            store,
+        )? {
             Ok(value) => values.push(value)?,
             Err(error) => return Ok(Err(error)),
         }

@@ -10,6 +10,7 @@ use Rattle.f3_graph.specs.Order.{IsOrder, IsRefusal, numbers_of}
 use Rattle.f3_names.specs.declared.table.Names.{Names}
 use Rattle.f3_names.specs.Tables.{AreNames, lookup_at}
 use Rattle.f3_types.specs.declared.table.Types.{Types}
+use Rattle.f3_types.specs.Breaks.{TypeBreaks}
 use Rattle.f3_types.specs.Types.{AreTypes, AreTypesAlong}
 use Rattle.f3_accepted.specs.Accepted.{Breaks}
 
@@ -20,3 +21,9 @@ Named t (Ok found) =
     × AreTypesAlong t (lookup_at found.1) (numbers_of found.0) found.2
 Named t (Err (Refused refusal)) = (b : Break) × Least (Some b) (Breaks t) × IsRefusal t.names b refusal
 Named t (Err Memory) = Unit {0}
+
+-- phases 5 to 7
+abbrev pub Defined : Tree → Result Types CheckFault → Type 0
+Defined t (Ok types) = AreTypes t types × ((b : Break) → TypeBreaks t b → ⊥)
+Defined t (Err (Refused refusal)) = (b : Break) × Least (Some b) (TypeBreaks t) × IsRefusal t.names b refusal
+Defined t (Err Memory) = Unit {0}

@@ -1,6 +1,6 @@
 use Rattle.std.proofs.lemmas.Result.{err_from_is_err_and}
 use Rattle.f3_tree.specs.Tree.{view}
-use Rattle.f3_accepted.proofs.Joined.{units_refused, names_refused, types_refused, nothing_broken}
+use Rattle.f3_accepted.proofs.Joined.{units_refused, names_refused, defined_refused, nothing_broken}
 use Rattle.f3_accepted.proofs.check.named.Goals as goal
 
 pub returns-in_err-order : goal.returns-in_err-order
@@ -23,4 +23,4 @@ returns-in-Ok c = (
 )
 
 pub returns-in-Err : goal.returns-in-Err
-returns-in-Err c = types_refused (view c.args.program.now) c.in_ok-order.ensures.1 c.in_ok-names.ensures.1 c.in-Err.fault c.in-Err.ensures.answer
+returns-in-Err c = defined_refused (view c.args.program.now) c.in_ok-order.ensures.1 c.in_ok-names.ensures.1 c.in-Err.fault c.in-Err.ensures.answer
