@@ -1,7 +1,9 @@
 //! The program over its words, its files and its writers.
 
-ghost use Rattle.std.specs.Prelude.{◌≡◌, ℕ, List, Option, codes, unwrap_or};
-ghost use Rattle.clap.specs.Words.{found_of, one_text, ReadsOne};
+ghost use Rattle.std.specs.Prelude.{◌≡◌, ◌⊎◌, [], ℕ, List, Option, IfOk, IfErr, true, codes, is_some, map, string_bytes, unwrap_or};
+ghost use Rattle.clap.specs.Words.{found_of, kind_of, one_text, rows_of, subcommand_rows_of, HasKind, ReadsOne};
+ghost use Rattle.f3_output.specs.Output.{state_of};
+ghost use Rattle.f3_command.specs.Program.{faults_of, asked_of, task_of, WantsMemory, Says, Acts, Obeys};
 ghost use Rattle.f3_command.specs.Task.{IsTask, OfRun};
 
 use crate::command::command;
@@ -23,14 +25,23 @@ pub fn f3<F: Opener, O: Write, E: Write>(
     files: &F,
     output: &mut Output<O>,
     errors: &mut Output<E>,
-) -> u8 {
-    let Ok(command) = command(alloc) else {
-        return want_of_memory(errors);
-    };
-    match command.try_get_matches_from(words) {
+) -> u8
+    ensures { Obeys (F.contents files.now) (map string_bytes words.now) (state_of O.contents output.old) (state_of O.contents output.new)
+        (state_of E.contents errors.old) (state_of E.contents errors.new) result }
+{
+    match read(alloc, words) {
         Ok(matches) => act(alloc, &matches, files, output, errors),
         Err(error) => usage(alloc, &error, output, errors),
     }
+}
+
+/// Reads the words.
+fn read<'a>(alloc: Global, words: &'a [String]) -> Result<ArgMatches<'a>, clap::Error>
+    ensures taken { IfOk result (λ m. (faults_of (map string_bytes words.entry.now) ≡ [])
+        × (subcommand_rows_of m ≡ asked_of (map string_bytes words.entry.now)) × (is_some (subcommand_rows_of m) ≡ true)) }
+    ensures refused { IfErr result (HasKind (faults_of (map string_bytes words.entry.now))) }
+{
+    command(alloc)?.try_get_matches_from(words)
 }
 
 /// Writes what the reader of the command line says, and answers its status.
@@ -39,7 +50,10 @@ fn usage<O: Write, E: Write>(
     error: &clap::Error,
     output: &mut Output<O>,
     errors: &mut Output<E>,
-) -> u8 {
+) -> u8
+    ensures { WantsMemory (state_of O.contents output.old) (state_of O.contents output.new) (state_of E.contents errors.old) (state_of E.contents errors.new) result
+        ⊎ Says (kind_of error.now) (state_of O.contents output.old) (state_of O.contents output.new) (state_of E.contents errors.old) (state_of E.contents errors.new) result }
+{
     if error.kind() == ErrorKind::OutOfMemory {
         return want_of_memory(errors);
     }
@@ -61,7 +75,10 @@ fn act<'a, F: Opener, O: Write, E: Write>(
     files: &F,
     output: &mut Output<O>,
     errors: &mut Output<E>,
-) -> u8 {
+) -> u8
+    ensures { Acts (F.contents files.now) (subcommand_rows_of matches.now) (state_of O.contents output.old) (state_of O.contents output.new)
+        (state_of E.contents errors.old) (state_of E.contents errors.new) result }
+{
     let Some((name, inner)) = matches.subcommand() else {
         return USAGE;
     };
@@ -76,6 +93,7 @@ pub fn task(name: &str, inner: &ArgMatches<'_>) -> Task
         → OfRun result (λ limits. (number : Option ℕ) × ReadsOne ⟦<u64 as FromStr>⟧.from_str_gives text number × (limits.steps ≡ unwrap_or number 0)) }
     ensures heap { (text : List ℕ) → one_text (found_of inner.now) (codes "heap") ≡ Some text
         → OfRun result (λ limits. (number : Option ℕ) × ReadsOne ⟦<usize as FromStr>⟧.from_str_gives text number × (limits.heap_words ≡ unwrap_or number 0)) }
+    ensures whole { result ≡ task_of name.now (rows_of (found_of inner.now)) }
 {
     if name == "check" {
         return Task::Check;
