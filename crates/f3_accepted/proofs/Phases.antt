@@ -9,7 +9,7 @@ use Rattle.f3_tree.specs.Tree.{Tree}
 use Rattle.f3_scopes.specs.Outlines.{Scope}
 use Rattle.f3_graph.specs.Breaks.{UnitBreaks, name_twice, module_missing, reaches_itself, no_main_program, main_program_again}
 use Rattle.f3_scope_rules.specs.ScopeBreaks as scope_rules
-use Rattle.f3_name_rules.specs.NameBreaks.{NameBreaks, AccessBreaks}
+use Rattle.f3_name_rules.specs.NameBreaks.{AccessBreaks}
 use Rattle.f3_name_rules.specs.NameBreaks as name_rules
 use Rattle.f3_names.specs.Answers.{BreaksOfNames}
 use Rattle.f3_type_rules.specs.Program.{program_breaks}

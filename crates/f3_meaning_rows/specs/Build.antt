@@ -45,7 +45,16 @@ abbrev pub Small : {X : Type 0} → List X → Type 0
 Small xs = T (ltb (length xs) (2 ^ 63))
 
 abbrev pub vec : {X : Type 0} → Global → (xs : List X) → Small xs → Vec X Global
-vec h xs p = record { ptr = null_ptr; len = length xs; cap = length xs; alloc = h; items = xs; ok = (refl, le_refl (length xs)); small = ltb→lt (length xs) (2 ^ 63) p }
+vec h xs p = record {
+  ptr = null_ptr;
+  len = length xs;
+  cap = length xs;
+  alloc = h;
+  items = xs;
+  ok = (refl, le_refl (length xs));
+  small = ltb→lt
+      (length xs) (2 ^ 63) p;
+}
 
 -- the place in memory of a list in a tree
 abbrev pub nothings : {X : Type 0} → List X → List (Unit {0})

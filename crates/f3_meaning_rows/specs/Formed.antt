@@ -1,19 +1,58 @@
 -- All programs of these rows make sense.
 use Rattle.std.specs.declared.alloc.Global.{Global}
 use Rattle.f3_meaning_whole.specs.Formed.{IsWellFormed}
-use Rattle.f3_meaning_rows.specs.Rows0.{allocatable_01_deep_copy, allocatable_02_scalar_value, allocatable_02_stat, allocatable_02_too_large, allocatable_03_assumed_shape, associate_01_lent, associate_01_selectors, associate_03_return, finalizer_01_frees_its_holder, finalizer_02_order, heap_01_stat_ample, heap_04_other_shape, heap_04_same_shape, heap_05_dummy_itself, heap_06_held_value, heap_07_lent_element_deallocate}
-use Rattle.f3_meaning_rows.specs.Rows1.{heap_08_lent_element_deallocate_stat, heap_09_lent_element_assign_shape, heap_10_lent_element_assign_object, heap_11_lent_element_move_from, heap_12_lent_element_move_to, heap_13_lent_element_out_allocatable, heap_14_lent_element_out_object, heap_15_lent_section_deallocate, heap_16_lent_section_deallocate_stat, heap_17_lent_section_assign_shape, heap_18_lent_section_assign_object, heap_19_lent_section_move_from, heap_20_lent_section_move_to, heap_21_lent_section_out_allocatable, heap_22_lent_section_out_object, heap_23_lent_empty_section_deallocate}
-use Rattle.f3_meaning_rows.specs.Rows2.{heap_24_lent_empty_section_deallocate_stat, heap_25_lent_empty_section_assign_shape, heap_26_lent_empty_section_assign_object, heap_27_lent_empty_section_move_from, heap_28_lent_empty_section_move_to, heap_29_lent_empty_section_out_allocatable, heap_30_lent_empty_section_out_object, heap_31_lent_whole_array_deallocate, heap_32_lent_whole_array_deallocate_stat, heap_33_lent_whole_array_assign_shape, heap_34_lent_whole_array_assign_object, heap_35_lent_whole_array_move_from, heap_36_lent_whole_array_move_to, heap_37_lent_whole_array_out_allocatable, heap_38_lent_whole_array_out_object, heap_39_lent_allocatable_dummy_deallocate}
-use Rattle.f3_meaning_rows.specs.Rows3.{heap_40_lent_allocatable_dummy_deallocate_stat, heap_41_lent_allocatable_dummy_assign_shape, heap_42_lent_allocatable_dummy_assign_object, heap_43_lent_allocatable_dummy_move_from, heap_44_lent_allocatable_dummy_move_to, heap_45_lent_allocatable_dummy_out_allocatable, heap_46_lent_allocatable_dummy_out_object, heap_47_lent_final_deallocate, heap_48_lent_final_deallocate_stat, heap_49_lent_final_assign_shape, heap_50_lent_final_assign_object, heap_51_lent_final_move_from, heap_52_lent_final_move_to, heap_53_lent_final_out_allocatable, heap_54_lent_final_out_object, hostile_02_name_63}
-use Rattle.f3_meaning_rows.specs.Rows4.{hostile_03_do_64, hostile_03_parentheses_64, kinds_01_wide, kinds_02_mixed, kinds_06_do, machine_01_sections, machine_02_depth, modules_01_rename, modules_02_two_names, sample_02_print, sample_04_bump, sample_06_whole_object, sample_07_bounds, sample_08_zero_extent, sample_09_finals, sample_10_array_final}
-use Rattle.f3_meaning_rows.specs.Rows5.{sample_10_scalar_final, sample_11_deallocate, sample_11_move_alloc, sample_11_stat, sample_12_move_to_itself, sample_13_arithmetic, sample_13_item_by_item, sample_13_overflow, sample_16_no_turns, sample_16_zero_step, sample_17_fresh_words, sample_19_continuation, sample_20_not_referred, sample_23_bounds, sample_23_shapes, choice_03_1}
-use Rattle.f3_meaning_rows.specs.Rows6.{choice_06_1, choice_10_1, choice_12_1, choice_17_1, choice_19_2, choice_36_2, choice_46_1, choice_49_1, choice_50_1, choice_52_1, choice_52_2, choice_53_1, choice_54_1, choice_56_1, choice_57_1, choice_58_1}
-use Rattle.f3_meaning_rows.specs.Rows7.{choice_59_1, choice_61_1, choice_62_1, choice_63_1, choice_64_1, choice_67_1, choice_79_1, scalar_02_print, text_02_variable_if, usage_45_empty_statements, usage_46_letter_case, usage_47_empty_print, usage_49_stop_plain, usage_50_stop_7, usage_51_stop_least_digits, usage_52_stop_0}
-use Rattle.f3_meaning_rows.specs.Rows8.{usage_54_stop_in_procedure, usage_55_do_up, usage_56_do_down, usage_57_do_past_range, usage_58_do_count_fixed, usage_59_cycle_exit, usage_60_do_while, usage_61_exit_inner, usage_62_if_chain, usage_63_if_joined_words, usage_64_if_action_place, usage_65_case_ranges, usage_66_case_default_first, usage_67_case_logical, usage_68_case_none, usage_69_both_operands}
-use Rattle.f3_meaning_rows.specs.Rows9.{usage_70_logical_items, usage_71_powers, usage_72_zero_to_minus_one, usage_73_least_integer, usage_74_quotient_past_range, usage_75_mod_modulo, usage_77_triplet_step_zero, usage_78_allocate_twice, usage_79_deallocate_nothing, usage_80_allocate_too_large}
-use Rattle.f3_meaning_rows.specs.Others.{refused_with_stat, not_refused, refused_without_stat, three_turns, no_room_to_start, no_room_for_a_call, depth_of_three, no_room_for_a_copy, protected_elsewhere, protected_renamed, intent_in, protected_passed_on, private_component}
-use Rattle.f3_meaning_rows.specs.Corners.{corner_sections, corner_finals_of_sections, corner_functions, corner_associates, corner_intent_out, corner_moves, corner_control, corner_kinds, corner_lent_objects, corner_scalars}
-use Rattle.f3_meaning_rows.specs.More.{stat_last, out_while_lent, held_is_not_final, move_lends, bounds_before_variable, shapes_before_destroying, step_before_bounds, subscripts_before_contents, associate_from_one, locals_at_return, locals_at_end, asked_for_objects, array_constructor, array_result, component_values, held_value, allocation_by_assignment}
+use Rattle.f3_meaning_rows.specs.Rows0.{allocatable_01_deep_copy, allocatable_02_scalar_value, allocatable_02_stat, allocatable_02_too_large}
+use Rattle.f3_meaning_rows.specs.Rows0.{allocatable_03_assumed_shape, associate_01_lent, associate_01_selectors, associate_03_return}
+use Rattle.f3_meaning_rows.specs.Rows0.{finalizer_01_frees_its_holder, finalizer_02_order, heap_01_stat_ample, heap_04_other_shape}
+use Rattle.f3_meaning_rows.specs.Rows0.{heap_04_same_shape, heap_05_dummy_itself, heap_06_held_value, heap_07_lent_element_deallocate}
+use Rattle.f3_meaning_rows.specs.Rows1.{heap_08_lent_element_deallocate_stat, heap_09_lent_element_assign_shape, heap_10_lent_element_assign_object}
+use Rattle.f3_meaning_rows.specs.Rows1.{heap_11_lent_element_move_from, heap_12_lent_element_move_to, heap_13_lent_element_out_allocatable}
+use Rattle.f3_meaning_rows.specs.Rows1.{heap_14_lent_element_out_object, heap_15_lent_section_deallocate, heap_16_lent_section_deallocate_stat}
+use Rattle.f3_meaning_rows.specs.Rows1.{heap_17_lent_section_assign_shape, heap_18_lent_section_assign_object, heap_19_lent_section_move_from}
+use Rattle.f3_meaning_rows.specs.Rows1.{heap_20_lent_section_move_to, heap_21_lent_section_out_allocatable, heap_22_lent_section_out_object}
+use Rattle.f3_meaning_rows.specs.Rows1.{heap_23_lent_empty_section_deallocate}
+use Rattle.f3_meaning_rows.specs.Rows2.{heap_24_lent_empty_section_deallocate_stat, heap_25_lent_empty_section_assign_shape}
+use Rattle.f3_meaning_rows.specs.Rows2.{heap_26_lent_empty_section_assign_object, heap_27_lent_empty_section_move_from}
+use Rattle.f3_meaning_rows.specs.Rows2.{heap_28_lent_empty_section_move_to, heap_29_lent_empty_section_out_allocatable}
+use Rattle.f3_meaning_rows.specs.Rows2.{heap_30_lent_empty_section_out_object, heap_31_lent_whole_array_deallocate}
+use Rattle.f3_meaning_rows.specs.Rows2.{heap_32_lent_whole_array_deallocate_stat, heap_33_lent_whole_array_assign_shape}
+use Rattle.f3_meaning_rows.specs.Rows2.{heap_34_lent_whole_array_assign_object, heap_35_lent_whole_array_move_from, heap_36_lent_whole_array_move_to}
+use Rattle.f3_meaning_rows.specs.Rows2.{heap_37_lent_whole_array_out_allocatable, heap_38_lent_whole_array_out_object}
+use Rattle.f3_meaning_rows.specs.Rows2.{heap_39_lent_allocatable_dummy_deallocate}
+use Rattle.f3_meaning_rows.specs.Rows3.{heap_40_lent_allocatable_dummy_deallocate_stat, heap_41_lent_allocatable_dummy_assign_shape}
+use Rattle.f3_meaning_rows.specs.Rows3.{heap_42_lent_allocatable_dummy_assign_object, heap_43_lent_allocatable_dummy_move_from}
+use Rattle.f3_meaning_rows.specs.Rows3.{heap_44_lent_allocatable_dummy_move_to, heap_45_lent_allocatable_dummy_out_allocatable}
+use Rattle.f3_meaning_rows.specs.Rows3.{heap_46_lent_allocatable_dummy_out_object, heap_47_lent_final_deallocate, heap_48_lent_final_deallocate_stat}
+use Rattle.f3_meaning_rows.specs.Rows3.{heap_49_lent_final_assign_shape, heap_50_lent_final_assign_object, heap_51_lent_final_move_from}
+use Rattle.f3_meaning_rows.specs.Rows3.{heap_52_lent_final_move_to, heap_53_lent_final_out_allocatable, heap_54_lent_final_out_object}
+use Rattle.f3_meaning_rows.specs.Rows3.{hostile_02_name_63}
+use Rattle.f3_meaning_rows.specs.Rows4.{hostile_03_do_64, hostile_03_parentheses_64, kinds_01_wide, kinds_02_mixed, kinds_06_do, machine_01_sections}
+use Rattle.f3_meaning_rows.specs.Rows4.{machine_02_depth, modules_01_rename, modules_02_two_names, sample_02_print, sample_04_bump}
+use Rattle.f3_meaning_rows.specs.Rows4.{sample_06_whole_object, sample_07_bounds, sample_08_zero_extent, sample_09_finals, sample_10_array_final}
+use Rattle.f3_meaning_rows.specs.Rows5.{sample_10_scalar_final, sample_11_deallocate, sample_11_move_alloc, sample_11_stat, sample_12_move_to_itself}
+use Rattle.f3_meaning_rows.specs.Rows5.{sample_13_arithmetic, sample_13_item_by_item, sample_13_overflow, sample_16_no_turns, sample_16_zero_step}
+use Rattle.f3_meaning_rows.specs.Rows5.{sample_17_fresh_words, sample_19_continuation, sample_20_not_referred, sample_23_bounds, sample_23_shapes}
+use Rattle.f3_meaning_rows.specs.Rows5.{choice_03_1}
+use Rattle.f3_meaning_rows.specs.Rows6.{choice_06_1, choice_10_1, choice_12_1, choice_17_1, choice_19_2, choice_36_2, choice_46_1, choice_49_1}
+use Rattle.f3_meaning_rows.specs.Rows6.{choice_50_1, choice_52_1, choice_52_2, choice_53_1, choice_54_1, choice_56_1, choice_57_1, choice_58_1}
+use Rattle.f3_meaning_rows.specs.Rows7.{choice_59_1, choice_61_1, choice_62_1, choice_63_1, choice_64_1, choice_67_1, choice_79_1, scalar_02_print}
+use Rattle.f3_meaning_rows.specs.Rows7.{text_02_variable_if, usage_45_empty_statements, usage_46_letter_case, usage_47_empty_print}
+use Rattle.f3_meaning_rows.specs.Rows7.{usage_49_stop_plain, usage_50_stop_7, usage_51_stop_least_digits, usage_52_stop_0}
+use Rattle.f3_meaning_rows.specs.Rows8.{usage_54_stop_in_procedure, usage_55_do_up, usage_56_do_down, usage_57_do_past_range, usage_58_do_count_fixed}
+use Rattle.f3_meaning_rows.specs.Rows8.{usage_59_cycle_exit, usage_60_do_while, usage_61_exit_inner, usage_62_if_chain, usage_63_if_joined_words}
+use Rattle.f3_meaning_rows.specs.Rows8.{usage_64_if_action_place, usage_65_case_ranges, usage_66_case_default_first, usage_67_case_logical}
+use Rattle.f3_meaning_rows.specs.Rows8.{usage_68_case_none, usage_69_both_operands}
+use Rattle.f3_meaning_rows.specs.Rows9.{usage_70_logical_items, usage_71_powers, usage_72_zero_to_minus_one, usage_73_least_integer}
+use Rattle.f3_meaning_rows.specs.Rows9.{usage_74_quotient_past_range, usage_75_mod_modulo, usage_77_triplet_step_zero, usage_78_allocate_twice}
+use Rattle.f3_meaning_rows.specs.Rows9.{usage_79_deallocate_nothing, usage_80_allocate_too_large}
+use Rattle.f3_meaning_rows.specs.Others.{refused_with_stat, not_refused, refused_without_stat, three_turns, no_room_to_start, no_room_for_a_call}
+use Rattle.f3_meaning_rows.specs.Others.{depth_of_three, no_room_for_a_copy, protected_elsewhere, protected_renamed, intent_in, protected_passed_on}
+use Rattle.f3_meaning_rows.specs.Others.{private_component}
+use Rattle.f3_meaning_rows.specs.Corners.{corner_sections, corner_finals_of_sections, corner_functions, corner_associates, corner_intent_out}
+use Rattle.f3_meaning_rows.specs.Corners.{corner_moves, corner_control, corner_kinds, corner_lent_objects, corner_scalars}
+use Rattle.f3_meaning_rows.specs.More.{stat_last, out_while_lent, held_is_not_final, move_lends, bounds_before_variable, shapes_before_destroying}
+use Rattle.f3_meaning_rows.specs.More.{step_before_bounds, subscripts_before_contents, associate_from_one, locals_at_return, locals_at_end}
+use Rattle.f3_meaning_rows.specs.More.{asked_for_objects, array_constructor, array_result, component_values, held_value, allocation_by_assignment}
 use Rattle.f3_meaning_rows.specs.Told.{changing, staged, nested, forms, unlawful, prying}
 
 abbrev pub AreWellFormed : Type 0

@@ -14,7 +14,9 @@ use Rattle.f3_program.specs.declared.program.Program.{Program}
 use Rattle.f3_meaning_whole.specs.Permitted.{IsLawful}
 use Rattle.f3_meaning_whole.specs.Run.{runs, run_of, requests}
 use Rattle.f3_meaning_rows.specs.Shown.{granted, refusing, shown, lines, Finished, Failed}
-use Rattle.f3_meaning_rows.specs.Build.{vec, place, kind, dim, declared, comp, derived, final, num, var, group, bin, array, struct, call, size, query as asks, val, ref, name, member, elements, sub, range as triplet, at, block, when, for, associate, bounds, request, text, dummy, static, procedure, program}
+use Rattle.f3_meaning_rows.specs.Build.{vec, place, kind, dim, declared, comp, derived, final, num, var, group, bin, array, struct, call, size}
+use Rattle.f3_meaning_rows.specs.Build.{query as asks, val, ref, name, member, elements, sub, range as triplet, at, block, when, for, associate}
+use Rattle.f3_meaning_rows.specs.Build.{bounds, request, text, dummy, static, procedure, program}
 
 --     program p; integer, allocatable :: a(:)
 --     allocate(a(2), stat=a(2)); print *, a; end
@@ -22,7 +24,10 @@ abbrev pub stat_last : Global → Program
 stat_last h = program h [] tt
     [] tt
     [] tt
-    (procedure h 0 [] tt ((declared h (kind base.Integer 1 true) [] tt [] tt) ∷ []) tt None (block h (at h 2 1 true (s.Allocate (vec h (request h (name (n.Local 0) l.Whole) (kind base.Integer 1 true) (bounds (num (pos 1)) (num (pos 2)) ∷ []) tt ∷ []) tt) (Some (name (n.Local 0) (elements h true (sub h (num (pos 2)) ∷ []) tt)))) ∷ at h 2 28 true (s.Print (vec h (item.Value (var h (name (n.Local 0) l.Contents)) ∷ []) tt)) ∷ []) tt) (place 2 40))
+    (procedure h 0 [] tt ((declared h (kind base.Integer 1 true) [] tt [] tt) ∷ []) tt None
+    (block h (at h 2 1 true (s.Allocate (vec h (request h (name (n.Local 0) l.Whole) (kind base.Integer 1 true)
+    (bounds (num (pos 1)) (num (pos 2)) ∷ []) tt ∷ []) tt) (Some (name (n.Local 0) (elements h true (sub h (num (pos 2)) ∷ []) tt))))
+    ∷ at h 2 28 true (s.Print (vec h (item.Value (var h (name (n.Local 0) l.Contents)) ∷ []) tt)) ∷ []) tt) (place 2 40))
     (place 1 1)
 
 abbrev pub stat_last_shows : Global → Type 0
@@ -34,8 +39,13 @@ stat_last_shows h = shown (run_of (stat_last h) 20 granted) ≡ record { bytes =
 abbrev pub out_while_lent : Global → Program
 out_while_lent h = program h [] tt
     [] tt
-    (procedure h 0 (dummy h (kind base.Integer 1 true) intent.Out [] tt ∷ dummy h (kind base.Integer 0 false) intent.In [] tt ∷ []) tt [] tt None (block h [] tt) (place 1 110) ∷ []) tt
-    (procedure h 2 [] tt ((declared h (kind base.Integer 1 true) [] tt [] tt) ∷ []) tt None (block h (at h 2 49 true (s.Assign (name (n.Local 0) l.Whole) (kind base.Integer 1 true) (array h (val h 0 (num (pos 1)) ∷ val h 0 (num (pos 2)) ∷ []) tt)) ∷ at h 3 1 true (s.Call (call h 0 (ref h 0 (name (n.Local 0) l.Whole) ∷ ref h 1 (name (n.Local 0) (elements h true (sub h (num (pos 1)) ∷ []) tt)) ∷ []) tt)) ∷ []) tt) (place 3 18))
+    (procedure h 0 (dummy h (kind base.Integer 1 true) intent.Out [] tt ∷ dummy h (kind base.Integer 0 false) intent.In [] tt ∷ []) tt [] tt None
+    (block h [] tt) (place 1 110) ∷ []) tt
+    (procedure h 2 [] tt ((declared h (kind base.Integer 1 true) [] tt [] tt) ∷ []) tt None
+    (block h (at h 2 49 true (s.Assign (name (n.Local 0) l.Whole) (kind base.Integer 1 true)
+    (array h (val h 0 (num (pos 1)) ∷ val h 0 (num (pos 2)) ∷ []) tt))
+    ∷ at h 3 1 true (s.Call (call h 0 (ref h 0 (name (n.Local 0) l.Whole)
+    ∷ ref h 1 (name (n.Local 0) (elements h true (sub h (num (pos 1)) ∷ []) tt)) ∷ []) tt)) ∷ []) tt) (place 3 18))
     (place 2 1)
 
 abbrev pub out_while_lent_shows : Global → Type 0
@@ -48,8 +58,11 @@ out_while_lent_shows h = shown (run_of (out_while_lent h) 20 granted) ≡ record
 abbrev pub held_is_not_final : Global → Program
 held_is_not_final h = program h (derived h 0 (comp (declared h (kind base.Integer 0 false) [] tt [] tt) false ∷ []) tt (final 0 0 ∷ []) tt ∷ []) tt
     [] tt
-    (procedure h 0 (dummy h (kind (base.Derived 0) 0 false) intent.InOut [] tt ∷ []) tt [] tt None (block h (at h 2 1 true (s.Print (vec h (text h (102 ∷ []) tt ∷ []) tt)) ∷ []) tt) (place 2 15) ∷ procedure h 0 (dummy h (kind (base.Derived 0) 0 false) intent.In [] tt ∷ []) tt [] tt None (block h [] tt) (place 2 63) ∷ []) tt
-    (procedure h 3 [] tt ((declared h (kind (base.Derived 0) 0 false) [] tt [] tt) ∷ []) tt None (block h (at h 4 1 true (s.Call (call h 1 (val h 0 (group h (var h (name (n.Local 0) l.Whole))) ∷ []) tt)) ∷ []) tt) (place 4 14))
+    (procedure h 0 (dummy h (kind (base.Derived 0) 0 false) intent.InOut [] tt ∷ []) tt [] tt None
+    (block h (at h 2 1 true (s.Print (vec h (text h (102 ∷ []) tt ∷ []) tt)) ∷ []) tt) (place 2 15)
+    ∷ procedure h 0 (dummy h (kind (base.Derived 0) 0 false) intent.In [] tt ∷ []) tt [] tt None (block h [] tt) (place 2 63) ∷ []) tt
+    (procedure h 3 [] tt ((declared h (kind (base.Derived 0) 0 false) [] tt [] tt) ∷ []) tt None
+    (block h (at h 4 1 true (s.Call (call h 1 (val h 0 (group h (var h (name (n.Local 0) l.Whole))) ∷ []) tt)) ∷ []) tt) (place 4 14))
     (place 3 1)
 
 abbrev pub held_is_not_final_shows : Global → Type 0
@@ -60,10 +73,20 @@ held_is_not_final_shows h = shown (run_of (held_is_not_final h) 20 granted) ≡ 
 --     program p; use m; allocate(b, u); allocate(b%c); u%i = 1
 --     call move_alloc(b%c, u); end
 abbrev pub move_lends : Global → Program
-move_lends h = program h (derived h 0 (comp (declared h (kind base.Integer 0 false) [] tt [] tt) false ∷ []) tt (final 0 0 ∷ []) tt ∷ derived h 0 (comp (declared h (kind (base.Derived 0) 0 true) [] tt [] tt) false ∷ []) tt [] tt ∷ []) tt
+move_lends h = program h (derived h 0 (comp (declared h (kind base.Integer 0 false) [] tt [] tt) false ∷ []) tt (final 0 0 ∷ []) tt
+    ∷ derived h 0 (comp (declared h (kind (base.Derived 0) 0 true) [] tt [] tt) false ∷ []) tt [] tt ∷ []) tt
     (static (declared h (kind (base.Derived 1) 0 true) [] tt [] tt) 0 false ∷ static (declared h (kind (base.Derived 0) 0 true) [] tt [] tt) 0 false ∷ []) tt
-    (procedure h 0 (dummy h (kind (base.Derived 0) 0 false) intent.InOut [] tt ∷ []) tt [] tt None (block h (at h 2 1 true (when h (bin h o.Equal base.Logical (var h (member h (name (n.Lent 0) l.Whole) 0 l.Whole)) (num (pos 1))) (s.Deallocate (vec h (request h (name (n.Static 0) l.Whole) (kind (base.Derived 1) 0 true) [] tt ∷ []) tt) None) (block h [] tt)) ∷ []) tt) (place 2 30) ∷ []) tt
-    (procedure h 2 [] tt [] tt None (block h (at h 3 19 true (s.Allocate (vec h (request h (name (n.Static 0) l.Whole) (kind (base.Derived 1) 0 true) [] tt ∷ request h (name (n.Static 1) l.Whole) (kind (base.Derived 0) 0 true) [] tt ∷ []) tt) None) ∷ at h 3 35 true (s.Allocate (vec h (request h (member h (name (n.Static 0) l.Contents) 0 l.Whole) (kind (base.Derived 0) 0 true) [] tt ∷ []) tt) None) ∷ at h 3 50 true (s.Assign (member h (name (n.Static 1) l.Contents) 0 l.Whole) (kind base.Integer 0 false) (num (pos 1))) ∷ at h 4 1 true (s.MoveAlloc (kind (base.Derived 0) 0 true) true (member h (name (n.Static 0) l.Contents) 0 l.Whole) (name (n.Static 1) l.Whole)) ∷ []) tt) (place 4 26))
+    (procedure h 0 (dummy h (kind (base.Derived 0) 0 false) intent.InOut [] tt ∷ []) tt [] tt None
+    (block h (at h 2 1 true (when h (bin h o.Equal base.Logical (var h (member h (name (n.Lent 0) l.Whole) 0 l.Whole)) (num (pos 1)))
+    (s.Deallocate (vec h (request h (name (n.Static 0) l.Whole) (kind (base.Derived 1) 0 true) [] tt ∷ []) tt) None) (block h [] tt)) ∷ []) tt)
+    (place 2 30) ∷ []) tt
+    (procedure h 2 [] tt [] tt None (block h (at h 3 19 true (s.Allocate
+    (vec h (request h (name (n.Static 0) l.Whole) (kind (base.Derived 1) 0 true) [] tt
+    ∷ request h (name (n.Static 1) l.Whole) (kind (base.Derived 0) 0 true) [] tt ∷ []) tt) None)
+    ∷ at h 3 35 true (s.Allocate (vec h (request h (member h (name (n.Static 0) l.Contents) 0 l.Whole) (kind (base.Derived 0) 0 true) [] tt ∷ [])
+    tt) None) ∷ at h 3 50 true (s.Assign (member h (name (n.Static 1) l.Contents) 0 l.Whole) (kind base.Integer 0 false) (num (pos 1)))
+    ∷ at h 4 1 true (s.MoveAlloc (kind (base.Derived 0) 0 true) true (member h (name (n.Static 0) l.Contents) 0 l.Whole)
+    (name (n.Static 1) l.Whole)) ∷ []) tt) (place 4 26))
     (place 3 1)
 
 abbrev pub move_lends_shows : Global → Type 0
@@ -75,7 +98,9 @@ abbrev pub bounds_before_variable : Global → Program
 bounds_before_variable h = program h [] tt
     [] tt
     [] tt
-    (procedure h 0 [] tt ((declared h (kind base.Integer 0 true) [] tt [] tt) ∷ []) tt None (block h (at h 2 1 true (for h (name (n.Local 0) l.Contents) (kind base.Integer 0 false) (bin h o.Divide base.Integer (num (pos 1)) (num (pos 0))) (num (pos 2)) (num (pos 1)) (block h [] tt)) ∷ []) tt) (place 2 24))
+    (procedure h 0 [] tt ((declared h (kind base.Integer 0 true) [] tt [] tt) ∷ []) tt None
+    (block h (at h 2 1 true (for h (name (n.Local 0) l.Contents) (kind base.Integer 0 false)
+    (bin h o.Divide base.Integer (num (pos 1)) (num (pos 0))) (num (pos 2)) (num (pos 1)) (block h [] tt)) ∷ []) tt) (place 2 24))
     (place 1 1)
 
 abbrev pub bounds_before_variable_shows : Global → Type 0
@@ -88,8 +113,11 @@ bounds_before_variable_shows h = shown (run_of (bounds_before_variable h) 20 gra
 abbrev pub shapes_before_destroying : Global → Program
 shapes_before_destroying h = program h (derived h 0 (comp (declared h (kind base.Integer 0 false) [] tt [] tt) false ∷ []) tt (final 1 0 ∷ []) tt ∷ []) tt
     [] tt
-    (procedure h 0 (dummy h (kind (base.Derived 0) 1 false) intent.InOut ((pos 1) ∷ []) tt ∷ []) tt [] tt None (block h (at h 2 1 true (s.Print (vec h (text h (102 ∷ []) tt ∷ []) tt)) ∷ []) tt) (place 2 15) ∷ []) tt
-    (procedure h 2 [] tt ((declared h (kind (base.Derived 0) 1 false) (dim (pos 1) 2 ∷ []) tt [] tt) ∷ (declared h (kind (base.Derived 0) 1 false) (dim (pos 1) 3 ∷ []) tt [] tt) ∷ []) tt None (block h (at h 4 1 true (s.Assign (name (n.Local 0) l.Whole) (kind (base.Derived 0) 1 false) (var h (name (n.Local 1) l.Whole))) ∷ []) tt) (place 4 8))
+    (procedure h 0 (dummy h (kind (base.Derived 0) 1 false) intent.InOut ((pos 1) ∷ []) tt ∷ []) tt [] tt None
+    (block h (at h 2 1 true (s.Print (vec h (text h (102 ∷ []) tt ∷ []) tt)) ∷ []) tt) (place 2 15) ∷ []) tt
+    (procedure h 2 [] tt ((declared h (kind (base.Derived 0) 1 false) (dim (pos 1) 2 ∷ []) tt [] tt)
+    ∷ (declared h (kind (base.Derived 0) 1 false) (dim (pos 1) 3 ∷ []) tt [] tt) ∷ []) tt None
+    (block h (at h 4 1 true (s.Assign (name (n.Local 0) l.Whole) (kind (base.Derived 0) 1 false) (var h (name (n.Local 1) l.Whole))) ∷ []) tt) (place 4 8))
     (place 3 1)
 
 abbrev pub shapes_before_destroying_shows : Global → Type 0
@@ -101,7 +129,10 @@ abbrev pub step_before_bounds : Global → Program
 step_before_bounds h = program h [] tt
     [] tt
     [] tt
-    (procedure h 0 [] tt ((declared h (kind base.Integer 2 false) (dim (pos 1) 2 ∷ dim (pos 1) 2 ∷ []) tt [] tt) ∷ []) tt None (block h (at h 1 32 true (s.Assign (name (n.Local 0) l.Whole) (kind base.Integer 2 false) (num (pos 0))) ∷ at h 2 1 true (s.Print (vec h (item.Value (var h (name (n.Local 0) (elements h false (sub h (num (pos 9)) ∷ triplet h true (num (pos 1)) true (num (pos 2)) (num (pos 0)) ∷ []) tt))) ∷ []) tt)) ∷ []) tt) (place 2 23))
+    (procedure h 0 [] tt ((declared h (kind base.Integer 2 false) (dim (pos 1) 2 ∷ dim (pos 1) 2 ∷ []) tt [] tt) ∷ []) tt None
+    (block h (at h 1 32 true (s.Assign (name (n.Local 0) l.Whole) (kind base.Integer 2 false) (num (pos 0)))
+    ∷ at h 2 1 true (s.Print (vec h (item.Value (var h (name (n.Local 0)
+    (elements h false (sub h (num (pos 9)) ∷ triplet h true (num (pos 1)) true (num (pos 2)) (num (pos 0)) ∷ []) tt))) ∷ []) tt)) ∷ []) tt) (place 2 23))
     (place 1 1)
 
 abbrev pub step_before_bounds_shows : Global → Type 0
@@ -113,7 +144,9 @@ abbrev pub subscripts_before_contents : Global → Program
 subscripts_before_contents h = program h [] tt
     [] tt
     [] tt
-    (procedure h 0 [] tt ((declared h (kind base.Integer 1 true) [] tt [] tt) ∷ []) tt None (block h (at h 2 1 true (s.Print (vec h (item.Value (var h (name (n.Local 0) (elements h true (sub h (bin h o.Divide base.Integer (num (pos 1)) (num (pos 0))) ∷ []) tt))) ∷ []) tt)) ∷ []) tt) (place 2 18))
+    (procedure h 0 [] tt ((declared h (kind base.Integer 1 true) [] tt [] tt) ∷ []) tt None
+    (block h (at h 2 1 true (s.Print (vec h (item.Value (var h
+    (name (n.Local 0) (elements h true (sub h (bin h o.Divide base.Integer (num (pos 1)) (num (pos 0))) ∷ []) tt))) ∷ []) tt)) ∷ []) tt) (place 2 18))
     (place 1 1)
 
 abbrev pub subscripts_before_contents_shows : Global → Type 0
@@ -125,7 +158,13 @@ abbrev pub associate_from_one : Global → Program
 associate_from_one h = program h [] tt
     [] tt
     [] tt
-    (procedure h 0 [] tt ((declared h (kind base.Integer 1 true) [] tt [] tt) ∷ []) tt None (block h (at h 1 42 true (s.Allocate (vec h (request h (name (n.Local 0) l.Whole) (kind base.Integer 1 true) (bounds (num (pos 5)) (num (pos 4)) ∷ []) tt ∷ []) tt) None) ∷ at h 2 1 true (associate h (selector.Variable (name (n.Local 0) l.Contents) ∷ []) tt (block h (at h 2 21 true (s.Print (vec h (item.Value (asks h query.Lower (ref h 0 (name (n.Lent 0) l.Whole)) (num (pos 1))) ∷ item.Value (size h (ref h 0 (name (n.Lent 0) (elements h false (triplet h false (num (pos 1)) true (num (pos 2)) (num (pos 1)) ∷ []) tt)))) ∷ []) tt)) ∷ []) tt)) ∷ []) tt) (place 2 72))
+    (procedure h 0 [] tt ((declared h (kind base.Integer 1 true) [] tt [] tt) ∷ []) tt None
+    (block h (at h 1 42 true (s.Allocate (vec h (request h (name (n.Local 0) l.Whole) (kind base.Integer 1 true)
+    (bounds (num (pos 5)) (num (pos 4)) ∷ []) tt ∷ []) tt) None)
+    ∷ at h 2 1 true (associate h (selector.Variable (name (n.Local 0) l.Contents) ∷ []) tt
+    (block h (at h 2 21 true (s.Print (vec h (item.Value (asks h query.Lower (ref h 0 (name (n.Lent 0) l.Whole)) (num (pos 1)))
+    ∷ item.Value (size h (ref h 0 (name (n.Lent 0) (elements h false (triplet h false (num (pos 1)) true (num (pos 2)) (num (pos 1)) ∷ []) tt))))
+    ∷ []) tt)) ∷ []) tt)) ∷ []) tt) (place 2 72))
     (place 1 1)
 
 abbrev pub associate_from_one_shows : Global → Type 0
@@ -139,7 +178,14 @@ associate_from_one_shows h = shown (run_of (associate_from_one h) 20 granted) �
 abbrev pub locals_at_return : Global → Program
 locals_at_return h = program h (derived h 0 (comp (declared h (kind base.Integer 0 false) [] tt [] tt) false ∷ []) tt (final 0 0 ∷ []) tt ∷ []) tt
     [] tt
-    (procedure h 0 (dummy h (kind (base.Derived 0) 0 false) intent.InOut [] tt ∷ []) tt [] tt None (block h (at h 2 1 true (s.Print (vec h (text h (102 ∷ []) tt ∷ item.Value (var h (member h (name (n.Lent 0) l.Whole) 0 l.Whole)) ∷ []) tt)) ∷ []) tt) (place 2 20) ∷ procedure h 0 (dummy h (kind base.Integer 0 false) intent.In [] tt ∷ []) tt ((declared h (kind (base.Derived 0) 0 false) [] tt [] tt) ∷ []) tt None (block h (at h 2 92 true (s.Assign (member h (name (n.Local 0) l.Whole) 0 l.Whole) (kind base.Integer 0 false) (var h (name (n.Lent 0) l.Whole))) ∷ at h 3 1 true (when h (bin h o.Equal base.Logical (var h (name (n.Lent 0) l.Whole)) (num (pos 4))) s.Return (block h [] tt)) ∷ at h 3 21 true (s.Call (call h 1 (val h 0 (bin h o.Add base.Integer (var h (name (n.Lent 0) l.Whole)) (num (pos 1))) ∷ []) tt)) ∷ []) tt) (place 3 36) ∷ []) tt
+    (procedure h 0 (dummy h (kind (base.Derived 0) 0 false) intent.InOut [] tt ∷ []) tt [] tt None
+    (block h (at h 2 1 true (s.Print (vec h (text h (102 ∷ []) tt ∷ item.Value (var h (member h (name (n.Lent 0) l.Whole) 0 l.Whole)) ∷ []) tt))
+    ∷ []) tt) (place 2 20) ∷ procedure h 0 (dummy h (kind base.Integer 0 false) intent.In [] tt ∷ []) tt
+    ((declared h (kind (base.Derived 0) 0 false) [] tt [] tt) ∷ []) tt None
+    (block h (at h 2 92 true (s.Assign (member h (name (n.Local 0) l.Whole) 0 l.Whole) (kind base.Integer 0 false)
+    (var h (name (n.Lent 0) l.Whole))) ∷ at h 3 1 true (when h (bin h o.Equal base.Logical (var h (name (n.Lent 0) l.Whole)) (num (pos 4)))
+    s.Return (block h [] tt)) ∷ at h 3 21 true (s.Call (call h 1
+    (val h 0 (bin h o.Add base.Integer (var h (name (n.Lent 0) l.Whole)) (num (pos 1))) ∷ []) tt)) ∷ []) tt) (place 3 36) ∷ []) tt
     (procedure h 3 [] tt [] tt None (block h (at h 4 19 true (s.Call (call h 1 (val h 0 (num (pos 1)) ∷ []) tt)) ∷ []) tt) (place 4 30))
     (place 4 1)
 
@@ -154,7 +200,14 @@ locals_at_return_shows h = shown (runs 4 (locals_at_return h) 20 granted) ≡ re
 abbrev pub locals_at_end : Global → Program
 locals_at_end h = program h (derived h 0 (comp (declared h (kind base.Integer 0 false) [] tt [] tt) false ∷ []) tt (final 0 0 ∷ []) tt ∷ []) tt
     [] tt
-    (procedure h 0 (dummy h (kind (base.Derived 0) 0 false) intent.InOut [] tt ∷ []) tt [] tt None (block h (at h 2 1 true (s.Print (vec h (text h (102 ∷ []) tt ∷ item.Value (var h (member h (name (n.Lent 0) l.Whole) 0 l.Whole)) ∷ []) tt)) ∷ []) tt) (place 2 20) ∷ procedure h 0 (dummy h (kind base.Integer 0 false) intent.In [] tt ∷ []) tt ((declared h (kind (base.Derived 0) 0 false) [] tt [] tt) ∷ []) tt None (block h (at h 2 92 true (s.Assign (member h (name (n.Local 0) l.Whole) 0 l.Whole) (kind base.Integer 0 false) (var h (name (n.Lent 0) l.Whole))) ∷ at h 3 1 true (when h (bin h o.Less base.Logical (var h (name (n.Lent 0) l.Whole)) (num (pos 4))) (s.Call (call h 1 (val h 0 (bin h o.Add base.Integer (var h (name (n.Lent 0) l.Whole)) (num (pos 1))) ∷ []) tt)) (block h [] tt)) ∷ []) tt) (place 3 27) ∷ []) tt
+    (procedure h 0 (dummy h (kind (base.Derived 0) 0 false) intent.InOut [] tt ∷ []) tt [] tt None
+    (block h (at h 2 1 true (s.Print (vec h (text h (102 ∷ []) tt ∷ item.Value (var h (member h (name (n.Lent 0) l.Whole) 0 l.Whole)) ∷ []) tt))
+    ∷ []) tt) (place 2 20) ∷ procedure h 0 (dummy h (kind base.Integer 0 false) intent.In [] tt ∷ []) tt
+    ((declared h (kind (base.Derived 0) 0 false) [] tt [] tt) ∷ []) tt None
+    (block h (at h 2 92 true (s.Assign (member h (name (n.Local 0) l.Whole) 0 l.Whole) (kind base.Integer 0 false)
+    (var h (name (n.Lent 0) l.Whole))) ∷ at h 3 1 true (when h (bin h o.Less base.Logical (var h (name (n.Lent 0) l.Whole)) (num (pos 4)))
+    (s.Call (call h 1 (val h 0 (bin h o.Add base.Integer (var h (name (n.Lent 0) l.Whole)) (num (pos 1))) ∷ []) tt)) (block h [] tt)) ∷ []) tt)
+    (place 3 27) ∷ []) tt
     (procedure h 3 [] tt [] tt None (block h (at h 4 19 true (s.Call (call h 1 (val h 0 (num (pos 1)) ∷ []) tt)) ∷ []) tt) (place 4 30))
     (place 4 1)
 
@@ -168,7 +221,15 @@ abbrev pub asked_for_objects : Global → Program
 asked_for_objects h = program h [] tt
     [] tt
     [] tt
-    (procedure h 0 [] tt ((declared h (kind base.Integer 1 true) [] tt [] tt) ∷ (declared h (kind base.Integer 0 false) [] tt [] tt) ∷ []) tt None (block h (at h 2 1 true (s.Allocate (vec h (request h (name (n.Local 0) l.Whole) (kind base.Integer 1 true) (bounds (num (pos 1)) (num (pos 1)) ∷ []) tt ∷ []) tt) (Some (name (n.Local 1) l.Whole))) ∷ at h 2 25 true (s.Allocate (vec h (request h (name (n.Local 0) l.Whole) (kind base.Integer 1 true) (bounds (num (pos 1)) (num (pos 1)) ∷ []) tt ∷ []) tt) (Some (name (n.Local 1) l.Whole))) ∷ at h 2 49 true (s.Deallocate (vec h (request h (name (n.Local 0) l.Whole) (kind base.Integer 1 true) [] tt ∷ []) tt) None) ∷ at h 2 64 true (s.Allocate (vec h (request h (name (n.Local 0) l.Whole) (kind base.Integer 1 true) (bounds (num (pos 1)) (num (pos 1)) ∷ []) tt ∷ []) tt) (Some (name (n.Local 1) l.Whole))) ∷ at h 2 88 true (s.Print (vec h (item.Value (var h (name (n.Local 1) l.Whole)) ∷ []) tt)) ∷ []) tt) (place 2 100))
+    (procedure h 0 [] tt ((declared h (kind base.Integer 1 true) [] tt [] tt) ∷ (declared h (kind base.Integer 0 false) [] tt [] tt) ∷ []) tt None
+    (block h (at h 2 1 true (s.Allocate (vec h (request h (name (n.Local 0) l.Whole) (kind base.Integer 1 true)
+    (bounds (num (pos 1)) (num (pos 1)) ∷ []) tt ∷ []) tt) (Some (name (n.Local 1) l.Whole)))
+    ∷ at h 2 25 true (s.Allocate (vec h (request h (name (n.Local 0) l.Whole) (kind base.Integer 1 true)
+    (bounds (num (pos 1)) (num (pos 1)) ∷ []) tt ∷ []) tt) (Some (name (n.Local 1) l.Whole)))
+    ∷ at h 2 49 true (s.Deallocate (vec h (request h (name (n.Local 0) l.Whole) (kind base.Integer 1 true) [] tt ∷ []) tt) None)
+    ∷ at h 2 64 true (s.Allocate (vec h (request h (name (n.Local 0) l.Whole) (kind base.Integer 1 true)
+    (bounds (num (pos 1)) (num (pos 1)) ∷ []) tt ∷ []) tt) (Some (name (n.Local 1) l.Whole)))
+    ∷ at h 2 88 true (s.Print (vec h (item.Value (var h (name (n.Local 1) l.Whole)) ∷ []) tt)) ∷ []) tt) (place 2 100))
     (place 1 1)
 
 abbrev pub asked_for_objects_shows : Global → Type 0
@@ -180,7 +241,8 @@ abbrev pub array_constructor : Global → Program
 array_constructor h = program h [] tt
     [] tt
     [] tt
-    (procedure h 0 [] tt [] tt None (block h (at h 1 12 true (s.Print (vec h (item.Value (array h (val h 0 (num (pos 1)) ∷ val h 0 (num (pos 2)) ∷ []) tt) ∷ []) tt)) ∷ []) tt) (place 1 29))
+    (procedure h 0 [] tt [] tt None (block h (at h 1 12 true (s.Print
+    (vec h (item.Value (array h (val h 0 (num (pos 1)) ∷ val h 0 (num (pos 2)) ∷ []) tt) ∷ []) tt)) ∷ []) tt) (place 1 29))
     (place 1 1)
 
 abbrev pub array_constructor_shows : Global → Type 0
@@ -192,8 +254,12 @@ array_constructor_shows h = shown (run_of (array_constructor h) 20 (refusing (2 
 abbrev pub array_result : Global → Program
 array_result h = program h [] tt
     [] tt
-    (procedure h 0 (dummy h (kind base.Integer 0 false) intent.In [] tt ∷ []) tt [] tt (Some (declared h (kind base.Integer 1 false) (dim (pos 1) 2 ∷ []) tt [] tt)) (block h (at h 1 79 true (s.Assign (name (n.Local 0) l.Whole) (kind base.Integer 1 false) (var h (name (n.Lent 0) l.Whole))) ∷ []) tt) (place 1 86) ∷ []) tt
-    (procedure h 2 [] tt [] tt None (block h (at h 2 19 true (s.Print (vec h (item.Value (call h 0 (val h 0 (num (pos 3)) ∷ []) tt) ∷ []) tt)) ∷ []) tt) (place 2 34))
+    (procedure h 0 (dummy h (kind base.Integer 0 false) intent.In [] tt ∷ []) tt [] tt
+    (Some (declared h (kind base.Integer 1 false) (dim (pos 1) 2 ∷ []) tt [] tt))
+    (block h (at h 1 79 true (s.Assign (name (n.Local 0) l.Whole) (kind base.Integer 1 false) (var h (name (n.Lent 0) l.Whole))) ∷ []) tt)
+    (place 1 86) ∷ []) tt
+    (procedure h 2 [] tt [] tt None (block h (at h 2 19 true (s.Print (vec h (item.Value (call h 0 (val h 0 (num (pos 3)) ∷ []) tt) ∷ []) tt)) ∷ [])
+    tt) (place 2 34))
     (place 2 1)
 
 abbrev pub array_result_shows : Global → Type 0
@@ -207,7 +273,13 @@ abbrev pub component_values : Global → Program
 component_values h = program h (derived h 0 (comp (declared h (kind base.Integer 1 true) [] tt [] tt) false ∷ []) tt [] tt ∷ []) tt
     [] tt
     [] tt
-    (procedure h 1 [] tt ((declared h (kind (base.Derived 0) 1 false) (dim (pos 1) 2 ∷ []) tt [] tt) ∷ (declared h (kind base.Integer 1 true) [] tt [] tt) ∷ (declared h (kind base.Integer 0 false) [] tt [] tt) ∷ []) tt None (block h (at h 2 80 true (s.Assign (name (n.Local 2) l.Whole) (kind base.Integer 0 false) (num (pos 5))) ∷ at h 2 87 true (s.Allocate (vec h (request h (name (n.Local 1) l.Whole) (kind base.Integer 1 true) (bounds (num (pos 1)) (num (pos 2)) ∷ []) tt ∷ []) tt) None) ∷ at h 3 1 true (s.Assign (name (n.Local 0) (elements h false (sub h (var h (name (n.Local 2) l.Whole)) ∷ []) tt)) (kind (base.Derived 0) 0 false) (struct h 0 (ref h 0 (name (n.Local 1) l.Whole) ∷ []) tt)) ∷ []) tt) (place 3 14))
+    (procedure h 1 [] tt ((declared h (kind (base.Derived 0) 1 false) (dim (pos 1) 2 ∷ []) tt [] tt)
+    ∷ (declared h (kind base.Integer 1 true) [] tt [] tt) ∷ (declared h (kind base.Integer 0 false) [] tt [] tt) ∷ []) tt None
+    (block h (at h 2 80 true (s.Assign (name (n.Local 2) l.Whole) (kind base.Integer 0 false) (num (pos 5)))
+    ∷ at h 2 87 true (s.Allocate (vec h (request h (name (n.Local 1) l.Whole) (kind base.Integer 1 true)
+    (bounds (num (pos 1)) (num (pos 2)) ∷ []) tt ∷ []) tt) None)
+    ∷ at h 3 1 true (s.Assign (name (n.Local 0) (elements h false (sub h (var h (name (n.Local 2) l.Whole)) ∷ []) tt))
+    (kind (base.Derived 0) 0 false) (struct h 0 (ref h 0 (name (n.Local 1) l.Whole) ∷ []) tt)) ∷ []) tt) (place 3 14))
     (place 2 1)
 
 abbrev pub component_values_shows : Global → Type 0
@@ -220,7 +292,8 @@ abbrev pub held_value : Global → Program
 held_value h = program h [] tt
     [] tt
     (procedure h 0 (dummy h (kind base.Integer 1 false) intent.In ((pos 1) ∷ []) tt ∷ []) tt [] tt None (block h [] tt) (place 1 67) ∷ []) tt
-    (procedure h 2 [] tt ((declared h (kind base.Integer 1 false) (dim (pos 1) 2 ∷ []) tt [] tt) ∷ []) tt None (block h (at h 2 1 true (s.Call (call h 0 (val h 0 (group h (var h (name (n.Local 0) l.Whole))) ∷ []) tt)) ∷ []) tt) (place 2 14))
+    (procedure h 2 [] tt ((declared h (kind base.Integer 1 false) (dim (pos 1) 2 ∷ []) tt [] tt) ∷ []) tt None
+    (block h (at h 2 1 true (s.Call (call h 0 (val h 0 (group h (var h (name (n.Local 0) l.Whole))) ∷ []) tt)) ∷ []) tt) (place 2 14))
     (place 1 77)
 
 abbrev pub held_value_shows : Global → Type 0
@@ -245,7 +318,9 @@ abbrev pub allocation_by_assignment : Global → Program
 allocation_by_assignment h = program h [] tt
     [] tt
     [] tt
-    (procedure h 0 [] tt ((declared h (kind base.Integer 1 true) [] tt [] tt) ∷ []) tt None (block h (at h 2 1 true (s.Assign (name (n.Local 0) l.Whole) (kind base.Integer 1 true) (array h (val h 0 (num (pos 1)) ∷ val h 0 (num (pos 2)) ∷ []) tt)) ∷ []) tt) (place 2 13))
+    (procedure h 0 [] tt ((declared h (kind base.Integer 1 true) [] tt [] tt) ∷ []) tt None
+    (block h (at h 2 1 true (s.Assign (name (n.Local 0) l.Whole) (kind base.Integer 1 true)
+    (array h (val h 0 (num (pos 1)) ∷ val h 0 (num (pos 2)) ∷ []) tt)) ∷ []) tt) (place 2 13))
     (place 1 1)
 
 abbrev pub allocation_by_assignment_shows : Global → Type 0

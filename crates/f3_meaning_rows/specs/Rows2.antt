@@ -11,7 +11,8 @@ use Rattle.f3_program.specs.declared.program.Program.{Program}
 use Rattle.f3_meaning_whole.specs.Run.{run_of}
 use Rattle.f3_meaning_whole.specs.Permitted.{IsLawful}
 use Rattle.f3_meaning_rows.specs.Shown.{granted, shown, lines, Finished, Failed}
-use Rattle.f3_meaning_rows.specs.Build.{vec, place, kind, declared, comp, derived, num, var, array, call, size, val, ref, name, member, elements, range as triplet, at, block, bounds, request, dummy, static, procedure, program}
+use Rattle.f3_meaning_rows.specs.Build.{vec, place, kind, declared, comp, derived, num, var, array, call, size, val, ref, name, member, elements}
+use Rattle.f3_meaning_rows.specs.Build.{range as triplet, at, block, bounds, request, dummy, static, procedure, program}
 
 --     module w; integer, allocatable :: v(:), u(:); integer :: k; contains
 --     subroutine p(x); integer, intent(inout) :: x(:)
@@ -21,9 +22,18 @@ use Rattle.f3_meaning_rows.specs.Build.{vec, place, kind, declared, comp, derive
 --     program q; use w; allocate(v(3)); call p(v(2:1)); print *, k, size(v); end
 abbrev pub heap_24_lent_empty_section_deallocate_stat : Global → Program
 heap_24_lent_empty_section_deallocate_stat h = program h [] tt
-    (static (declared h (kind base.Integer 1 true) [] tt [] tt) 0 false ∷ static (declared h (kind base.Integer 1 true) [] tt [] tt) 0 false ∷ static (declared h (kind base.Integer 0 false) [] tt [] tt) 0 false ∷ []) tt
-    (procedure h 0 (dummy h (kind base.Integer 1 false) intent.InOut ((pos 1) ∷ []) tt ∷ []) tt [] tt None (block h (at h 3 1 true (s.Deallocate (vec h (request h (name (n.Static 0) l.Whole) (kind base.Integer 1 true) [] tt ∷ []) tt) (Some (name (n.Static 2) l.Whole))) ∷ at h 4 1 true (s.Assign (name (n.Lent 0) l.Whole) (kind base.Integer 1 false) (num (pos 1))) ∷ []) tt) (place 4 8) ∷ []) tt
-    (procedure h 2 [] tt [] tt None (block h (at h 6 19 true (s.Allocate (vec h (request h (name (n.Static 0) l.Whole) (kind base.Integer 1 true) (bounds (num (pos 1)) (num (pos 3)) ∷ []) tt ∷ []) tt) None) ∷ at h 6 35 true (s.Call (call h 0 (ref h 0 (name (n.Static 0) (elements h true (triplet h true (num (pos 2)) true (num (pos 1)) (num (pos 1)) ∷ []) tt)) ∷ []) tt)) ∷ at h 6 51 true (s.Print (vec h (item.Value (var h (name (n.Static 2) l.Whole)) ∷ item.Value (size h (ref h 0 (name (n.Static 0) l.Contents))) ∷ []) tt)) ∷ []) tt) (place 6 72))
+    (static (declared h (kind base.Integer 1 true) [] tt [] tt) 0 false ∷ static (declared h (kind base.Integer 1 true) [] tt [] tt) 0 false
+    ∷ static (declared h (kind base.Integer 0 false) [] tt [] tt) 0 false ∷ []) tt
+    (procedure h 0 (dummy h (kind base.Integer 1 false) intent.InOut ((pos 1) ∷ []) tt ∷ []) tt [] tt None
+    (block h (at h 3 1 true (s.Deallocate (vec h (request h (name (n.Static 0) l.Whole) (kind base.Integer 1 true) [] tt ∷ []) tt)
+    (Some (name (n.Static 2) l.Whole))) ∷ at h 4 1 true (s.Assign (name (n.Lent 0) l.Whole) (kind base.Integer 1 false) (num (pos 1))) ∷ []) tt)
+    (place 4 8) ∷ []) tt
+    (procedure h 2 [] tt [] tt None (block h (at h 6 19 true (s.Allocate
+    (vec h (request h (name (n.Static 0) l.Whole) (kind base.Integer 1 true) (bounds (num (pos 1)) (num (pos 3)) ∷ []) tt ∷ []) tt) None)
+    ∷ at h 6 35 true (s.Call (call h 0 (ref h 0 (name (n.Static 0)
+    (elements h true (triplet h true (num (pos 2)) true (num (pos 1)) (num (pos 1)) ∷ []) tt)) ∷ []) tt))
+    ∷ at h 6 51 true (s.Print (vec h (item.Value (var h (name (n.Static 2) l.Whole))
+    ∷ item.Value (size h (ref h 0 (name (n.Static 0) l.Contents))) ∷ []) tt)) ∷ []) tt) (place 6 72))
     (place 6 1)
 
 --     module w; integer, allocatable :: v(:), u(:); contains
@@ -35,8 +45,15 @@ heap_24_lent_empty_section_deallocate_stat h = program h [] tt
 abbrev pub heap_25_lent_empty_section_assign_shape : Global → Program
 heap_25_lent_empty_section_assign_shape h = program h [] tt
     (static (declared h (kind base.Integer 1 true) [] tt [] tt) 0 false ∷ static (declared h (kind base.Integer 1 true) [] tt [] tt) 0 false ∷ []) tt
-    (procedure h 0 (dummy h (kind base.Integer 1 false) intent.InOut ((pos 1) ∷ []) tt ∷ []) tt [] tt None (block h (at h 3 1 true (s.Assign (name (n.Static 0) l.Whole) (kind base.Integer 1 true) (array h (val h 0 (num (pos 1)) ∷ val h 0 (num (pos 2)) ∷ []) tt)) ∷ at h 4 1 true (s.Assign (name (n.Lent 0) l.Whole) (kind base.Integer 1 false) (num (pos 1))) ∷ []) tt) (place 4 8) ∷ []) tt
-    (procedure h 2 [] tt [] tt None (block h (at h 6 19 true (s.Allocate (vec h (request h (name (n.Static 0) l.Whole) (kind base.Integer 1 true) (bounds (num (pos 1)) (num (pos 3)) ∷ []) tt ∷ []) tt) None) ∷ at h 6 35 true (s.Call (call h 0 (ref h 0 (name (n.Static 0) (elements h true (triplet h true (num (pos 2)) true (num (pos 1)) (num (pos 1)) ∷ []) tt)) ∷ []) tt)) ∷ at h 6 51 true (s.Print (vec h (item.Value (size h (ref h 0 (name (n.Static 0) l.Contents))) ∷ []) tt)) ∷ []) tt) (place 6 69))
+    (procedure h 0 (dummy h (kind base.Integer 1 false) intent.InOut ((pos 1) ∷ []) tt ∷ []) tt [] tt None
+    (block h (at h 3 1 true (s.Assign (name (n.Static 0) l.Whole) (kind base.Integer 1 true)
+    (array h (val h 0 (num (pos 1)) ∷ val h 0 (num (pos 2)) ∷ []) tt))
+    ∷ at h 4 1 true (s.Assign (name (n.Lent 0) l.Whole) (kind base.Integer 1 false) (num (pos 1))) ∷ []) tt) (place 4 8) ∷ []) tt
+    (procedure h 2 [] tt [] tt None (block h (at h 6 19 true (s.Allocate
+    (vec h (request h (name (n.Static 0) l.Whole) (kind base.Integer 1 true) (bounds (num (pos 1)) (num (pos 3)) ∷ []) tt ∷ []) tt) None)
+    ∷ at h 6 35 true (s.Call (call h 0 (ref h 0 (name (n.Static 0)
+    (elements h true (triplet h true (num (pos 2)) true (num (pos 1)) (num (pos 1)) ∷ []) tt)) ∷ []) tt))
+    ∷ at h 6 51 true (s.Print (vec h (item.Value (size h (ref h 0 (name (n.Static 0) l.Contents))) ∷ []) tt)) ∷ []) tt) (place 6 69))
     (place 6 1)
 
 --     module w; type t; integer, allocatable :: c(:); end type; type(t) :: h, g; contains
@@ -48,8 +65,14 @@ heap_25_lent_empty_section_assign_shape h = program h [] tt
 abbrev pub heap_26_lent_empty_section_assign_object : Global → Program
 heap_26_lent_empty_section_assign_object h = program h (derived h 0 (comp (declared h (kind base.Integer 1 true) [] tt [] tt) false ∷ []) tt [] tt ∷ []) tt
     (static (declared h (kind (base.Derived 0) 0 false) [] tt [] tt) 0 false ∷ static (declared h (kind (base.Derived 0) 0 false) [] tt [] tt) 0 false ∷ []) tt
-    (procedure h 0 (dummy h (kind base.Integer 1 false) intent.InOut ((pos 1) ∷ []) tt ∷ []) tt [] tt None (block h (at h 3 1 true (s.Assign (name (n.Static 0) l.Whole) (kind (base.Derived 0) 0 false) (var h (name (n.Static 1) l.Whole))) ∷ at h 4 1 true (s.Assign (name (n.Lent 0) l.Whole) (kind base.Integer 1 false) (num (pos 1))) ∷ []) tt) (place 4 8) ∷ []) tt
-    (procedure h 2 [] tt [] tt None (block h (at h 6 19 true (s.Allocate (vec h (request h (member h (name (n.Static 0) l.Whole) 0 l.Whole) (kind base.Integer 1 true) (bounds (num (pos 1)) (num (pos 3)) ∷ []) tt ∷ []) tt) None) ∷ at h 6 37 true (s.Call (call h 0 (ref h 0 (member h (name (n.Static 0) l.Whole) 0 (elements h true (triplet h true (num (pos 2)) true (num (pos 1)) (num (pos 1)) ∷ []) tt)) ∷ []) tt)) ∷ at h 6 55 true (s.Print (vec h (item.Value (size h (ref h 0 (member h (name (n.Static 0) l.Whole) 0 l.Contents))) ∷ []) tt)) ∷ []) tt) (place 6 75))
+    (procedure h 0 (dummy h (kind base.Integer 1 false) intent.InOut ((pos 1) ∷ []) tt ∷ []) tt [] tt None
+    (block h (at h 3 1 true (s.Assign (name (n.Static 0) l.Whole) (kind (base.Derived 0) 0 false) (var h (name (n.Static 1) l.Whole)))
+    ∷ at h 4 1 true (s.Assign (name (n.Lent 0) l.Whole) (kind base.Integer 1 false) (num (pos 1))) ∷ []) tt) (place 4 8) ∷ []) tt
+    (procedure h 2 [] tt [] tt None (block h (at h 6 19 true (s.Allocate
+    (vec h (request h (member h (name (n.Static 0) l.Whole) 0 l.Whole) (kind base.Integer 1 true) (bounds (num (pos 1)) (num (pos 3)) ∷ []) tt
+    ∷ []) tt) None) ∷ at h 6 37 true (s.Call (call h 0 (ref h 0
+    (member h (name (n.Static 0) l.Whole) 0 (elements h true (triplet h true (num (pos 2)) true (num (pos 1)) (num (pos 1)) ∷ []) tt)) ∷ []) tt))
+    ∷ at h 6 55 true (s.Print (vec h (item.Value (size h (ref h 0 (member h (name (n.Static 0) l.Whole) 0 l.Contents))) ∷ []) tt)) ∷ []) tt) (place 6 75))
     (place 6 1)
 
 --     module w; integer, allocatable :: v(:), u(:); contains
@@ -61,8 +84,14 @@ heap_26_lent_empty_section_assign_object h = program h (derived h 0 (comp (decla
 abbrev pub heap_27_lent_empty_section_move_from : Global → Program
 heap_27_lent_empty_section_move_from h = program h [] tt
     (static (declared h (kind base.Integer 1 true) [] tt [] tt) 0 false ∷ static (declared h (kind base.Integer 1 true) [] tt [] tt) 0 false ∷ []) tt
-    (procedure h 0 (dummy h (kind base.Integer 1 false) intent.InOut ((pos 1) ∷ []) tt ∷ []) tt [] tt None (block h (at h 3 1 true (s.MoveAlloc (kind base.Integer 1 true) true (name (n.Static 0) l.Whole) (name (n.Static 1) l.Whole)) ∷ at h 4 1 true (s.Assign (name (n.Lent 0) l.Whole) (kind base.Integer 1 false) (num (pos 1))) ∷ []) tt) (place 4 8) ∷ []) tt
-    (procedure h 2 [] tt [] tt None (block h (at h 6 19 true (s.Allocate (vec h (request h (name (n.Static 0) l.Whole) (kind base.Integer 1 true) (bounds (num (pos 1)) (num (pos 3)) ∷ []) tt ∷ []) tt) None) ∷ at h 6 35 true (s.Call (call h 0 (ref h 0 (name (n.Static 0) (elements h true (triplet h true (num (pos 2)) true (num (pos 1)) (num (pos 1)) ∷ []) tt)) ∷ []) tt)) ∷ at h 6 51 true (s.Print (vec h (item.Value (size h (ref h 0 (name (n.Static 0) l.Contents))) ∷ []) tt)) ∷ []) tt) (place 6 69))
+    (procedure h 0 (dummy h (kind base.Integer 1 false) intent.InOut ((pos 1) ∷ []) tt ∷ []) tt [] tt None
+    (block h (at h 3 1 true (s.MoveAlloc (kind base.Integer 1 true) true (name (n.Static 0) l.Whole) (name (n.Static 1) l.Whole))
+    ∷ at h 4 1 true (s.Assign (name (n.Lent 0) l.Whole) (kind base.Integer 1 false) (num (pos 1))) ∷ []) tt) (place 4 8) ∷ []) tt
+    (procedure h 2 [] tt [] tt None (block h (at h 6 19 true (s.Allocate
+    (vec h (request h (name (n.Static 0) l.Whole) (kind base.Integer 1 true) (bounds (num (pos 1)) (num (pos 3)) ∷ []) tt ∷ []) tt) None)
+    ∷ at h 6 35 true (s.Call (call h 0 (ref h 0 (name (n.Static 0)
+    (elements h true (triplet h true (num (pos 2)) true (num (pos 1)) (num (pos 1)) ∷ []) tt)) ∷ []) tt))
+    ∷ at h 6 51 true (s.Print (vec h (item.Value (size h (ref h 0 (name (n.Static 0) l.Contents))) ∷ []) tt)) ∷ []) tt) (place 6 69))
     (place 6 1)
 
 --     module w; integer, allocatable :: v(:), u(:); contains
@@ -74,8 +103,16 @@ heap_27_lent_empty_section_move_from h = program h [] tt
 abbrev pub heap_28_lent_empty_section_move_to : Global → Program
 heap_28_lent_empty_section_move_to h = program h [] tt
     (static (declared h (kind base.Integer 1 true) [] tt [] tt) 0 false ∷ static (declared h (kind base.Integer 1 true) [] tt [] tt) 0 false ∷ []) tt
-    (procedure h 0 (dummy h (kind base.Integer 1 false) intent.InOut ((pos 1) ∷ []) tt ∷ []) tt [] tt None (block h (at h 3 1 true (s.MoveAlloc (kind base.Integer 1 true) true (name (n.Static 1) l.Whole) (name (n.Static 0) l.Whole)) ∷ at h 4 1 true (s.Assign (name (n.Lent 0) l.Whole) (kind base.Integer 1 false) (num (pos 1))) ∷ []) tt) (place 4 8) ∷ []) tt
-    (procedure h 2 [] tt [] tt None (block h (at h 6 19 true (s.Allocate (vec h (request h (name (n.Static 0) l.Whole) (kind base.Integer 1 true) (bounds (num (pos 1)) (num (pos 3)) ∷ []) tt ∷ []) tt) None) ∷ at h 6 35 true (s.Allocate (vec h (request h (name (n.Static 1) l.Whole) (kind base.Integer 1 true) (bounds (num (pos 1)) (num (pos 1)) ∷ []) tt ∷ []) tt) None) ∷ at h 6 51 true (s.Call (call h 0 (ref h 0 (name (n.Static 0) (elements h true (triplet h true (num (pos 2)) true (num (pos 1)) (num (pos 1)) ∷ []) tt)) ∷ []) tt)) ∷ at h 6 67 true (s.Print (vec h (item.Value (size h (ref h 0 (name (n.Static 0) l.Contents))) ∷ []) tt)) ∷ []) tt) (place 6 85))
+    (procedure h 0 (dummy h (kind base.Integer 1 false) intent.InOut ((pos 1) ∷ []) tt ∷ []) tt [] tt None
+    (block h (at h 3 1 true (s.MoveAlloc (kind base.Integer 1 true) true (name (n.Static 1) l.Whole) (name (n.Static 0) l.Whole))
+    ∷ at h 4 1 true (s.Assign (name (n.Lent 0) l.Whole) (kind base.Integer 1 false) (num (pos 1))) ∷ []) tt) (place 4 8) ∷ []) tt
+    (procedure h 2 [] tt [] tt None (block h (at h 6 19 true (s.Allocate
+    (vec h (request h (name (n.Static 0) l.Whole) (kind base.Integer 1 true) (bounds (num (pos 1)) (num (pos 3)) ∷ []) tt ∷ []) tt) None)
+    ∷ at h 6 35 true (s.Allocate (vec h (request h (name (n.Static 1) l.Whole) (kind base.Integer 1 true)
+    (bounds (num (pos 1)) (num (pos 1)) ∷ []) tt ∷ []) tt) None)
+    ∷ at h 6 51 true (s.Call (call h 0 (ref h 0 (name (n.Static 0)
+    (elements h true (triplet h true (num (pos 2)) true (num (pos 1)) (num (pos 1)) ∷ []) tt)) ∷ []) tt))
+    ∷ at h 6 67 true (s.Print (vec h (item.Value (size h (ref h 0 (name (n.Static 0) l.Contents))) ∷ []) tt)) ∷ []) tt) (place 6 85))
     (place 6 1)
 
 --     module w; integer, allocatable :: v(:), u(:); contains
@@ -88,8 +125,15 @@ heap_28_lent_empty_section_move_to h = program h [] tt
 abbrev pub heap_29_lent_empty_section_out_allocatable : Global → Program
 heap_29_lent_empty_section_out_allocatable h = program h [] tt
     (static (declared h (kind base.Integer 1 true) [] tt [] tt) 0 false ∷ static (declared h (kind base.Integer 1 true) [] tt [] tt) 0 false ∷ []) tt
-    (procedure h 0 (dummy h (kind base.Integer 1 false) intent.InOut ((pos 1) ∷ []) tt ∷ []) tt [] tt None (block h (at h 3 1 true (s.Call (call h 1 (ref h 0 (name (n.Static 0) l.Whole) ∷ []) tt)) ∷ at h 4 1 true (s.Assign (name (n.Lent 0) l.Whole) (kind base.Integer 1 false) (num (pos 1))) ∷ []) tt) (place 4 8) ∷ procedure h 0 (dummy h (kind base.Integer 1 true) intent.Out [] tt ∷ []) tt [] tt None (block h [] tt) (place 5 64) ∷ []) tt
-    (procedure h 3 [] tt [] tt None (block h (at h 7 19 true (s.Allocate (vec h (request h (name (n.Static 0) l.Whole) (kind base.Integer 1 true) (bounds (num (pos 1)) (num (pos 3)) ∷ []) tt ∷ []) tt) None) ∷ at h 7 35 true (s.Call (call h 0 (ref h 0 (name (n.Static 0) (elements h true (triplet h true (num (pos 2)) true (num (pos 1)) (num (pos 1)) ∷ []) tt)) ∷ []) tt)) ∷ at h 7 51 true (s.Print (vec h (item.Value (size h (ref h 0 (name (n.Static 0) l.Contents))) ∷ []) tt)) ∷ []) tt) (place 7 69))
+    (procedure h 0 (dummy h (kind base.Integer 1 false) intent.InOut ((pos 1) ∷ []) tt ∷ []) tt [] tt None
+    (block h (at h 3 1 true (s.Call (call h 1 (ref h 0 (name (n.Static 0) l.Whole) ∷ []) tt))
+    ∷ at h 4 1 true (s.Assign (name (n.Lent 0) l.Whole) (kind base.Integer 1 false) (num (pos 1))) ∷ []) tt) (place 4 8)
+    ∷ procedure h 0 (dummy h (kind base.Integer 1 true) intent.Out [] tt ∷ []) tt [] tt None (block h [] tt) (place 5 64) ∷ []) tt
+    (procedure h 3 [] tt [] tt None (block h (at h 7 19 true (s.Allocate
+    (vec h (request h (name (n.Static 0) l.Whole) (kind base.Integer 1 true) (bounds (num (pos 1)) (num (pos 3)) ∷ []) tt ∷ []) tt) None)
+    ∷ at h 7 35 true (s.Call (call h 0 (ref h 0 (name (n.Static 0)
+    (elements h true (triplet h true (num (pos 2)) true (num (pos 1)) (num (pos 1)) ∷ []) tt)) ∷ []) tt))
+    ∷ at h 7 51 true (s.Print (vec h (item.Value (size h (ref h 0 (name (n.Static 0) l.Contents))) ∷ []) tt)) ∷ []) tt) (place 7 69))
     (place 7 1)
 
 --     module w; type t; integer, allocatable :: c(:); end type; type(t) :: h, g; contains
@@ -102,8 +146,15 @@ heap_29_lent_empty_section_out_allocatable h = program h [] tt
 abbrev pub heap_30_lent_empty_section_out_object : Global → Program
 heap_30_lent_empty_section_out_object h = program h (derived h 0 (comp (declared h (kind base.Integer 1 true) [] tt [] tt) false ∷ []) tt [] tt ∷ []) tt
     (static (declared h (kind (base.Derived 0) 0 false) [] tt [] tt) 0 false ∷ static (declared h (kind (base.Derived 0) 0 false) [] tt [] tt) 0 false ∷ []) tt
-    (procedure h 0 (dummy h (kind base.Integer 1 false) intent.InOut ((pos 1) ∷ []) tt ∷ []) tt [] tt None (block h (at h 3 1 true (s.Call (call h 1 (ref h 0 (name (n.Static 0) l.Whole) ∷ []) tt)) ∷ at h 4 1 true (s.Assign (name (n.Lent 0) l.Whole) (kind base.Integer 1 false) (num (pos 1))) ∷ []) tt) (place 4 8) ∷ procedure h 0 (dummy h (kind (base.Derived 0) 0 false) intent.Out [] tt ∷ []) tt [] tt None (block h [] tt) (place 5 48) ∷ []) tt
-    (procedure h 3 [] tt [] tt None (block h (at h 7 19 true (s.Allocate (vec h (request h (member h (name (n.Static 0) l.Whole) 0 l.Whole) (kind base.Integer 1 true) (bounds (num (pos 1)) (num (pos 3)) ∷ []) tt ∷ []) tt) None) ∷ at h 7 37 true (s.Call (call h 0 (ref h 0 (member h (name (n.Static 0) l.Whole) 0 (elements h true (triplet h true (num (pos 2)) true (num (pos 1)) (num (pos 1)) ∷ []) tt)) ∷ []) tt)) ∷ at h 7 55 true (s.Print (vec h (item.Value (size h (ref h 0 (member h (name (n.Static 0) l.Whole) 0 l.Contents))) ∷ []) tt)) ∷ []) tt) (place 7 75))
+    (procedure h 0 (dummy h (kind base.Integer 1 false) intent.InOut ((pos 1) ∷ []) tt ∷ []) tt [] tt None
+    (block h (at h 3 1 true (s.Call (call h 1 (ref h 0 (name (n.Static 0) l.Whole) ∷ []) tt))
+    ∷ at h 4 1 true (s.Assign (name (n.Lent 0) l.Whole) (kind base.Integer 1 false) (num (pos 1))) ∷ []) tt) (place 4 8)
+    ∷ procedure h 0 (dummy h (kind (base.Derived 0) 0 false) intent.Out [] tt ∷ []) tt [] tt None (block h [] tt) (place 5 48) ∷ []) tt
+    (procedure h 3 [] tt [] tt None (block h (at h 7 19 true (s.Allocate
+    (vec h (request h (member h (name (n.Static 0) l.Whole) 0 l.Whole) (kind base.Integer 1 true) (bounds (num (pos 1)) (num (pos 3)) ∷ []) tt
+    ∷ []) tt) None) ∷ at h 7 37 true (s.Call (call h 0 (ref h 0
+    (member h (name (n.Static 0) l.Whole) 0 (elements h true (triplet h true (num (pos 2)) true (num (pos 1)) (num (pos 1)) ∷ []) tt)) ∷ []) tt))
+    ∷ at h 7 55 true (s.Print (vec h (item.Value (size h (ref h 0 (member h (name (n.Static 0) l.Whole) 0 l.Contents))) ∷ []) tt)) ∷ []) tt) (place 7 75))
     (place 7 1)
 
 --     module w; integer, allocatable :: v(:), u(:); contains
@@ -115,8 +166,13 @@ heap_30_lent_empty_section_out_object h = program h (derived h 0 (comp (declared
 abbrev pub heap_31_lent_whole_array_deallocate : Global → Program
 heap_31_lent_whole_array_deallocate h = program h [] tt
     (static (declared h (kind base.Integer 1 true) [] tt [] tt) 0 false ∷ static (declared h (kind base.Integer 1 true) [] tt [] tt) 0 false ∷ []) tt
-    (procedure h 0 (dummy h (kind base.Integer 1 false) intent.InOut ((pos 1) ∷ []) tt ∷ []) tt [] tt None (block h (at h 3 1 true (s.Deallocate (vec h (request h (name (n.Static 0) l.Whole) (kind base.Integer 1 true) [] tt ∷ []) tt) None) ∷ at h 4 1 true (s.Assign (name (n.Lent 0) l.Whole) (kind base.Integer 1 false) (num (pos 1))) ∷ []) tt) (place 4 8) ∷ []) tt
-    (procedure h 2 [] tt [] tt None (block h (at h 6 19 true (s.Allocate (vec h (request h (name (n.Static 0) l.Whole) (kind base.Integer 1 true) (bounds (num (pos 1)) (num (pos 3)) ∷ []) tt ∷ []) tt) None) ∷ at h 6 35 true (s.Call (call h 0 (ref h 0 (name (n.Static 0) l.Contents) ∷ []) tt)) ∷ at h 6 46 true (s.Print (vec h (item.Value (size h (ref h 0 (name (n.Static 0) l.Contents))) ∷ []) tt)) ∷ []) tt) (place 6 64))
+    (procedure h 0 (dummy h (kind base.Integer 1 false) intent.InOut ((pos 1) ∷ []) tt ∷ []) tt [] tt None
+    (block h (at h 3 1 true (s.Deallocate (vec h (request h (name (n.Static 0) l.Whole) (kind base.Integer 1 true) [] tt ∷ []) tt) None)
+    ∷ at h 4 1 true (s.Assign (name (n.Lent 0) l.Whole) (kind base.Integer 1 false) (num (pos 1))) ∷ []) tt) (place 4 8) ∷ []) tt
+    (procedure h 2 [] tt [] tt None (block h (at h 6 19 true (s.Allocate
+    (vec h (request h (name (n.Static 0) l.Whole) (kind base.Integer 1 true) (bounds (num (pos 1)) (num (pos 3)) ∷ []) tt ∷ []) tt) None)
+    ∷ at h 6 35 true (s.Call (call h 0 (ref h 0 (name (n.Static 0) l.Contents) ∷ []) tt))
+    ∷ at h 6 46 true (s.Print (vec h (item.Value (size h (ref h 0 (name (n.Static 0) l.Contents))) ∷ []) tt)) ∷ []) tt) (place 6 64))
     (place 6 1)
 
 --     module w; integer, allocatable :: v(:), u(:); integer :: k; contains
@@ -127,9 +183,17 @@ heap_31_lent_whole_array_deallocate h = program h [] tt
 --     program q; use w; allocate(v(3)); call p(v); print *, k, size(v); end
 abbrev pub heap_32_lent_whole_array_deallocate_stat : Global → Program
 heap_32_lent_whole_array_deallocate_stat h = program h [] tt
-    (static (declared h (kind base.Integer 1 true) [] tt [] tt) 0 false ∷ static (declared h (kind base.Integer 1 true) [] tt [] tt) 0 false ∷ static (declared h (kind base.Integer 0 false) [] tt [] tt) 0 false ∷ []) tt
-    (procedure h 0 (dummy h (kind base.Integer 1 false) intent.InOut ((pos 1) ∷ []) tt ∷ []) tt [] tt None (block h (at h 3 1 true (s.Deallocate (vec h (request h (name (n.Static 0) l.Whole) (kind base.Integer 1 true) [] tt ∷ []) tt) (Some (name (n.Static 2) l.Whole))) ∷ at h 4 1 true (s.Assign (name (n.Lent 0) l.Whole) (kind base.Integer 1 false) (num (pos 1))) ∷ []) tt) (place 4 8) ∷ []) tt
-    (procedure h 2 [] tt [] tt None (block h (at h 6 19 true (s.Allocate (vec h (request h (name (n.Static 0) l.Whole) (kind base.Integer 1 true) (bounds (num (pos 1)) (num (pos 3)) ∷ []) tt ∷ []) tt) None) ∷ at h 6 35 true (s.Call (call h 0 (ref h 0 (name (n.Static 0) l.Contents) ∷ []) tt)) ∷ at h 6 46 true (s.Print (vec h (item.Value (var h (name (n.Static 2) l.Whole)) ∷ item.Value (size h (ref h 0 (name (n.Static 0) l.Contents))) ∷ []) tt)) ∷ []) tt) (place 6 67))
+    (static (declared h (kind base.Integer 1 true) [] tt [] tt) 0 false ∷ static (declared h (kind base.Integer 1 true) [] tt [] tt) 0 false
+    ∷ static (declared h (kind base.Integer 0 false) [] tt [] tt) 0 false ∷ []) tt
+    (procedure h 0 (dummy h (kind base.Integer 1 false) intent.InOut ((pos 1) ∷ []) tt ∷ []) tt [] tt None
+    (block h (at h 3 1 true (s.Deallocate (vec h (request h (name (n.Static 0) l.Whole) (kind base.Integer 1 true) [] tt ∷ []) tt)
+    (Some (name (n.Static 2) l.Whole))) ∷ at h 4 1 true (s.Assign (name (n.Lent 0) l.Whole) (kind base.Integer 1 false) (num (pos 1))) ∷ []) tt)
+    (place 4 8) ∷ []) tt
+    (procedure h 2 [] tt [] tt None (block h (at h 6 19 true (s.Allocate
+    (vec h (request h (name (n.Static 0) l.Whole) (kind base.Integer 1 true) (bounds (num (pos 1)) (num (pos 3)) ∷ []) tt ∷ []) tt) None)
+    ∷ at h 6 35 true (s.Call (call h 0 (ref h 0 (name (n.Static 0) l.Contents) ∷ []) tt))
+    ∷ at h 6 46 true (s.Print (vec h (item.Value (var h (name (n.Static 2) l.Whole))
+    ∷ item.Value (size h (ref h 0 (name (n.Static 0) l.Contents))) ∷ []) tt)) ∷ []) tt) (place 6 67))
     (place 6 1)
 
 --     module w; integer, allocatable :: v(:), u(:); contains
@@ -141,8 +205,14 @@ heap_32_lent_whole_array_deallocate_stat h = program h [] tt
 abbrev pub heap_33_lent_whole_array_assign_shape : Global → Program
 heap_33_lent_whole_array_assign_shape h = program h [] tt
     (static (declared h (kind base.Integer 1 true) [] tt [] tt) 0 false ∷ static (declared h (kind base.Integer 1 true) [] tt [] tt) 0 false ∷ []) tt
-    (procedure h 0 (dummy h (kind base.Integer 1 false) intent.InOut ((pos 1) ∷ []) tt ∷ []) tt [] tt None (block h (at h 3 1 true (s.Assign (name (n.Static 0) l.Whole) (kind base.Integer 1 true) (array h (val h 0 (num (pos 1)) ∷ val h 0 (num (pos 2)) ∷ []) tt)) ∷ at h 4 1 true (s.Assign (name (n.Lent 0) l.Whole) (kind base.Integer 1 false) (num (pos 1))) ∷ []) tt) (place 4 8) ∷ []) tt
-    (procedure h 2 [] tt [] tt None (block h (at h 6 19 true (s.Allocate (vec h (request h (name (n.Static 0) l.Whole) (kind base.Integer 1 true) (bounds (num (pos 1)) (num (pos 3)) ∷ []) tt ∷ []) tt) None) ∷ at h 6 35 true (s.Call (call h 0 (ref h 0 (name (n.Static 0) l.Contents) ∷ []) tt)) ∷ at h 6 46 true (s.Print (vec h (item.Value (size h (ref h 0 (name (n.Static 0) l.Contents))) ∷ []) tt)) ∷ []) tt) (place 6 64))
+    (procedure h 0 (dummy h (kind base.Integer 1 false) intent.InOut ((pos 1) ∷ []) tt ∷ []) tt [] tt None
+    (block h (at h 3 1 true (s.Assign (name (n.Static 0) l.Whole) (kind base.Integer 1 true)
+    (array h (val h 0 (num (pos 1)) ∷ val h 0 (num (pos 2)) ∷ []) tt))
+    ∷ at h 4 1 true (s.Assign (name (n.Lent 0) l.Whole) (kind base.Integer 1 false) (num (pos 1))) ∷ []) tt) (place 4 8) ∷ []) tt
+    (procedure h 2 [] tt [] tt None (block h (at h 6 19 true (s.Allocate
+    (vec h (request h (name (n.Static 0) l.Whole) (kind base.Integer 1 true) (bounds (num (pos 1)) (num (pos 3)) ∷ []) tt ∷ []) tt) None)
+    ∷ at h 6 35 true (s.Call (call h 0 (ref h 0 (name (n.Static 0) l.Contents) ∷ []) tt))
+    ∷ at h 6 46 true (s.Print (vec h (item.Value (size h (ref h 0 (name (n.Static 0) l.Contents))) ∷ []) tt)) ∷ []) tt) (place 6 64))
     (place 6 1)
 
 --     module w; type t; integer, allocatable :: c(:); end type; type(t) :: h, g; contains
@@ -154,8 +224,13 @@ heap_33_lent_whole_array_assign_shape h = program h [] tt
 abbrev pub heap_34_lent_whole_array_assign_object : Global → Program
 heap_34_lent_whole_array_assign_object h = program h (derived h 0 (comp (declared h (kind base.Integer 1 true) [] tt [] tt) false ∷ []) tt [] tt ∷ []) tt
     (static (declared h (kind (base.Derived 0) 0 false) [] tt [] tt) 0 false ∷ static (declared h (kind (base.Derived 0) 0 false) [] tt [] tt) 0 false ∷ []) tt
-    (procedure h 0 (dummy h (kind base.Integer 1 false) intent.InOut ((pos 1) ∷ []) tt ∷ []) tt [] tt None (block h (at h 3 1 true (s.Assign (name (n.Static 0) l.Whole) (kind (base.Derived 0) 0 false) (var h (name (n.Static 1) l.Whole))) ∷ at h 4 1 true (s.Assign (name (n.Lent 0) l.Whole) (kind base.Integer 1 false) (num (pos 1))) ∷ []) tt) (place 4 8) ∷ []) tt
-    (procedure h 2 [] tt [] tt None (block h (at h 6 19 true (s.Allocate (vec h (request h (member h (name (n.Static 0) l.Whole) 0 l.Whole) (kind base.Integer 1 true) (bounds (num (pos 1)) (num (pos 3)) ∷ []) tt ∷ []) tt) None) ∷ at h 6 37 true (s.Call (call h 0 (ref h 0 (member h (name (n.Static 0) l.Whole) 0 l.Contents) ∷ []) tt)) ∷ at h 6 50 true (s.Print (vec h (item.Value (size h (ref h 0 (member h (name (n.Static 0) l.Whole) 0 l.Contents))) ∷ []) tt)) ∷ []) tt) (place 6 70))
+    (procedure h 0 (dummy h (kind base.Integer 1 false) intent.InOut ((pos 1) ∷ []) tt ∷ []) tt [] tt None
+    (block h (at h 3 1 true (s.Assign (name (n.Static 0) l.Whole) (kind (base.Derived 0) 0 false) (var h (name (n.Static 1) l.Whole)))
+    ∷ at h 4 1 true (s.Assign (name (n.Lent 0) l.Whole) (kind base.Integer 1 false) (num (pos 1))) ∷ []) tt) (place 4 8) ∷ []) tt
+    (procedure h 2 [] tt [] tt None (block h (at h 6 19 true (s.Allocate
+    (vec h (request h (member h (name (n.Static 0) l.Whole) 0 l.Whole) (kind base.Integer 1 true) (bounds (num (pos 1)) (num (pos 3)) ∷ []) tt
+    ∷ []) tt) None) ∷ at h 6 37 true (s.Call (call h 0 (ref h 0 (member h (name (n.Static 0) l.Whole) 0 l.Contents) ∷ []) tt))
+    ∷ at h 6 50 true (s.Print (vec h (item.Value (size h (ref h 0 (member h (name (n.Static 0) l.Whole) 0 l.Contents))) ∷ []) tt)) ∷ []) tt) (place 6 70))
     (place 6 1)
 
 --     module w; integer, allocatable :: v(:), u(:); contains
@@ -167,8 +242,13 @@ heap_34_lent_whole_array_assign_object h = program h (derived h 0 (comp (declare
 abbrev pub heap_35_lent_whole_array_move_from : Global → Program
 heap_35_lent_whole_array_move_from h = program h [] tt
     (static (declared h (kind base.Integer 1 true) [] tt [] tt) 0 false ∷ static (declared h (kind base.Integer 1 true) [] tt [] tt) 0 false ∷ []) tt
-    (procedure h 0 (dummy h (kind base.Integer 1 false) intent.InOut ((pos 1) ∷ []) tt ∷ []) tt [] tt None (block h (at h 3 1 true (s.MoveAlloc (kind base.Integer 1 true) true (name (n.Static 0) l.Whole) (name (n.Static 1) l.Whole)) ∷ at h 4 1 true (s.Assign (name (n.Lent 0) l.Whole) (kind base.Integer 1 false) (num (pos 1))) ∷ []) tt) (place 4 8) ∷ []) tt
-    (procedure h 2 [] tt [] tt None (block h (at h 6 19 true (s.Allocate (vec h (request h (name (n.Static 0) l.Whole) (kind base.Integer 1 true) (bounds (num (pos 1)) (num (pos 3)) ∷ []) tt ∷ []) tt) None) ∷ at h 6 35 true (s.Call (call h 0 (ref h 0 (name (n.Static 0) l.Contents) ∷ []) tt)) ∷ at h 6 46 true (s.Print (vec h (item.Value (size h (ref h 0 (name (n.Static 0) l.Contents))) ∷ []) tt)) ∷ []) tt) (place 6 64))
+    (procedure h 0 (dummy h (kind base.Integer 1 false) intent.InOut ((pos 1) ∷ []) tt ∷ []) tt [] tt None
+    (block h (at h 3 1 true (s.MoveAlloc (kind base.Integer 1 true) true (name (n.Static 0) l.Whole) (name (n.Static 1) l.Whole))
+    ∷ at h 4 1 true (s.Assign (name (n.Lent 0) l.Whole) (kind base.Integer 1 false) (num (pos 1))) ∷ []) tt) (place 4 8) ∷ []) tt
+    (procedure h 2 [] tt [] tt None (block h (at h 6 19 true (s.Allocate
+    (vec h (request h (name (n.Static 0) l.Whole) (kind base.Integer 1 true) (bounds (num (pos 1)) (num (pos 3)) ∷ []) tt ∷ []) tt) None)
+    ∷ at h 6 35 true (s.Call (call h 0 (ref h 0 (name (n.Static 0) l.Contents) ∷ []) tt))
+    ∷ at h 6 46 true (s.Print (vec h (item.Value (size h (ref h 0 (name (n.Static 0) l.Contents))) ∷ []) tt)) ∷ []) tt) (place 6 64))
     (place 6 1)
 
 --     module w; integer, allocatable :: v(:), u(:); contains
@@ -180,8 +260,15 @@ heap_35_lent_whole_array_move_from h = program h [] tt
 abbrev pub heap_36_lent_whole_array_move_to : Global → Program
 heap_36_lent_whole_array_move_to h = program h [] tt
     (static (declared h (kind base.Integer 1 true) [] tt [] tt) 0 false ∷ static (declared h (kind base.Integer 1 true) [] tt [] tt) 0 false ∷ []) tt
-    (procedure h 0 (dummy h (kind base.Integer 1 false) intent.InOut ((pos 1) ∷ []) tt ∷ []) tt [] tt None (block h (at h 3 1 true (s.MoveAlloc (kind base.Integer 1 true) true (name (n.Static 1) l.Whole) (name (n.Static 0) l.Whole)) ∷ at h 4 1 true (s.Assign (name (n.Lent 0) l.Whole) (kind base.Integer 1 false) (num (pos 1))) ∷ []) tt) (place 4 8) ∷ []) tt
-    (procedure h 2 [] tt [] tt None (block h (at h 6 19 true (s.Allocate (vec h (request h (name (n.Static 0) l.Whole) (kind base.Integer 1 true) (bounds (num (pos 1)) (num (pos 3)) ∷ []) tt ∷ []) tt) None) ∷ at h 6 35 true (s.Allocate (vec h (request h (name (n.Static 1) l.Whole) (kind base.Integer 1 true) (bounds (num (pos 1)) (num (pos 1)) ∷ []) tt ∷ []) tt) None) ∷ at h 6 51 true (s.Call (call h 0 (ref h 0 (name (n.Static 0) l.Contents) ∷ []) tt)) ∷ at h 6 62 true (s.Print (vec h (item.Value (size h (ref h 0 (name (n.Static 0) l.Contents))) ∷ []) tt)) ∷ []) tt) (place 6 80))
+    (procedure h 0 (dummy h (kind base.Integer 1 false) intent.InOut ((pos 1) ∷ []) tt ∷ []) tt [] tt None
+    (block h (at h 3 1 true (s.MoveAlloc (kind base.Integer 1 true) true (name (n.Static 1) l.Whole) (name (n.Static 0) l.Whole))
+    ∷ at h 4 1 true (s.Assign (name (n.Lent 0) l.Whole) (kind base.Integer 1 false) (num (pos 1))) ∷ []) tt) (place 4 8) ∷ []) tt
+    (procedure h 2 [] tt [] tt None (block h (at h 6 19 true (s.Allocate
+    (vec h (request h (name (n.Static 0) l.Whole) (kind base.Integer 1 true) (bounds (num (pos 1)) (num (pos 3)) ∷ []) tt ∷ []) tt) None)
+    ∷ at h 6 35 true (s.Allocate (vec h (request h (name (n.Static 1) l.Whole) (kind base.Integer 1 true)
+    (bounds (num (pos 1)) (num (pos 1)) ∷ []) tt ∷ []) tt) None)
+    ∷ at h 6 51 true (s.Call (call h 0 (ref h 0 (name (n.Static 0) l.Contents) ∷ []) tt))
+    ∷ at h 6 62 true (s.Print (vec h (item.Value (size h (ref h 0 (name (n.Static 0) l.Contents))) ∷ []) tt)) ∷ []) tt) (place 6 80))
     (place 6 1)
 
 --     module w; integer, allocatable :: v(:), u(:); contains
@@ -194,8 +281,14 @@ heap_36_lent_whole_array_move_to h = program h [] tt
 abbrev pub heap_37_lent_whole_array_out_allocatable : Global → Program
 heap_37_lent_whole_array_out_allocatable h = program h [] tt
     (static (declared h (kind base.Integer 1 true) [] tt [] tt) 0 false ∷ static (declared h (kind base.Integer 1 true) [] tt [] tt) 0 false ∷ []) tt
-    (procedure h 0 (dummy h (kind base.Integer 1 false) intent.InOut ((pos 1) ∷ []) tt ∷ []) tt [] tt None (block h (at h 3 1 true (s.Call (call h 1 (ref h 0 (name (n.Static 0) l.Whole) ∷ []) tt)) ∷ at h 4 1 true (s.Assign (name (n.Lent 0) l.Whole) (kind base.Integer 1 false) (num (pos 1))) ∷ []) tt) (place 4 8) ∷ procedure h 0 (dummy h (kind base.Integer 1 true) intent.Out [] tt ∷ []) tt [] tt None (block h [] tt) (place 5 64) ∷ []) tt
-    (procedure h 3 [] tt [] tt None (block h (at h 7 19 true (s.Allocate (vec h (request h (name (n.Static 0) l.Whole) (kind base.Integer 1 true) (bounds (num (pos 1)) (num (pos 3)) ∷ []) tt ∷ []) tt) None) ∷ at h 7 35 true (s.Call (call h 0 (ref h 0 (name (n.Static 0) l.Contents) ∷ []) tt)) ∷ at h 7 46 true (s.Print (vec h (item.Value (size h (ref h 0 (name (n.Static 0) l.Contents))) ∷ []) tt)) ∷ []) tt) (place 7 64))
+    (procedure h 0 (dummy h (kind base.Integer 1 false) intent.InOut ((pos 1) ∷ []) tt ∷ []) tt [] tt None
+    (block h (at h 3 1 true (s.Call (call h 1 (ref h 0 (name (n.Static 0) l.Whole) ∷ []) tt))
+    ∷ at h 4 1 true (s.Assign (name (n.Lent 0) l.Whole) (kind base.Integer 1 false) (num (pos 1))) ∷ []) tt) (place 4 8)
+    ∷ procedure h 0 (dummy h (kind base.Integer 1 true) intent.Out [] tt ∷ []) tt [] tt None (block h [] tt) (place 5 64) ∷ []) tt
+    (procedure h 3 [] tt [] tt None (block h (at h 7 19 true (s.Allocate
+    (vec h (request h (name (n.Static 0) l.Whole) (kind base.Integer 1 true) (bounds (num (pos 1)) (num (pos 3)) ∷ []) tt ∷ []) tt) None)
+    ∷ at h 7 35 true (s.Call (call h 0 (ref h 0 (name (n.Static 0) l.Contents) ∷ []) tt))
+    ∷ at h 7 46 true (s.Print (vec h (item.Value (size h (ref h 0 (name (n.Static 0) l.Contents))) ∷ []) tt)) ∷ []) tt) (place 7 64))
     (place 7 1)
 
 --     module w; type t; integer, allocatable :: c(:); end type; type(t) :: h, g; contains
@@ -208,8 +301,14 @@ heap_37_lent_whole_array_out_allocatable h = program h [] tt
 abbrev pub heap_38_lent_whole_array_out_object : Global → Program
 heap_38_lent_whole_array_out_object h = program h (derived h 0 (comp (declared h (kind base.Integer 1 true) [] tt [] tt) false ∷ []) tt [] tt ∷ []) tt
     (static (declared h (kind (base.Derived 0) 0 false) [] tt [] tt) 0 false ∷ static (declared h (kind (base.Derived 0) 0 false) [] tt [] tt) 0 false ∷ []) tt
-    (procedure h 0 (dummy h (kind base.Integer 1 false) intent.InOut ((pos 1) ∷ []) tt ∷ []) tt [] tt None (block h (at h 3 1 true (s.Call (call h 1 (ref h 0 (name (n.Static 0) l.Whole) ∷ []) tt)) ∷ at h 4 1 true (s.Assign (name (n.Lent 0) l.Whole) (kind base.Integer 1 false) (num (pos 1))) ∷ []) tt) (place 4 8) ∷ procedure h 0 (dummy h (kind (base.Derived 0) 0 false) intent.Out [] tt ∷ []) tt [] tt None (block h [] tt) (place 5 48) ∷ []) tt
-    (procedure h 3 [] tt [] tt None (block h (at h 7 19 true (s.Allocate (vec h (request h (member h (name (n.Static 0) l.Whole) 0 l.Whole) (kind base.Integer 1 true) (bounds (num (pos 1)) (num (pos 3)) ∷ []) tt ∷ []) tt) None) ∷ at h 7 37 true (s.Call (call h 0 (ref h 0 (member h (name (n.Static 0) l.Whole) 0 l.Contents) ∷ []) tt)) ∷ at h 7 50 true (s.Print (vec h (item.Value (size h (ref h 0 (member h (name (n.Static 0) l.Whole) 0 l.Contents))) ∷ []) tt)) ∷ []) tt) (place 7 70))
+    (procedure h 0 (dummy h (kind base.Integer 1 false) intent.InOut ((pos 1) ∷ []) tt ∷ []) tt [] tt None
+    (block h (at h 3 1 true (s.Call (call h 1 (ref h 0 (name (n.Static 0) l.Whole) ∷ []) tt))
+    ∷ at h 4 1 true (s.Assign (name (n.Lent 0) l.Whole) (kind base.Integer 1 false) (num (pos 1))) ∷ []) tt) (place 4 8)
+    ∷ procedure h 0 (dummy h (kind (base.Derived 0) 0 false) intent.Out [] tt ∷ []) tt [] tt None (block h [] tt) (place 5 48) ∷ []) tt
+    (procedure h 3 [] tt [] tt None (block h (at h 7 19 true (s.Allocate
+    (vec h (request h (member h (name (n.Static 0) l.Whole) 0 l.Whole) (kind base.Integer 1 true) (bounds (num (pos 1)) (num (pos 3)) ∷ []) tt
+    ∷ []) tt) None) ∷ at h 7 37 true (s.Call (call h 0 (ref h 0 (member h (name (n.Static 0) l.Whole) 0 l.Contents) ∷ []) tt))
+    ∷ at h 7 50 true (s.Print (vec h (item.Value (size h (ref h 0 (member h (name (n.Static 0) l.Whole) 0 l.Contents))) ∷ []) tt)) ∷ []) tt) (place 7 70))
     (place 7 1)
 
 --     module w; type t; integer, allocatable :: c(:); end type; type(t), allocatable :: o, u; contains
@@ -221,57 +320,81 @@ heap_38_lent_whole_array_out_object h = program h (derived h 0 (comp (declared h
 abbrev pub heap_39_lent_allocatable_dummy_deallocate : Global → Program
 heap_39_lent_allocatable_dummy_deallocate h = program h (derived h 0 (comp (declared h (kind base.Integer 1 true) [] tt [] tt) false ∷ []) tt [] tt ∷ []) tt
     (static (declared h (kind (base.Derived 0) 0 true) [] tt [] tt) 0 false ∷ static (declared h (kind (base.Derived 0) 0 true) [] tt [] tt) 0 false ∷ []) tt
-    (procedure h 0 (dummy h (kind base.Integer 1 true) intent.InOut [] tt ∷ []) tt [] tt None (block h (at h 3 1 true (s.Deallocate (vec h (request h (name (n.Static 0) l.Whole) (kind (base.Derived 0) 0 true) [] tt ∷ []) tt) None) ∷ at h 4 1 true (s.Assign (name (n.Lent 0) l.Whole) (kind base.Integer 1 true) (num (pos 1))) ∷ []) tt) (place 4 8) ∷ []) tt
-    (procedure h 2 [] tt [] tt None (block h (at h 6 19 true (s.Allocate (vec h (request h (name (n.Static 0) l.Whole) (kind (base.Derived 0) 0 true) [] tt ∷ []) tt) None) ∷ at h 6 32 true (s.Allocate (vec h (request h (member h (name (n.Static 0) l.Contents) 0 l.Whole) (kind base.Integer 1 true) (bounds (num (pos 1)) (num (pos 3)) ∷ []) tt ∷ []) tt) None) ∷ at h 6 50 true (s.Call (call h 0 (ref h 0 (member h (name (n.Static 0) l.Contents) 0 l.Whole) ∷ []) tt)) ∷ at h 6 63 true (s.Print (vec h (item.Value (size h (ref h 0 (member h (name (n.Static 0) l.Contents) 0 l.Contents))) ∷ []) tt)) ∷ []) tt) (place 6 83))
+    (procedure h 0 (dummy h (kind base.Integer 1 true) intent.InOut [] tt ∷ []) tt [] tt None
+    (block h (at h 3 1 true (s.Deallocate (vec h (request h (name (n.Static 0) l.Whole) (kind (base.Derived 0) 0 true) [] tt ∷ []) tt) None)
+    ∷ at h 4 1 true (s.Assign (name (n.Lent 0) l.Whole) (kind base.Integer 1 true) (num (pos 1))) ∷ []) tt) (place 4 8) ∷ []) tt
+    (procedure h 2 [] tt [] tt None (block h (at h 6 19 true (s.Allocate
+    (vec h (request h (name (n.Static 0) l.Whole) (kind (base.Derived 0) 0 true) [] tt ∷ []) tt) None)
+    ∷ at h 6 32 true (s.Allocate (vec h (request h (member h (name (n.Static 0) l.Contents) 0 l.Whole) (kind base.Integer 1 true)
+    (bounds (num (pos 1)) (num (pos 3)) ∷ []) tt ∷ []) tt) None)
+    ∷ at h 6 50 true (s.Call (call h 0 (ref h 0 (member h (name (n.Static 0) l.Contents) 0 l.Whole) ∷ []) tt))
+    ∷ at h 6 63 true (s.Print (vec h (item.Value (size h (ref h 0 (member h (name (n.Static 0) l.Contents) 0 l.Contents))) ∷ []) tt)) ∷ []) tt)
+    (place 6 83))
     (place 6 1)
 
 abbrev pub heap_24_lent_empty_section_deallocate_stat_shows : Global → Type 0
-heap_24_lent_empty_section_deallocate_stat_shows h = shown (run_of (heap_24_lent_empty_section_deallocate_stat h) 2000 granted) ≡ record { bytes = (lines (codes " 9 3" ∷ [])); verdict = Finished }
+heap_24_lent_empty_section_deallocate_stat_shows h = shown (run_of (heap_24_lent_empty_section_deallocate_stat h) 2000 granted) ≡ record
+    { bytes = (lines (codes " 9 3" ∷ [])); verdict = Finished }
 
 abbrev pub heap_25_lent_empty_section_assign_shape_shows : Global → Type 0
-heap_25_lent_empty_section_assign_shape_shows h = shown (run_of (heap_25_lent_empty_section_assign_shape h) 2000 granted) ≡ record { bytes = (lines []); verdict = Failed 9 3 1 }
+heap_25_lent_empty_section_assign_shape_shows h = shown (run_of (heap_25_lent_empty_section_assign_shape h) 2000 granted) ≡ record
+    { bytes = (lines []); verdict = Failed 9 3 1 }
 
 abbrev pub heap_26_lent_empty_section_assign_object_shows : Global → Type 0
-heap_26_lent_empty_section_assign_object_shows h = shown (run_of (heap_26_lent_empty_section_assign_object h) 2000 granted) ≡ record { bytes = (lines []); verdict = Failed 9 3 1 }
+heap_26_lent_empty_section_assign_object_shows h = shown (run_of (heap_26_lent_empty_section_assign_object h) 2000 granted) ≡ record
+    { bytes = (lines []); verdict = Failed 9 3 1 }
 
 abbrev pub heap_27_lent_empty_section_move_from_shows : Global → Type 0
-heap_27_lent_empty_section_move_from_shows h = shown (run_of (heap_27_lent_empty_section_move_from h) 2000 granted) ≡ record { bytes = (lines []); verdict = Failed 9 3 1 }
+heap_27_lent_empty_section_move_from_shows h = shown (run_of (heap_27_lent_empty_section_move_from h) 2000 granted) ≡ record
+    { bytes = (lines []); verdict = Failed 9 3 1 }
 
 abbrev pub heap_28_lent_empty_section_move_to_shows : Global → Type 0
-heap_28_lent_empty_section_move_to_shows h = shown (run_of (heap_28_lent_empty_section_move_to h) 2000 granted) ≡ record { bytes = (lines []); verdict = Failed 9 3 1 }
+heap_28_lent_empty_section_move_to_shows h = shown (run_of (heap_28_lent_empty_section_move_to h) 2000 granted) ≡ record
+    { bytes = (lines []); verdict = Failed 9 3 1 }
 
 abbrev pub heap_29_lent_empty_section_out_allocatable_shows : Global → Type 0
-heap_29_lent_empty_section_out_allocatable_shows h = shown (run_of (heap_29_lent_empty_section_out_allocatable h) 2000 granted) ≡ record { bytes = (lines []); verdict = Failed 9 3 1 }
+heap_29_lent_empty_section_out_allocatable_shows h = shown (run_of (heap_29_lent_empty_section_out_allocatable h) 2000 granted) ≡ record
+    { bytes = (lines []); verdict = Failed 9 3 1 }
 
 abbrev pub heap_30_lent_empty_section_out_object_shows : Global → Type 0
-heap_30_lent_empty_section_out_object_shows h = shown (run_of (heap_30_lent_empty_section_out_object h) 2000 granted) ≡ record { bytes = (lines []); verdict = Failed 9 3 1 }
+heap_30_lent_empty_section_out_object_shows h = shown (run_of (heap_30_lent_empty_section_out_object h) 2000 granted) ≡ record
+    { bytes = (lines []); verdict = Failed 9 3 1 }
 
 abbrev pub heap_31_lent_whole_array_deallocate_shows : Global → Type 0
-heap_31_lent_whole_array_deallocate_shows h = shown (run_of (heap_31_lent_whole_array_deallocate h) 2000 granted) ≡ record { bytes = (lines []); verdict = Failed 9 3 1 }
+heap_31_lent_whole_array_deallocate_shows h = shown (run_of (heap_31_lent_whole_array_deallocate h) 2000 granted) ≡ record
+    { bytes = (lines []); verdict = Failed 9 3 1 }
 
 abbrev pub heap_32_lent_whole_array_deallocate_stat_shows : Global → Type 0
-heap_32_lent_whole_array_deallocate_stat_shows h = shown (run_of (heap_32_lent_whole_array_deallocate_stat h) 2000 granted) ≡ record { bytes = (lines (codes " 9 3" ∷ [])); verdict = Finished }
+heap_32_lent_whole_array_deallocate_stat_shows h = shown (run_of (heap_32_lent_whole_array_deallocate_stat h) 2000 granted) ≡ record
+    { bytes = (lines (codes " 9 3" ∷ [])); verdict = Finished }
 
 abbrev pub heap_33_lent_whole_array_assign_shape_shows : Global → Type 0
-heap_33_lent_whole_array_assign_shape_shows h = shown (run_of (heap_33_lent_whole_array_assign_shape h) 2000 granted) ≡ record { bytes = (lines []); verdict = Failed 9 3 1 }
+heap_33_lent_whole_array_assign_shape_shows h = shown (run_of (heap_33_lent_whole_array_assign_shape h) 2000 granted) ≡ record
+    { bytes = (lines []); verdict = Failed 9 3 1 }
 
 abbrev pub heap_34_lent_whole_array_assign_object_shows : Global → Type 0
-heap_34_lent_whole_array_assign_object_shows h = shown (run_of (heap_34_lent_whole_array_assign_object h) 2000 granted) ≡ record { bytes = (lines []); verdict = Failed 9 3 1 }
+heap_34_lent_whole_array_assign_object_shows h = shown (run_of (heap_34_lent_whole_array_assign_object h) 2000 granted) ≡ record
+    { bytes = (lines []); verdict = Failed 9 3 1 }
 
 abbrev pub heap_35_lent_whole_array_move_from_shows : Global → Type 0
-heap_35_lent_whole_array_move_from_shows h = shown (run_of (heap_35_lent_whole_array_move_from h) 2000 granted) ≡ record { bytes = (lines []); verdict = Failed 9 3 1 }
+heap_35_lent_whole_array_move_from_shows h = shown (run_of (heap_35_lent_whole_array_move_from h) 2000 granted) ≡ record
+    { bytes = (lines []); verdict = Failed 9 3 1 }
 
 abbrev pub heap_36_lent_whole_array_move_to_shows : Global → Type 0
-heap_36_lent_whole_array_move_to_shows h = shown (run_of (heap_36_lent_whole_array_move_to h) 2000 granted) ≡ record { bytes = (lines []); verdict = Failed 9 3 1 }
+heap_36_lent_whole_array_move_to_shows h = shown (run_of (heap_36_lent_whole_array_move_to h) 2000 granted) ≡ record
+    { bytes = (lines []); verdict = Failed 9 3 1 }
 
 abbrev pub heap_37_lent_whole_array_out_allocatable_shows : Global → Type 0
-heap_37_lent_whole_array_out_allocatable_shows h = shown (run_of (heap_37_lent_whole_array_out_allocatable h) 2000 granted) ≡ record { bytes = (lines []); verdict = Failed 9 3 1 }
+heap_37_lent_whole_array_out_allocatable_shows h = shown (run_of (heap_37_lent_whole_array_out_allocatable h) 2000 granted) ≡ record
+    { bytes = (lines []); verdict = Failed 9 3 1 }
 
 abbrev pub heap_38_lent_whole_array_out_object_shows : Global → Type 0
-heap_38_lent_whole_array_out_object_shows h = shown (run_of (heap_38_lent_whole_array_out_object h) 2000 granted) ≡ record { bytes = (lines []); verdict = Failed 9 3 1 }
+heap_38_lent_whole_array_out_object_shows h = shown (run_of (heap_38_lent_whole_array_out_object h) 2000 granted) ≡ record
+    { bytes = (lines []); verdict = Failed 9 3 1 }
 
 abbrev pub heap_39_lent_allocatable_dummy_deallocate_shows : Global → Type 0
-heap_39_lent_allocatable_dummy_deallocate_shows h = shown (run_of (heap_39_lent_allocatable_dummy_deallocate h) 2000 granted) ≡ record { bytes = (lines []); verdict = Failed 9 3 1 }
+heap_39_lent_allocatable_dummy_deallocate_shows h = shown (run_of (heap_39_lent_allocatable_dummy_deallocate h) 2000 granted) ≡ record
+    { bytes = (lines []); verdict = Failed 9 3 1 }
 
 -- These programs print this and end so.
 abbrev pub Rows2Show : Type 0

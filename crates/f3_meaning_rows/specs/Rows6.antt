@@ -16,14 +16,17 @@ use Rattle.f3_program.specs.declared.program.Program.{Program}
 use Rattle.f3_meaning_whole.specs.Run.{run_of}
 use Rattle.f3_meaning_whole.specs.Permitted.{IsLawful}
 use Rattle.f3_meaning_rows.specs.Shown.{granted, shown, lines, Finished, Failed}
-use Rattle.f3_meaning_rows.specs.Build.{vec, place, kind, dim, declared, comp, derived, num, var, bin, array, struct, call, size, query as asks, val, ref, name, member, elements, range as triplet, at, block, choose, case, for, associate, bounds, request, dummy, static, procedure, program}
+use Rattle.f3_meaning_rows.specs.Build.{vec, place, kind, dim, declared, comp, derived, num, var, bin, array, struct, call, size, query as asks, val}
+use Rattle.f3_meaning_rows.specs.Build.{ref, name, member, elements, range as triplet, at, block, choose, case, for, associate, bounds, request}
+use Rattle.f3_meaning_rows.specs.Build.{dummy, static, procedure, program}
 
 --     program p; select case (3); end select; print *, 1; end
 abbrev pub choice_06_1 : Global → Program
 choice_06_1 h = program h [] tt
     [] tt
     [] tt
-    (procedure h 0 [] tt [] tt None (block h (at h 1 12 true (choose h (num (pos 3)) (block h [] tt)) ∷ at h 1 41 true (s.Print (vec h (item.Value (num (pos 1)) ∷ []) tt)) ∷ []) tt) (place 1 53))
+    (procedure h 0 [] tt [] tt None (block h (at h 1 12 true (choose h (num (pos 3)) (block h [] tt))
+    ∷ at h 1 41 true (s.Print (vec h (item.Value (num (pos 1)) ∷ []) tt)) ∷ []) tt) (place 1 53))
     (place 1 1)
 
 --     program p;; print *; end
@@ -40,7 +43,8 @@ choice_10_1 h = program h [] tt
 --     program p; use c, only: n; end
 abbrev pub choice_12_1 : Global → Program
 choice_12_1 h = program h [] tt
-    (static (declared h (kind base.Integer 0 false) [] tt ((constant.Number (pos 1)) ∷ []) tt) 0 false ∷ static (declared h (kind base.Integer 0 false) [] tt ((constant.Number (pos 2)) ∷ []) tt) 1 false ∷ []) tt
+    (static (declared h (kind base.Integer 0 false) [] tt ((constant.Number (pos 1)) ∷ []) tt) 0 false
+    ∷ static (declared h (kind base.Integer 0 false) [] tt ((constant.Number (pos 2)) ∷ []) tt) 1 false ∷ []) tt
     [] tt
     (procedure h 3 [] tt [] tt None (block h [] tt) (place 4 28))
     (place 4 1)
@@ -51,7 +55,9 @@ choice_12_1 h = program h [] tt
 abbrev pub choice_17_1 : Global → Program
 choice_17_1 h = program h (derived h 0 (comp (declared h (kind base.Integer 0 false) [] tt ((constant.Number (pos 4)) ∷ []) tt) false ∷ []) tt [] tt ∷ []) tt
     [] tt
-    (procedure h 1 [] tt [] tt (Some (declared h (kind (base.Derived 0) 0 false) [] tt [] tt)) (block h (at h 2 50 true (s.Assign (name (n.Local 0) l.Whole) (kind (base.Derived 0) 0 false) (struct h 0 (val h 0 (num (pos 5)) ∷ []) tt)) ∷ []) tt) (place 2 60) ∷ []) tt
+    (procedure h 1 [] tt [] tt (Some (declared h (kind (base.Derived 0) 0 false) [] tt [] tt))
+    (block h (at h 2 50 true (s.Assign (name (n.Local 0) l.Whole) (kind (base.Derived 0) 0 false) (struct h 0 (val h 0 (num (pos 5)) ∷ []) tt))
+    ∷ []) tt) (place 2 60) ∷ []) tt
     (procedure h 3 [] tt [] tt None (block h [] tt) (place 3 12))
     (place 3 1)
 
@@ -69,7 +75,10 @@ abbrev pub choice_36_2 : Global → Program
 choice_36_2 h = program h [] tt
     [] tt
     [] tt
-    (procedure h 0 [] tt ((declared h (kind base.Integer 0 true) [] tt [] tt) ∷ (declared h (kind base.Integer 0 true) [] tt [] tt) ∷ []) tt None (block h (at h 1 42 true (s.Assign (name (n.Local 0) l.Whole) (kind base.Integer 0 true) (num (pos 4))) ∷ at h 1 49 true (s.MoveAlloc (kind base.Integer 0 true) false (name (n.Local 1) l.Whole) (name (n.Local 0) l.Whole)) ∷ at h 1 80 true (s.Print (vec h (item.Value (var h (name (n.Local 1) l.Contents)) ∷ []) tt)) ∷ []) tt) (place 1 92))
+    (procedure h 0 [] tt ((declared h (kind base.Integer 0 true) [] tt [] tt) ∷ (declared h (kind base.Integer 0 true) [] tt [] tt) ∷ []) tt None
+    (block h (at h 1 42 true (s.Assign (name (n.Local 0) l.Whole) (kind base.Integer 0 true) (num (pos 4)))
+    ∷ at h 1 49 true (s.MoveAlloc (kind base.Integer 0 true) false (name (n.Local 1) l.Whole) (name (n.Local 0) l.Whole))
+    ∷ at h 1 80 true (s.Print (vec h (item.Value (var h (name (n.Local 1) l.Contents)) ∷ []) tt)) ∷ []) tt) (place 1 92))
     (place 1 1)
 
 --     program p; select case (4); case (5:4); case (4:5); print *, 1; end select; end
@@ -77,7 +86,10 @@ abbrev pub choice_46_1 : Global → Program
 choice_46_1 h = program h [] tt
     [] tt
     [] tt
-    (procedure h 0 [] tt [] tt None (block h (at h 1 12 true (choose h (num (pos 4)) (case h (range.Between (pos 5) (pos 4) ∷ []) tt (block h [] tt) (case h (range.Between (pos 4) (pos 5) ∷ []) tt (block h (at h 1 53 true (s.Print (vec h (item.Value (num (pos 1)) ∷ []) tt)) ∷ []) tt) (block h [] tt)))) ∷ []) tt) (place 1 77))
+    (procedure h 0 [] tt [] tt None (block h (at h 1 12 true (choose h (num (pos 4))
+    (case h (range.Between (pos 5) (pos 4) ∷ []) tt (block h [] tt)
+    (case h (range.Between (pos 4) (pos 5) ∷ []) tt (block h (at h 1 53 true (s.Print (vec h (item.Value (num (pos 1)) ∷ []) tt)) ∷ []) tt)
+    (block h [] tt)))) ∷ []) tt) (place 1 77))
     (place 1 1)
 
 --     module m; type t; integer, allocatable :: c(:); end type; end
@@ -86,7 +98,9 @@ abbrev pub choice_49_1 : Global → Program
 choice_49_1 h = program h (derived h 0 (comp (declared h (kind base.Integer 1 true) [] tt [] tt) false ∷ []) tt [] tt ∷ []) tt
     [] tt
     [] tt
-    (procedure h 1 [] tt ((declared h (kind (base.Derived 0) 0 true) [] tt [] tt) ∷ []) tt None (block h (at h 2 46 true (s.Allocate (vec h (request h (member h (name (n.Local 0) l.Contents) 0 l.Whole) (kind base.Integer 1 true) (bounds (num (pos 1)) (bin h o.Divide base.Integer (num (pos 1)) (num (pos 0))) ∷ []) tt ∷ []) tt) None) ∷ []) tt) (place 2 66))
+    (procedure h 1 [] tt ((declared h (kind (base.Derived 0) 0 true) [] tt [] tt) ∷ []) tt None
+    (block h (at h 2 46 true (s.Allocate (vec h (request h (member h (name (n.Local 0) l.Contents) 0 l.Whole) (kind base.Integer 1 true)
+    (bounds (num (pos 1)) (bin h o.Divide base.Integer (num (pos 1)) (num (pos 0))) ∷ []) tt ∷ []) tt) None) ∷ []) tt) (place 2 66))
     (place 2 1)
 
 --     program p; integer :: i; associate (z => i); do z = 1, 2; i = i; end do; print *, i; end associate; end
@@ -94,7 +108,11 @@ abbrev pub choice_50_1 : Global → Program
 choice_50_1 h = program h [] tt
     [] tt
     [] tt
-    (procedure h 0 [] tt ((declared h (kind base.Integer 0 false) [] tt [] tt) ∷ []) tt None (block h (at h 1 26 true (associate h (selector.Variable (name (n.Local 0) l.Whole) ∷ []) tt (block h (at h 1 46 true (for h (name (n.Lent 0) l.Whole) (kind base.Integer 0 false) (num (pos 1)) (num (pos 2)) (num (pos 1)) (block h (at h 1 59 true (s.Assign (name (n.Local 0) l.Whole) (kind base.Integer 0 false) (var h (name (n.Local 0) l.Whole))) ∷ []) tt)) ∷ at h 1 74 true (s.Print (vec h (item.Value (var h (name (n.Local 0) l.Whole)) ∷ []) tt)) ∷ []) tt)) ∷ []) tt) (place 1 101))
+    (procedure h 0 [] tt ((declared h (kind base.Integer 0 false) [] tt [] tt) ∷ []) tt None
+    (block h (at h 1 26 true (associate h (selector.Variable (name (n.Local 0) l.Whole) ∷ []) tt
+    (block h (at h 1 46 true (for h (name (n.Lent 0) l.Whole) (kind base.Integer 0 false) (num (pos 1)) (num (pos 2)) (num (pos 1))
+    (block h (at h 1 59 true (s.Assign (name (n.Local 0) l.Whole) (kind base.Integer 0 false) (var h (name (n.Local 0) l.Whole))) ∷ []) tt))
+    ∷ at h 1 74 true (s.Print (vec h (item.Value (var h (name (n.Local 0) l.Whole)) ∷ []) tt)) ∷ []) tt)) ∷ []) tt) (place 1 101))
     (place 1 1)
 
 --     program p; integer, allocatable :: a(:); allocate(a(5:4)); print *, size(a(:2)); end
@@ -102,7 +120,11 @@ abbrev pub choice_52_1 : Global → Program
 choice_52_1 h = program h [] tt
     [] tt
     [] tt
-    (procedure h 0 [] tt ((declared h (kind base.Integer 1 true) [] tt [] tt) ∷ []) tt None (block h (at h 1 42 true (s.Allocate (vec h (request h (name (n.Local 0) l.Whole) (kind base.Integer 1 true) (bounds (num (pos 5)) (num (pos 4)) ∷ []) tt ∷ []) tt) None) ∷ at h 1 60 true (s.Print (vec h (item.Value (size h (ref h 0 (name (n.Local 0) (elements h true (triplet h false (num (pos 1)) true (num (pos 2)) (num (pos 1)) ∷ []) tt)))) ∷ []) tt)) ∷ []) tt) (place 1 82))
+    (procedure h 0 [] tt ((declared h (kind base.Integer 1 true) [] tt [] tt) ∷ []) tt None
+    (block h (at h 1 42 true (s.Allocate (vec h (request h (name (n.Local 0) l.Whole) (kind base.Integer 1 true)
+    (bounds (num (pos 5)) (num (pos 4)) ∷ []) tt ∷ []) tt) None)
+    ∷ at h 1 60 true (s.Print (vec h (item.Value (size h (ref h 0
+    (name (n.Local 0) (elements h true (triplet h false (num (pos 1)) true (num (pos 2)) (num (pos 1)) ∷ []) tt)))) ∷ []) tt)) ∷ []) tt) (place 1 82))
     (place 1 1)
 
 --     program p; integer, allocatable :: a(:); allocate(a(5:4)); print *, size(a(2:)); end
@@ -110,7 +132,11 @@ abbrev pub choice_52_2 : Global → Program
 choice_52_2 h = program h [] tt
     [] tt
     [] tt
-    (procedure h 0 [] tt ((declared h (kind base.Integer 1 true) [] tt [] tt) ∷ []) tt None (block h (at h 1 42 true (s.Allocate (vec h (request h (name (n.Local 0) l.Whole) (kind base.Integer 1 true) (bounds (num (pos 5)) (num (pos 4)) ∷ []) tt ∷ []) tt) None) ∷ at h 1 60 true (s.Print (vec h (item.Value (size h (ref h 0 (name (n.Local 0) (elements h true (triplet h true (num (pos 2)) false (num (pos 1)) (num (pos 1)) ∷ []) tt)))) ∷ []) tt)) ∷ []) tt) (place 1 82))
+    (procedure h 0 [] tt ((declared h (kind base.Integer 1 true) [] tt [] tt) ∷ []) tt None
+    (block h (at h 1 42 true (s.Allocate (vec h (request h (name (n.Local 0) l.Whole) (kind base.Integer 1 true)
+    (bounds (num (pos 5)) (num (pos 4)) ∷ []) tt ∷ []) tt) None)
+    ∷ at h 1 60 true (s.Print (vec h (item.Value (size h (ref h 0
+    (name (n.Local 0) (elements h true (triplet h true (num (pos 2)) false (num (pos 1)) (num (pos 1)) ∷ []) tt)))) ∷ []) tt)) ∷ []) tt) (place 1 82))
     (place 1 1)
 
 --     program p; use m; integer, allocatable :: a; call s(a, 1/0); end
@@ -118,8 +144,11 @@ choice_52_2 h = program h [] tt
 abbrev pub choice_53_1 : Global → Program
 choice_53_1 h = program h [] tt
     [] tt
-    (procedure h 1 (dummy h (kind base.Integer 0 false) intent.In [] tt ∷ dummy h (kind base.Integer 0 false) intent.In [] tt ∷ []) tt [] tt None (block h [] tt) (place 2 70) ∷ []) tt
-    (procedure h 0 [] tt ((declared h (kind base.Integer 0 true) [] tt [] tt) ∷ []) tt None (block h (at h 1 46 true (s.Call (call h 0 (ref h 0 (name (n.Local 0) l.Contents) ∷ val h 1 (bin h o.Divide base.Integer (num (pos 1)) (num (pos 0))) ∷ []) tt)) ∷ []) tt) (place 1 62))
+    (procedure h 1 (dummy h (kind base.Integer 0 false) intent.In [] tt ∷ dummy h (kind base.Integer 0 false) intent.In [] tt ∷ []) tt [] tt None
+    (block h [] tt) (place 2 70) ∷ []) tt
+    (procedure h 0 [] tt ((declared h (kind base.Integer 0 true) [] tt [] tt) ∷ []) tt None
+    (block h (at h 1 46 true (s.Call (call h 0 (ref h 0 (name (n.Local 0) l.Contents)
+    ∷ val h 1 (bin h o.Divide base.Integer (num (pos 1)) (num (pos 0))) ∷ []) tt)) ∷ []) tt) (place 1 62))
     (place 1 1)
 
 --     program p; integer, allocatable :: a(:); print *, size(a, 1/0); end
@@ -127,7 +156,9 @@ abbrev pub choice_54_1 : Global → Program
 choice_54_1 h = program h [] tt
     [] tt
     [] tt
-    (procedure h 0 [] tt ((declared h (kind base.Integer 1 true) [] tt [] tt) ∷ []) tt None (block h (at h 1 42 true (s.Print (vec h (item.Value (asks h query.Extent (ref h 0 (name (n.Local 0) l.Contents)) (bin h o.Divide base.Integer (num (pos 1)) (num (pos 0)))) ∷ []) tt)) ∷ []) tt) (place 1 65))
+    (procedure h 0 [] tt ((declared h (kind base.Integer 1 true) [] tt [] tt) ∷ []) tt None
+    (block h (at h 1 42 true (s.Print (vec h (item.Value (asks h query.Extent (ref h 0 (name (n.Local 0) l.Contents))
+    (bin h o.Divide base.Integer (num (pos 1)) (num (pos 0)))) ∷ []) tt)) ∷ []) tt) (place 1 65))
     (place 1 1)
 
 --     program p; integer :: a(2); a = [3000000000_8, 1_8, 1_8]; end
@@ -135,7 +166,9 @@ abbrev pub choice_56_1 : Global → Program
 choice_56_1 h = program h [] tt
     [] tt
     [] tt
-    (procedure h 0 [] tt ((declared h (kind base.Integer 1 false) (dim (pos 1) 2 ∷ []) tt [] tt) ∷ []) tt None (block h (at h 1 29 true (s.Assign (name (n.Local 0) l.Whole) (kind base.Integer 1 false) (array h (val h 0 (num (pos 3000000000)) ∷ val h 0 (num (pos 1)) ∷ val h 0 (num (pos 1)) ∷ []) tt)) ∷ []) tt) (place 1 59))
+    (procedure h 0 [] tt ((declared h (kind base.Integer 1 false) (dim (pos 1) 2 ∷ []) tt [] tt) ∷ []) tt None
+    (block h (at h 1 29 true (s.Assign (name (n.Local 0) l.Whole) (kind base.Integer 1 false)
+    (array h (val h 0 (num (pos 3000000000)) ∷ val h 0 (num (pos 1)) ∷ val h 0 (num (pos 1)) ∷ []) tt)) ∷ []) tt) (place 1 59))
     (place 1 1)
 
 --     program p; integer :: i; do i = 3000000000_8, 1/0; end do; end
@@ -143,7 +176,9 @@ abbrev pub choice_57_1 : Global → Program
 choice_57_1 h = program h [] tt
     [] tt
     [] tt
-    (procedure h 0 [] tt ((declared h (kind base.Integer 0 false) [] tt [] tt) ∷ []) tt None (block h (at h 1 26 true (for h (name (n.Local 0) l.Whole) (kind base.Integer 0 false) (num (pos 3000000000)) (bin h o.Divide base.Integer (num (pos 1)) (num (pos 0))) (num (pos 1)) (block h [] tt)) ∷ []) tt) (place 1 60))
+    (procedure h 0 [] tt ((declared h (kind base.Integer 0 false) [] tt [] tt) ∷ []) tt None
+    (block h (at h 1 26 true (for h (name (n.Local 0) l.Whole) (kind base.Integer 0 false) (num (pos 3000000000))
+    (bin h o.Divide base.Integer (num (pos 1)) (num (pos 0))) (num (pos 1)) (block h [] tt)) ∷ []) tt) (place 1 60))
     (place 1 1)
 
 --     module m; integer :: i; contains; subroutine s(); i = i + 10; end; end
@@ -151,8 +186,11 @@ choice_57_1 h = program h [] tt
 abbrev pub choice_58_1 : Global → Program
 choice_58_1 h = program h [] tt
     (static (declared h (kind base.Integer 0 false) [] tt [] tt) 0 false ∷ []) tt
-    (procedure h 0 [] tt [] tt None (block h (at h 1 51 true (s.Assign (name (n.Static 0) l.Whole) (kind base.Integer 0 false) (bin h o.Add base.Integer (var h (name (n.Static 0) l.Whole)) (num (pos 10)))) ∷ []) tt) (place 1 63) ∷ []) tt
-    (procedure h 2 [] tt [] tt None (block h (at h 2 19 true (for h (name (n.Static 0) l.Whole) (kind base.Integer 0 false) (num (pos 1)) (num (pos 3)) (num (pos 1)) (block h (at h 2 32 true (s.Call (call h 0 [] tt)) ∷ at h 2 42 true (s.Print (vec h (item.Value (var h (name (n.Static 0) l.Whole)) ∷ []) tt)) ∷ []) tt)) ∷ []) tt) (place 2 62))
+    (procedure h 0 [] tt [] tt None (block h (at h 1 51 true (s.Assign (name (n.Static 0) l.Whole) (kind base.Integer 0 false)
+    (bin h o.Add base.Integer (var h (name (n.Static 0) l.Whole)) (num (pos 10)))) ∷ []) tt) (place 1 63) ∷ []) tt
+    (procedure h 2 [] tt [] tt None (block h (at h 2 19 true (for h (name (n.Static 0) l.Whole) (kind base.Integer 0 false) (num (pos 1))
+    (num (pos 3)) (num (pos 1)) (block h (at h 2 32 true (s.Call (call h 0 [] tt))
+    ∷ at h 2 42 true (s.Print (vec h (item.Value (var h (name (n.Static 0) l.Whole)) ∷ []) tt)) ∷ []) tt)) ∷ []) tt) (place 2 62))
     (place 2 1)
 
 abbrev pub choice_06_1_shows : Global → Type 0
@@ -201,7 +239,8 @@ abbrev pub choice_57_1_shows : Global → Type 0
 choice_57_1_shows h = shown (run_of (choice_57_1 h) 2000 granted) ≡ record { bytes = (lines []); verdict = Failed 1 1 26 }
 
 abbrev pub choice_58_1_shows : Global → Type 0
-choice_58_1_shows h = shown (run_of (choice_58_1 h) 2000 granted) ≡ record { bytes = (lines (codes " 11" ∷ codes " 22" ∷ codes " 33" ∷ [])); verdict = Finished }
+choice_58_1_shows h = shown (run_of (choice_58_1 h) 2000 granted) ≡ record
+    { bytes = (lines (codes " 11" ∷ codes " 22" ∷ codes " 33" ∷ [])); verdict = Finished }
 
 -- These programs print this and end so.
 abbrev pub Rows6Show : Type 0

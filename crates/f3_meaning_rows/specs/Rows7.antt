@@ -14,7 +14,9 @@ use Rattle.f3_program.specs.declared.program.Program.{Program}
 use Rattle.f3_meaning_whole.specs.Run.{run_of}
 use Rattle.f3_meaning_whole.specs.Permitted.{IsLawful}
 use Rattle.f3_meaning_rows.specs.Shown.{granted, shown, lines, Finished, Failed, Stopped}
-use Rattle.f3_meaning_rows.specs.Build.{vec, place, kind, dim, declared, comp, derived, final, num, truth, var, group, bin, struct, call, allocated, size, query as asks, val, ref, name, member, at, block, when, bounds, request, dummy, static, procedure, program}
+use Rattle.f3_meaning_rows.specs.Build.{vec, place, kind, dim, declared, comp, derived, final, num, truth, var, group, bin, struct, call, allocated}
+use Rattle.f3_meaning_rows.specs.Build.{size, query as asks, val, ref, name, member, at, block, when, bounds, request, dummy, static, procedure}
+use Rattle.f3_meaning_rows.specs.Build.{program}
 
 --     program p; if (.false.) then
 --     else if (1/0 == 1) then
@@ -23,7 +25,9 @@ abbrev pub choice_59_1 : Global → Program
 choice_59_1 h = program h [] tt
     [] tt
     [] tt
-    (procedure h 0 [] tt [] tt None (block h (at h 1 12 true (when h (truth false) (block h [] tt) (at h 2 1 false (when h (bin h o.Equal base.Logical (bin h o.Divide base.Integer (num (pos 1)) (num (pos 0))) (num (pos 1))) (block h [] tt) (block h [] tt)))) ∷ []) tt) (place 3 9))
+    (procedure h 0 [] tt [] tt None (block h (at h 1 12 true (when h (truth false) (block h [] tt)
+    (at h 2 1 false (when h (bin h o.Equal base.Logical (bin h o.Divide base.Integer (num (pos 1)) (num (pos 0))) (num (pos 1))) (block h [] tt)
+    (block h [] tt)))) ∷ []) tt) (place 3 9))
     (place 1 1)
 
 --     module m; type t; integer :: i; contains; final :: f; end type; contains; subroutine f(x); type(t), intent(in) :: x(:); print *, size(x); end; end
@@ -31,8 +35,12 @@ choice_59_1 h = program h [] tt
 abbrev pub choice_61_1 : Global → Program
 choice_61_1 h = program h (derived h 0 (comp (declared h (kind base.Integer 0 false) [] tt [] tt) false ∷ []) tt (final 1 0 ∷ []) tt ∷ []) tt
     [] tt
-    (procedure h 0 (dummy h (kind (base.Derived 0) 1 false) intent.In ((pos 1) ∷ []) tt ∷ []) tt [] tt None (block h (at h 1 121 true (s.Print (vec h (item.Value (size h (ref h 0 (name (n.Lent 0) l.Whole))) ∷ []) tt)) ∷ []) tt) (place 1 139) ∷ []) tt
-    (procedure h 2 [] tt ((declared h (kind (base.Derived 0) 1 true) [] tt [] tt) ∷ []) tt None (block h (at h 2 49 true (s.Allocate (vec h (request h (name (n.Local 0) l.Whole) (kind (base.Derived 0) 1 true) (bounds (num (pos 1)) (num (pos 0)) ∷ []) tt ∷ []) tt) None) ∷ at h 2 65 true (s.Deallocate (vec h (request h (name (n.Local 0) l.Whole) (kind (base.Derived 0) 1 true) [] tt ∷ []) tt) None) ∷ []) tt) (place 2 80))
+    (procedure h 0 (dummy h (kind (base.Derived 0) 1 false) intent.In ((pos 1) ∷ []) tt ∷ []) tt [] tt None
+    (block h (at h 1 121 true (s.Print (vec h (item.Value (size h (ref h 0 (name (n.Lent 0) l.Whole))) ∷ []) tt)) ∷ []) tt) (place 1 139) ∷ []) tt
+    (procedure h 2 [] tt ((declared h (kind (base.Derived 0) 1 true) [] tt [] tt) ∷ []) tt None
+    (block h (at h 2 49 true (s.Allocate (vec h (request h (name (n.Local 0) l.Whole) (kind (base.Derived 0) 1 true)
+    (bounds (num (pos 1)) (num (pos 0)) ∷ []) tt ∷ []) tt) None)
+    ∷ at h 2 65 true (s.Deallocate (vec h (request h (name (n.Local 0) l.Whole) (kind (base.Derived 0) 1 true) [] tt ∷ []) tt) None) ∷ []) tt) (place 2 80))
     (place 2 1)
 
 --     program p; use m; integer :: i; i = 5; call s(i); print *, i; end
@@ -41,7 +49,10 @@ abbrev pub choice_62_1 : Global → Program
 choice_62_1 h = program h [] tt
     [] tt
     (procedure h 1 (dummy h (kind base.Integer 0 false) intent.Out [] tt ∷ []) tt [] tt None (block h [] tt) (place 2 65) ∷ []) tt
-    (procedure h 0 [] tt ((declared h (kind base.Integer 0 false) [] tt [] tt) ∷ []) tt None (block h (at h 1 33 true (s.Assign (name (n.Local 0) l.Whole) (kind base.Integer 0 false) (num (pos 5))) ∷ at h 1 40 true (s.Call (call h 0 (ref h 0 (name (n.Local 0) l.Whole) ∷ []) tt)) ∷ at h 1 51 true (s.Print (vec h (item.Value (var h (name (n.Local 0) l.Whole)) ∷ []) tt)) ∷ []) tt) (place 1 63))
+    (procedure h 0 [] tt ((declared h (kind base.Integer 0 false) [] tt [] tt) ∷ []) tt None
+    (block h (at h 1 33 true (s.Assign (name (n.Local 0) l.Whole) (kind base.Integer 0 false) (num (pos 5)))
+    ∷ at h 1 40 true (s.Call (call h 0 (ref h 0 (name (n.Local 0) l.Whole) ∷ []) tt))
+    ∷ at h 1 51 true (s.Print (vec h (item.Value (var h (name (n.Local 0) l.Whole)) ∷ []) tt)) ∷ []) tt) (place 1 63))
     (place 1 1)
 
 --     module m; type t; integer, allocatable :: a(:); end type; end
@@ -50,7 +61,21 @@ abbrev pub choice_63_1 : Global → Program
 choice_63_1 h = program h (derived h 0 (comp (declared h (kind base.Integer 1 true) [] tt [] tt) false ∷ []) tt [] tt ∷ []) tt
     [] tt
     [] tt
-    (procedure h 1 [] tt ((declared h (kind (base.Derived 0) 0 false) [] tt [] tt) ∷ (declared h (kind base.Integer 1 true) [] tt [] tt) ∷ []) tt None (block h (at h 2 63 true (s.Assign (name (n.Local 0) l.Whole) (kind (base.Derived 0) 0 false) (struct h 0 (ref h 0 (name (n.Local 1) l.Whole) ∷ []) tt)) ∷ at h 2 73 true (s.Print (vec h (item.Value (allocated h (member h (name (n.Local 0) l.Whole) 0 l.Whole)) ∷ []) tt)) ∷ at h 2 98 true (s.Allocate (vec h (request h (name (n.Local 1) l.Whole) (kind base.Integer 1 true) (bounds (num (pos 3)) (num (pos 4)) ∷ []) tt ∷ []) tt) None) ∷ at h 2 116 true (s.Assign (name (n.Local 0) l.Whole) (kind (base.Derived 0) 0 false) (struct h 0 (ref h 0 (name (n.Local 1) l.Whole) ∷ []) tt)) ∷ at h 2 126 true (s.Print (vec h (item.Value (asks h query.Lower (ref h 0 (member h (name (n.Local 0) l.Whole) 0 l.Contents)) (num (pos 1))) ∷ []) tt)) ∷ at h 2 150 true (s.Assign (name (n.Local 0) l.Whole) (kind (base.Derived 0) 0 false) (struct h 0 (val h 0 (group h (var h (name (n.Local 1) l.Contents))) ∷ []) tt)) ∷ at h 2 162 true (s.Print (vec h (item.Value (asks h query.Lower (ref h 0 (member h (name (n.Local 0) l.Whole) 0 l.Contents)) (num (pos 1))) ∷ []) tt)) ∷ at h 2 186 true (s.Deallocate (vec h (request h (name (n.Local 1) l.Whole) (kind base.Integer 1 true) [] tt ∷ []) tt) None) ∷ at h 2 201 true (s.Assign (name (n.Local 0) l.Whole) (kind (base.Derived 0) 0 false) (struct h 0 (val h 0 (group h (var h (name (n.Local 1) l.Contents))) ∷ []) tt)) ∷ []) tt) (place 2 213))
+    (procedure h 1 [] tt ((declared h (kind (base.Derived 0) 0 false) [] tt [] tt) ∷ (declared h (kind base.Integer 1 true) [] tt [] tt) ∷ []) tt
+    None (block h (at h 2 63 true (s.Assign (name (n.Local 0) l.Whole) (kind (base.Derived 0) 0 false)
+    (struct h 0 (ref h 0 (name (n.Local 1) l.Whole) ∷ []) tt))
+    ∷ at h 2 73 true (s.Print (vec h (item.Value (allocated h (member h (name (n.Local 0) l.Whole) 0 l.Whole)) ∷ []) tt))
+    ∷ at h 2 98 true (s.Allocate (vec h (request h (name (n.Local 1) l.Whole) (kind base.Integer 1 true)
+    (bounds (num (pos 3)) (num (pos 4)) ∷ []) tt ∷ []) tt) None)
+    ∷ at h 2 116 true (s.Assign (name (n.Local 0) l.Whole) (kind (base.Derived 0) 0 false)
+    (struct h 0 (ref h 0 (name (n.Local 1) l.Whole) ∷ []) tt))
+    ∷ at h 2 126 true (s.Print (vec h (item.Value (asks h query.Lower (ref h 0 (member h (name (n.Local 0) l.Whole) 0 l.Contents)) (num (pos 1)))
+    ∷ []) tt)) ∷ at h 2 150 true (s.Assign (name (n.Local 0) l.Whole) (kind (base.Derived 0) 0 false)
+    (struct h 0 (val h 0 (group h (var h (name (n.Local 1) l.Contents))) ∷ []) tt))
+    ∷ at h 2 162 true (s.Print (vec h (item.Value (asks h query.Lower (ref h 0 (member h (name (n.Local 0) l.Whole) 0 l.Contents)) (num (pos 1)))
+    ∷ []) tt)) ∷ at h 2 186 true (s.Deallocate (vec h (request h (name (n.Local 1) l.Whole) (kind base.Integer 1 true) [] tt ∷ []) tt) None)
+    ∷ at h 2 201 true (s.Assign (name (n.Local 0) l.Whole) (kind (base.Derived 0) 0 false)
+    (struct h 0 (val h 0 (group h (var h (name (n.Local 1) l.Contents))) ∷ []) tt)) ∷ []) tt) (place 2 213))
     (place 2 1)
 
 --     program p; use m; integer, allocatable :: a(:); a = f(); print *, lbound(a,1); end
@@ -58,8 +83,14 @@ choice_63_1 h = program h (derived h 0 (comp (declared h (kind base.Integer 1 tr
 abbrev pub choice_64_1 : Global → Program
 choice_64_1 h = program h [] tt
     [] tt
-    (procedure h 1 [] tt [] tt (Some (declared h (kind base.Integer 1 true) [] tt [] tt)) (block h (at h 2 65 true (s.Allocate (vec h (request h (name (n.Local 0) l.Whole) (kind base.Integer 1 true) (bounds (num (pos 5)) (num (pos 6)) ∷ []) tt ∷ []) tt) None) ∷ at h 2 83 true (s.Assign (name (n.Local 0) l.Whole) (kind base.Integer 1 true) (num (pos 1))) ∷ []) tt) (place 2 90) ∷ []) tt
-    (procedure h 0 [] tt ((declared h (kind base.Integer 1 true) [] tt [] tt) ∷ []) tt None (block h (at h 1 49 true (s.Assign (name (n.Local 0) l.Whole) (kind base.Integer 1 true) (call h 0 [] tt)) ∷ at h 1 58 true (s.Print (vec h (item.Value (asks h query.Lower (ref h 0 (name (n.Local 0) l.Contents)) (num (pos 1))) ∷ []) tt)) ∷ []) tt) (place 1 80))
+    (procedure h 1 [] tt [] tt (Some (declared h (kind base.Integer 1 true) [] tt [] tt))
+    (block h (at h 2 65 true (s.Allocate (vec h (request h (name (n.Local 0) l.Whole) (kind base.Integer 1 true)
+    (bounds (num (pos 5)) (num (pos 6)) ∷ []) tt ∷ []) tt) None)
+    ∷ at h 2 83 true (s.Assign (name (n.Local 0) l.Whole) (kind base.Integer 1 true) (num (pos 1))) ∷ []) tt) (place 2 90) ∷ []) tt
+    (procedure h 0 [] tt ((declared h (kind base.Integer 1 true) [] tt [] tt) ∷ []) tt None
+    (block h (at h 1 49 true (s.Assign (name (n.Local 0) l.Whole) (kind base.Integer 1 true) (call h 0 [] tt))
+    ∷ at h 1 58 true (s.Print (vec h (item.Value (asks h query.Lower (ref h 0 (name (n.Local 0) l.Contents)) (num (pos 1))) ∷ []) tt)) ∷ []) tt)
+    (place 1 80))
     (place 1 1)
 
 --     program p; stop 00; end
@@ -75,7 +106,8 @@ abbrev pub choice_79_1 : Global → Program
 choice_79_1 h = program h [] tt
     [] tt
     [] tt
-    (procedure h 0 [] tt ((declared h (kind base.Integer 1 false) (dim (pos 1) 0 ∷ []) tt [] tt) ∷ []) tt None (block h (at h 1 29 true (s.Assign (name (n.Local 0) l.Whole) (kind base.Integer 1 false) (num (pos 3000000000))) ∷ []) tt) (place 1 47))
+    (procedure h 0 [] tt ((declared h (kind base.Integer 1 false) (dim (pos 1) 0 ∷ []) tt [] tt) ∷ []) tt None
+    (block h (at h 1 29 true (s.Assign (name (n.Local 0) l.Whole) (kind base.Integer 1 false) (num (pos 3000000000))) ∷ []) tt) (place 1 47))
     (place 1 1)
 
 --     module m; integer :: n = 1; end
@@ -92,7 +124,9 @@ abbrev pub text_02_variable_if : Global → Program
 text_02_variable_if h = program h [] tt
     [] tt
     [] tt
-    (procedure h 0 [] tt ((declared h (kind base.Integer 0 false) [] tt [] tt) ∷ []) tt None (block h (at h 1 27 true (s.Assign (name (n.Local 0) l.Whole) (kind base.Integer 0 false) (num (pos 3))) ∷ at h 1 35 true (s.Print (vec h (item.Value (var h (name (n.Local 0) l.Whole)) ∷ []) tt)) ∷ []) tt) (place 1 48))
+    (procedure h 0 [] tt ((declared h (kind base.Integer 0 false) [] tt [] tt) ∷ []) tt None
+    (block h (at h 1 27 true (s.Assign (name (n.Local 0) l.Whole) (kind base.Integer 0 false) (num (pos 3)))
+    ∷ at h 1 35 true (s.Print (vec h (item.Value (var h (name (n.Local 0) l.Whole)) ∷ []) tt)) ∷ []) tt) (place 1 48))
     (place 1 1)
 
 --     ;; program p;; print *, 1 ;; end ;
@@ -116,7 +150,8 @@ abbrev pub usage_47_empty_print : Global → Program
 usage_47_empty_print h = program h [] tt
     [] tt
     [] tt
-    (procedure h 0 [] tt [] tt None (block h (at h 1 12 true (s.Print (vec h [] tt)) ∷ at h 1 21 true (s.Print (vec h (item.Value (num (pos 1)) ∷ item.Value (num (pos 2)) ∷ []) tt)) ∷ []) tt) (place 1 36))
+    (procedure h 0 [] tt [] tt None (block h (at h 1 12 true (s.Print (vec h [] tt))
+    ∷ at h 1 21 true (s.Print (vec h (item.Value (num (pos 1)) ∷ item.Value (num (pos 2)) ∷ []) tt)) ∷ []) tt) (place 1 36))
     (place 1 1)
 
 --     program p; print *, 1; stop; print *, 2; end
@@ -124,7 +159,8 @@ abbrev pub usage_49_stop_plain : Global → Program
 usage_49_stop_plain h = program h [] tt
     [] tt
     [] tt
-    (procedure h 0 [] tt [] tt None (block h (at h 1 12 true (s.Print (vec h (item.Value (num (pos 1)) ∷ []) tt)) ∷ at h 1 24 true (s.Stop None) ∷ at h 1 30 true (s.Print (vec h (item.Value (num (pos 2)) ∷ []) tt)) ∷ []) tt) (place 1 42))
+    (procedure h 0 [] tt [] tt None (block h (at h 1 12 true (s.Print (vec h (item.Value (num (pos 1)) ∷ []) tt)) ∷ at h 1 24 true (s.Stop None)
+    ∷ at h 1 30 true (s.Print (vec h (item.Value (num (pos 2)) ∷ []) tt)) ∷ []) tt) (place 1 42))
     (place 1 1)
 
 --     program p; print *, 1; stop 7; end
@@ -132,7 +168,8 @@ abbrev pub usage_50_stop_7 : Global → Program
 usage_50_stop_7 h = program h [] tt
     [] tt
     [] tt
-    (procedure h 0 [] tt [] tt None (block h (at h 1 12 true (s.Print (vec h (item.Value (num (pos 1)) ∷ []) tt)) ∷ at h 1 24 true (s.Stop (Some 7)) ∷ []) tt) (place 1 32))
+    (procedure h 0 [] tt [] tt None (block h (at h 1 12 true (s.Print (vec h (item.Value (num (pos 1)) ∷ []) tt)) ∷ at h 1 24 true (s.Stop (Some 7))
+    ∷ []) tt) (place 1 32))
     (place 1 1)
 
 --     program p; stop 00042; end
@@ -161,7 +198,8 @@ abbrev pub choice_62_1_shows : Global → Type 0
 choice_62_1_shows h = shown (run_of (choice_62_1 h) 2000 granted) ≡ record { bytes = (lines (codes " 0" ∷ [])); verdict = Finished }
 
 abbrev pub choice_63_1_shows : Global → Type 0
-choice_63_1_shows h = shown (run_of (choice_63_1 h) 2000 granted) ≡ record { bytes = (lines (codes " F" ∷ codes " 3" ∷ codes " 1" ∷ [])); verdict = Failed 4 2 201 }
+choice_63_1_shows h = shown (run_of (choice_63_1 h) 2000 granted) ≡ record
+    { bytes = (lines (codes " F" ∷ codes " 3" ∷ codes " 1" ∷ [])); verdict = Failed 4 2 201 }
 
 abbrev pub choice_64_1_shows : Global → Type 0
 choice_64_1_shows h = shown (run_of (choice_64_1 h) 2000 granted) ≡ record { bytes = (lines (codes " 1" ∷ [])); verdict = Finished }
@@ -185,7 +223,8 @@ abbrev pub usage_46_letter_case_shows : Global → Type 0
 usage_46_letter_case_shows h = shown (run_of (usage_46_letter_case h) 2000 granted) ≡ record { bytes = (lines (codes " 2" ∷ [])); verdict = Finished }
 
 abbrev pub usage_47_empty_print_shows : Global → Type 0
-usage_47_empty_print_shows h = shown (run_of (usage_47_empty_print h) 2000 granted) ≡ record { bytes = (lines (codes "" ∷ codes " 1 2" ∷ [])); verdict = Finished }
+usage_47_empty_print_shows h = shown (run_of (usage_47_empty_print h) 2000 granted) ≡ record
+    { bytes = (lines (codes "" ∷ codes " 1 2" ∷ [])); verdict = Finished }
 
 abbrev pub usage_49_stop_plain_shows : Global → Type 0
 usage_49_stop_plain_shows h = shown (run_of (usage_49_stop_plain h) 2000 granted) ≡ record { bytes = (lines (codes " 1" ∷ [])); verdict = Stopped None }

@@ -2,13 +2,7 @@
 #![tactic(auto)]
 
 #[cfg(test)]
-mod access;
-#[cfg(test)]
-mod constructs;
-#[cfg(test)]
-mod graph;
-#[cfg(test)]
-mod made;
+mod answers;
 #[cfg(test)]
 mod name_rules;
 #[cfg(test)]
@@ -16,6 +10,12 @@ mod names;
 #[cfg(test)]
 mod order;
 #[cfg(test)]
+mod passes;
+#[cfg(test)]
 mod scope_rules;
+#[cfg(test)]
+mod scopes;
+#[cfg(test)]
+mod shown;
 #[cfg(test)]
 mod table;

@@ -1,161 +1,162 @@
 //! Tables of names of whole programs.
 
-use crate::made::both;
-use f3_graph::CheckFault;
-use f3_name_table::name_table;
-use f3_rules::refusal::render;
-use f3_rules::source::Source;
-use std::alloc::{AllocError, Global};
-use std::process::Abort;
+use crate::answers::{Question, expect};
 use std::test::Fail;
 
-fn source(alloc: Global, name: &str, text: &str) -> Result<Source, AllocError> {
-    let (name, bytes) = both(
-        String::from_str(alloc, name),
-        Vec::from_slice(alloc, text.as_bytes()),
-    )?;
-    Ok(Source { name, bytes })
-}
-
-/// Sources of these texts, the first of them named a.f90 and the others b.f90.
-pub fn sources(alloc: Global, texts: &[&str]) -> Result<Vec<Source>, AllocError> {
-    let mut sources = Vec::new(alloc);
-    for text in texts {
-        let name = if sources.is_empty() { "a.f90" } else { "b.f90" };
-        sources.push(source(alloc, name, text)?)?;
-    }
-    Ok(sources)
-}
-
-/// The table of these sources, or the line of their refusal.
-fn shown(alloc: Global, sources: &[Source]) -> Result<String, AllocError> {
-    match name_table(alloc, sources) {
-        Ok(table) => Ok(table),
-        Err(CheckFault::Refused(refusal)) => {
-            let line = render(alloc, sources, &refusal);
-            drop(refusal);
-            line
-        }
-        Err(CheckFault::Memory) => Err(AllocError),
-    }
-}
-
-/// Compares the table of these sources, or the line of their refusal.
-fn expect(rt: &impl Abort, alloc: Global, texts: &[&str], expected: &str) -> Result<(), Fail> {
-    let sources = sources(alloc, texts)?;
-    let shown = shown(alloc, &sources);
-    drop(sources);
-    assert_eq!(rt; shown?.as_str(), expected);
-    Ok(())
-}
+const KINDS: &str = "\
+module m
+integer, parameter :: k = 3
+type box; integer :: v = 0; end type
+integer, protected :: n
+private :: k
+contains
+subroutine s(); end
+function f(x) result(r); integer, intent(in) :: x; integer :: r; r = x; end
+end
+program p
+use m, only: t => box, f, n
+logical :: done
+end
+-> module m
+  k constant m.k private
+  box type m.box public
+  n variable m.n protected public
+  s subroutine m.s public
+  f function m.f public
+program p
+  t type m.box
+  n variable m.n protected
+  f function m.f
+  done variable p.done";
 
 #[test]
 fn kinds(rt: HostRuntime) -> Result<(), Fail> {
-    expect(
-        &rt,
-        rt.alloc(),
-        &[
-            "module m\ninteger, parameter :: k = 3\ntype box; integer :: v = 0; end type\ninteger, protected :: n\nprivate :: k\ncontains\nsubroutine s(); end\nfunction f(x) result(r); integer, intent(in) :: x; integer :: r; r = x; end\nend\nprogram p\nuse m, only: t => box, f, n\nlogical :: done\nend\n",
-        ],
-        "module m\n  k constant m.k private\n  box type m.box public\n  n variable m.n protected public\n  s subroutine m.s public\n  f function m.f public\nprogram p\n  t type m.box\n  n variable m.n protected\n  f function m.f\n  done variable p.done\n",
-    )
+    expect(&rt, rt.alloc(), Question::Table, KINDS)
 }
+
+const RENAMES: &str = "\
+module m; integer, protected :: n = 3; end
+module k; use m, q => n; end
+program p; use k; q = 4; end
+-> module m
+  n variable m.n protected public
+module k
+  q variable m.n protected public
+program p
+  q variable m.n protected
+
+module m; integer :: n; end
+program p; use m, q => n; use m, only: n; end
+-> module m
+  n variable m.n public
+program p
+  n variable m.n
+  q variable m.n
+
+Module Big; Integer :: Count; End
+PROGRAM Q; USE BIG, ONLY: MINE => COUNT; END
+-> module big
+  count variable big.count public
+program q
+  mine variable big.count";
 
 #[test]
 fn renames(rt: HostRuntime) -> Result<(), Fail> {
-    expect(
-        &rt,
-        rt.alloc(),
-        &[
-            "module m; integer, protected :: n = 3; end\nmodule k; use m, q => n; end\nprogram p; use k; q = 4; end\n",
-        ],
-        "module m\n  n variable m.n protected public\nmodule k\n  q variable m.n protected public\nprogram p\n  q variable m.n protected\n",
-    )?;
-    expect(
-        &rt,
-        rt.alloc(),
-        &["module m; integer :: n; end\nprogram p; use m, q => n; use m, only: n; end\n"],
-        "module m\n  n variable m.n public\nprogram p\n  n variable m.n\n  q variable m.n\n",
-    )?;
-    expect(
-        &rt,
-        rt.alloc(),
-        &["Module Big; Integer :: Count; End\nPROGRAM Q; USE BIG, ONLY: MINE => COUNT; END\n"],
-        "module big\n  count variable big.count public\nprogram q\n  mine variable big.count\n",
-    )
+    expect(&rt, rt.alloc(), Question::Table, RENAMES)
 }
+
+const SEVERAL_MODULES: &str = "\
+module a; integer :: n; end
+module b; integer :: n; end
+program p; use b; use a; integer :: i; end
+-> module a
+  n variable a.n public
+module b
+  n variable b.n public
+program p
+  n variable b.n
+  n variable a.n
+  i variable p.i
+
+module a; integer :: n; end
+module b; use a; integer :: o; end
+program p; use b; use a; end
+-> module a
+  n variable a.n public
+module b
+  n variable a.n public
+  o variable b.o public
+program p
+  n variable a.n
+  o variable b.o
+
+module a; integer :: x, z; end
+module b; use a; private; public :: x; integer :: y; integer, public :: w; end
+program p; use b; end
+-> module a
+  x variable a.x public
+  z variable a.z public
+module b
+  x variable a.x public
+  z variable a.z private
+  y variable b.y private
+  w variable b.w public
+program p
+  x variable a.x
+  w variable b.w";
 
 #[test]
 fn several_modules(rt: HostRuntime) -> Result<(), Fail> {
-    expect(
-        &rt,
-        rt.alloc(),
-        &[
-            "module a; integer :: n; end\nmodule b; integer :: n; end\nprogram p; use b; use a; integer :: i; end\n",
-        ],
-        "module a\n  n variable a.n public\nmodule b\n  n variable b.n public\nprogram p\n  n variable b.n\n  n variable a.n\n  i variable p.i\n",
-    )?;
-    expect(
-        &rt,
-        rt.alloc(),
-        &[
-            "module a; integer :: n; end\nmodule b; use a; integer :: o; end\nprogram p; use b; use a; end\n",
-        ],
-        "module a\n  n variable a.n public\nmodule b\n  n variable a.n public\n  o variable b.o public\nprogram p\n  n variable a.n\n  o variable b.o\n",
-    )?;
-    expect(
-        &rt,
-        rt.alloc(),
-        &[
-            "module a; integer :: x, z; end\nmodule b; use a; private; public :: x; integer :: y; integer, public :: w; end\nprogram p; use b; end\n",
-        ],
-        "module a\n  x variable a.x public\n  z variable a.z public\nmodule b\n  x variable a.x public\n  z variable a.z private\n  y variable b.y private\n  w variable b.w public\nprogram p\n  x variable a.x\n  w variable b.w\n",
-    )
+    expect(&rt, rt.alloc(), Question::Table, SEVERAL_MODULES)
 }
+
+const UNITS: &str = "\
+program p; end
+-> program p
+
+module m; integer :: n; end
+program p; use m, only:; integer :: n; end
+-> module m
+  n variable m.n public
+program p
+  n variable p.n
+
+program p; use m; end
+b.f90:
+module m; integer :: n; end
+-> program p
+  n variable m.n
+module m
+  n variable m.n public";
 
 #[test]
 fn units(rt: HostRuntime) -> Result<(), Fail> {
-    expect(&rt, rt.alloc(), &["program p; end\n"], "program p\n")?;
-    expect(
-        &rt,
-        rt.alloc(),
-        &["module m; integer :: n; end\nprogram p; use m, only:; integer :: n; end\n"],
-        "module m\n  n variable m.n public\nprogram p\n  n variable p.n\n",
-    )?;
-    expect(
-        &rt,
-        rt.alloc(),
-        &["program p; use m; end\n", "module m; integer :: n; end\n"],
-        "program p\n  n variable m.n\nmodule m\n  n variable m.n public\n",
-    )
+    expect(&rt, rt.alloc(), Question::Table, UNITS)
 }
+
+const FIRST_BREAKS: &str = "\
+module m; integer, protected :: n = 3; end
+program p; use m; n = .true.; end
+-> module m
+  n variable m.n protected public
+program p
+  n variable m.n protected
+
+program p; use m; type(box) :: a
+a%secret = 1
+end
+module m; type box; private; integer :: secret = 1; end type; contains
+subroutine set(b); type(box) :: b; b%secret = 2; end
+end
+-> a.f90:5:33: N9 INTENT missing or misplaced: b
+
+program p; integer :: n, n; use m; end
+-> a.f90:1:29: S6 statement out of place or wrong END name
+
+program p; use m; integer :: n, n; end
+-> a.f90:1:16: U2 module missing: m";
 
 #[test]
 fn first_breaks(rt: HostRuntime) -> Result<(), Fail> {
-    expect(
-        &rt,
-        rt.alloc(),
-        &["module m; integer, protected :: n = 3; end\nprogram p; use m; n = .true.; end\n"],
-        "module m\n  n variable m.n protected public\nprogram p\n  n variable m.n protected\n",
-    )?;
-    expect(
-        &rt,
-        rt.alloc(),
-        &[
-            "program p; use m; type(box) :: a\na%secret = 1\nend\nmodule m; type box; private; integer :: secret = 1; end type; contains\nsubroutine set(b); type(box) :: b; b%secret = 2; end\nend\n",
-        ],
-        "a.f90:5:33: N9 INTENT missing or misplaced: b",
-    )?;
-    expect(
-        &rt,
-        rt.alloc(),
-        &["program p; integer :: n, n; use m; end\n"],
-        "a.f90:1:29: S6 statement out of place or wrong END name",
-    )?;
-    expect(
-        &rt,
-        rt.alloc(),
-        &["program p; use m; integer :: n, n; end\n"],
-        "a.f90:1:16: U2 module missing: m",
-    )
+    expect(&rt, rt.alloc(), Question::Table, FIRST_BREAKS)
 }
