@@ -1,6 +1,6 @@
 //! One instruction.
 
-ghost use Rattle.std.specs.Prelude.{◌≡◌, MatchOption, None, Some, slice_get};
+ghost use Rattle.std.specs.Prelude.{◌≡◌};
 ghost use Rattle.f3_output.specs.Output.{state_of};
 ghost use Rattle.std.specs.Prelude.{◌<◌, ◌^◌};
 ghost use Rattle.f3_machine.specs.Steps.{DoesLine, StepsTo, ended_by};
@@ -13,15 +13,9 @@ use f3_machine_laws::ended::Ended;
 use f3_output::output::Output;
 use f3_requests::answering::answer;
 use f3_rules::source::Place;
+use f3_scalar_run::run::line_at;
 use std::alloc::Global;
 use std::io::Write;
-
-/// The line of a number.
-fn line_at(lines: &[Line], pc: usize) -> Option<Line>
-    ensures { result ≡ slice_get lines.now pc }
-{
-    lines.get(pc).copied()
-}
 
 /// How a run ends where an instruction at a place stops it.
 fn end_of(stop: Stop, place: Place) -> Ended
