@@ -1,7 +1,5 @@
 -- What a MOVE_ALLOC comes to.
-use Rattle.std.proofs.Common.{◌≡◌, ℕ, ◌-◌, ◌<◌, ◌≤◌, true, false, List, [], ◌++◌, length, take, drop, map, reverse, inl, inr, refl, sym, ap, ◌∙◌, arith}
-use Rattle.std.proofs.lemmas.List.{drop-map, drop_at, drop_all, take-append-drop, reverse-append, length-reverse, length-drop}
-use Rattle.std.proofs.lemmas.Bool.{cases_lt}
+use Rattle.std.proofs.Common.{◌≡◌, true, false, List, [], ◌++◌, length, refl, sym, ap, ◌∙◌}
 use Rattle.std.specs.Prelude.{⊤, Err}
 use Rattle.f3_meaning_whole.specs.Value as v
 use Rattle.f3_meaning_whole.specs.Value.{spread}
@@ -20,30 +18,8 @@ use Rattle.f3_cells.specs.declared.state.Stop.TheVariants as stop
 use Rattle.f3_cells.specs.Follows.{Follows}
 use Rattle.f3_allocation_steps.specs.Acts.{TakesOver}
 use Rattle.f3_data.specs.declared.store.Store.{Store}
-use Rattle.f3_data.specs.declared.reference.Reference.{Reference}
 use Rattle.f3_data.specs.Stores.{store_of}
-use Rattle.f3_data.specs.References.{reference_of, references_of}
 use Rattle.f3_cells.specs.States.{world_of, granted}
-
-from_end_within : {X : Type 0} (cs : List X) (k : ℕ) → k ≤ length cs → reverse (take (length cs - k) cs) ≡ drop k (reverse cs)
-from_end_within cs k h =
-    let n = length cs - k in
-    let parts : reverse cs ≡ reverse (drop n cs) ++ reverse (take n cs) =
-    sym (ap reverse (take-append-drop n cs)) ∙ reverse-append (take n cs) (drop n cs) in
-    let long : length (reverse (drop n cs)) ≡ k = omega (arith, length-reverse (drop n cs), length-drop n cs) in
-    sym (ap (drop k) parts ∙ drop_at (reverse (drop n cs)) (reverse (take n cs)) k long)
-
-from_end_past : {X : Type 0} (cs : List X) (k : ℕ) → length cs < k → reverse (take (length cs - k) cs) ≡ drop k (reverse cs)
-from_end_past cs k h =
-    let e : length cs - k ≡ 0 = omega arith in
-    ap (λ n. reverse (take n cs)) e ∙ sym (drop_all k (reverse cs) (omega (arith, length-reverse cs)))
-
-from_end : {X : Type 0} (cs : List X) (k : ℕ) → reverse (take (length cs - k) cs) ≡ drop k (reverse cs)
-from_end cs k = elim (cases_lt (length cs) k) [ inl h ↦ from_end_past cs k h | inr h ↦ from_end_within cs k h ]
-
--- all but those that were lent last
-pub lent_before : (rs : List Reference) (k : ℕ) → references_of (reverse (take (length rs - k) rs)) ≡ drop k (references_of (reverse rs))
-lent_before rs k = ap (map reference_of) (from_end rs k) ∙ sym (drop-map reference_of k (reverse rs))
 
 nothing : (from to : m.Reference) (g : Setting) (here : Here) (w : World) (x : v.Value) → v.is_allocated x ≡ false
     → (take_over g 0 no_calls from to x here).from w ≡ record { out = []; end = Gives tt w }

@@ -45,6 +45,7 @@ fn line_value(alloc: Global, program: &Program, of: Option<Base>) -> Result<Valu
 }
 
 /// The object takes the line's value: that with which an object of a type begins.
+#[inline(never)]
 pub fn set(alloc: Global, scene: &Scene, state: &mut State, begin: Option<Base>) -> Result<(), Stop>
     requires { state.old.pc < 2 ^ 63 }
     ensures { DoesWith scene.now begin i.Set result state.old state.new }
@@ -75,6 +76,7 @@ fn new_object(
 }
 
 /// A variable is allocated with the bounds of a value and of a rank; its elements have the line's value (own rule).
+#[inline(never)]
 pub fn new(
     alloc: Global,
     scene: &Scene,
@@ -108,6 +110,7 @@ fn number_of(status: Option<RunError>) -> Value
 }
 
 /// The number of an error, 0 of none, goes to a variable (6.3.1.3, 6.3.3.3).
+#[inline(never)]
 pub fn store_status(alloc: Global, state: &mut State) -> Result<(), Stop>
     requires { state.old.pc < 2 ^ 63 }
     ensures { Does i.StoreStatus result state.old state.new }
@@ -198,6 +201,7 @@ fn allocate_object(
 
 /// An object of a rank is allocated with so many dimensions; its elements begin with the line's value (6.3.1). How it ended is on
 /// top: `AlreadyAllocated`, then `ArrayTooLarge` (own rules), or no error.
+#[inline(never)]
 pub fn allocate(
     alloc: Global,
     scene: &Scene,

@@ -1,6 +1,6 @@
 //! What an object takes over from another.
 
-ghost use Rattle.std.specs.Prelude.{◌≡◌, ◌<◌, ◌^◌, OnOk, drop, length, reverse};
+ghost use Rattle.std.specs.Prelude.{◌≡◌, ◌<◌, ◌^◌, OnOk, drop, length};
 ghost use Rattle.f3_rules.specs.declared.source.Place.{Place};
 ghost use Rattle.f3_meaning_whole.specs.Value as m;
 ghost use Rattle.f3_meaning_whole.specs.Value.{spread};
@@ -8,7 +8,8 @@ ghost use Rattle.f3_meaning_whole.specs.Store.{put_all};
 ghost use Rattle.f3_meaning_whole.specs.Reference.{paths};
 ghost use Rattle.f3_data.specs.Values.{value_of};
 ghost use Rattle.f3_data.specs.Stores.{store_of};
-ghost use Rattle.f3_data.specs.References.{reference_of, references_of};
+ghost use Rattle.f3_data.specs.References.{reference_of};
+ghost use Rattle.f3_data.specs.Lent.{lent_of};
 ghost use Rattle.f3_code.specs.declared.instruction.Instruction.TheVariants as i;
 ghost use Rattle.f3_cells.specs.Follows.{DoesAt};
 ghost use Rattle.f3_allocation_steps.specs.Acts.{TakesOver};
@@ -16,6 +17,7 @@ ghost use Rattle.f3_allocation_steps.specs.Acts.{TakesOver};
 use f3_cells::stacks::pop_object;
 use f3_cells::state::{State, Stop};
 use f3_data::copies;
+use f3_data::lent::{Lent, unlend};
 use f3_data::reference::Reference;
 use f3_data::store::Store;
 use f3_data::value::Value;
@@ -46,9 +48,9 @@ fn take_contents(
     store: &mut Store,
     from: &Reference,
     to: &Reference,
-    lent: &[Reference],
+    lent: &Lent,
 ) -> Result<(), Stop>
-    ensures { TakesOver (reference_of from.now) (reference_of to.now) (references_of (reverse lent.now)) result store.old store.new }
+    ensures { TakesOver (reference_of from.now) (reference_of to.now) (lent_of lent.now) result store.old store.new }
 {
     let Some(held) = held_at(store, &from.path) else {
         return Ok(());
@@ -62,13 +64,15 @@ fn take_contents(
 }
 
 /// The two objects that were lent last are lent no longer.
-fn unlend_both(lent: &mut Vec<Reference>)
-    ensures { references_of (reverse lent.new.items) ≡ drop 2 (references_of (reverse lent.old.items)) }
+fn unlend_both(lent: &mut Lent) -> Result<(), AllocError>
+    ensures { OnOk result (lent_of lent.new ≡ drop 2 (lent_of lent.old)) }
 {
-    lent.truncate(lent.len().saturating_sub(2));
+    unlend(lent)?;
+    unlend(lent)
 }
 
 /// The object on top takes what the other holds, and both are lent no longer (13.7.82). `InUse` (own rule).
+#[inline(never)]
 pub fn take_over(alloc: Global, state: &mut State) -> Result<(), Stop>
     requires { state.old.pc < 2 ^ 63 }
     ensures { (place : Place) → DoesAt place i.TakeOver result state.old state.new }
@@ -85,7 +89,7 @@ pub fn take_over(alloc: Global, state: &mut State) -> Result<(), Stop>
     drop(to);
     match done {
         Ok(()) => {
-            unlend_both(&mut state.here.lent);
+            unlend_both(&mut state.here.lent)?;
             state.advance();
             Ok(())
         }

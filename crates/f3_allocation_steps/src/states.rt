@@ -1,6 +1,6 @@
 //! How objects stand.
 
-ghost use Rattle.std.specs.Prelude.{◌≡◌, ◌<◌, ◌^◌, IfOk, reverse};
+ghost use Rattle.std.specs.Prelude.{◌≡◌, ◌<◌, ◌^◌, IfOk};
 ghost use Rattle.f3_meaning_whole.specs.Value.{shown};
 ghost use Rattle.f3_meaning_whole.specs.Value as m;
 ghost use Rattle.f3_meaning_whole.specs.Store.{get};
@@ -8,7 +8,8 @@ ghost use Rattle.f3_meaning_whole.specs.Reference as r;
 ghost use Rattle.f3_data.specs.Values as view;
 ghost use Rattle.f3_data.specs.Values.{value_of};
 ghost use Rattle.f3_data.specs.Stores.{path_of, store_of};
-ghost use Rattle.f3_data.specs.References.{reference_of, references_of};
+ghost use Rattle.f3_data.specs.References.{reference_of};
+ghost use Rattle.f3_data.specs.Lent.{lent_of};
 ghost use Rattle.f3_code.specs.declared.instruction.Instruction.TheVariants as i;
 ghost use Rattle.f3_cells.specs.Follows.{Does, DoesIn};
 ghost use Rattle.f3_allocation_steps.specs.Acts.{Branches, DoesHere, hindrance};
@@ -18,6 +19,7 @@ use f3_cells::look::{datum_at, object_at};
 use f3_cells::stacks::{drop_cells, pop_object};
 use f3_cells::state::{State, Stop};
 use f3_data::copies;
+use f3_data::lent::Lent;
 use f3_data::reference::{Reach, Reference};
 use f3_data::store::{Path, Store};
 use f3_data::value::{Span, Value, is_allocated as is_allocated_value, spans_of};
@@ -38,6 +40,7 @@ pub(crate) fn is_allocated_at(store: &Store, path: &Path) -> bool
 }
 
 /// Whether an object is allocated (ISO/IEC 1539-1:2004, 13.7.9).
+#[inline(never)]
 pub fn is_allocated(state: &mut State) -> Result<(), Stop>
     requires { state.old.pc < 2 ^ 63 }
     ensures { Does i.IsAllocated result state.old state.new }
@@ -65,6 +68,7 @@ fn shown_bounds(alloc: Global, object: &Reference) -> Result<Vec<Span>, AllocErr
 }
 
 /// The bounds of a variable (13.7.60, 13.7.121).
+#[inline(never)]
 pub fn bounds_of_variable(alloc: Global, state: &mut State) -> Result<(), Stop>
     requires { state.old.pc < 2 ^ 63 }
     ensures { Does i.BoundsOfVariable result state.old state.new }
@@ -78,6 +82,7 @@ pub fn bounds_of_variable(alloc: Global, state: &mut State) -> Result<(), Stop>
 }
 
 /// So far on where the object is not allocated.
+#[inline(never)]
 pub fn skip_unless_allocated(state: &mut State, distance: usize, total: usize) -> Result<(), Stop>
     requires { state.old.pc < 2 ^ 63 }
     ensures { DoesIn total (i.SkipUnlessAllocated distance) result state.old state.new }
@@ -118,6 +123,7 @@ fn distance_by(
 
 /// On where a variable is allocated in the shape of a value, else so far where it is allocated, and so far where it is not (own
 /// rule).
+#[inline(never)]
 pub fn by_state(
     state: &mut State,
     other: usize,
@@ -143,6 +149,7 @@ pub fn by_state(
 }
 
 /// An error where a value has another rank (own rule).
+#[inline(never)]
 pub fn test_rank(state: &mut State, rank: usize) -> Result<(), Stop>
     requires { state.old.pc < 2 ^ 63 }
     ensures { Does (i.TestRank rank) result state.old state.new }
@@ -162,8 +169,8 @@ pub fn test_rank(state: &mut State, rank: usize) -> Result<(), Stop>
 }
 
 /// Why an object may not be deallocated, if there is a reason (6.3.3): `NotAllocated`, or `InUse` (own rule).
-fn hindrance(store: &Store, path: &Path, lent: &[Reference]) -> Option<RunError>
-    ensures { result ≡ hindrance (store_of store.now) (path_of path.now) (references_of (reverse lent.now)) }
+fn hindrance(store: &Store, path: &Path, lent: &Lent) -> Option<RunError>
+    ensures { result ≡ hindrance (store_of store.now) (path_of path.now) (lent_of lent.now) }
 {
     if !is_allocated_at(store, path) {
         return Some(RunError::NotAllocated);
@@ -176,6 +183,7 @@ fn hindrance(store: &Store, path: &Path, lent: &[Reference]) -> Option<RunError>
 }
 
 /// On where an object may be deallocated, else there is an error, so far on (6.3.3): `NotAllocated`, then `InUse`.
+#[inline(never)]
 pub fn test_free(state: &mut State, distance: usize, total: usize) -> Result<(), Stop>
     requires { state.old.pc < 2 ^ 63 }
     ensures { DoesHere total (i.TestFree distance) result state.old state.new }

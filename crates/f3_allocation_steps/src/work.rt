@@ -30,6 +30,7 @@ use f3_rules::source::Place;
 use std::alloc::{AllocError, Global};
 
 /// The object is unallocated (ISO/IEC 1539-1:2004, 6.3.3).
+#[inline(never)]
 pub fn free(alloc: Global, state: &mut State) -> Result<(), Stop>
     requires { state.old.pc < 2 ^ 63 }
     ensures { Does i.Free result state.old state.new }
@@ -43,6 +44,7 @@ pub fn free(alloc: Global, state: &mut State) -> Result<(), Stop>
 }
 
 /// What is allocated beneath the object is freed (6.3.3.1).
+#[inline(never)]
 pub fn clear(alloc: Global, state: &mut State) -> Result<(), Stop>
     requires { state.old.pc < 2 ^ 63 }
     ensures { Does i.Clear result state.old state.new }
@@ -56,6 +58,7 @@ pub fn clear(alloc: Global, state: &mut State) -> Result<(), Stop>
 }
 
 /// The elements of the object (6.2.2.2).
+#[inline(never)]
 pub fn walk_begin(alloc: Global, state: &mut State) -> Result<(), Stop>
     requires { state.old.pc < 2 ^ 63 }
     ensures { Does i.WalkBegin result state.old state.new }
@@ -68,6 +71,7 @@ pub fn walk_begin(alloc: Global, state: &mut State) -> Result<(), Stop>
 }
 
 /// What an object holds, or an error where it is in use (6.3.3): `InUse`, then `NotAllocated` (own rules).
+#[inline(never)]
 pub fn open_contents(alloc: Global, state: &mut State) -> Result<(), Stop>
     requires { state.old.pc < 2 ^ 63 }
     ensures { (place : Place) → DoesAt place i.OpenContents result state.old state.new }
@@ -87,6 +91,7 @@ pub fn open_contents(alloc: Global, state: &mut State) -> Result<(), Stop>
 }
 
 /// A component of the object, by its number, selected by the language.
+#[inline(never)]
 pub fn work_component(
     alloc: Global,
     scene: &Scene,
@@ -141,6 +146,7 @@ fn element_at(alloc: Global, object: &Reference, path: Path) -> Result<Reference
 }
 
 /// The next of the elements of the object, or so far on where there is none (6.2.2.2).
+#[inline(never)]
 pub fn walk_next(
     alloc: Global,
     state: &mut State,

@@ -16,6 +16,7 @@ pub enum Width {
 }
 
 /// Whether a number lies in the range of a kind.
+#[inline(always)]
 pub fn fits(width: Width, z: i64) -> bool
     ensures { result ≡ fits (base_of width) z }
 {
@@ -29,6 +30,7 @@ pub fn fits(width: Width, z: i64) -> bool
 ///
 /// `Overflow` where it lies past the range (own rule).
 #[tactic(auto, using(crate::proofs::Limits::in_range, crate::proofs::Limits::out_of_range))]
+#[inline(always)]
 pub fn number(width: Width, z: i64) -> Result<i64, RunError>
     ensures { (place : Place) → number_ran result place ≡ converted (base_of width) (Number z) place }
 {
@@ -43,6 +45,7 @@ pub fn number(width: Width, z: i64) -> Result<i64, RunError>
 ///
 /// `Overflow` past the range of the kind (own rule).
 #[tactic(auto, using(crate::proofs::Limits::unfit))]
+#[inline(always)]
 pub fn sum(width: Width, x: i64, y: i64) -> Result<i64, RunError>
     ensures { (place : Place) → number_ran result place ≡ converted (base_of width) (Number (x +ℤ y)) place }
 {
@@ -56,6 +59,7 @@ pub fn sum(width: Width, x: i64, y: i64) -> Result<i64, RunError>
 ///
 /// `Overflow` past the range of the kind (own rule).
 #[tactic(auto, using(crate::proofs::Limits::unfit))]
+#[inline(always)]
 pub fn difference(width: Width, x: i64, y: i64) -> Result<i64, RunError>
     ensures { (place : Place) → number_ran result place ≡ converted (base_of width) (Number (x -ℤ y)) place }
 {
@@ -69,6 +73,7 @@ pub fn difference(width: Width, x: i64, y: i64) -> Result<i64, RunError>
 ///
 /// `Overflow` past the range of the kind (own rule).
 #[tactic(auto, using(crate::proofs::Limits::unfit))]
+#[inline(always)]
 pub fn product(width: Width, x: i64, y: i64) -> Result<i64, RunError>
     ensures { (place : Place) → number_ran result place ≡ converted (base_of width) (Number (x *ℤ y)) place }
 {
@@ -82,6 +87,7 @@ pub fn product(width: Width, x: i64, y: i64) -> Result<i64, RunError>
 ///
 /// `Overflow` past the range of the kind (own rule).
 #[tactic(auto, using(crate::proofs::Limits::unfit))]
+#[inline(always)]
 pub fn negative(width: Width, x: i64) -> Result<i64, RunError>
     ensures { (place : Place) → number_ran result place ≡ converted (base_of width) (Number (neg_ℤ x)) place }
 {

@@ -15,6 +15,7 @@ use f3_program::expression::{BinaryOperator, UnaryOperator};
 use f3_program::statement::Range;
 
 /// The number that a scalar is, and 0 for a truth value.
+#[inline(always)]
 pub fn number_of(scalar: Constant) -> i64
     ensures { result ≡ v.number_of (constant_value scalar) }
 {
@@ -25,6 +26,7 @@ pub fn number_of(scalar: Constant) -> i64
 }
 
 /// The truth value that a scalar is, and false for a number.
+#[inline(always)]
 pub fn truth_of(scalar: Constant) -> bool
     ensures { result ≡ v.truth_of (constant_value scalar) }
 {
@@ -35,6 +37,7 @@ pub fn truth_of(scalar: Constant) -> bool
 }
 
 /// A number, or the error, as a scalar.
+#[inline(always)]
 fn as_scalar(given: Result<i64, RunError>) -> Result<Constant, RunError>
     ensures { (place : Place) → scalar_ran result place ≡ number_ran given place }
 {
@@ -45,6 +48,7 @@ fn as_scalar(given: Result<i64, RunError>) -> Result<Constant, RunError>
 }
 
 /// Whether two numbers are the same.
+#[inline(always)]
 fn is_same(x: i64, y: i64) -> bool
     ensures { result ≡ same_number x y }
 {
@@ -52,6 +56,7 @@ fn is_same(x: i64, y: i64) -> bool
 }
 
 /// Whether two truth values are the same.
+#[inline(always)]
 fn is_same_truth(a: bool, b: bool) -> bool
     ensures { result ≡ same_truth a b }
 {
@@ -61,6 +66,7 @@ fn is_same_truth(a: bool, b: bool) -> bool
 /// What an operator makes of two scalars (ISO/IEC 1539-1:2004, 7.1.4, 7.1.5, 13.7).
 ///
 /// `Overflow` where the result is a number past the range of its kind, `DivisionByZero` (own rules).
+#[inline(always)]
 pub fn binary(
     operator: BinaryOperator,
     width: Width,
@@ -100,6 +106,7 @@ pub fn binary(
 /// What an operator makes of one scalar (7.1.4, 7.1.5, 13.7.1).
 ///
 /// `Overflow` where the result is a number past the range of its kind (own rule).
+#[inline(always)]
 pub fn unary(operator: UnaryOperator, width: Width, x: Constant) -> Result<Constant, RunError>
     ensures { (place : Place) → scalar_ran result place ≡ change_of operator (base_of width) (constant_value x) place }
 {

@@ -1,15 +1,12 @@
--- Values that are held, and references that are lent.
-use Rattle.std.proofs.Common.{◌≡◌, ℕ, ◌+◌, ◌<◌, List, [], ◌∷◌, ◌++◌, length, map, take, reverse, get_or, refl, sym, ap, ◌∙◌, suc, arith}
-use Rattle.std.proofs.lemmas.List.{map-append, reverse-append}
+-- Values that are held.
+use Rattle.std.proofs.Common.{◌≡◌, ℕ, ◌+◌, ◌<◌, List, [], ◌∷◌, ◌++◌, length, map, take, get_or, refl, sym, ap, ◌∙◌, suc, arith}
+use Rattle.std.proofs.lemmas.List.{map-append}
 use Rattle.std.proofs.Math.Seq.{take-suc}
 use Rattle.f3_meaning_whole.specs.Value as m
 use Rattle.f3_meaning_whole.specs.Act as a
-use Rattle.f3_meaning_whole.specs.Reference as r
 use Rattle.f3_meaning_whole.specs.Exec as x
 use Rattle.f3_meaning_whole.specs.Exec.{held}
 use Rattle.f3_cells.specs.declared.cell.Association.{Association}
-use Rattle.f3_data.specs.declared.reference.Reference.{Reference}
-use Rattle.f3_data.specs.References.{reference_of, references_of}
 use Rattle.f3_cells.specs.declared.cell.Passed.{Passed}
 use Rattle.f3_cells.specs.Cells.{passed_of, association_of}
 
@@ -26,22 +23,6 @@ held_more xs i x old new lt is before more =
     let taken : take (i + 1) xs ≡ take i xs ++ x ∷ [] = ap (λ n. take n xs) next ∙ take-suc xs i x lt ∙ ap (λ y. take i xs ++ y ∷ []) (sym is) in
     more ∙ ap (λ vs. vs ++ held (passed_of x ∷ [])) before ∙ sym (held-append (map passed_of (take i xs)) (passed_of x ∷ []))
     ∙ ap held (sym (map-append passed_of (take i xs) (x ∷ [])) ∙ ap (map passed_of) (sym taken))
-
-reversed : (xs : List Reference) → references_of (reverse xs) ≡ reverse (references_of xs)
-reversed [] = refl
-reversed (x ∷ xs) = ap references_of (reverse-append (x ∷ []) xs) ∙ map-append reference_of (reverse xs) (x ∷ [])
-    ∙ ap (λ rs. rs ++ reference_of x ∷ []) (reversed xs)
-    ∙ sym (reverse-append (reference_of x ∷ []) (references_of xs))
-
--- the same references in the other order
-pub reversed_alike : (xs ys : List Reference) → references_of xs ≡ references_of ys → references_of (reverse xs) ≡ references_of (reverse ys)
-reversed_alike xs ys same = reversed xs ∙ ap reverse same ∙ sym (reversed ys)
-
--- more that is lent
-pub lent_more : (xs ys zs : List Reference) (rs : List r.Reference) → references_of (reverse zs) ≡ rs ++ references_of (reverse xs) → references_of xs
-    ≡ references_of ys
-    → references_of (reverse zs) ≡ rs ++ references_of (reverse ys)
-lent_more xs ys zs rs more same = more ∙ ap (λ qs. rs ++ qs) (reversed_alike xs ys same)
 
 -- ---- the same of selectors
 

@@ -127,6 +127,7 @@ fn begin_associate(
 }
 
 /// An ASSOCIATE with so many selectors begins (8.1.4).
+#[inline(never)]
 pub fn associate(alloc: Global, state: &mut State, count: usize) -> Result<(), Stop>
     requires { state.old.pc < 2 ^ 63 }
     ensures { (scene : Scene) (v : m.Value) (place : Place) → DoesThere scene (Associate count) v place result state.old state.new }
@@ -149,6 +150,7 @@ fn leave_with(state: &mut State, level: usize, flow: Flow) -> Result<(), Stop>
 }
 
 /// The values that an ASSOCIATE held end.
+#[inline(never)]
 pub fn end_associate(state: &mut State) -> Result<(), Stop>
     requires { state.old.pc < 2 ^ 63 }
     ensures { Does EndAssociate result state.old state.new }

@@ -87,6 +87,7 @@ fn begin_call(
 /// A call of the procedure of a number with so many arguments, at a place (ISO/IEC 1539-1:2004, 12.4).
 ///
 /// `CallsTooDeep` where 1000 procedures are active (own rule).
+#[inline(never)]
 pub fn call(
     alloc: Global,
     scene: &Scene<'_>,

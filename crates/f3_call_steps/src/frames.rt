@@ -1,10 +1,10 @@
 //! Frames of callers, and the activation of a procedure.
 
-ghost use Rattle.std.specs.Prelude.{◌≡◌, ◌<◌, ◌^◌, ◌++◌, suc, Some, IfOk, OnOk, length, map, reverse, slice_get};
+ghost use Rattle.std.specs.Prelude.{◌≡◌, ◌<◌, ◌^◌, ◌++◌, suc, Some, IfOk, OnOk, length, map, slice_get};
 ghost use Rattle.f3_program.specs.declared.program.Program.{Program};
 ghost use Rattle.f3_meaning_whole.specs.Value as m;
 ghost use Rattle.f3_meaning_whole.specs.Exec as x;
-ghost use Rattle.f3_data.specs.References.{references_of};
+ghost use Rattle.f3_data.specs.Lent.{lent_of};
 ghost use Rattle.f3_cells.specs.Cells.{here_of, passed_of, variables_of};
 ghost use Rattle.f3_call_steps.specs.Entering.{Framed, EnteredAt};
 
@@ -36,7 +36,7 @@ fn activation(
       level = suc level;
       variables = variables_of p (Some number);
       names = x.dummies 0 procedure.now.dummies.items (map passed_of arguments.now) level outer.now.unit;
-      lent = x.dummies 0 procedure.now.dummies.items (map passed_of arguments.now) level outer.now.unit ++ references_of (reverse outer.now.lent.items);
+      lent = x.dummies 0 procedure.now.dummies.items (map passed_of arguments.now) level outer.now.unit ++ lent_of outer.now.lent;
       selected = m.Unallocated;
     }) }
 {

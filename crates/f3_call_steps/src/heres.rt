@@ -1,46 +1,31 @@
 //! Where statements are executed within a procedure or an ASSOCIATE.
 
-ghost use Rattle.std.specs.Prelude.{◌≡◌, ◌++◌, Some, IfOk, OnOk, reverse};
+ghost use Rattle.std.specs.Prelude.{◌≡◌, ◌++◌, Some, IfOk};
 ghost use Rattle.f3_program.specs.declared.program.Program.{Program};
 ghost use Rattle.f3_meaning_whole.specs.Value as m;
 ghost use Rattle.f3_meaning_whole.specs.Act.{associating};
 ghost use Rattle.f3_data.specs.References.{references_of};
+ghost use Rattle.f3_data.specs.Lent.{lent_of};
 ghost use Rattle.f3_cells.specs.Cells.{here_of, variables_of};
 
 use f3_cells::cell::Here;
 use f3_data::copies;
+use f3_data::lent::{Lent, lend, shared};
 use f3_data::reference::Reference;
 use f3_data::value::Value;
 use f3_rules::source::Place;
 use std::alloc::{AllocError, Global};
 
-/// Copies of references in the other order, behind others.
-fn add_in_reverse(
-    alloc: Global,
-    lent: &mut Vec<Reference>,
-    objects: &[Reference],
-) -> Result<(), AllocError>
-    ensures { OnOk result (references_of (reverse lent.new.items) ≡ references_of objects.now ++ references_of (reverse lent.old.items)) }
+/// What is lent where these objects are lent too, the first of them last.
+fn lending(alloc: Global, lent: &Lent, objects: &[Reference]) -> Result<Lent, AllocError>
+    ensures { IfOk result (λ l. lent_of l ≡ references_of objects.now ++ lent_of lent.now) }
 {
+    let mut all = shared(lent)?;
     let mut i = objects.len();
     while i > 0 {
         i -= 1;
-        lent.push(copies::reference(alloc, &objects[i])?)?;
+        lend(alloc, &mut all, copies::reference(alloc, &objects[i])?)?;
     }
-    Ok(())
-}
-
-/// What is lent where these objects are lent too.
-#[tactic(auto, using(crate::proofs::Holding::lent_more))]
-fn lending(
-    alloc: Global,
-    lent: &[Reference],
-    objects: &[Reference],
-) -> Result<Vec<Reference>, AllocError>
-    ensures { IfOk result (λ rs. references_of (reverse rs.items) ≡ references_of objects.now ++ references_of (reverse lent.now)) }
-{
-    let mut all = copies::references(alloc, lent)?;
-    add_in_reverse(alloc, &mut all, objects)?;
     Ok(all)
 }
 
@@ -60,7 +45,7 @@ pub(crate) fn within_procedure(
       level = level;
       variables = variables_of p (Some procedure);
       names = references_of names.items;
-      lent = references_of names.items ++ references_of (reverse outer.now.lent.items);
+      lent = references_of names.items ++ lent_of outer.now.lent;
       selected = m.Unallocated;
     }) }
 {

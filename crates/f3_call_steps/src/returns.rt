@@ -36,6 +36,7 @@ fn result_value(
 
 /// The value of a function's result, by its number among the variables, and some value of a subroutine (ISO/IEC 1539-1:2004,
 /// 12.5.2.1).
+#[inline(never)]
 pub fn result_of(alloc: Global, state: &mut State, variable: Option<usize>) -> Result<(), Stop>
     requires { state.old.pc < 2 ^ 63 }
     ensures { Does (ResultOf variable) result state.old state.new }
@@ -45,7 +46,7 @@ pub fn result_of(alloc: Global, state: &mut State, variable: Option<usize>) -> R
 }
 
 /// Back where the latest frame says, with a value.
-fn go_back(state: &mut State, value: Value) -> Result<(), Stop>
+pub fn go_back(state: &mut State, value: Value) -> Result<(), Stop>
     ensures { Returned (value_of value) result state.old state.new }
 {
     let Some(frame) = state.frames.pop() else {
@@ -61,6 +62,7 @@ fn go_back(state: &mut State, value: Value) -> Result<(), Stop>
 }
 
 /// Back to the caller (12.4).
+#[inline(never)]
 pub fn return_to_caller(state: &mut State) -> Result<(), Stop>
     ensures { Does Return result state.old state.new }
 {

@@ -1,4 +1,3 @@
 pub mod Below
 pub mod SoFar
 pub mod Steps
-pub mod Reversed

@@ -1,5 +1,6 @@
 //! What stands on the stack of an activation.
 
+use f3_data::lent::Lent;
 use f3_data::reference::Reference;
 use f3_data::value::{Span, Value};
 use f3_meaning_whole::run_error::RunError;
@@ -37,8 +38,8 @@ pub enum Flow {
 }
 
 /// Where a statement is executed: its place, its unit, the level of its activation, the procedure whose variables are at
-/// hand (none: the main program), the objects of dummies and associate names in their order, all that is lent, what was lent
-/// last at the end, and the value of the SELECT CASE around it.
+/// hand (none: the main program), the objects of dummies and associate names in their order, all that is lent, and the value
+/// of the SELECT CASE around it.
 #[derive(Drop)]
 pub struct Here {
     pub place: Place,
@@ -46,7 +47,7 @@ pub struct Here {
     pub level: usize,
     pub procedure: Option<usize>,
     pub names: Vec<Reference>,
-    pub lent: Vec<Reference>,
+    pub lent: Lent,
     pub selected: Value,
 }
 

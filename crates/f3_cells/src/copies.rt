@@ -6,6 +6,7 @@ ghost use Rattle.f3_cells.specs.Cells.{here_of, passed_of};
 
 use crate::cell::{Here, Passed};
 use f3_data::copies;
+use f3_data::lent::shared;
 use std::alloc::{AllocError, Global};
 
 /// A copy of where a statement is executed.
@@ -13,7 +14,7 @@ pub fn here(alloc: Global, original: &Here) -> Result<Here, AllocError>
     ensures { IfOk result (λ h. (p : Program) → here_of p h ≡ here_of p original.now) }
 {
     let names = copies::references(alloc, &original.names)?;
-    let lent = copies::references(alloc, &original.lent)?;
+    let lent = shared(&original.lent)?;
     let selected = copies::value(alloc, &original.selected)?;
     Ok(Here {
         place: original.place,

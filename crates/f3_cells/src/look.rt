@@ -13,6 +13,7 @@ use f3_data::reference::Reference;
 use f3_data::value::Value;
 
 /// The cell below so many others.
+#[inline(always)]
 pub fn cell_at(stack: &Vec<Cell>, depth: usize) -> Option<&Cell>
     ensures { MatchOption result (HasNone stack.now.items depth) (λ x. HasCell stack.now.items depth x.now) }
 {

@@ -21,6 +21,7 @@ use f3_cells::stacks::{
 use f3_cells::state::{State, Stop};
 use f3_code::instruction::Way;
 use f3_data::copies;
+use f3_data::lent::shared;
 use f3_data::value::Value;
 use f3_program::declarations::Base;
 use f3_program::statement::Range;
@@ -30,6 +31,7 @@ use std::alloc::{AllocError, Global};
 use std::mem;
 
 /// A statement begins.
+#[inline(never)]
 pub fn begin(state: &mut State) -> Result<(), Stop>
     requires { state.old.pc < 2 ^ 63 }
     ensures { Does Begin result state.old state.new }
@@ -39,6 +41,7 @@ pub fn begin(state: &mut State) -> Result<(), Stop>
 }
 
 /// What a held value has allocated is freed.
+#[inline(never)]
 pub fn discard(state: &mut State) -> Result<(), Stop>
     requires { state.old.pc < 2 ^ 63 }
     ensures { Does Discard result state.old state.new }
@@ -48,6 +51,7 @@ pub fn discard(state: &mut State) -> Result<(), Stop>
 }
 
 /// The run stops (ISO/IEC 1539-1:2004, 8.4).
+#[inline(never)]
 pub fn stop(_state: &mut State, number: Option<u32>) -> Result<(), Stop>
     ensures { Does (instruction.Stop number) result _state.old _state.new }
 {
@@ -55,6 +59,7 @@ pub fn stop(_state: &mut State, number: Option<u32>) -> Result<(), Stop>
 }
 
 /// The end of the run.
+#[inline(never)]
 pub fn finish(_state: &mut State) -> Result<(), Stop>
     ensures { Does Finish result _state.old _state.new }
 {
@@ -62,6 +67,7 @@ pub fn finish(_state: &mut State) -> Result<(), Stop>
 }
 
 /// The line's place is that of the activation.
+#[inline(never)]
 pub fn set_place(state: &mut State, place: Place) -> Result<(), Stop>
     requires { state.old.pc < 2 ^ 63 }
     ensures { DoesAt place SetPlace result state.old state.new }
@@ -72,6 +78,7 @@ pub fn set_place(state: &mut State, place: Place) -> Result<(), Stop>
 }
 
 /// Whether the value of the SELECT CASE around is in a range (8.1.3).
+#[inline(never)]
 pub fn meets(state: &mut State, range: Range) -> Result<(), Stop>
     requires { state.old.pc < 2 ^ 63 }
     ensures { (place : Place) → DoesAt place (Meets range) result state.old state.new }
@@ -85,7 +92,7 @@ fn within_selection(alloc: Global, outer: &Here, selected: Value) -> Result<Here
     ensures { IfOk result (λ h. (p : Program) → here_of p h ≡ selecting (value_of selected) (here_of p outer.now)) }
 {
     let names = copies::references(alloc, &outer.names)?;
-    let lent = copies::references(alloc, &outer.lent)?;
+    let lent = shared(&outer.lent)?;
     Ok(Here {
         place: outer.place,
         unit: outer.unit,
@@ -98,6 +105,7 @@ fn within_selection(alloc: Global, outer: &Here, selected: Value) -> Result<Here
 }
 
 /// A SELECT CASE begins with a value (8.1.3).
+#[inline(never)]
 pub fn selecting(alloc: Global, state: &mut State) -> Result<(), Stop>
     requires { state.old.pc < 2 ^ 63 }
     ensures { Does Selecting result state.old state.new }
@@ -123,6 +131,7 @@ fn flow_of(way: Way, place: Place) -> Flow
 }
 
 /// A SELECT CASE or an ASSOCIATE is left in a way; so far on is its end.
+#[inline(never)]
 pub fn leave(state: &mut State, way: Way, distance: usize, total: usize) -> Result<(), Stop>
     requires { state.old.pc < 2 ^ 63 }
     ensures { DoesIn total (Leave way distance) result state.old state.new }
@@ -136,6 +145,7 @@ pub fn leave(state: &mut State, way: Way, distance: usize, total: usize) -> Resu
 }
 
 /// Three on, or so far where it was left by a CYCLE or an EXIT; the next where by a RETURN, whose place is the activation's.
+#[inline(never)]
 pub fn depart(state: &mut State, cycle: usize, exit: usize, total: usize) -> Result<(), Stop>
     requires { state.old.pc < 2 ^ 63 }
     ensures { DoesIn total (Depart cycle exit) result state.old state.new }
@@ -156,6 +166,7 @@ pub fn depart(state: &mut State, cycle: usize, exit: usize, total: usize) -> Res
 }
 
 /// An object as a selector of an ASSOCIATE (8.1.4).
+#[inline(never)]
 pub fn select_variable(state: &mut State) -> Result<(), Stop>
     requires { state.old.pc < 2 ^ 63 }
     ensures { Does SelectVariable result state.old state.new }
@@ -167,6 +178,7 @@ pub fn select_variable(state: &mut State) -> Result<(), Stop>
 }
 
 /// A value of a type as a selector of an ASSOCIATE (8.1.4).
+#[inline(never)]
 pub fn select_value(state: &mut State, of: Base) -> Result<(), Stop>
     requires { state.old.pc < 2 ^ 63 }
     ensures { Does (SelectValue of) result state.old state.new }
@@ -178,6 +190,7 @@ pub fn select_value(state: &mut State, of: Base) -> Result<(), Stop>
 }
 
 /// The objects of the ASSOCIATE that was left.
+#[inline(never)]
 pub fn associated(alloc: Global, state: &mut State) -> Result<(), Stop>
     requires { state.old.pc < 2 ^ 63 }
     ensures { Does Associated result state.old state.new }
@@ -193,6 +206,7 @@ pub fn associated(alloc: Global, state: &mut State) -> Result<(), Stop>
 }
 
 /// The next of some objects, or so far on where there is none.
+#[inline(never)]
 pub fn next_object(state: &mut State, distance: usize, total: usize) -> Result<(), Stop>
     requires { state.old.pc < 2 ^ 63 }
     ensures { DoesIn total (NextObject distance) result state.old state.new }
@@ -215,6 +229,7 @@ fn fewer(turns: u64) -> Option<u64>
 }
 
 /// The next turn of a DO, or so far on where there is none (8.1.6.4.2).
+#[inline(never)]
 pub fn count_next(state: &mut State, distance: usize, total: usize) -> Result<(), Stop>
     requires { state.old.pc < 2 ^ 63 }
     ensures { DoesIn total (CountNext distance) result state.old state.new }

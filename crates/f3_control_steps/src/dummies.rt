@@ -21,6 +21,7 @@ use std::alloc::Global;
 use std::mem;
 
 /// The objects of the dummies.
+#[inline(never)]
 pub fn dummies(alloc: Global, state: &mut State) -> Result<(), Stop>
     requires { state.old.pc < 2 ^ 63 }
     ensures { Does Dummies result state.old state.new }
@@ -42,6 +43,7 @@ fn latest(frames: &Vec<Frame>) -> Option<&Frame>
 }
 
 /// Where the procedure was called, with the objects of its dummies.
+#[inline(never)]
 pub fn outward(alloc: Global, state: &mut State) -> Result<(), Stop>
     requires { state.old.pc < 2 ^ 63 }
     ensures { Does Outward result state.old state.new }
@@ -89,7 +91,7 @@ fn is_held(passed: &[Passed], number: usize) -> bool
 }
 
 /// Whether the argument of a number of the latest call is a value that is held.
-fn is_argument_held(frames: &Vec<Frame>, number: usize) -> bool
+pub fn is_argument_held(frames: &Vec<Frame>, number: usize) -> bool
     ensures { (p : Program) → result ≡ is_held (passed_at number (passed_in (map (frame_of p) (reverse frames.now.items)))) }
 {
     match latest(frames) {
@@ -99,6 +101,7 @@ fn is_argument_held(frames: &Vec<Frame>, number: usize) -> bool
 }
 
 /// The next of some objects where the argument of a number is a held value, else so far on.
+#[inline(never)]
 pub fn next_argument(
     state: &mut State,
     number: usize,

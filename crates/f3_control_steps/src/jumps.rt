@@ -15,6 +15,7 @@ use f3_data::value::{Value, number_of, truth_of};
 use f3_meaning_whole::run_error::RunError;
 
 /// So far on.
+#[inline(never)]
 pub fn go_on(state: &mut State, distance: usize, total: usize) -> Result<(), Stop>
     requires { state.old.pc < 2 ^ 63 }
     ensures { DoesIn total (GoOn distance) result state.old state.new }
@@ -23,6 +24,7 @@ pub fn go_on(state: &mut State, distance: usize, total: usize) -> Result<(), Sto
 }
 
 /// So far back.
+#[inline(never)]
 pub fn go_back(state: &mut State, distance: usize) -> Result<(), Stop>
     ensures { Does (GoBack distance) result state.old state.new }
 {
@@ -31,6 +33,7 @@ pub fn go_back(state: &mut State, distance: usize) -> Result<(), Stop>
 }
 
 /// So far on where a condition does not hold.
+#[inline(never)]
 pub fn skip_if_false(state: &mut State, distance: usize, total: usize) -> Result<(), Stop>
     requires { state.old.pc < 2 ^ 63 }
     ensures { DoesIn total (SkipIfFalse distance) result state.old state.new }
@@ -49,6 +52,7 @@ pub fn skip_if_false(state: &mut State, distance: usize, total: usize) -> Result
 }
 
 /// So far on where a condition holds.
+#[inline(never)]
 pub fn skip_if_true(state: &mut State, distance: usize, total: usize) -> Result<(), Stop>
     requires { state.old.pc < 2 ^ 63 }
     ensures { DoesIn total (SkipIfTrue distance) result state.old state.new }
@@ -67,6 +71,7 @@ pub fn skip_if_true(state: &mut State, distance: usize, total: usize) -> Result<
 }
 
 /// No error.
+#[inline(never)]
 pub fn no_error(state: &mut State) -> Result<(), Stop>
     requires { state.old.pc < 2 ^ 63 }
     ensures { Does NoError result state.old state.new }
@@ -75,6 +80,7 @@ pub fn no_error(state: &mut State) -> Result<(), Stop>
 }
 
 /// So far on where there was an error.
+#[inline(never)]
 pub fn skip_if_failed(state: &mut State, distance: usize, total: usize) -> Result<(), Stop>
     requires { state.old.pc < 2 ^ 63 }
     ensures { DoesIn total (SkipIfFailed distance) result state.old state.new }
@@ -92,6 +98,7 @@ pub fn skip_if_failed(state: &mut State, distance: usize, total: usize) -> Resul
 }
 
 /// An error that there was ends the run (ISO/IEC 1539-1:2004, 6.3.1.3, 6.3.3.3).
+#[inline(never)]
 pub fn check(state: &mut State) -> Result<(), Stop>
     requires { state.old.pc < 2 ^ 63 }
     ensures { Does Check result state.old state.new }
@@ -116,6 +123,7 @@ fn is_zero(value: &Value) -> bool
 }
 
 /// An error where a step is zero (own rule for 8.1.6.4.1).
+#[inline(never)]
 pub fn test_step(state: &mut State) -> Result<(), Stop>
     requires { state.old.pc < 2 ^ 63 }
     ensures { Does TestStep result state.old state.new }
@@ -131,6 +139,7 @@ pub fn test_step(state: &mut State) -> Result<(), Stop>
 }
 
 /// What is on top goes.
+#[inline(never)]
 pub fn drop_top(state: &mut State) -> Result<(), Stop>
     requires { state.old.pc < 2 ^ 63 }
     ensures { Does Drop result state.old state.new }
@@ -144,6 +153,7 @@ pub fn drop_top(state: &mut State) -> Result<(), Stop>
 }
 
 /// So many cells go.
+#[inline(never)]
 pub fn unwind(state: &mut State, count: usize) -> Result<(), Stop>
     requires { state.old.pc < 2 ^ 63 }
     ensures { Does (Unwind count) result state.old state.new }
@@ -154,6 +164,7 @@ pub fn unwind(state: &mut State, count: usize) -> Result<(), Stop>
 }
 
 /// The two on top change places.
+#[inline(never)]
 pub fn swap(state: &mut State) -> Result<(), Stop>
     requires { state.old.pc < 2 ^ 63 }
     ensures { Does Swap result state.old state.new }

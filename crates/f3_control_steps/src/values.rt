@@ -17,6 +17,7 @@ use f3_shaping::bounds::plain as with_plain_bounds;
 use std::alloc::Global;
 
 /// A constant (ISO/IEC 1539-1:2004, 4.1.2).
+#[inline(never)]
 pub fn push(state: &mut State, number: Constant) -> Result<(), Stop>
     requires { state.old.pc < 2 ^ 63 }
     ensures { Does (Push number) result state.old state.new }
@@ -25,6 +26,7 @@ pub fn push(state: &mut State, number: Constant) -> Result<(), Stop>
 }
 
 /// The value of an expression in parentheses (7.1.7.3).
+#[inline(never)]
 pub fn plain(state: &mut State) -> Result<(), Stop>
     requires { state.old.pc < 2 ^ 63 }
     ensures { Does Plain result state.old state.new }
@@ -36,6 +38,7 @@ pub fn plain(state: &mut State) -> Result<(), Stop>
 }
 
 /// A value as an argument, with its number (12.4.1).
+#[inline(never)]
 pub fn pass_value(state: &mut State, number: usize) -> Result<(), Stop>
     requires { state.old.pc < 2 ^ 63 }
     ensures { Does (PassValue number) result state.old state.new }
@@ -47,6 +50,7 @@ pub fn pass_value(state: &mut State, number: usize) -> Result<(), Stop>
 }
 
 /// An object as an argument, with its number (12.4.1).
+#[inline(never)]
 pub fn pass_variable(state: &mut State, number: usize) -> Result<(), Stop>
     requires { state.old.pc < 2 ^ 63 }
     ensures { Does (PassVariable number) result state.old state.new }
@@ -74,6 +78,7 @@ fn bounds_taken(alloc: Global, value: Value) -> Vec<Span>
 }
 
 /// The bounds of a value (13.7.60, 13.7.121).
+#[inline(never)]
 pub fn bounds_of_value(alloc: Global, state: &mut State) -> Result<(), Stop>
     requires { state.old.pc < 2 ^ 63 }
     ensures { Does BoundsOfValue result state.old state.new }
@@ -86,6 +91,7 @@ pub fn bounds_of_value(alloc: Global, state: &mut State) -> Result<(), Stop>
 }
 
 /// A subscript (6.2.2.1).
+#[inline(never)]
 pub fn subscript(state: &mut State) -> Result<(), Stop>
     requires { state.old.pc < 2 ^ 63 }
     ensures { Does Subscript result state.old state.new }
@@ -99,6 +105,7 @@ pub fn subscript(state: &mut State) -> Result<(), Stop>
 }
 
 /// A bound of a triplet (6.2.2.3.1).
+#[inline(never)]
 pub fn limit(state: &mut State) -> Result<(), Stop>
     requires { state.old.pc < 2 ^ 63 }
     ensures { Does Limit result state.old state.new }
@@ -112,6 +119,7 @@ pub fn limit(state: &mut State) -> Result<(), Stop>
 }
 
 /// A bound of a triplet that is absent (6.2.2.3.1).
+#[inline(never)]
 pub fn no_limit(state: &mut State) -> Result<(), Stop>
     requires { state.old.pc < 2 ^ 63 }
     ensures { Does NoLimit result state.old state.new }
@@ -120,6 +128,7 @@ pub fn no_limit(state: &mut State) -> Result<(), Stop>
 }
 
 /// A triplet of two bounds and a step (6.2.2.3.1).
+#[inline(never)]
 pub fn triplet(state: &mut State) -> Result<(), Stop>
     requires { state.old.pc < 2 ^ 63 }
     ensures { Does Triplet result state.old state.new }
@@ -139,6 +148,7 @@ pub fn triplet(state: &mut State) -> Result<(), Stop>
 }
 
 /// The bounds of a dimension (6.3.1).
+#[inline(never)]
 pub fn dimension(state: &mut State) -> Result<(), Stop>
     requires { state.old.pc < 2 ^ 63 }
     ensures { Does Dimension result state.old state.new }

@@ -9,18 +9,18 @@ ghost use Rattle.f3_data.specs.References.{reference_of};
 ghost use Rattle.f3_code.specs.declared.instruction.Instruction.TheVariants.{Lend, LendBoth, Unlend, SkipUnlessRank, PassObject, Routine, Back};
 ghost use Rattle.f3_cells.specs.Follows.{Does, DoesIn, DoesThere};
 
-use crate::lists::{drop_next, lend_next};
 use f3_cells::cell::{Cell, Passed};
 use f3_cells::look::object_at;
 use f3_cells::scene::Scene;
 use f3_cells::stacks::{pop_object, pop_to, push};
 use f3_cells::state::{State, Stop};
-use f3_data::copies;
 use f3_data::reference::{Reach, Reference};
+use f3_data::{copies, lent};
 use f3_rules::source::Place;
 use std::alloc::Global;
 
 /// The object is lent.
+#[inline(never)]
 pub fn lend(alloc: Global, state: &mut State) -> Result<(), Stop>
     requires { state.old.pc < 2 ^ 63 }
     ensures { Does Lend result state.old state.new }
@@ -28,13 +28,14 @@ pub fn lend(alloc: Global, state: &mut State) -> Result<(), Stop>
     let Some(object) = object_at(&state.stack, 0) else {
         return Err(Stop::Stuck);
     };
-    let lent = copies::reference(alloc, object)?;
-    lend_next(&mut state.here.lent, lent)?;
+    let object = copies::reference(alloc, object)?;
+    lent::lend(alloc, &mut state.here.lent, object)?;
     state.advance();
     Ok(())
 }
 
 /// The two objects on top are lent (ISO/IEC 1539-1:2004, 13.7.82).
+#[inline(never)]
 pub fn lend_both(alloc: Global, state: &mut State) -> Result<(), Stop>
     requires { state.old.pc < 2 ^ 63 }
     ensures { Does LendBoth result state.old state.new }
@@ -47,18 +48,19 @@ pub fn lend_both(alloc: Global, state: &mut State) -> Result<(), Stop>
     };
     let first = copies::reference(alloc, from)?;
     let second = copies::reference(alloc, to)?;
-    lend_next(&mut state.here.lent, second)?;
-    lend_next(&mut state.here.lent, first)?;
+    lent::lend(alloc, &mut state.here.lent, second)?;
+    lent::lend(alloc, &mut state.here.lent, first)?;
     state.advance();
     Ok(())
 }
 
 /// The object that was lent last is lent no longer.
+#[inline(never)]
 pub fn unlend(state: &mut State) -> Result<(), Stop>
     requires { state.old.pc < 2 ^ 63 }
     ensures { Does Unlend result state.old state.new }
 {
-    drop_next(&mut state.here.lent);
+    lent::unlend(&mut state.here.lent)?;
     state.advance();
     Ok(())
 }
@@ -74,6 +76,7 @@ fn has_rank(object: &Reference, rank: usize) -> bool
 }
 
 /// So far on where the object is of another rank than this.
+#[inline(never)]
 pub fn skip_unless_rank(
     state: &mut State,
     rank: usize,
@@ -95,6 +98,7 @@ pub fn skip_unless_rank(
 }
 
 /// The object as an argument.
+#[inline(never)]
 pub fn pass_object(alloc: Global, state: &mut State) -> Result<(), Stop>
     requires { state.old.pc < 2 ^ 63 }
     ensures { Does PassObject result state.old state.new }
@@ -119,6 +123,7 @@ fn routine_line(routines: &[usize], number: usize) -> Option<usize>
 }
 
 /// The routine of a type, by its number, works on the object (4.5.5.1).
+#[inline(never)]
 pub fn routine(
     scene: &Scene<'_>,
     state: &mut State,
@@ -142,6 +147,7 @@ pub fn routine(
 }
 
 /// Back from a routine (4.5.5.1).
+#[inline(never)]
 pub fn back(state: &mut State) -> Result<(), Stop>
     ensures { Does Back result state.old state.new }
 {

@@ -1,4 +1,5 @@
 pub mod Values
 pub mod Taken
 pub mod Stores
+pub mod Lent
 pub mod References

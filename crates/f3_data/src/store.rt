@@ -4,8 +4,9 @@ ghost use Rattle.std.specs.Prelude.{◌≡◌, ◌%◌, ◌^◌};
 ghost use Rattle.f3_data.specs.Taken.{taken};
 
 use crate::account::{block, level_words, levels_words};
-use crate::parts::{object, objects, part, replace_in, replace_in_level};
+use crate::parts::{object, objects, part, replace_in, replace_in_level, set_in, set_in_level};
 use crate::value::Value;
+use f3_program::declarations::Constant;
 use std::alloc::{AllocError, Global};
 
 /// An object that is part of no other: a variable that lives for the whole run, by its number; or, by its number on a level,
@@ -44,11 +45,12 @@ pub struct Store {
 
 impl Store {
     ghost use Rattle.std.specs.Prelude.{[], OnOk};
+    ghost use Rattle.f3_meaning_whole.specs.Arithmetic.{constant_value};
     ghost use Rattle.f3_meaning_whole.specs.Store.{at_root, get, put};
     ghost use Rattle.f3_meaning_whole.specs.Ran.{Entered, Ended, effect};
     ghost use Rattle.f3_account.specs.Account.{used};
     ghost use Rattle.f3_data.specs.Values.{value_of, values_of};
-    ghost use Rattle.f3_data.specs.Stores.{root_of, path_of, store_of, Found};
+    ghost use Rattle.f3_data.specs.Stores.{root_of, steps_of, path_of, store_of, Found};
 
     /// The store with these values for the whole run, and no level.
     pub fn new(alloc: Global, statics: Vec<Value>) -> Store
@@ -70,6 +72,7 @@ impl Store {
     }
 
     /// An object that is part of no other: none where there is none.
+    #[inline(always)]
     pub fn object(&self, root: Root) -> Option<&Value>
         ensures { Found (at_root (store_of self.now) (root_of root)) result }
     {
@@ -96,6 +99,18 @@ impl Store {
         let grown = match path.root {
             Root::Static(i) => replace_in(&mut self.statics, i, &path.steps, new),
             Root::Local(level, i) => replace_in_level(&mut self.levels, level, i, &path.steps, new),
+        };
+        self.used = self.used.wrapping_add(grown);
+    }
+
+    /// The part of an object that some steps lead to takes a scalar; nothing happens where there is no such object or part.
+    #[inline(always)]
+    pub fn set(&mut self, root: Root, steps: &[Step], scalar: Constant)
+        ensures { store_of self.new ≡ put (store_of self.old) (record { root = root_of root; steps = steps_of steps.now }) (constant_value scalar) }
+    {
+        let grown = match root {
+            Root::Static(i) => set_in(&mut self.statics, i, steps, scalar),
+            Root::Local(level, i) => set_in_level(&mut self.levels, level, i, steps, scalar),
         };
         self.used = self.used.wrapping_add(grown);
     }

@@ -1,12 +1,13 @@
 //! Whether what an allocatable holds is in use.
 
-ghost use Rattle.std.specs.Prelude.{◌≡◌, ◌++◌, ◌∷◌, [], reverse};
+ghost use Rattle.std.specs.Prelude.{◌≡◌, ◌++◌, ◌∷◌, []};
 ghost use Rattle.f3_meaning_whole.specs.Store as s;
 ghost use Rattle.f3_meaning_whole.specs.Reference as m;
 ghost use Rattle.f3_meaning_whole.specs.Store.{begins_with, goes_through, within};
 ghost use Rattle.f3_data.specs.Stores.{root_of, step_of, steps_of, path_of};
-ghost use Rattle.f3_data.specs.References.{references_of};
+ghost use Rattle.f3_data.specs.Lent.{lent_of};
 
+use f3_data::lent::Lent;
 use f3_data::reference::Reference;
 use f3_data::store::{Path, Root, Step};
 
@@ -51,22 +52,16 @@ fn pins(reference: &Reference, path: &Path) -> bool
         && goes_through_contents(&reference.path.steps, &path.steps)
 }
 
-fn some_pins(lent: &[Reference], path: &Path) -> bool
-    ensures { result ≡ m.is_pinned (path_of path.now) (references_of lent.now) }
+/// Whether some lent reference goes through the contents of the allocatable object at a path (own rule: it is in use).
+pub fn is_pinned(path: &Path, lent: &Lent) -> bool
+    ensures { result ≡ m.is_pinned (path_of path.now) (lent_of lent.now) }
 {
-    for reference in lent {
-        if pins(reference, path) {
+    let mut left = lent;
+    while let Lent::More(link) = left {
+        if pins(&link.object, path) {
             return true;
         }
+        left = &link.rest;
     }
     false
-}
-
-/// Whether some lent reference, the latest at the end, goes through the contents of the allocatable object at a path (own
-/// rule: it is in use).
-#[tactic(auto, using(crate::proofs::Lending::pinned_reverse))]
-pub fn is_pinned(path: &Path, lent: &[Reference]) -> bool
-    ensures { result ≡ m.is_pinned (path_of path.now) (references_of (reverse lent.now)) }
-{
-    some_pins(lent, path)
 }

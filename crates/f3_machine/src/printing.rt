@@ -12,6 +12,7 @@ use f3_shaping::printing;
 use std::io::Write;
 
 /// A byte is printed (ISO/IEC 1539-1:2004, 9.5).
+#[inline(never)]
 pub fn print_byte<W: Write>(state: &mut State, byte: u8, output: &mut Output<W>) -> Result<(), Stop>
     requires { state.old.pc < 2 ^ 63 }
     ensures { Prints (PrintByte byte) result state.old state.new (state_of W.contents output.old) (state_of W.contents output.new) }
@@ -26,6 +27,7 @@ pub fn print_byte<W: Write>(state: &mut State, byte: u8, output: &mut Output<W>)
 }
 
 /// A value is printed (9.5).
+#[inline(never)]
 pub fn print_value<W: Write>(state: &mut State, output: &mut Output<W>) -> Result<(), Stop>
     requires { state.old.pc < 2 ^ 63 }
     ensures { Prints PrintValue result state.old state.new (state_of W.contents output.old) (state_of W.contents output.new) }

@@ -14,6 +14,7 @@ use f3_call_steps::activations::variables;
 use f3_cells::cell::Here;
 use f3_cells::state::State;
 use f3_data::account::{block, level_words};
+use f3_data::lent::Lent;
 use f3_data::store::Store;
 use f3_data::value::Value;
 use f3_program::program::Program;
@@ -69,7 +70,7 @@ pub fn begin(alloc: Global, program: &Program, size: u64) -> Result<Option<State
         level: 0,
         procedure: None,
         names: Vec::new(alloc),
-        lent: Vec::new(alloc),
+        lent: Lent::Nothing,
         selected: Value::Unallocated,
     };
     Ok(Some(State {

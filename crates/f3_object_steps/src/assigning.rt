@@ -13,6 +13,7 @@ use f3_program::declarations::Base;
 use std::alloc::Global;
 
 /// What an object holds.
+#[inline(never)]
 pub fn load(alloc: Global, state: &mut State) -> Result<(), Stop>
     requires { state.old.pc < 2 ^ 63 }
     ensures { Does i.Load result state.old state.new }
@@ -27,6 +28,7 @@ pub fn load(alloc: Global, state: &mut State) -> Result<(), Stop>
 }
 
 /// A variable takes a value, converted to a type, with storage for it (ISO/IEC 1539-1:2004, 7.4.1.3).
+#[inline(never)]
 pub fn take(alloc: Global, state: &mut State, of: Base) -> Result<(), Stop>
     requires { state.old.pc < 2 ^ 63 }
     ensures { Does (i.Take of) result state.old state.new }
@@ -44,6 +46,7 @@ pub fn take(alloc: Global, state: &mut State, of: Base) -> Result<(), Stop>
 }
 
 /// A variable takes a value, converted to a type, in storage that it has.
+#[inline(never)]
 pub fn fill(alloc: Global, state: &mut State, of: Base) -> Result<(), Stop>
     requires { state.old.pc < 2 ^ 63 }
     ensures { Does (i.Fill of) result state.old state.new }
@@ -61,6 +64,7 @@ pub fn fill(alloc: Global, state: &mut State, of: Base) -> Result<(), Stop>
 }
 
 /// An error where a value is an array of another shape than a variable (7.4.1.3).
+#[inline(never)]
 pub fn test_shape(state: &mut State) -> Result<(), Stop>
     requires { state.old.pc < 2 ^ 63 }
     ensures { Does i.TestShape result state.old state.new }

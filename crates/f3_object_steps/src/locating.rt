@@ -23,6 +23,7 @@ use f3_program::expression::Name;
 use std::alloc::Global;
 
 /// The object that a name means (ISO/IEC 1539-1:2004, 16.4).
+#[inline(never)]
 pub fn refer(alloc: Global, scene: &Scene<'_>, state: &mut State, name: Name) -> Result<(), Stop>
     requires { state.old.pc < 2 ^ 63 }
     ensures { (v : Value) (place : Place) → DoesThere scene.now (i.Refer name) v place result state.old state.new }
@@ -34,6 +35,7 @@ pub fn refer(alloc: Global, scene: &Scene<'_>, state: &mut State, name: Name) ->
 }
 
 /// The component of a number (6.1.2).
+#[inline(never)]
 pub fn component(alloc: Global, scene: &Scene<'_>, state: &mut State, k: usize) -> Result<(), Stop>
     requires { state.old.pc < 2 ^ 63 }
     ensures { (v : Value) (place : Place) → DoesThere scene.now (i.Component k) v place result state.old state.new }
@@ -59,6 +61,7 @@ fn copy_of(alloc: Global, object: &Reference) -> Result<Reference, Stop>
 }
 
 /// The component of a number, and the object stays beneath.
+#[inline(never)]
 pub fn component_of(
     alloc: Global,
     scene: &Scene<'_>,
@@ -81,6 +84,7 @@ pub fn component_of(
 }
 
 /// What an allocatable holds (6.3.1.1).
+#[inline(never)]
 pub fn contents(alloc: Global, state: &mut State) -> Result<(), Stop>
     requires { state.old.pc < 2 ^ 63 }
     ensures { Does i.Contents result state.old state.new }
@@ -95,6 +99,7 @@ pub fn contents(alloc: Global, state: &mut State) -> Result<(), Stop>
 }
 
 /// Elements by so many subscripts, after what an allocatable holds where the flag is set (6.2.2).
+#[inline(never)]
 pub fn select(alloc: Global, state: &mut State, is_opened: bool, count: usize) -> Result<(), Stop>
     requires { state.old.pc < 2 ^ 63 }
     ensures { Does (i.Select is_opened count) result state.old state.new }
@@ -127,6 +132,7 @@ fn pop_part(stack: &mut Vec<Cell>) -> Option<(Reference, Reference)>
 }
 
 /// Elements of the component of a number, also where this is one of each element of an array (6.2.2).
+#[inline(never)]
 pub fn select_of(
     alloc: Global,
     scene: &Scene<'_>,

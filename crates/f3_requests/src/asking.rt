@@ -199,6 +199,7 @@ fn wants(scene: &Scene, act: Instruction, initial: Option<Base>, state: &State) 
 }
 
 /// Whether a heap of so many words refuses what an instruction wants.
+#[inline(never)]
 pub(crate) fn is_refused(
     scene: &Scene,
     size: u64,

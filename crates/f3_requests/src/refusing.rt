@@ -60,6 +60,7 @@ fn allocate(alloc: Global, state: &mut State, dimensions: usize) -> Result<(), S
 }
 
 /// An instruction is done whose request is refused: an ALLOCATE tells it, and all others end the run (own rules).
+#[inline(never)]
 pub(crate) fn refuse(alloc: Global, act: Instruction, state: &mut State) -> Result<(), Stop>
     requires { state.old.pc < 2 ^ 63 }
     ensures { Refused act result state.old state.new }

@@ -55,6 +55,7 @@ fn vector(alloc: Global, values: Vec<Value>) -> Result<Value, AllocError>
 }
 
 /// An array constructor with so many values (ISO/IEC 1539-1:2004, 4.7).
+#[inline(never)]
 pub fn array(alloc: Global, state: &mut State, count: usize) -> Result<(), Stop>
     requires { state.old.pc < 2 ^ 63 }
     ensures { Does (instruction.Array count) result state.old state.new }

@@ -14,6 +14,7 @@ use f3_shaping::operators;
 /// An operation on a value, with the type of the result (ISO/IEC 1539-1:2004, 7.1.4, 7.1.5, 13.7.1).
 ///
 /// `Overflow` where the result is a number past the range of its type (own rule).
+#[inline(never)]
 pub fn unary(state: &mut State, operator: UnaryOperator, of: Base) -> Result<(), Stop>
     requires { state.old.pc < 2 ^ 63 }
     ensures { Does (Unary operator of) result state.old state.new }
@@ -29,6 +30,7 @@ pub fn unary(state: &mut State, operator: UnaryOperator, of: Base) -> Result<(),
 /// An operation on two values, with the type of the result (7.1.4, 7.1.5, 13.7).
 ///
 /// `Overflow` where the result is a number past the range of its type, `DivisionByZero` (own rules).
+#[inline(never)]
 pub fn binary(state: &mut State, operator: BinaryOperator, of: Base) -> Result<(), Stop>
     requires { state.old.pc < 2 ^ 63 }
     ensures { Does (Binary operator of) result state.old state.new }
@@ -46,6 +48,7 @@ pub fn binary(state: &mut State, operator: BinaryOperator, of: Base) -> Result<(
 /// A value as one of a type (7.4.1.3).
 ///
 /// `Overflow` where a number lies past the range (own rule).
+#[inline(never)]
 pub fn convert(state: &mut State, of: Base) -> Result<(), Stop>
     requires { state.old.pc < 2 ^ 63 }
     ensures { Does (Convert of) result state.old state.new }

@@ -78,6 +78,7 @@ fn size_of(spans: &[Span]) -> Result<Value, RunError>
 /// SIZE of an array (13.7.112), of default kind.
 ///
 /// `Overflow` where the elements are more than the range holds (own rule).
+#[inline(never)]
 pub fn size(state: &mut State) -> Result<(), Stop>
     requires { state.old.pc < 2 ^ 63 }
     ensures { Does Size result state.old state.new }
@@ -93,6 +94,7 @@ pub fn size(state: &mut State) -> Result<(), Stop>
 /// SIZE, LBOUND or UBOUND in a dimension (13.7.112, 13.7.60, 13.7.121), of default kind.
 ///
 /// `SubscriptOutOfBounds` outside of the rank, `Overflow` past the range (own rules).
+#[inline(never)]
 pub fn bound(state: &mut State, query: Query) -> Result<(), Stop>
     requires { state.old.pc < 2 ^ 63 }
     ensures { Does (Bound query) result state.old state.new }

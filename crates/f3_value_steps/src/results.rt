@@ -40,6 +40,7 @@ pub(crate) fn finish_built(state: &mut State, given: Result<Value, RunError>) ->
 /// The value of a function's result (ISO/IEC 1539-1:2004, 12.5.2.1), which leaves its activation.
 ///
 /// `NotAllocated` where it is unallocated (own rule).
+#[inline(never)]
 pub fn result(state: &mut State) -> Result<(), Stop>
     requires { state.old.pc < 2 ^ 63 }
     ensures { Does instruction.Result result state.old state.new }

@@ -166,6 +166,7 @@ fn value_of_type(
 /// A structure constructor of a type with so many arguments (4.5.9).
 ///
 /// `Overflow` where a number lies past the range of its type, `ShapesDiffer` (own rules).
+#[inline(never)]
 pub fn structure(
     alloc: Global,
     scene: &Scene<'_>,

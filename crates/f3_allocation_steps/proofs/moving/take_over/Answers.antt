@@ -1,10 +1,11 @@
-use Rattle.std.proofs.Common.{◌+◌, List, reverse, sym, ap, ◌∙◌}
+use Rattle.std.proofs.Common.{◌+◌, List, refl, sym, ap, ◌∙◌}
 use Rattle.std.specs.Prelude.{⊤, drop}
 use Rattle.f3_program.specs.declared.program.Program.{Program}
 use Rattle.f3_meaning_whole.specs.Reference as m
 use Rattle.f3_meaning_whole.specs.Ran.{World}
 use Rattle.f3_meaning_whole.specs.Act.{at}
-use Rattle.f3_data.specs.References.{reference_of, references_of}
+use Rattle.f3_data.specs.References.{reference_of}
+use Rattle.f3_data.specs.Lent.{lent_of}
 use Rattle.f3_code.specs.State as s
 use Rattle.f3_code.specs.Machine.{ends_so}
 use Rattle.f3_cells.specs.declared.cell.Cell.{Cell}
@@ -40,14 +41,14 @@ returns-in_default c = λ place p limit g code v. is_stuck (c.in_default.ensures
 pub returns-in_default-pop_object : goal.returns-in_default-pop_object
 returns-in_default-pop_object c = λ place p limit g code v. is_stuck (at_object _ (c.in-Some.ensures p) ∙ c.in_default-pop_object.ensures p _)
 
-pub returns-in-Ok : goal.returns-in-Ok
-returns-in-Ok c = λ place p limit g code v.
+pub returns-in_ok-unlend_both-in-Ok : goal.returns-in_ok-unlend_both-in-Ok
+returns-in_ok-unlend_both-in-Ok c = λ place p limit g code v.
     let st = c.args.state.now in
-    let d = c.in-Ok.ensures g (at place (here_of p st.here)) (ap (λ l. references_of (reverse l)) (sym c.deref.ensures.value)) in (
+    let d = c.in-Ok.ensures g (at place (here_of p st.here)) refl in (
       d.0,
       at_object _ (c.in-Some.ensures p) ∙ at_object _ (c.in-Some-pop_object.ensures p)
-          ∙ ap (λ o. ends_so o.out o.end (λ (done : ⊤) (w : World). lent_after p st c.pop_object-2.new.stack.items (drop 2 (references_of (reverse st.here.lent.items))) w)) d.1
-          ∙ ap (λ l. s.Goes d.0 (lent_after p st c.pop_object-2.new.stack.items l (world_of c.take_contents-done.new.store))) (sym c.unlend_both.ensures)
+          ∙ ap (λ o. ends_so o.out o.end (λ (done : ⊤) (w : World). lent_after p st c.pop_object-2.new.stack.items (drop 2 (lent_of st.here.lent)) w)) d.1
+          ∙ ap (λ l. s.Goes d.0 (lent_after p st c.pop_object-2.new.stack.items l (world_of c.take_contents-done.new.store))) (sym c.in_ok-unlend_both-in-Ok.ensures)
           ∙ ap (λ t. s.Goes d.0 (state_of p t)) (sym c.advance.ensures.is),
       d.2,
     )
@@ -55,6 +56,6 @@ returns-in-Ok c = λ place p limit g code v.
 pub returns-in-Err : goal.returns-in-Err
 returns-in-Err c = λ place p limit g code v.
     let st = c.args.state.now in
-    not_over code (state_of p st) (at place (here_of p st.here)) (reference_of c.in-Some-pop_object.from) (reference_of c.in-Some.to) (references_of (reverse c.deref.result.now)) c.in-Err.stop
-    st.store c.take_contents-done.new.store g (λ (done : ⊤) (w : World). lent_after p st c.pop_object-2.new.stack.items (drop 2 (references_of (reverse st.here.lent.items))) w) _
-    (at_object _ (c.in-Some.ensures p) ∙ at_object _ (c.in-Some-pop_object.ensures p)) (ap (λ l. references_of (reverse l)) (sym c.deref.ensures.value)) c.in-Err.ensures
+    not_over code (state_of p st) (at place (here_of p st.here)) (reference_of c.in-Some-pop_object.from) (reference_of c.in-Some.to) (lent_of st.here.lent) c.in-Err.stop
+    st.store c.take_contents-done.new.store g (λ (done : ⊤) (w : World). lent_after p st c.pop_object-2.new.stack.items (drop 2 (lent_of st.here.lent)) w) _
+    (at_object _ (c.in-Some.ensures p) ∙ at_object _ (c.in-Some-pop_object.ensures p)) refl c.in-Err.ensures

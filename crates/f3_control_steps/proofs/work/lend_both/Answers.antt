@@ -9,4 +9,4 @@ pub returns-in_default-object_at : goal.returns-in_default-object_at
 returns-in_default-object_at c = λ p limit g code v here. rw (c.in-Some.ensures p) (is_stuck (c.in_default-object_at.ensures p _))
 
 pub returns : goal.returns
-returns c = λ p limit g code v here. moved_on p c.advance.ensures (rw (c.in-Some.ensures p, c.in-Some-object_at.ensures p, c.in_ok-lend_next-2.ensures, c.in_ok-lend_next.ensures, c.in_ok-first.ensures, c.in_ok-second.ensures) refl)
+returns c = λ p limit g code v here. moved_on p c.advance.ensures (rw (c.in-Some.ensures p, c.in-Some-object_at.ensures p, c.in_ok-lend-2.ensures, c.in_ok-lend.ensures, c.in_ok-first.ensures, c.in_ok-second.ensures) refl)
