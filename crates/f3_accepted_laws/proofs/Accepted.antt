@@ -10,7 +10,7 @@ use Rattle.f3_access.specs.declared.table.Lookup.{Lookup}
 use Rattle.f3_graph.specs.Order.{IsOrderOf}
 use Rattle.f3_graph.specs.Units.{nodes_of}
 use Rattle.f3_type_rules.specs.Program.{program_breaks}
-use Rattle.f3_types.specs.Breaks.{Means}
+use Rattle.f3_accepted.specs.Breaks.{Means}
 use Rattle.f3_accepted.specs.Accepted.{Accepted, Breaks}
 use Rattle.f3_lawful_laws.proofs.Whole.{lawful}
 use Rattle.f3_spelled_laws.proofs.Units.{bodies, programs}

@@ -7,7 +7,7 @@ use Rattle.f3_graph.specs.Order.{IsOrderOf}
 use Rattle.f3_graph.specs.Units.{nodes_of}
 use Rattle.f3_program.specs.declared.program.Program.{Program}
 use Rattle.f3_meaning_whole.specs.Permitted.{IsLawful}
-use Rattle.f3_types.specs.Breaks.{Means}
+use Rattle.f3_accepted.specs.Breaks.{Means}
 use Rattle.f3_accepted.specs.Accepted.{Accepted}
 use Rattle.f3_elaboration.specs.DeclaredViews.{program_view}
 use Rattle.f3_elaboration.specs.Program.{elaborated}

@@ -18,7 +18,7 @@ use Rattle.f3_code.specs.declared.instruction.Instruction.TheVariants.{Call}
 use Rattle.f3_code.specs.State.{Entry, Next, Goes, Stays, Failed}
 use Rattle.f3_code.specs.State as s
 use Rattle.f3_code.specs.Machine.{argument_of, begun, entered, called_at, on_many, performs}
-use Rattle.f3_gen_program.specs.Emission.{entries_in}
+use Rattle.f3_gen_values.specs.Emission.{entries_in}
 use Rattle.f3_data.specs.Stores.{store_of}
 use Rattle.f3_cells.specs.declared.cell.Cell.{Cell}
 use Rattle.f3_cells.specs.declared.cell.Here as memory

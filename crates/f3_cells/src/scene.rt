@@ -1,6 +1,6 @@
 //! What a machine runs.
 
-use f3_gen_program::program::Emission;
+use f3_gen_values::emission::Emission;
 use f3_program::program::Program;
 
 /// A program and the code that was emitted for it.

@@ -7,7 +7,7 @@ use Rattle.f3_tree.specs.declared.program.Procedure.{Procedure}
 use Rattle.f3_tree.specs.Tree.{ProcedureTree, procedure_view}
 use Rattle.f3_type_rules.specs.Associates.{constructs_of_block}
 use Rattle.f3_type_rules.specs.Members.{members_from}
-use Rattle.f3_part_rules.specs.Members.{member_of, AreFirsts}
+use Rattle.f3_types.specs.Members.{member_of, AreFirsts}
 use Rattle.f3_elaboration.specs.Declarations.{Whole}
 use Rattle.f3_elaboration.specs.Nodes.{ProcedureNode}
 use Rattle.f3_elaboration.specs.Units.{procedure}

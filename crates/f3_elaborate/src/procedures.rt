@@ -8,7 +8,7 @@ ghost use Rattle.f3_sites.specs.Sites.{site_of};
 ghost use Rattle.f3_associates.specs.Known.{IsSettled};
 ghost use Rattle.f3_type_rules.specs.Associates.{constructs_of_block};
 ghost use Rattle.f3_type_rules.specs.Members.{Member, Numbered};
-ghost use Rattle.f3_part_rules.specs.Members.{typed_count};
+ghost use Rattle.f3_types.specs.Members.{typed_count};
 ghost use Rattle.f3_elaboration.specs.Declarations as elaborated;
 ghost use Rattle.f3_elaboration.specs.DeclaredViews.{procedure_view};
 ghost use Rattle.f3_elaboration.specs.Nodes as nodes;

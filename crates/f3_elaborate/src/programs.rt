@@ -32,7 +32,7 @@ use f3_program::program::{Procedure, Program, Static};
 use f3_statement_nodes::state::State;
 use f3_tree::program as tree;
 use f3_type_nodes::units::types;
-use f3_unit_rules::firsts::firsts;
+use f3_types::firsts::firsts;
 use f3_variable_nodes::statics::statics;
 use std::alloc::{AllocError, Global};
 

@@ -6,8 +6,8 @@ use Rattle.f3_meaning_whole.specs.Run.{run_of}
 use Rattle.f3_core.specs.Lower.{lowered_program}
 use Rattle.f3_code.specs.Code.{program_code}
 use Rattle.f3_code.specs.Run.{Does, after}
-use Rattle.f3_gen_program.specs.declared.program.Emission.{Emission}
-use Rattle.f3_gen_program.specs.Emission.{code_in}
+use Rattle.f3_gen_values.specs.declared.emission.Emission.{Emission}
+use Rattle.f3_gen_values.specs.Emission.{code_in}
 
 abbrev pub DoesAll : Program → Emission → Type 0
 DoesAll p e = (answers : ℕ → Bool) → Does (after 1000 (lowered_program p) (code_in p e) answers) (λ n. run_of p n answers)

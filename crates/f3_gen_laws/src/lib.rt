@@ -6,9 +6,10 @@ ghost use Rattle.f3_meaning_whole.specs.Run.{run_of};
 ghost use Rattle.f3_core.specs.Lower.{lowered_program};
 ghost use Rattle.f3_code.specs.Code.{program_code};
 ghost use Rattle.f3_code.specs.Run.{Does, after};
-ghost use Rattle.f3_gen_program.specs.Emission.{code_in};
+ghost use Rattle.f3_gen_values.specs.Emission.{code_in};
 
-use f3_gen_program::program::{Emission, emit_program};
+use f3_gen_program::program::emit_program;
+use f3_gen_values::emission::Emission;
 use f3_program::program::Program;
 use std::alloc::{AllocError, Global};
 

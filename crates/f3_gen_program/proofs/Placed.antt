@@ -14,7 +14,7 @@ use Rattle.f3_code.specs.State as c
 use Rattle.f3_code.specs.declared.instruction.Instruction.TheVariants as i
 use Rattle.f3_code.specs.Code.{body_code, entries, places_of, procedures_code, routines_code, work_code}
 use Rattle.f3_gen_procedures.specs.Ends.{procedure_ends, routine_ends}
-use Rattle.f3_gen_program.specs.Emission.{entries_in}
+use Rattle.f3_gen_values.specs.Emission.{entries_in}
 
 -- one place more
 pub places_more : (total : ℕ) (found after xs : List ℕ) (n : ℕ) → 0 < n → n ≤ length xs → found ≡ map (λ k. total - k) (reverse (drop n xs))

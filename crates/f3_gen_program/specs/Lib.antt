@@ -1,2 +1,1 @@
 pub mod EmittedFor
-pub mod Emission

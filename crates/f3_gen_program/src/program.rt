@@ -3,24 +3,15 @@
 ghost use Rattle.std.specs.Prelude.{◌≡◌, IfOk};
 ghost use Rattle.f3_core.specs.Lower.{lowered_program};
 ghost use Rattle.f3_code.specs.Code.{program_code};
-ghost use Rattle.f3_gen_program.specs.Emission.{code_in};
+ghost use Rattle.f3_gen_values.specs.Emission.{code_in};
 
 use crate::places::places;
 use crate::procedures::emit_procedures;
 use f3_gen_procedures::body::emit_main;
 use f3_gen_procedures::routines::emit_routines;
-use f3_gen_values::line::Line;
+use f3_gen_values::emission::Emission;
 use f3_program::program::Program;
 use std::alloc::{AllocError, Global};
-
-/// The code of a program: its lines, the numbers of the lines with which its procedures begin, by their numbers, and of those
-/// with which the routines of its types begin, of the newest type first.
-#[derive(Drop)]
-pub struct Emission {
-    pub lines: Vec<Line>,
-    pub procedures: Vec<usize>,
-    pub routines: Vec<usize>,
-}
 
 /// The code of a program, which is that of its Core: what the statements say, and what the language does beside it (2.2.1).
 ///

@@ -1,7 +1,8 @@
 //! Small programs, and their code.
 
 use f3_code::instruction::Instruction;
-use f3_gen_program::program::{Emission, emit_program};
+use f3_gen_program::program::emit_program;
+use f3_gen_values::emission::Emission;
 use f3_program::declarations::Constant;
 use f3_program::expression::Expression;
 use f3_program::program::{Procedure, Program};

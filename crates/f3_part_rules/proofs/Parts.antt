@@ -10,7 +10,7 @@ use Rattle.f3_access.specs.Tables.{lookup_of}
 use Rattle.f3_type_rules.specs.Finals.{final_rank, final_rows}
 use Rattle.f3_type_rules.specs.Members.{Member}
 use Rattle.f3_type_rules.specs.Scene.{Scene}
-use Rattle.f3_extents.proofs.Shaping.{flat_map_map}
+use Rattle.f3_specifications.proofs.Shaping.{flat_map_map}
 use Rattle.f3_entities.specs.declared.growth.Growth.{Growth}
 use Rattle.f3_entities.specs.Growth.{Stands}
 use Rattle.f3_type_rules.specs.Walks.{Known}

@@ -17,7 +17,7 @@ use Rattle.f3_kinds.specs.Things.{map_or}
 use Rattle.f3_type_rules.specs.Associates.{constructs_of_block}
 use Rattle.f3_type_rules.specs.Members.{Numbered, members_from, numbered, units_from}
 use Rattle.f3_type_rules.specs.Program.{units_in}
-use Rattle.f3_part_rules.specs.Members.{AreFirsts, Fit}
+use Rattle.f3_unit_rules.specs.Members.{AreFirsts, Fit}
 use Rattle.f3_unit_rules.specs.Units.{AreNumbers}
 use Rattle.f3_unit_rules.specs.Inner.Steps.{found_at}
 use Rattle.f3_program_numbers.specs.Chosen.{taken_along}

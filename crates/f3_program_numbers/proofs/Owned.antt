@@ -9,8 +9,8 @@ use Rattle.f3_tree.specs.declared.program.Procedure.{Procedure}
 use Rattle.f3_tree.specs.Tree.{ProcedureTree, procedure_view}
 use Rattle.f3_type_rules.specs.Associates.{constructs_of_block}
 use Rattle.f3_type_rules.specs.Members.{Member, members_from}
-use Rattle.f3_part_rules.specs.Members.{typed_count, AreFirsts}
-use Rattle.f3_part_rules.proofs.Walked.{scope_within, behind_within, fit_here, fit_more}
+use Rattle.f3_unit_rules.specs.Members.{typed_count, AreFirsts}
+use Rattle.f3_unit_rules.proofs.Walked.{scope_within, behind_within, fit_here, fit_more}
 use Rattle.f3_program_numbers.specs.Chosen.{Choice}
 use Rattle.f3_program_numbers.specs.Fitting.{MembersFit}
 use Rattle.f3_program_numbers.specs.Walks.{taken_by, member_taken, members_by, counted}

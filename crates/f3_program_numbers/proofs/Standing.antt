@@ -9,7 +9,7 @@ use Rattle.f3_scopes.specs.Scopes.{scopes_of}
 use Rattle.f3_tree.specs.declared.program.Unit.{Unit as ProgramUnit}
 use Rattle.f3_tree.specs.Tree.{UnitTree, Tree, unit_view}
 use Rattle.f3_type_rules.specs.Members.{Numbered, units_from}
-use Rattle.f3_part_rules.specs.Members.{AreFirsts}
+use Rattle.f3_unit_rules.specs.Members.{AreFirsts}
 use Rattle.f3_unit_rules.specs.Units.{AreNumbers}
 use Rattle.f3_program_numbers.specs.Fitting.{AllFit}
 use Rattle.f3_program_numbers.proofs.Room.{all_fit, numbers_are, numbers_long}

@@ -3,7 +3,7 @@ use Rattle.std.specs.Prelude.{◌≡◌, ℕ, ◌+◌, ◌<◌, ◌^◌, List, S
 use Rattle.std.specs.List.{flat_map}
 use Rattle.f3_scopes.specs.Scopes.{declared_in}
 use Rattle.f3_tree.specs.Tree.{ProcedureTree, UnitTree}
-use Rattle.f3_part_rules.specs.Members.{Fit}
+use Rattle.f3_unit_rules.specs.Members.{Fit}
 use Rattle.f3_unit_rules.specs.Units.{UnitFits}
 
 abbrev pub MembersFit : (firsts : List ℕ) → (scope : ℕ) → List ProcedureTree → Type 0

@@ -10,7 +10,7 @@ use Rattle.f3_tree.specs.Tree.{ProcedureTree}
 use Rattle.f3_kinds.specs.Things.{map_or}
 use Rattle.f3_type_rules.specs.Associates.{constructs_of_block}
 use Rattle.f3_type_rules.specs.Members.{Member, Numbered}
-use Rattle.f3_part_rules.specs.Members.{typed_count}
+use Rattle.f3_unit_rules.specs.Members.{typed_count}
 use Rattle.f3_program_numbers.specs.Chosen.{Choice, taken_along, defined_along}
 
 -- modules keep variables that are not saved too

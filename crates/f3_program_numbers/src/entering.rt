@@ -7,7 +7,7 @@ ghost use Rattle.f3_scopes.specs.Scopes.{declared_in, result_of};
 ghost use Rattle.f3_tree.specs.Tree.{procedure_view, unit_view};
 ghost use Rattle.f3_kinds.specs.Things.{map_or};
 ghost use Rattle.f3_type_rules.specs.Members.{Member, Numbered};
-ghost use Rattle.f3_part_rules.specs.Members.{typed_count};
+ghost use Rattle.f3_unit_rules.specs.Members.{typed_count};
 ghost use Rattle.f3_elaboration.specs.Numbers as elaborated;
 ghost use Rattle.f3_elaboration.specs.Numbers.{entity_of, numbers_in_member, numbers_in_main};
 ghost use Rattle.f3_numbers.specs.Table.{object_in, procedure_in, type_in};

@@ -6,7 +6,7 @@ ghost use Rattle.f3_scopes.specs.Outlines.{Scope};
 ghost use Rattle.f3_scopes.specs.Scopes.{declared_in};
 ghost use Rattle.f3_tree.specs.Tree.{procedure_view};
 ghost use Rattle.f3_type_rules.specs.Members.{members_from};
-ghost use Rattle.f3_part_rules.specs.Members.{typed_count, AreFirsts};
+ghost use Rattle.f3_unit_rules.specs.Members.{typed_count, AreFirsts};
 ghost use Rattle.f3_program_numbers.specs.Chosen.{choice_of};
 ghost use Rattle.f3_program_numbers.specs.Fitting.{MembersFit};
 ghost use Rattle.f3_program_numbers.specs.Walks.{taken_by, member_taken, counted};

@@ -8,7 +8,7 @@ ghost use Rattle.f3_graph.specs.Order.{numbers_of};
 ghost use Rattle.f3_type_rules.specs.Associates.{constructs_of_block};
 ghost use Rattle.f3_type_rules.specs.Members.{numbered, units_from};
 ghost use Rattle.f3_type_rules.specs.Program.{units_in};
-ghost use Rattle.f3_part_rules.specs.Members.{AreFirsts};
+ghost use Rattle.f3_unit_rules.specs.Members.{AreFirsts};
 ghost use Rattle.f3_unit_rules.specs.Units.{AreNumbers};
 ghost use Rattle.f3_program_numbers.specs.Fitting.{Fits, AllFit};
 ghost use Rattle.f3_program_numbers.specs.Walks.{keeps_all, statics_by, procedures_by, types_by, at_unit};

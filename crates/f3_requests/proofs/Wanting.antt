@@ -16,7 +16,7 @@ use Rattle.f3_code.specs.declared.instruction.Instruction.TheVariants as i
 use Rattle.f3_code.specs.State.{Code, Entry, Next, Stays, Done}
 use Rattle.f3_code.specs.State as s
 use Rattle.f3_code.specs.Machine.{stuck, on_object, on_datum}
-use Rattle.f3_gen_program.specs.Emission.{entries_in}
+use Rattle.f3_gen_values.specs.Emission.{entries_in}
 use Rattle.f3_account.specs.Account.{block, level_words, words, objects}
 use Rattle.f3_account.proofs.Modulo.{product_right}
 use Rattle.f3_program.specs.declared.program.Program.{Program}

@@ -9,7 +9,7 @@ use Rattle.f3_graph.specs.declared.CheckFault.{CheckFault}
 use Rattle.f3_graph.specs.declared.CheckFault.TheVariants.{Refused, Memory}
 use Rattle.f3_graph.specs.Order.{IsOrderOf}
 use Rattle.f3_graph.specs.Units.{nodes_of}
-use Rattle.f3_types.specs.Breaks as names
+use Rattle.f3_accepted.specs.Breaks as names
 use Rattle.f3_accepted.specs.Accepted.{Accepted}
 use Rattle.f3_accepted.specs.Refusals.{First}
 use Rattle.f3_program.specs.declared.program.Program.{Program}

@@ -4,8 +4,8 @@ use Rattle.std.specs.Global.{Global}
 use Rattle.f3_program.specs.declared.program.Program.{Program}
 use Rattle.f3_core.specs.Lower.{lowered_program}
 use Rattle.f3_code.specs.Code.{program_code}
-use Rattle.f3_gen_program.specs.declared.program.Emission.{Emission}
-use Rattle.f3_gen_program.specs.Emission.{code_in}
+use Rattle.f3_gen_values.specs.declared.emission.Emission.{Emission}
+use Rattle.f3_gen_values.specs.Emission.{code_in}
 use Rattle.f3_listing.specs.Listing.{listing_text}
 
 -- this text shows lines that are the code of the program's Core

@@ -4,7 +4,7 @@ ghost use Rattle.std.specs.Prelude.{◌≡◌, IfOk};
 ghost use Rattle.f3_tree.specs.Tree.{view};
 ghost use Rattle.f3_graph.specs.Order.{numbers_of};
 ghost use Rattle.f3_names.specs.Tables.{AreNames, lookup_at};
-ghost use Rattle.f3_types.specs.Types.{AreTypesAlong};
+ghost use Rattle.f3_accepted.specs.Types.{AreTypesAlong};
 ghost use Rattle.f3_accepted.specs.Checked as accepted;
 ghost use Rattle.f3_elaboration.specs.DeclaredViews.{program_view};
 ghost use Rattle.f3_elaboration.specs.Program.{elaborated};

@@ -3,7 +3,7 @@
 ghost use Rattle.std.specs.Prelude.{◌≡◌};
 ghost use Rattle.f3_core.specs.Lower.{lowered_program};
 ghost use Rattle.f3_code.specs.Code.{program_code};
-ghost use Rattle.f3_gen_program.specs.Emission.{code_in};
+ghost use Rattle.f3_gen_values.specs.Emission.{code_in};
 ghost use Rattle.f3_output.specs.Output.{state_of};
 ghost use Rattle.f3_run.specs.Answers.{Answers};
 ghost use Rattle.f3_run.specs.Compiled.{program_of};
@@ -12,7 +12,7 @@ use crate::compiled::Compiled;
 use crate::end::{End, Limits};
 use f3_cells::scene::Scene;
 use f3_gen_laws::generate;
-use f3_gen_program::program::Emission;
+use f3_gen_values::emission::Emission;
 use f3_machine_laws::answers_mean;
 use f3_machine_laws::ended::Ended;
 use f3_output::output::Output;

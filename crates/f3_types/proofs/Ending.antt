@@ -20,7 +20,7 @@ use Rattle.f3_type_rules.specs.Program.{program_breaks}
 use Rattle.f3_type_rules.specs.Scene.{Scene}
 use Rattle.f3_sites.specs.declared.site.Site.{Site as Place}
 use Rattle.f3_sites.specs.Sites.{site_of}
-use Rattle.f3_extents.specs.Cells.{HasCells}
+use Rattle.f3_entities.specs.Cells.{HasCells}
 use Rattle.f3_unit_bodies.specs.Bodies.{anywhere, unit_widths, units_rows}
 use Rattle.f3_unit_bodies.proofs.Linking.{units_link}
 use Rattle.f3_unit_bodies.proofs.Widths.{unit_wide, units_wide}

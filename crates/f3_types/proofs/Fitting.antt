@@ -12,7 +12,7 @@ use Rattle.f3_tree.specs.declared.program.ProcedureKind.{ProcedureKind}
 use Rattle.f3_tree.specs.declared.program.ProcedureKind.TheVariants.{Subroutine, Function}
 use Rattle.f3_tree.specs.Tree.{ProcedureTree, UnitTree, Tree}
 use Rattle.f3_type_rules.specs.Associates.{constructs_of_block}
-use Rattle.f3_part_rules.specs.Members.{typed_count, AreFirsts, Fit}
+use Rattle.f3_unit_rules.specs.Members.{typed_count, AreFirsts, Fit}
 use Rattle.f3_unit_rules.specs.Units.{UnitFits, UnitsFit, AreNumbers}
 use Rattle.f3_phase_laws.proofs.Numbers.{numbers}
 use Rattle.f3_order_laws.proofs.Constructs.{block_long}

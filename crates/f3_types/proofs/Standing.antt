@@ -20,10 +20,10 @@ use Rattle.f3_type_rules.specs.Walks.{Known as Grown}
 use Rattle.f3_natures.specs.Natures.{natures_of}
 use Rattle.f3_declared.specs.declared.scenery.Scenery.{Scenery}
 use Rattle.f3_declared.specs.Scenery.{scene_in as standing}
-use Rattle.f3_extents.specs.Cells.{HasCells}
+use Rattle.f3_entities.specs.Cells.{HasCells}
 use Rattle.f3_entities.specs.declared.growth.Growth.{Growth}
 use Rattle.f3_entities.specs.Growth.{HasValues, Stands}
-use Rattle.f3_part_rules.specs.Members.{AreFirsts}
+use Rattle.f3_unit_rules.specs.Members.{AreFirsts}
 use Rattle.f3_unit_rules.specs.Units.{AreNumbers, UnitsFit}
 use Rattle.f3_types.specs.Parts.{scene_in}
 use Rattle.f3_types.specs.Inner.Scenes.{Knows}

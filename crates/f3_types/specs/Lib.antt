@@ -3,3 +3,5 @@ pub mod Parts
 pub mod Types
 pub mod Answers
 pub mod Inner
+pub use Rattle.f3_unit_rules.specs.Units
+pub use Rattle.f3_unit_rules.specs.Members

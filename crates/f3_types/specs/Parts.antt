@@ -15,7 +15,7 @@ use Rattle.f3_type_rules.specs.Members.{Numbered, units_from}
 use Rattle.f3_type_rules.specs.Program.{nothing_known, units_in}
 use Rattle.f3_type_rules.specs.Scene.{names_of, Scene, scene_of}
 use Rattle.f3_type_rules.specs.Walks.{after, Known}
-use Rattle.f3_extents.specs.Cells.{HasCells}
+use Rattle.f3_entities.specs.Cells.{HasCells}
 use Rattle.f3_types.specs.Breaks.{Means}
 
 -- the units of a program by the numbers of their scopes

@@ -7,7 +7,7 @@ ghost use Rattle.f3_graph.specs.Order.{numbers_of};
 ghost use Rattle.f3_names.specs.Tables.{AreNames};
 ghost use Rattle.f3_typed_parts.specs.Noted.{noted};
 ghost use Rattle.f3_declared.specs.Scenery.{scene_in as standing};
-ghost use Rattle.f3_extents.specs.Cells.{HasCells};
+ghost use Rattle.f3_entities.specs.Cells.{HasCells};
 ghost use Rattle.f3_types.specs.Parts.{scene_in, declared_along};
 ghost use Rattle.f3_types.specs.Inner.Rows.{part_rows};
 ghost use Rattle.f3_types.specs.Inner.Scenes.{Knows};

@@ -7,3 +7,5 @@ mod declaring;
 pub mod naming;
 pub mod table;
 pub mod typed;
+
+pub use f3_unit_rules::firsts;

@@ -9,7 +9,7 @@ ghost use Rattle.f3_graph.specs.Order.{IsOrder, numbers_of};
 ghost use Rattle.f3_names.specs.Answers.{BreaksOfNames};
 ghost use Rattle.f3_names.specs.Tables.{AreNames};
 ghost use Rattle.f3_typed_parts.specs.Noted.{noted};
-ghost use Rattle.f3_extents.specs.Cells.{HasCells};
+ghost use Rattle.f3_entities.specs.Cells.{HasCells};
 ghost use Rattle.f3_types.specs.Answers.{TypesAnswer, DefinitionsAnswer};
 ghost use Rattle.f3_types.specs.Breaks.{TypeBreaks};
 ghost use Rattle.f3_types.specs.Inner.Phases.{of_types};

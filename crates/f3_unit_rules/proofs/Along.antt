@@ -7,7 +7,7 @@ use Rattle.f3_rules.specs.declared.breaks.Break.{Break}
 use Rattle.f3_typed_parts.specs.Noted.{noted}
 use Rattle.f3_typed_parts.proofs.Noting.{noted_more}
 use Rattle.f3_type_rules.specs.Walks.{after, along}
-use Rattle.f3_specifications.proofs.Walking.{after_append, along_append}
+use Rattle.f3_part_rules.proofs.Walking.{after_append, along_append}
 
 taken : {X Y : Type 0} (f : X → List Y) (xs : List X) (i : ℕ) (d : X) → i < length xs → flat_map f (take (i + 1) xs) ≡ flat_map f (take i xs) ++ f (get_or xs i d)
 taken f xs i d lt =

@@ -17,8 +17,8 @@ use Rattle.f3_tree.specs.Tree.{ProcedureTree, UnitTree, Tree, unit_view}
 use Rattle.f3_natures.specs.Inner.Walk.{unit_end, unit_start}
 use Rattle.f3_natures.proofs.Standing.{units_ends}
 use Rattle.f3_type_rules.specs.Associates.{constructs_of_block}
-use Rattle.f3_part_rules.specs.Members.{typed_count, AreFirsts, Fit}
-use Rattle.f3_part_rules.proofs.Walked.{fit_within}
+use Rattle.f3_unit_rules.specs.Members.{typed_count, AreFirsts, Fit}
+use Rattle.f3_unit_rules.proofs.Walked.{fit_within}
 use Rattle.f3_unit_rules.specs.Units.{UnitFits}
 use Rattle.f3_order_laws.proofs.Constructs.{block_long}
 use Rattle.f3_order_laws.proofs.Places.{Lies, lies_left, lies_right, first_more}

@@ -9,7 +9,7 @@ use Rattle.f3_tree.specs.declared.program.UnitKind.TheVariants as unit
 use Rattle.f3_tree.specs.Tree.{ProcedureTree, UnitTree}
 use Rattle.f3_natures.specs.Inner.Walk.{along, count_of, unit_end, unit_start}
 use Rattle.f3_type_rules.specs.Members.{Member, members_from, numbered, units_from}
-use Rattle.f3_part_rules.specs.Members.{typed_count, AreFirsts, Fit}
+use Rattle.f3_unit_rules.specs.Members.{typed_count, AreFirsts, Fit}
 use Rattle.f3_unit_rules.specs.Units.{UnitFits}
 use Rattle.f3_elaboration.specs.Nodes.{StaticNode}
 use Rattle.f3_elaboration.specs.Numbers.{Inner, Variable, is_saved, is_variable, member_names, unit_statics}

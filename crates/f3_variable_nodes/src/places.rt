@@ -7,7 +7,7 @@ ghost use Rattle.f3_kinds.specs.Things.{map_or};
 ghost use Rattle.f3_tree.specs.Declarations.{parameter, entity_view, specification_view};
 ghost use Rattle.f3_tree.specs.Tree.{header_view};
 ghost use Rattle.f3_type_rules.specs.Attributes.{has};
-ghost use Rattle.f3_part_rules.specs.Members.{typed_count};
+ghost use Rattle.f3_unit_rules.specs.Members.{typed_count};
 ghost use Rattle.f3_declared.specs.Declarations.{IsRead, tree_of};
 ghost use Rattle.f3_elaboration.specs.Numbers as elaborated;
 ghost use Rattle.f3_declaration_nodes.specs.Variables.{variable_at};

@@ -9,7 +9,7 @@ ghost use Rattle.f3_natures.specs.Inner.Walk.{along, count_of, end_of, unit_end,
 ghost use Rattle.f3_names.specs.Tables.{AreNames};
 ghost use Rattle.f3_type_rules.specs.Members.{units_from};
 ghost use Rattle.f3_declared.specs.Declarations.{IsRead, tree_of};
-ghost use Rattle.f3_part_rules.specs.Members.{Fit, typed_count};
+ghost use Rattle.f3_unit_rules.specs.Members.{Fit, typed_count};
 ghost use Rattle.f3_unit_rules.specs.Units.{UnitFits};
 ghost use Rattle.f3_elaboration.specs.Declarations as elaborated;
 ghost use Rattle.f3_elaboration.specs.DeclaredViews.{static_view};

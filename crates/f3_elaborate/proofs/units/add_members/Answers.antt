@@ -2,7 +2,7 @@ use Rattle.std.proofs.Common.{◌<◌, ◌≤◌, ◌+◌, ◌∷◌, [], map, l
 use Rattle.std.proofs.lemmas.List.{map-append}
 use Rattle.f3_tree.specs.Tree as trees
 use Rattle.f3_type_rules.specs.Associates.{constructs_of_block}
-use Rattle.f3_part_rules.specs.Members.{member_of}
+use Rattle.f3_types.specs.Members.{member_of}
 use Rattle.f3_elaboration.specs.DeclaredViews.{procedure_view}
 use Rattle.f3_program_numbers.proofs.Owned.{within_firsts, member_fits, scope_next, members_fit_more}
 use Rattle.f3_elaborate.proofs.Members.{nodes_more, nodes_end}

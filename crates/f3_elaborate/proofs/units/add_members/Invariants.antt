@@ -3,7 +3,7 @@ use Rattle.f3_scopes.specs.Outlines.{Scope}
 use Rattle.f3_tree.specs.Tree as trees
 use Rattle.f3_sites.specs.Sites.{site_of}
 use Rattle.f3_associates.specs.Known.{IsSettled}
-use Rattle.f3_part_rules.specs.Members.{AreFirsts}
+use Rattle.f3_types.specs.Members.{AreFirsts}
 use Rattle.f3_program_numbers.specs.Fitting.{MembersFit}
 use Rattle.f3_elaboration.specs.Declarations.{Whole}
 use Rattle.f3_elaboration.specs.DeclaredViews.{procedure_view}

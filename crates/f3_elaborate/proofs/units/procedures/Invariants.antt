@@ -5,8 +5,8 @@ use Rattle.f3_tree.specs.Tree.{unit_view}
 use Rattle.f3_sites.specs.Sites.{site_of}
 use Rattle.f3_associates.specs.Known.{IsSettled}
 use Rattle.f3_type_rules.specs.Members.{units_from}
-use Rattle.f3_part_rules.specs.Members.{AreFirsts}
-use Rattle.f3_unit_rules.specs.Units.{AreNumbers}
+use Rattle.f3_types.specs.Members.{AreFirsts}
+use Rattle.f3_types.specs.Units.{AreNumbers}
 use Rattle.f3_elaboration.specs.Declarations.{Whole}
 use Rattle.f3_elaboration.specs.DeclaredViews.{procedure_view}
 use Rattle.f3_elaborate.specs.Knows.{Knows}

@@ -1,7 +1,7 @@
 use Rattle.std.proofs.Common.{◌≡◌, ◌++◌, List, map, drop}
 use Rattle.f3_scopes.specs.Outlines.{Scope}
 use Rattle.f3_tree.specs.Tree.{procedure_view}
-use Rattle.f3_part_rules.specs.Members.{AreFirsts}
+use Rattle.f3_unit_rules.specs.Members.{AreFirsts}
 use Rattle.f3_program_numbers.specs.Chosen.{choice_of}
 use Rattle.f3_program_numbers.specs.Fitting.{MembersFit}
 use Rattle.f3_program_numbers.specs.Walks.{members_by}

@@ -3,7 +3,7 @@ use Rattle.std.specs.List.{flat_map}
 use Rattle.f3_scopes.specs.Outlines.{Scope}
 use Rattle.f3_tree.specs.Tree.{unit_view}
 use Rattle.f3_type_rules.specs.Members.{units_from}
-use Rattle.f3_part_rules.specs.Members.{AreFirsts}
+use Rattle.f3_unit_rules.specs.Members.{AreFirsts}
 use Rattle.f3_unit_rules.specs.Units.{AreNumbers}
 use Rattle.f3_program_numbers.specs.Walks.{statics_by}
 use Rattle.f3_program_numbers.proofs.units.statics.Given as goal

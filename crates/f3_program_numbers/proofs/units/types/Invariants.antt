@@ -4,7 +4,7 @@ use Rattle.f3_graph.specs.declared.UnitId.{UnitId}
 use Rattle.f3_scopes.specs.Outlines.{Scope}
 use Rattle.f3_tree.specs.Tree.{unit_view}
 use Rattle.f3_type_rules.specs.Members.{units_from}
-use Rattle.f3_part_rules.specs.Members.{AreFirsts}
+use Rattle.f3_unit_rules.specs.Members.{AreFirsts}
 use Rattle.f3_unit_rules.specs.Units.{AreNumbers}
 use Rattle.f3_program_numbers.specs.Walks.{types_by, at_unit}
 use Rattle.f3_program_numbers.proofs.units.types.Given as goal

@@ -9,7 +9,7 @@ use Rattle.f3_type_rules.specs.Declarations.{unit_rows, unit_next}
 use Rattle.f3_type_rules.specs.Members.{Numbered, units_from}
 use Rattle.f3_type_rules.specs.Program.{units_in}
 use Rattle.f3_type_rules.specs.Walks.{after, along}
-use Rattle.f3_extents.proofs.Shaping.{flat_map_map}
+use Rattle.f3_part_rules.proofs.Shaping.{flat_map_map}
 use Rattle.f3_entities.specs.Growth.{Stands}
 use Rattle.f3_unit_rules.specs.Units.{UnitsFit}
 use Rattle.f3_unit_rules.specs.Inner.Steps.{found_at}

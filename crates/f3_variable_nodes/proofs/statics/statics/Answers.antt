@@ -4,7 +4,7 @@ use Rattle.f3_access.specs.Access.{entities_of}
 use Rattle.f3_scopes.specs.Outlines.{scope_view}
 use Rattle.f3_scopes.specs.Scopes.{scopes_of}
 use Rattle.f3_tree.specs.Tree.{UnitTree, unit_view, view}
-use Rattle.f3_part_rules.specs.Members.{AreFirsts}
+use Rattle.f3_unit_rules.specs.Members.{AreFirsts}
 use Rattle.f3_elaboration.specs.DeclaredViews.{static_view}
 use Rattle.f3_elaboration.specs.Declarations.{static}
 use Rattle.f3_elaboration.specs.Numbers.{unit_statics}

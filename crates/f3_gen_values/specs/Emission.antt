@@ -7,7 +7,7 @@ use Rattle.f3_meaning_whole.specs.Exec.{declared_in, variables}
 use Rattle.f3_meaning_whole.specs.Run.{setting_of}
 use Rattle.f3_code.specs.State.{Code, Entry}
 use Rattle.f3_gen_values.specs.Emitted.{lines_in}
-use Rattle.f3_gen_program.specs.declared.program.Emission.{Emission}
+use Rattle.f3_gen_values.specs.declared.emission.Emission.{Emission}
 
 -- procedures that begin at these lines
 abbrev pub entries_in : Setting → List Procedure → List ℕ → List Entry
