@@ -88,7 +88,7 @@ pub fn meets(state: &mut State, range: Range) -> Result<(), Stop>
 }
 
 /// Where the statements of a SELECT CASE with this value are executed.
-fn within_selection(alloc: Global, outer: &Here, selected: Value) -> Result<Here, AllocError>
+pub fn within_selection(alloc: Global, outer: &Here, selected: Value) -> Result<Here, AllocError>
     ensures { IfOk result (λ h. (p : Program) → here_of p h ≡ selecting (value_of selected) (here_of p outer.now)) }
 {
     let names = copies::references(alloc, &outer.names)?;
