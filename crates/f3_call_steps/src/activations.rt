@@ -1,7 +1,8 @@
 //! The variables of an activation.
 
-ghost use Rattle.std.specs.Prelude.{◌≡◌, ◌++◌, IfOk, OnOk, length};
+ghost use Rattle.std.specs.Prelude.{◌≡◌, ◌++◌, IfOk, IfSome, OnOk, length};
 ghost use Rattle.f3_program.specs.declared.declarations.Declared as d;
+ghost use Rattle.f3_program.specs.declared.program.Program.{Program};
 ghost use Rattle.f3_meaning_whole.specs.Exec.{initial_value, variables, with_result};
 ghost use Rattle.f3_meaning_whole.specs.Run.{setting_of};
 ghost use Rattle.f3_meaning_whole.specs.Ran.{Entered, effect};
@@ -11,19 +12,42 @@ ghost use Rattle.std.specs.Prelude.{map};
 
 use f3_data::store::Store;
 use f3_data::value::Value;
-use f3_program::declarations::Declared;
+use f3_program::declarations::{Base, Declared};
 use f3_program::program::{Procedure, Program};
 use f3_shaping::initial::initial_declared;
 use std::alloc::{AllocError, Global};
+
+/// The value with which a scalar of an intrinsic type begins that is not initialized.
+fn scalar_value(declared: &Declared) -> Option<Value>
+    ensures { IfSome result (λ v. (p : Program) → value_of v ≡ initial_value (setting_of p) declared.now) }
+{
+    if declared.kind.is_allocatable {
+        return None;
+    }
+    if declared.kind.rank > 0 {
+        return None;
+    }
+    if !declared.initial.is_empty() {
+        return None;
+    }
+    match declared.kind.of {
+        Base::Integer | Base::Long => Some(Value::Number(0)),
+        Base::Logical => Some(Value::Truth(false)),
+        Base::Derived(_) => None,
+    }
+}
 
 /// The value with which a variable begins (ISO/IEC 1539-1:2004, 16.5).
 fn initial_value(alloc: Global, program: &Program, declared: &Declared) -> Result<Value, AllocError>
     ensures { IfOk result (λ v. value_of v ≡ initial_value (setting_of program.now) declared.now) }
 {
-    initial_declared(alloc, &program.types, declared)
+    match scalar_value(declared) {
+        Some(value) => Ok(value),
+        None => initial_declared(alloc, &program.types, declared),
+    }
 }
 
-/// The values with which variables begin.
+/// The values with which variables begin, with room for one more.
 fn initial_values(
     alloc: Global,
     program: &Program,
@@ -31,7 +55,7 @@ fn initial_values(
 ) -> Result<Vec<Value>, AllocError>
     ensures { IfOk result (λ vs. values_of vs.items ≡ map (initial_value (setting_of program.now)) declared.now) }
 {
-    let mut values = Vec::new(alloc);
+    let mut values = Vec::with_capacity(alloc, declared.len().saturating_add(1))?;
     for variable in declared {
         values.push(initial_value(alloc, program, variable)?)?;
     }

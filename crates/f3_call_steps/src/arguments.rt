@@ -6,7 +6,7 @@ ghost use Rattle.f3_meaning_whole.specs.Exec.{bound, held};
 ghost use Rattle.f3_data.specs.Values.{values_of};
 ghost use Rattle.f3_data.specs.References.{reference_of, references_of};
 ghost use Rattle.f3_cells.specs.Cells.{passed_of};
-ghost use Rattle.f3_call_steps.specs.Standing.{Noted, AreFirsts, StandsIn, argument_of};
+ghost use Rattle.f3_call_steps.specs.Standing.{Noted, AreFirsts, StandsIn, argument_of, stand_of};
 
 use f3_cells::cell::Passed;
 use f3_data::copies;
@@ -18,6 +18,9 @@ use f3_located::names::to_value;
 use f3_program::declarations::Base;
 use f3_program::program::Dummy;
 use std::alloc::{AllocError, Global};
+
+/// How many dummies are a few.
+const FEW: usize = 8;
 
 /// Where an argument stands: its position among the arguments, and the slot of its value among those that are held.
 #[derive(Clone, Copy)]
@@ -57,6 +60,36 @@ fn stands(
         }
     }
     Ok(table)
+}
+
+/// Where the first argument of a number stands, if there is one.
+fn find_stand(arguments: &[Passed], number: usize) -> Option<Stand>
+    requires slots { length arguments.now < 2 ^ 63 }
+    ensures { result ≡ stand_of number (map passed_of arguments.now) 0 0 }
+{
+    let mut held = 0;
+    for (position, argument) in arguments.iter().enumerate() {
+        match argument {
+            Passed::Given(k, _) => {
+                if *k == number {
+                    return Some(Stand {
+                        position,
+                        slot: held,
+                    });
+                }
+                held += 1;
+            }
+            Passed::Lent(k, _) => {
+                if *k == number {
+                    return Some(Stand {
+                        position,
+                        slot: held,
+                    });
+                }
+            }
+        }
+    }
+    None
 }
 
 /// The argument that stands there for a dummy of a type (ISO/IEC 1539-1:2004, 12.4.1), where the values that are held stand
@@ -114,8 +147,29 @@ fn dummy_for(
     Ok(object)
 }
 
-/// The objects of the dummies (12.4.1.2).
-pub(crate) fn dummies(
+/// The objects of a few dummies (12.4.1.2): for each of them the arguments are gone through.
+fn few_dummies(
+    alloc: Global,
+    declared: &[Dummy],
+    arguments: &[Passed],
+    level: usize,
+    unit: usize,
+) -> Result<Vec<Reference>, AllocError>
+    requires levels { level < 2 ^ 63 }
+    requires slots { length arguments.now < 2 ^ 63 }
+    ensures { IfOk result (λ rs. references_of rs.items ≡ x.dummies 0 declared.now (map passed_of arguments.now) level unit) }
+{
+    let mut objects = Vec::with_capacity(alloc, declared.len())?;
+    for (number, dummy) in declared.iter().enumerate() {
+        let stand = find_stand(arguments, number);
+        objects.push(dummy_for(alloc, stand, dummy, arguments, level, unit)?)?;
+    }
+    Ok(objects)
+}
+
+/// The objects of any number of dummies (12.4.1.2): the arguments are gone through once.
+#[inline(never)]
+fn many_dummies(
     alloc: Global,
     declared: &[Dummy],
     arguments: &[Passed],
@@ -132,6 +186,24 @@ pub(crate) fn dummies(
         objects.push(dummy_for(alloc, table[number], dummy, arguments, level, unit)?)?;
     }
     Ok(objects)
+}
+
+/// The objects of the dummies (12.4.1.2).
+pub(crate) fn dummies(
+    alloc: Global,
+    declared: &[Dummy],
+    arguments: &[Passed],
+    level: usize,
+    unit: usize,
+) -> Result<Vec<Reference>, AllocError>
+    requires levels { level < 2 ^ 63 }
+    requires slots { length arguments.now < 2 ^ 63 }
+    ensures { IfOk result (λ rs. references_of rs.items ≡ x.dummies 0 declared.now (map passed_of arguments.now) level unit) }
+{
+    if declared.len() > FEW {
+        return many_dummies(alloc, declared, arguments, level, unit);
+    }
+    few_dummies(alloc, declared, arguments, level, unit)
 }
 
 /// A copy of the value of an argument that is one.

@@ -10,7 +10,7 @@ ghost use Rattle.f3_cells.specs.Cells.{here_of, variables_of};
 
 use f3_cells::cell::Here;
 use f3_data::copies;
-use f3_data::lent::{Lent, lend, shared};
+use f3_data::lent::{Lent, lent_too, shared};
 use f3_data::reference::Reference;
 use f3_data::value::Value;
 use f3_rules::source::Place;
@@ -24,7 +24,7 @@ fn lending(alloc: Global, lent: &Lent, objects: &[Reference]) -> Result<Lent, Al
     let mut i = objects.len();
     while i > 0 {
         i -= 1;
-        lend(alloc, &mut all, copies::reference(alloc, &objects[i])?)?;
+        all = lent_too(alloc, copies::reference(alloc, &objects[i])?, all)?;
     }
     Ok(all)
 }

@@ -10,6 +10,7 @@ use crate::state::Stop;
 use std::alloc::Global;
 
 /// An argument on top, which is taken.
+#[inline(always)]
 fn pop_argument(stack: &mut Vec<Cell>) -> Option<Passed>
     ensures { PoppedOne passed_of argument_of result stack.old.items stack.new.items }
 {
@@ -31,7 +32,7 @@ pub fn pop_arguments(
 ) -> Result<Vec<Passed>, Stop>
     ensures { PoppedMany passed_of argument_of count result stack.old.items stack.new.items }
 {
-    let mut found = Vec::new(alloc);
+    let mut found = Vec::with_capacity(alloc, count)?;
     for _i in 0..count {
         match pop_argument(stack) {
             Some(it) => found.push(it)?,

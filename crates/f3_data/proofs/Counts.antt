@@ -1,5 +1,5 @@
 -- What values and levels in memory take.
-use Rattle.std.proofs.Common.{◌≡◌, ℕ, ◌+◌, ◌*◌, ◌-◌, ◌%◌, ◌^◌, ◌<◌, List, [], ◌∷◌, ◌++◌, length, take, drop, map, sym, ap, ◌∙◌, arith, Vec, Global, get_or}
+use Rattle.std.proofs.Common.{◌≡◌, ℕ, ◌+◌, ◌*◌, ◌-◌, ◌%◌, ◌^◌, ◌<◌, ℤ, Bool, ◌⊎◌, inl, inr, List, [], ◌∷◌, ◌++◌, length, take, drop, map, sym, ap, ◌∙◌, arith, Vec, Global, get_or}
 use Rattle.std.proofs.lemmas.List.{map-set, map-append, take_more, length-map, length-drop, take_all, take-append-drop}
 use Rattle.std.specs.Prelude.{slice_set}
 use Rattle.f3_meaning_whole.specs.Value.{joined}
@@ -22,6 +22,12 @@ array_words ss vs = let e = row_joined (values_of vs.items) in let f = length-ma
 pub array_objects : (ss : Vec Span Global) (vs : Vec v.Value Global) →
     objects (value_of (v.Array ss vs)) ≡ all_objects (joined (values_of vs.items))
 array_objects ss vs = ap objects (array_is ss vs)
+
+-- a scalar takes one word
+pub one_word : (x : v.Value) → ((z : ℤ) × (x ≡ v.Number z)) ⊎ (((b : Bool) × (x ≡ v.Truth b)) ⊎ (x ≡ v.Unallocated)) → words (value_of x) ≡ 1
+one_word x (inl (z, e)) = ap (λ y. words (value_of y)) e
+one_word x (inr (inl (b, e))) = ap (λ y. words (value_of y)) e
+one_word x (inr (inr e)) = ap (λ y. words (value_of y)) e
 
 -- one more of a list
 

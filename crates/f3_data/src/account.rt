@@ -38,7 +38,10 @@ pub fn level_words(values: &[Value]) -> u64
 {
     let mut sum: u64 = 0;
     for value in values {
-        sum = sum.wrapping_add(words(value));
+        match value {
+            Value::Number(_) | Value::Truth(_) | Value::Unallocated => sum = sum.wrapping_add(1),
+            _ => sum = sum.wrapping_add(words(value)),
+        }
     }
     sum
 }

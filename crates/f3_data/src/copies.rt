@@ -92,8 +92,9 @@ pub fn reach(alloc: Global, original: &Reach) -> Result<Reach, AllocError>
     }
 }
 
-/// A copy of a reference.
-pub fn reference(alloc: Global, original: &Reference) -> Result<Reference, AllocError>
+/// A copy of a reference to an object that is part of no other, or of a part of one.
+#[inline(never)]
+fn reference_of_any(alloc: Global, original: &Reference) -> Result<Reference, AllocError>
     ensures { IfOk result (λ r. reference_of r ≡ reference_of original.now) }
 {
     let path = path(alloc, &original.path)?;
@@ -107,6 +108,27 @@ pub fn reference(alloc: Global, original: &Reference) -> Result<Reference, Alloc
         origin: original.origin,
         makers,
     })
+}
+
+/// A copy of a reference.
+pub fn reference(alloc: Global, original: &Reference) -> Result<Reference, AllocError>
+    ensures { IfOk result (λ r. reference_of r ≡ reference_of original.now) }
+{
+    let is_whole = original.path.steps.is_empty() && original.makers.is_empty();
+    match &original.reach {
+        Reach::One if is_whole => Ok(Reference {
+            path: Path {
+                root: original.path.root,
+                steps: Vec::new(alloc),
+            },
+            reach: Reach::One,
+            of: original.of,
+            right: original.right,
+            origin: original.origin,
+            makers: Vec::new(alloc),
+        }),
+        _ => reference_of_any(alloc, original),
+    }
 }
 
 /// A copy of selected components.

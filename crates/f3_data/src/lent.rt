@@ -51,6 +51,15 @@ pub fn shared(lent: &Lent) -> Result<Lent, AllocError>
     }
 }
 
+/// A list with one more object, which is lent last.
+///
+/// `AllocError` where the host has no memory for it.
+pub fn lent_too(alloc: Global, object: Reference, rest: Lent) -> Result<Lent, AllocError>
+    ensures { IfOk result (λ l. lent_of l ≡ reference_of object ∷ lent_of rest) }
+{
+    Ok(Lent::More(Rc::new(alloc, Link { object, rest })?))
+}
+
 /// One more object is lent.
 pub fn lend(alloc: Global, lent: &mut Lent, object: Reference) -> Result<(), AllocError>
     ensures { OnOk result (lent_of lent.new ≡ reference_of object ∷ lent_of lent.old) }

@@ -5,7 +5,7 @@ use Rattle.f3_meaning_whole.specs.Exec.{argument_at, bound}
 use Rattle.f3_data.specs.References.{reference_of}
 use Rattle.f3_cells.specs.Cells.{passed_of}
 use Rattle.f3_call_steps.proofs.Standing.{entry_inside, entry_argument}
-use Rattle.f3_call_steps.proofs.arguments.dummies.Goals as goal
+use Rattle.f3_call_steps.proofs.arguments.many_dummies.Goals as goal
 
 pub dummy_for-requires-clause-inside : goal.dummy_for-requires-clause-inside
 dummy_for-requires-clause-inside c =

@@ -2,7 +2,7 @@ use Rattle.std.proofs.Common.{◌≡◌, ◌++◌, drop, map}
 use Rattle.f3_meaning_whole.specs.Exec.{dummies}
 use Rattle.f3_data.specs.References.{references_of}
 use Rattle.f3_cells.specs.Cells.{passed_of}
-use Rattle.f3_call_steps.proofs.arguments.dummies.Given as goal
+use Rattle.f3_call_steps.proofs.arguments.many_dummies.Given as goal
 
 -- the objects of the first dummies are there
 abbrev pub invariant-loop-number : goal.invariant-loop-number
