@@ -4,7 +4,7 @@ use Rattle.std.proofs.lemmas.List.{map-set}
 use Rattle.std.specs.Prelude.{slice_index_or, slice_set}
 use Rattle.f3_meaning_whole.specs.Value as m
 use Rattle.f3_meaning_whole.specs.Value.{joined}
-use Rattle.f3_meaning_whole.specs.Store.{Step, part, part_at, with_part, with_part_at}
+use Rattle.f3_meaning_whole.specs.Store.{Step, Element, part, part_at, with_part, with_part_at}
 use Rattle.f3_data.specs.declared.value.Span.{Span}
 use Rattle.f3_data.specs.declared.value.Value as v
 use Rattle.f3_data.specs.declared.store.Step as n
@@ -59,6 +59,11 @@ pub array_put : (ss : Vec Span Global) (vs ws : Vec v.Value Global) (k : ℕ) (s
     joined (values_of ws.items) ≡ with_part_at (joined (values_of vs.items)) k (steps_of rest) x →
     value_of (v.Array ss ws) ≡ with_part (value_of (v.Array ss vs)) (steps_of steps) x
 array_put ss vs ws k s rest steps x e f h = rw (array_is, array_is, f, e) (ap (m.Array (spans_of ss.items)) h)
+
+-- one element is another
+pub array_taken : (ss : Vec Span Global) (vs ws : Vec v.Value Global) (k : ℕ) (x : m.Value) →
+    joined (values_of ws.items) ≡ with_part_at (joined (values_of vs.items)) k [] x → value_of (v.Array ss ws) ≡ with_part (value_of (v.Array ss vs)) (Element k ∷ []) x
+array_taken ss vs ws k x h = array_is ss ws ∙ ap (m.Array (spans_of ss.items)) h ∙ ap (λ u. with_part u (Element k ∷ []) x) (sym (array_is ss vs))
 
 -- steps that lead nowhere
 

@@ -1,5 +1,5 @@
 -- Stores in memory, as the meaning has them.
-use Rattle.std.specs.Prelude.{◌≡◌, ℕ, List, [], map, Option, MatchOption, slice_index_or, slice_set}
+use Rattle.std.specs.Prelude.{◌≡◌, ℕ, Bool, true, false, List, [], ◌∷◌, map, Option, MatchOption, slice_index_or, slice_set}
 use denote.Ref.{Bor}
 use Rattle.std.specs.declared.alloc.Global.{Global}
 use Rattle.std.specs.Prelude.{Vec}
@@ -28,6 +28,11 @@ steps_of ss = map step_of ss
 
 abbrev pub path_of : Path → m.Path
 path_of p = record { root = root_of p.root; steps = steps_of p.steps.items }
+
+-- from an array, or from an allocatable that holds one, to an element by its number
+abbrev pub element_steps : Bool → ℕ → List m.Step
+element_steps false k = m.Element k ∷ []
+element_steps true k = m.Contents ∷ m.Element k ∷ []
 
 abbrev pub levels_of : List (Vec Value Global) → List (List m'.Value)
 levels_of vs = map (λ (v : Vec Value Global). values_of v.items) vs

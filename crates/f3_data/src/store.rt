@@ -4,7 +4,10 @@ ghost use Rattle.std.specs.Prelude.{◌≡◌, ◌%◌, ◌^◌};
 ghost use Rattle.f3_data.specs.Taken.{taken};
 
 use crate::account::{block, level_words, levels_words};
-use crate::parts::{object, objects, part, replace_in, replace_in_level, set_in, set_in_level};
+use crate::parts::{
+    object, objects, part, replace_in, replace_in_level, set_element_in, set_element_in_level,
+    set_in, set_in_level,
+};
 use crate::value::Value;
 use f3_program::declarations::Constant;
 use std::alloc::{AllocError, Global};
@@ -50,7 +53,7 @@ impl Store {
     ghost use Rattle.f3_meaning_whole.specs.Ran.{Entered, Ended, effect};
     ghost use Rattle.f3_account.specs.Account.{used};
     ghost use Rattle.f3_data.specs.Values.{value_of, values_of};
-    ghost use Rattle.f3_data.specs.Stores.{root_of, steps_of, path_of, store_of, Found};
+    ghost use Rattle.f3_data.specs.Stores.{root_of, steps_of, path_of, store_of, element_steps, Found};
 
     /// The store with these values for the whole run, and no level.
     pub fn new(alloc: Global, statics: Vec<Value>) -> Store
@@ -111,6 +114,26 @@ impl Store {
         let grown = match root {
             Root::Static(i) => set_in(&mut self.statics, i, steps, scalar),
             Root::Local(level, i) => set_in_level(&mut self.levels, level, i, steps, scalar),
+        };
+        self.used = self.used.wrapping_add(grown);
+    }
+
+    /// An element, by its number in array element order, of an array, or of the one that an allocatable holds where the flag is
+    /// set, takes a scalar; nothing happens where there is no such element.
+    #[inline(always)]
+    pub fn set_element(&mut self, root: Root, is_opened: bool, k: usize, scalar: Constant)
+        ensures { store_of self.new ≡ put (store_of self.old) (record { root = root_of root; steps = element_steps is_opened k }) (constant_value scalar) }
+    {
+        let grown = match root {
+            Root::Static(i) => set_element_in(&mut self.statics, i, is_opened, k, scalar),
+            Root::Local(level, i) => set_element_in_level(
+                &mut self.levels,
+                level,
+                i,
+                is_opened,
+                k,
+                scalar,
+            ),
         };
         self.used = self.used.wrapping_add(grown);
     }
