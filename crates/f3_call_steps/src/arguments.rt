@@ -94,6 +94,7 @@ fn find_stand(arguments: &[Passed], number: usize) -> Option<Stand>
 
 /// The argument that stands there for a dummy of a type (ISO/IEC 1539-1:2004, 12.4.1), where the values that are held stand
 /// on a level; without one, an object that is not allocated.
+#[inline(always)]
 fn argument_of(
     alloc: Global,
     stand: Option<Stand>,
@@ -130,6 +131,7 @@ fn argument_of(
 }
 
 /// What a dummy is for the argument that stands there.
+#[inline(always)]
 fn dummy_for(
     alloc: Global,
     stand: Option<Stand>,
@@ -219,11 +221,19 @@ fn hold(alloc: Global, values: &mut Vec<Value>, argument: &Passed) -> Result<(),
     }
 }
 
+/// How many arguments are values.
+fn given(arguments: &[Passed]) -> usize {
+    arguments
+        .iter()
+        .filter(|argument| matches!(argument, Passed::Given(_, _)))
+        .count()
+}
+
 /// Copies of the values that are held.
 pub(crate) fn held(alloc: Global, arguments: &[Passed]) -> Result<Vec<Value>, AllocError>
     ensures { IfOk result (λ vs. values_of vs.items ≡ held (map passed_of arguments.now)) }
 {
-    let mut values = Vec::new(alloc);
+    let mut values = Vec::with_capacity(alloc, given(arguments))?;
     for argument in arguments {
         hold(alloc, &mut values, argument)?;
     }

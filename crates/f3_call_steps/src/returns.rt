@@ -8,7 +8,7 @@ ghost use Rattle.f3_data.specs.Stores.{store_of};
 ghost use Rattle.f3_cells.specs.Follows.{Does};
 ghost use Rattle.f3_call_steps.specs.Returned.{Returned};
 
-use f3_cells::cell::Cell;
+use f3_cells::cell::{Cell, Passed};
 use f3_cells::stacks::{pop_datum, pop_objects};
 use f3_cells::state::{Frame, State, Stop};
 use f3_data::copies;
@@ -45,6 +45,17 @@ pub fn result_of(alloc: Global, state: &mut State, variable: Option<usize>) -> R
     state.go_on_with(Cell::Datum(value))
 }
 
+/// Arguments go; values without more ado.
+fn let_go(mut arguments: Vec<Passed>) {
+    for _i in 0..arguments.len() {
+        match arguments.pop() {
+            Some(Passed::Given(_, value)) => drop(value),
+            Some(other) => drop(other),
+            None => (),
+        }
+    }
+}
+
 /// Back where the latest frame says, with a value.
 pub fn go_back(state: &mut State, value: Value) -> Result<(), Stop>
     ensures { Returned (value_of value) result state.old state.new }
@@ -57,6 +68,7 @@ pub fn go_back(state: &mut State, value: Value) -> Result<(), Stop>
     state.pc = frame.pc;
     state.stack = frame.stack;
     state.here = frame.here;
+    let_go(frame.arguments);
     state.stack.push(Cell::Datum(value))?;
     Ok(())
 }

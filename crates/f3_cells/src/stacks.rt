@@ -40,8 +40,21 @@ pub fn drop_cells(stack: &mut Vec<Cell>, count: usize)
 }
 
 /// A cell goes.
+#[inline(never)]
 pub fn let_go(cell: Cell) {
     drop(cell);
+}
+
+/// The cell on top goes, if there is one; a value without more ado.
+#[inline(always)]
+pub fn drop_top(stack: &mut Vec<Cell>)
+    ensures { Dropped 1 stack.old.items stack.new.items }
+{
+    match stack.pop() {
+        Some(Cell::Datum(value)) => drop(value),
+        Some(other) => let_go(other),
+        None => (),
+    }
 }
 
 /// The value on top, which is taken.
