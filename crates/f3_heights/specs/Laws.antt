@@ -1,0 +1,12 @@
+-- The laws of heights.
+use Rattle.std.specs.Prelude.{◌≡◌, ℕ, List}
+use Rattle.f3_meaning_whole.specs.Ran.{Event}
+use Rattle.f3_meaning_whole.specs.Act.{Setting}
+use Rattle.f3_code.specs.State.{Code, State, Goes}
+use Rattle.f3_code.specs.Machine.{step}
+use Rattle.f3_heights.specs.Heights.{AreHeights, Fits}
+
+-- Where heights are those of a code, each step from a state that fits them leads to one that fits them.
+abbrev pub StepsFit : Type 0
+StepsFit = (limit : ℕ) (g : Setting) (code : Code) (height : ℕ → ℕ) → AreHeights height code →
+    (s t : State) (out : List Event) → Fits height s → step limit g code s ≡ Goes out t → Fits height t
