@@ -1,0 +1,14 @@
+pub mod Keeping
+pub mod Stepping
+pub mod Plain
+pub mod Parts
+pub mod OfValues
+pub mod OfWork
+pub mod OfParts
+pub mod OfStatements
+pub mod OfProgram
+pub mod Regions
+pub mod Older
+pub mod Needing
+pub mod Running
+pub mod States

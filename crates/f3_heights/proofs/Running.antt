@@ -1,0 +1,160 @@
+-- The states of a run have no more cells than they need.
+use Rattle.std.proofs.Common.{◌≡◌, ℕ, zero, suc, ◌+◌, ◌≤◌, Bool, List, [], ◌∷◌, ◌++◌, length, Some, refl, sym, ◌∙◌, subst, arith, append_assoc}
+use Rattle.std.specs.Prelude.{slice_get, slice_index}
+use Rattle.f3_meaning_whole.specs.Ran.{Event, World, End, Gives, Fails, Stops, Beyond, ◌>>=◌}
+use Rattle.f3_meaning_whole.specs.Act.{Setting, claim, enter}
+use Rattle.f3_core.specs.Work as w
+use Rattle.f3_core.specs.Core as c
+use Rattle.f3_core.specs.Run.{core_setting, core_here, core_world}
+use Rattle.f3_code.specs.State.{Code, Entry, Cell, To, Frame, State, Next, Goes}
+use Rattle.f3_code.specs.State as state
+use Rattle.f3_code.specs.Machine.{ends_so, step}
+use Rattle.f3_code.specs.Code.{program_code}
+use Rattle.f3_code.specs.Run.{start}
+use Rattle.f3_heights.specs.Program.{work_heights, body_heights, main_heights, procedures_heights, routines_heights, program_heights}
+use Rattle.f3_heights.specs.Room.{greatest, alike, routines_need, procedure_need, main_need, routines_needs, procedures_needs, program_needs, Within, FramesWithin, IsWithin, FramesHave, HasRoom, NextWithin, state_next, state_run, state_after}
+use Rattle.f3_heights.proofs.Keeping.{FramesIn, FitsIn}
+use Rattle.f3_heights.proofs.Stepping.{step_keeps}
+use Rattle.f3_heights.proofs.OfProgram.{heights_all}
+use Rattle.f3_heights.proofs.Regions.{greatest_first}
+use Rattle.f3_heights.proofs.Needing.{plan, within_above, above_within, Whole, whole}
+
+-- ---- heights are not above needs
+
+abbrev AreBelow : List ℕ → List ℕ → Type 0
+AreBelow [] rs = Unit {0}
+AreBelow (h ∷ hs) [] = ⊥
+AreBelow (h ∷ hs) (r ∷ rs) = (h ≤ r) × AreBelow hs rs
+
+below_on : (a b : List ℕ) (c : ℕ) (rs : List ℕ) → greatest a ≤ c → AreBelow b rs → AreBelow (a ++ b) (alike c a ++ rs)
+below_on [] b c rs le h = h
+below_on (x ∷ a) b c rs le h =
+    let top = greatest_first x a in
+    (omega (arith, top.0, le), below_on a b c rs (omega (arith, top.1, le)) h)
+
+below_index : (hs rs : List ℕ) (pc : ℕ) → AreBelow hs rs → slice_index hs pc ≤ slice_index rs pc
+below_index [] rs pc h = omega arith
+below_index (x ∷ hs) [] pc h = absurd h
+below_index (x ∷ hs) (r ∷ rs) zero h = h.0
+below_index (x ∷ hs) (r ∷ rs) (suc pc) h = below_index hs rs pc h.1
+
+routines_below : (xs : List w.Work) (b rs : List ℕ) → AreBelow b rs → AreBelow (routines_heights xs ++ b) (routines_needs xs ++ rs)
+routines_below [] b rs h = h
+routines_below (x ∷ xs) b rs h =
+    let hx = work_heights (length xs) 0 x in
+    let need = routines_need (x ∷ xs) in
+    let first = below_on (hx ++ 1 ∷ []) (routines_heights xs ++ b) need (routines_needs xs ++ rs) (omega arith) (routines_below xs b rs h) in
+    let e1 = append_assoc hx (1 ∷ []) (routines_heights xs ++ b) in
+    let e2 = append_assoc hx (1 ∷ routines_heights xs) b in
+    let e3 = append_assoc (alike need (hx ++ 1 ∷ [])) (routines_needs xs) rs in
+    subst (λ hs. AreBelow hs ((alike need (hx ++ 1 ∷ []) ++ routines_needs xs) ++ rs)) (e1 ∙ sym e2)
+    (subst (λ ns. AreBelow ((hx ++ 1 ∷ []) ++ (routines_heights xs ++ b)) ns) (sym e3) first)
+
+procedures_below : (p : c.Program) (qs : List c.Procedure) → AreBelow (procedures_heights (length p.routines) qs) (procedures_needs p qs)
+procedures_below p [] = tt
+procedures_below p (q ∷ qs) = below_on (body_heights (length p.routines) q) (procedures_heights (length p.routines) qs) (procedure_need p q)
+    (procedures_needs p qs) (omega arith) (procedures_below p qs)
+
+program_below : (p : c.Program) (pc : ℕ) → slice_index (program_heights p) pc ≤ slice_index (program_needs p) pc
+program_below p pc = below_index (program_heights p) (program_needs p) pc
+    (below_on (main_heights (length p.routines) p.main) (routines_heights p.routines ++ procedures_heights (length p.routines) p.procedures) (main_need p)
+    (routines_needs p.routines ++ procedures_needs p p.procedures) (omega arith)
+    (routines_below p.routines (procedures_heights (length p.routines) p.procedures) (procedures_needs p p.procedures) (procedures_below p p.procedures)))
+
+module _ (height room : ℕ → ℕ) where
+  frames_in : (needs : List ℕ) (fs : List Frame) → FramesWithin height room needs fs → FramesIn (plan height room) needs fs
+  frames_in [] [] h = tt
+  frames_in [] (f ∷ fs) h = absurd h
+  frames_in (n ∷ ns) [] h = absurd h
+  frames_in (n ∷ ns) (f ∷ fs) h = (h.0, h.1, within_above height room n (room f.pc) h.0 f.stack h.2, frames_in ns fs h.3)
+
+  frames_out : (needs : List ℕ) (fs : List Frame) → FramesIn (plan height room) needs fs → FramesWithin height room needs fs
+  frames_out [] [] h = tt
+  frames_out [] (f ∷ fs) h = absurd h
+  frames_out (n ∷ ns) [] h = absurd h
+  frames_out (n ∷ ns) (f ∷ fs) h = (h.0, h.1, above_within height room n (room f.pc) h.0 f.stack h.2, frames_out ns fs h.3)
+
+  fits_in : (need : ℕ) (needs : List ℕ) (s : State) → IsWithin height room need needs s → FitsIn (plan height room) need needs s
+  fits_in need needs s h = record { stack = within_above height room need (room s.pc) (height s.pc) s.stack h.stack; frames = frames_in needs s.frames h.frames }
+
+  fits_out : (need : ℕ) (needs : List ℕ) (s : State) → FitsIn (plan height room) need needs s → IsWithin height room need needs s
+  fits_out need needs s h = record { stack = above_within height room need (room s.pc) (height s.pc) s.stack h.stack; frames = frames_out needs s.frames h.frames }
+
+  -- ---- how many cells there are
+
+  within_length : (need mark h : ℕ) (st : List Cell) → Within height room need mark h st → length st + mark ≤ need + h
+  within_length need mark zero [] s = omega (arith, s)
+  within_length need mark (suc h) [] s = absurd s
+  within_length need mark zero (To back place ∷ below) s = omega (arith, within_length need (room back) s.0 below s.3, s.2)
+  within_length need mark zero (c ∷ below) s = absurd s
+  within_length need mark (suc h) (c ∷ below) s = omega (arith, within_length need mark h below s)
+
+  frames_have : ((pc : ℕ) → height pc ≤ room pc) → (needs : List ℕ) (fs : List Frame) → FramesWithin height room needs fs → FramesHave needs fs
+  frames_have low [] [] h = tt
+  frames_have low [] (f ∷ fs) h = absurd h
+  frames_have low (n ∷ ns) [] h = absurd h
+  frames_have low (n ∷ ns) (f ∷ fs) h =
+      (omega (arith, within_length n (room f.pc) h.0 f.stack h.2, low f.pc, h.1), frames_have low ns fs h.3)
+
+  has_room : ((pc : ℕ) → height pc ≤ room pc) → (need : ℕ) (needs : List ℕ) (s : State) → IsWithin height room need needs s → HasRoom need needs s
+  has_room low need needs s h = record {
+    stack = omega (arith, within_length need (room s.pc) (height s.pc) s.stack h.stack, low s.pc);
+    frames = frames_have low needs s.frames h.frames;
+  }
+
+module _ (p : c.Program) where
+  abbrev height : ℕ → ℕ
+  height = slice_index (program_heights p)
+
+  abbrev room : ℕ → ℕ
+  room = slice_index (program_needs p)
+
+  all : Whole height room p
+  all = whole height room p (heights_all (program_heights p) []) (heights_all (program_needs p) [])
+
+  pub room_of : (need : ℕ) (others : List ℕ) (s : State) → IsWithin height room need others s → HasRoom need others s
+  room_of need others s h = has_room height room (program_below p) need others s h
+
+  pub entry_needs : (f : ℕ) (e : Entry) (q : c.Procedure) → slice_get (program_code p).procedures f ≡ Some e → slice_get p.procedures f ≡ Some q →
+      room e.at ≡ procedure_need p q
+  entry_needs f e q a b = all.entry f e q a b
+
+  pub step_within : (limit : ℕ) (g : Setting) (s t : State) (out : List Event) (need : ℕ) (others : List ℕ) → IsWithin height room need others s →
+      step limit g (program_code p) s ≡ Goes out t → NextWithin height room need others t
+  step_within limit g s t out need others h e =
+      let r = step_keeps limit g (program_code p) (plan height room) all.sound need others s t out (fits_in height room need others s h) e in
+      record { need' = r.top; others' = r.others; change = r.change; is = fits_out height room r.top r.others t r.fits }
+
+  -- ---- runs
+
+  abbrev pub HasNeeds : State → Type 0
+  HasNeeds s = (need : ℕ) × (others : List ℕ) × IsWithin height room need others s
+
+  run_within : (limit : ℕ) (g : Setting) (k : ℕ) (s t : State) → HasNeeds s → state_run limit g (program_code p) k s ≡ Some t → HasNeeds t
+  run_within limit g zero s t h e = let same : s ≡ t = cc in subst (λ u. HasNeeds u) same h
+  run_within limit g (suc k) s t h e = by_next (step limit g (program_code p) s) refl e (λ u h e. run_within limit g k u t h e)
+    where
+      by_next : (x : Next) → step limit g (program_code p) s ≡ x → state_next x (state_run limit g (program_code p) k) ≡ Some t →
+          ((u : State) → HasNeeds u → state_run limit g (program_code p) k u ≡ Some t → HasNeeds t) → HasNeeds t
+      by_next (Goes out u) is e more =
+          let n = step_within limit g s u out h.0 h.1 h.2 is in
+          more u (n.need', n.others', n.is) e
+      by_next (state.Stays out halt) is e more = cc
+
+  starts : (w : World) → HasNeeds (start p w)
+  starts w = (main_need p, [], record { stack = subst (λ h. Within height room (main_need p) (room 0) h []) (sym all.begins) all.main; frames = tt })
+
+  pub runs_within : (limit : ℕ) (answers : ℕ → Bool) (k : ℕ) (s : State) → state_after limit p (program_code p) answers k ≡ Some s → HasNeeds s
+  runs_within limit answers k s e =
+      let r = (claim (core_here p) >>= λ done. enter p.main.initial).from (core_world p answers) in by_end r.out r.end e
+    where
+      by_end : {A : Type 0} (out : List Event) (end : End A) →
+          state_next (ends_so out end (λ done w. start p w)) (state_run limit (core_setting p) (program_code p) k) ≡ Some s → HasNeeds s
+      by_end out (Gives x w) e = run_within limit (core_setting p) k (start p w) s (starts w) e
+      by_end out (Fails error place) e = cc
+      by_end out (Stops code) e = cc
+      by_end out Beyond e = cc
+
+pub runs_have_room : (limit : ℕ) (p : c.Program) (answers : ℕ → Bool) (k : ℕ) (s : State) → state_after limit p (program_code p) answers k ≡ Some s →
+    (need : ℕ) × (others : List ℕ) × IsWithin (slice_index (program_heights p)) (slice_index (program_needs p)) need others s × HasRoom need others s
+runs_have_room limit p answers k s e = let h = runs_within p limit answers k s e in (h.0, h.1, h.2, room_of p h.0 h.1 s h.2)

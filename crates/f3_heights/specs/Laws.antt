@@ -1,0 +1,44 @@
+-- The laws of heights.
+use Rattle.std.specs.Prelude.{◌≡◌, ℕ, suc, ◌+◌, Bool, List, length, Some, slice_get, slice_index}
+use Rattle.f3_meaning_whole.specs.Ran.{Event}
+use Rattle.f3_meaning_whole.specs.Act.{Setting}
+use Rattle.f3_core.specs.Core.{Procedure, Program}
+use Rattle.f3_core.specs.Run.{core_setting}
+use Rattle.f3_code.specs.State.{Code, Entry, State, Goes}
+use Rattle.f3_code.specs.Machine.{before, step, run}
+use Rattle.f3_code.specs.Run.{after}
+use Rattle.f3_code.specs.Code.{program_code}
+use Rattle.f3_heights.specs.Heights.{AreHeights, Fits}
+use Rattle.f3_heights.specs.Program.{program_heights}
+use Rattle.f3_heights.specs.Room.{procedure_need, program_needs, IsWithin, NextWithin, HasRoom, state_after}
+
+-- Where heights are those of a code, each step from a state that fits them leads to one that fits them.
+abbrev pub StepsFit : Type 0
+StepsFit = (limit : ℕ) (g : Setting) (code : Code) (height : ℕ → ℕ) → AreHeights height code →
+    (s t : State) (out : List Event) → Fits height s → step limit g code s ≡ Goes out t → Fits height t
+
+-- The heights of the code of each Core program, known before its run, are those of its code: one for each line.
+abbrev pub CodeHasHeights : Type 0
+CodeHasHeights = (p : Program) → (length (program_heights p) ≡ length (program_code p).lines) × AreHeights (slice_index (program_heights p)) (program_code p)
+
+-- Each step keeps to what activations need: one that goes on needs as much as before, one that begins what its first line says,
+-- and where one ends its caller needs what it did.
+abbrev pub StepsKeepRoom : Type 0
+StepsKeepRoom = (p : Program) (limit : ℕ) (g : Setting) (s t : State) (out : List Event) (need : ℕ) (others : List ℕ) →
+    IsWithin (slice_index (program_heights p)) (slice_index (program_needs p)) need others s → step limit g (program_code p) s ≡ Goes out t →
+    NextWithin (slice_index (program_heights p)) (slice_index (program_needs p)) need others t
+
+-- The first line of a procedure says what the procedure needs.
+abbrev pub EntriesNeed : Type 0
+EntriesNeed = (p : Program) (f : ℕ) (e : Entry) (q : Procedure) → slice_get (program_code p).procedures f ≡ Some e →
+    slice_get p.procedures f ≡ Some q → slice_index (program_needs p) e.at ≡ procedure_need p q
+
+-- In each state of each run of a program, whatever the heap answers, no activation has more cells than it needs.
+abbrev pub RunsHaveRoom : Type 0
+RunsHaveRoom = (limit : ℕ) (p : Program) (answers : ℕ → Bool) (k : ℕ) (s : State) → state_after limit p (program_code p) answers k ≡ Some s →
+    (need : ℕ) × (others : List ℕ) × IsWithin (slice_index (program_heights p)) (slice_index (program_needs p)) need others s × HasRoom need others s
+
+-- A state after so many instructions is one of the run: this has happened, and from there on the run is that from the state.
+abbrev pub StatesAreOfRuns : Type 0
+StatesAreOfRuns = (limit : ℕ) (p : Program) (code : Code) (answers : ℕ → Bool) (k : ℕ) (s : State) → state_after limit p code answers k ≡ Some s →
+    (out : List Event) × ((j : ℕ) → after limit p code answers (suc (k + j)) ≡ before out (run limit (core_setting p) code j s))

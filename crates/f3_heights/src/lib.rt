@@ -1,0 +1,39 @@
+//! How many cells stand on the stack of an activation at each line of the code of a program, known before the run.
+#![tactic(auto)]
+
+ghost use Rattle.f3_heights.specs.Laws.{CodeHasHeights, EntriesNeed, RunsHaveRoom, StatesAreOfRuns, StepsFit, StepsKeepRoom};
+
+/// Where heights are those of a code, line by line, each step of the machine keeps to them: the stack of an activation has as many
+/// cells as the height of its line says, and so has the stack of each caller (own rule).
+pub fn steps_fit()
+    ensures { StepsFit }
+{}
+
+/// The code of every Core program has heights, known before the run: at each line so many cells stand there on whatever way the
+/// machine comes to it (own rule).
+pub fn code_has_heights()
+    ensures { CodeHasHeights }
+{}
+
+/// Each step of the machine with the code of a Core program keeps to what activations need, and these needs change only where a
+/// procedure begins or ends: one that begins needs what its first line says (own rule).
+pub fn steps_keep_room()
+    ensures { StepsKeepRoom }
+{}
+
+/// What the first line of a procedure says is the greatest height of its lines, and what the routines of types that it may run add
+/// (own rule).
+pub fn entries_need()
+    ensures { EntriesNeed }
+{}
+
+/// In each state of each run of a Core program no activation has more cells than it needs, and no caller as many (own rule).
+pub fn runs_have_room()
+    ensures { RunsHaveRoom }
+{}
+
+/// The states of which this speaks are those of the run: what the run does from there on is what the machine does from the state
+/// (own rule).
+pub fn states_are_of_runs()
+    ensures { StatesAreOfRuns }
+{}
