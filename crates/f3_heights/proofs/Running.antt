@@ -12,6 +12,7 @@ use Rattle.f3_code.specs.Machine.{ends_so, step}
 use Rattle.f3_code.specs.Code.{program_code}
 use Rattle.f3_code.specs.Run.{start}
 use Rattle.f3_heights.specs.Program.{work_heights, body_heights, main_heights, procedures_heights, routines_heights, program_heights}
+use Rattle.f3_heights.specs.Heights.{Stand, FramesFit, Fits}
 use Rattle.f3_heights.specs.Room.{greatest, alike, routines_need, procedure_need, main_need, routines_needs, procedures_needs, program_needs, Within, FramesWithin, IsWithin, FramesHave, HasRoom, NextWithin, state_next, state_run, state_after}
 use Rattle.f3_heights.proofs.Keeping.{FramesIn, FitsIn}
 use Rattle.f3_heights.proofs.Stepping.{step_keeps}
@@ -102,6 +103,20 @@ module _ (height room : ℕ → ℕ) where
     frames = frames_have low needs s.frames h.frames;
   }
 
+  -- ---- and that they are those that the heights say
+
+  within_stand : (need mark h : ℕ) (st : List Cell) → Within height room need mark h st → Stand height h st
+  within_stand need mark zero [] s = tt
+  within_stand need mark (suc h) [] s = s
+  within_stand need mark zero (To back place ∷ below) s = (s.0, s.1, within_stand need (room back) s.0 below s.3)
+  within_stand need mark zero (c ∷ below) s = s
+  within_stand need mark (suc h) (c ∷ below) s = within_stand need mark h below s
+
+  frames_fit : (needs : List ℕ) (fs : List Frame) → FramesWithin height room needs fs → FramesFit height fs
+  frames_fit needs [] h = tt
+  frames_fit [] (f ∷ fs) h = absurd h
+  frames_fit (n ∷ ns) (f ∷ fs) h = (h.0, h.1, within_stand n (room f.pc) h.0 f.stack h.2, frames_fit ns fs h.3)
+
 module _ (p : c.Program) where
   abbrev height : ℕ → ℕ
   height = slice_index (program_heights p)
@@ -111,6 +126,15 @@ module _ (p : c.Program) where
 
   all : Whole height room p
   all = whole height room p (heights_all (program_heights p) []) (heights_all (program_needs p) [])
+
+  pub within_has_room : (need : ℕ) (others : List ℕ) (s : State) → IsWithin height room need others s → HasRoom need others s × Fits height s
+  within_has_room need others s h = (
+    has_room height room (program_below p) need others s h,
+    record {
+      stack = within_stand height room need (room s.pc) (height s.pc) s.stack h.stack;
+      frames = frames_fit height room others s.frames h.frames;
+    },
+  )
 
   pub room_of : (need : ℕ) (others : List ℕ) (s : State) → IsWithin height room need others s → HasRoom need others s
   room_of need others s h = has_room height room (program_below p) need others s h
@@ -141,8 +165,8 @@ module _ (p : c.Program) where
           more u (n.need', n.others', n.is) e
       by_next (state.Stays out halt) is e more = cc
 
-  starts : (w : World) → HasNeeds (start p w)
-  starts w = (main_need p, [], record { stack = subst (λ h. Within height room (main_need p) (room 0) h []) (sym all.begins) all.main; frames = tt })
+  pub starts_within : (w : World) → IsWithin height room (main_need p) [] (start p w)
+  starts_within w = record { stack = subst (λ h. Within height room (main_need p) (room 0) h []) (sym all.begins) all.main; frames = tt }
 
   pub runs_within : (limit : ℕ) (answers : ℕ → Bool) (k : ℕ) (s : State) → state_after limit p (program_code p) answers k ≡ Some s → HasNeeds s
   runs_within limit answers k s e =
@@ -150,7 +174,7 @@ module _ (p : c.Program) where
     where
       by_end : {A : Type 0} (out : List Event) (end : End A) →
           state_next (ends_so out end (λ done w. start p w)) (state_run limit (core_setting p) (program_code p) k) ≡ Some s → HasNeeds s
-      by_end out (Gives x w) e = run_within limit (core_setting p) k (start p w) s (starts w) e
+      by_end out (Gives x w) e = run_within limit (core_setting p) k (start p w) s (main_need p, [], starts_within w) e
       by_end out (Fails error place) e = cc
       by_end out (Stops code) e = cc
       by_end out Beyond e = cc

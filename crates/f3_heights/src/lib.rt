@@ -1,7 +1,18 @@
 //! How many cells stand on the stack of an activation at each line of the code of a program, known before the run.
 #![tactic(auto)]
 
-ghost use Rattle.f3_heights.specs.Laws.{CodeHasHeights, EntriesNeed, RunsHaveRoom, StatesAreOfRuns, StepsFit, StepsKeepRoom};
+ghost use Rattle.f3_heights.specs.Laws.{
+  CodeHasHeights,
+  EntriesNeed,
+  HeapStepsFit,
+  HeapStepsKeepRoom,
+  RunsHaveRoom,
+  StatesAreOfRuns,
+  StartsWithin,
+  StepsFit,
+  StepsKeepRoom,
+  WithinHasRoom,
+};
 
 /// Where heights are those of a code, line by line, each step of the machine keeps to them: the stack of an activation has as many
 /// cells as the height of its line says, and so has the stack of each caller (own rule).
@@ -27,6 +38,17 @@ pub fn entries_need()
     ensures { EntriesNeed }
 {}
 
+/// A program begins within what its main program needs (own rule).
+pub fn starts_within()
+    ensures { StartsWithin }
+{}
+
+/// Where activations are within what they need, none has more cells than that, and no caller as many; and each has those that the
+/// heights say (own rule).
+pub fn within_has_room()
+    ensures { WithinHasRoom }
+{}
+
 /// In each state of each run of a Core program no activation has more cells than it needs, and no caller as many (own rule).
 pub fn runs_have_room()
     ensures { RunsHaveRoom }
@@ -36,4 +58,14 @@ pub fn runs_have_room()
 /// (own rule).
 pub fn states_are_of_runs()
     ensures { StatesAreOfRuns }
+{}
+
+/// The machine over a heap of a size keeps to the heights of a code in the same way (own rule).
+pub fn heap_steps_fit()
+    ensures { HeapStepsFit }
+{}
+
+/// The machine over a heap of a size keeps to what activations need in the same way (own rule).
+pub fn heap_steps_keep_room()
+    ensures { HeapStepsKeepRoom }
 {}
