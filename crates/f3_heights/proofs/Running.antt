@@ -1,5 +1,5 @@
 -- The states of a run have no more cells than they need.
-use Rattle.std.proofs.Common.{◌≡◌, ℕ, zero, suc, ◌+◌, ◌≤◌, Bool, List, [], ◌∷◌, ◌++◌, length, Some, refl, sym, ◌∙◌, subst, arith, append_assoc}
+use Rattle.std.proofs.Common.{◌≡◌, ℕ, zero, suc, ◌+◌, ◌-◌, ◌<◌, ◌≤◌, Bool, List, [], ◌∷◌, ◌++◌, length, Some, refl, sym, ap, ◌∙◌, subst, arith, append_assoc}
 use Rattle.std.specs.Prelude.{slice_get, slice_index}
 use Rattle.f3_meaning_whole.specs.Ran.{Event, World, End, Gives, Fails, Stops, Beyond, ◌>>=◌}
 use Rattle.f3_meaning_whole.specs.Act.{Setting, claim, enter}
@@ -9,11 +9,11 @@ use Rattle.f3_core.specs.Run.{core_setting, core_here, core_world}
 use Rattle.f3_code.specs.State.{Code, Entry, Cell, To, Frame, State, Next, Goes}
 use Rattle.f3_code.specs.State as state
 use Rattle.f3_code.specs.Machine.{ends_so, step}
-use Rattle.f3_code.specs.Code.{program_code}
+use Rattle.f3_code.specs.Code.{body_code, main_code, program_code}
 use Rattle.f3_code.specs.Run.{start}
 use Rattle.f3_heights.specs.Program.{work_heights, body_heights, main_heights, procedures_heights, routines_heights, program_heights}
 use Rattle.f3_heights.specs.Heights.{Stand, FramesFit, Fits}
-use Rattle.f3_heights.specs.Room.{greatest, alike, routines_need, procedure_need, main_need, routines_needs, procedures_needs, program_needs, Within, FramesWithin, IsWithin, FramesHave, HasRoom, NextWithin, state_next, state_run, state_after}
+use Rattle.f3_heights.specs.Room.{greatest, home, alike, routines_need, procedure_need, main_need, routines_needs, procedures_needs, program_needs, Within, FramesWithin, IsWithin, FramesHave, HasRoom, NextWithin, state_next, state_run, state_after}
 use Rattle.f3_heights.proofs.Keeping.{FramesIn, FitsIn}
 use Rattle.f3_heights.proofs.Stepping.{step_keeps}
 use Rattle.f3_heights.proofs.OfProgram.{heights_all}
@@ -90,16 +90,32 @@ module _ (height room : ℕ → ℕ) where
   within_length need mark zero (c ∷ below) s = absurd s
   within_length need mark (suc h) (c ∷ below) s = omega (arith, within_length need mark h below s)
 
-  frames_have : ((pc : ℕ) → height pc ≤ room pc) → (needs : List ℕ) (fs : List Frame) → FramesWithin height room needs fs → FramesHave needs fs
+  -- what is needed is what the line of the procedure says
+  within_home : (need pc h : ℕ) (st : List Cell) → Within height room need (room pc) h st → room (home height pc h st) ≡ need
+  within_home need pc zero [] s = s
+  within_home need pc (suc h) [] s = absurd s
+  within_home need pc zero (To back place ∷ below) s =
+      let e : height back - 1 ≡ s.0 = omega (arith, s.1) in
+      ap (λ h. room (home height back h below)) e ∙ within_home need back s.0 below s.3
+  within_home need pc zero (c ∷ below) s = absurd s
+  within_home need pc (suc h) (c ∷ below) s = within_home need pc h below s
+
+  frames_have : ((pc : ℕ) → height pc ≤ room pc) → (needs : List ℕ) (fs : List Frame) → FramesWithin height room needs fs → FramesHave height room needs fs
   frames_have low [] [] h = tt
   frames_have low [] (f ∷ fs) h = absurd h
   frames_have low (n ∷ ns) [] h = absurd h
   frames_have low (n ∷ ns) (f ∷ fs) h =
-      (omega (arith, within_length n (room f.pc) h.0 f.stack h.2, low f.pc, h.1), frames_have low ns fs h.3)
+      let e : height f.pc - 1 ≡ h.0 = omega (arith, h.1) in (
+        omega (arith, within_length n (room f.pc) h.0 f.stack h.2, low f.pc, h.1),
+        ap (λ h. room (home height f.pc h f.stack)) e ∙ within_home n f.pc h.0 f.stack h.2,
+        frames_have low ns fs h.3,
+      )
 
-  has_room : ((pc : ℕ) → height pc ≤ room pc) → (need : ℕ) (needs : List ℕ) (s : State) → IsWithin height room need needs s → HasRoom need needs s
+  has_room : ((pc : ℕ) → height pc ≤ room pc) → (need : ℕ) (needs : List ℕ) (s : State) → IsWithin height room need needs s →
+      HasRoom height room need needs s
   has_room low need needs s h = record {
     stack = omega (arith, within_length need (room s.pc) (height s.pc) s.stack h.stack, low s.pc);
+    procedure = within_home need s.pc (height s.pc) s.stack h.stack;
     frames = frames_have low needs s.frames h.frames;
   }
 
@@ -127,7 +143,7 @@ module _ (p : c.Program) where
   all : Whole height room p
   all = whole height room p (heights_all (program_heights p) []) (heights_all (program_needs p) [])
 
-  pub within_has_room : (need : ℕ) (others : List ℕ) (s : State) → IsWithin height room need others s → HasRoom need others s × Fits height s
+  pub within_has_room : (need : ℕ) (others : List ℕ) (s : State) → IsWithin height room need others s → HasRoom height room need others s × Fits height s
   within_has_room need others s h = (
     has_room height room (program_below p) need others s h,
     record {
@@ -136,12 +152,15 @@ module _ (p : c.Program) where
     },
   )
 
-  pub room_of : (need : ℕ) (others : List ℕ) (s : State) → IsWithin height room need others s → HasRoom need others s
+  pub room_of : (need : ℕ) (others : List ℕ) (s : State) → IsWithin height room need others s → HasRoom height room need others s
   room_of need others s h = has_room height room (program_below p) need others s h
 
-  pub entry_needs : (f : ℕ) (e : Entry) (q : c.Procedure) → slice_get (program_code p).procedures f ≡ Some e → slice_get p.procedures f ≡ Some q →
-      room e.at ≡ procedure_need p q
-  entry_needs f e q a b = all.entry f e q a b
+  pub lines_need : (f : ℕ) (e : Entry) (q : c.Procedure) → slice_get (program_code p).procedures f ≡ Some e → slice_get p.procedures f ≡ Some q →
+      (j : ℕ) → j < length (body_code (length p.routines) q) → room (e.at + j) ≡ procedure_need p q
+  lines_need f e q a b j lt = all.entry f e q a b j lt
+
+  pub main_needs : (j : ℕ) → j < length (main_code (length p.routines) p.main) → room j ≡ main_need p
+  main_needs j lt = all.main j lt
 
   pub step_within : (limit : ℕ) (g : Setting) (s t : State) (out : List Event) (need : ℕ) (others : List ℕ) → IsWithin height room need others s →
       step limit g (program_code p) s ≡ Goes out t → NextWithin height room need others t
@@ -166,7 +185,7 @@ module _ (p : c.Program) where
       by_next (state.Stays out halt) is e more = cc
 
   pub starts_within : (w : World) → IsWithin height room (main_need p) [] (start p w)
-  starts_within w = record { stack = subst (λ h. Within height room (main_need p) (room 0) h []) (sym all.begins) all.main; frames = tt }
+  starts_within w = record { stack = subst (λ h. Within height room (main_need p) (room 0) h []) (sym all.begins) (all.main 0 all.some); frames = tt }
 
   pub runs_within : (limit : ℕ) (answers : ℕ → Bool) (k : ℕ) (s : State) → state_after limit p (program_code p) answers k ≡ Some s → HasNeeds s
   runs_within limit answers k s e =
@@ -180,5 +199,5 @@ module _ (p : c.Program) where
       by_end out Beyond e = cc
 
 pub runs_have_room : (limit : ℕ) (p : c.Program) (answers : ℕ → Bool) (k : ℕ) (s : State) → state_after limit p (program_code p) answers k ≡ Some s →
-    (need : ℕ) × (others : List ℕ) × IsWithin (slice_index (program_heights p)) (slice_index (program_needs p)) need others s × HasRoom need others s
+    (need : ℕ) × (others : List ℕ) × IsWithin (slice_index (program_heights p)) (slice_index (program_needs p)) need others s × HasRoom (slice_index (program_heights p)) (slice_index (program_needs p)) need others s
 runs_have_room limit p answers k s e = let h = runs_within p limit answers k s e in (h.0, h.1, h.2, room_of p h.0 h.1 s h.2)

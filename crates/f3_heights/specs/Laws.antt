@@ -1,5 +1,5 @@
 -- The laws of heights.
-use Rattle.std.specs.Prelude.{◌≡◌, ℕ, suc, ◌+◌, Bool, List, [], length, Some, slice_get, slice_index}
+use Rattle.std.specs.Prelude.{◌≡◌, ℕ, suc, ◌+◌, ◌<◌, Bool, List, [], length, Some, slice_get, slice_index}
 use Rattle.f3_meaning_whole.specs.Ran.{Event, World}
 use Rattle.f3_meaning_whole.specs.Act.{Setting}
 use Rattle.f3_core.specs.Core.{Procedure, Program}
@@ -7,7 +7,7 @@ use Rattle.f3_core.specs.Run.{core_setting}
 use Rattle.f3_code.specs.State.{Code, Entry, State, Goes}
 use Rattle.f3_code.specs.Machine.{before, step, run}
 use Rattle.f3_code.specs.Run.{start, after}
-use Rattle.f3_code.specs.Code.{program_code}
+use Rattle.f3_code.specs.Code.{body_code, main_code, program_code}
 use Rattle.f3_answers.specs.Heap.{heap_step}
 use Rattle.f3_heights.specs.Heights.{AreHeights, Fits}
 use Rattle.f3_heights.specs.Program.{program_heights}
@@ -29,10 +29,11 @@ StepsKeepRoom = (p : Program) (limit : ℕ) (g : Setting) (s t : State) (out : L
     IsWithin (slice_index (program_heights p)) (slice_index (program_needs p)) need others s → step limit g (program_code p) s ≡ Goes out t →
     NextWithin (slice_index (program_heights p)) (slice_index (program_needs p)) need others t
 
--- The first line of a procedure says what the procedure needs.
-abbrev pub EntriesNeed : Type 0
-EntriesNeed = (p : Program) (f : ℕ) (e : Entry) (q : Procedure) → slice_get (program_code p).procedures f ≡ Some e →
-    slice_get p.procedures f ≡ Some q → slice_index (program_needs p) e.at ≡ procedure_need p q
+-- The lines of the main program and those of a procedure say what these need.
+abbrev pub LinesNeed : Type 0
+LinesNeed = (p : Program) → ((j : ℕ) → j < length (main_code (length p.routines) p.main) → slice_index (program_needs p) j ≡ main_need p) ×
+    ((f : ℕ) (e : Entry) (q : Procedure) → slice_get (program_code p).procedures f ≡ Some e → slice_get p.procedures f ≡ Some q →
+    (j : ℕ) → j < length (body_code (length p.routines) q) → slice_index (program_needs p) (e.at + j) ≡ procedure_need p q)
 
 -- A program begins within what its main program needs.
 abbrev pub StartsWithin : Type 0
@@ -42,12 +43,13 @@ StartsWithin = (p : Program) (w : World) → IsWithin (slice_index (program_heig
 abbrev pub WithinHasRoom : Type 0
 WithinHasRoom = (p : Program) (need : ℕ) (others : List ℕ) (s : State) →
     IsWithin (slice_index (program_heights p)) (slice_index (program_needs p)) need others s →
-    HasRoom need others s × Fits (slice_index (program_heights p)) s
+    HasRoom (slice_index (program_heights p)) (slice_index (program_needs p)) need others s × Fits (slice_index (program_heights p)) s
 
--- In each state of each run of a program, whatever the heap answers, no activation has more cells than it needs.
+-- In each state of each run of a program, whatever the heap answers, no activation has more cells than the procedure needs at whose line it is,
+-- or to whose line the routines lead back that it runs.
 abbrev pub RunsHaveRoom : Type 0
 RunsHaveRoom = (limit : ℕ) (p : Program) (answers : ℕ → Bool) (k : ℕ) (s : State) → state_after limit p (program_code p) answers k ≡ Some s →
-    (need : ℕ) × (others : List ℕ) × IsWithin (slice_index (program_heights p)) (slice_index (program_needs p)) need others s × HasRoom need others s
+    (need : ℕ) × (others : List ℕ) × IsWithin (slice_index (program_heights p)) (slice_index (program_needs p)) need others s × HasRoom (slice_index (program_heights p)) (slice_index (program_needs p)) need others s
 
 -- A state after so many instructions is one of the run: this has happened, and from there on the run is that from the state.
 abbrev pub StatesAreOfRuns : Type 0

@@ -3,9 +3,9 @@
 
 ghost use Rattle.f3_heights.specs.Laws.{
   CodeHasHeights,
-  EntriesNeed,
   HeapStepsFit,
   HeapStepsKeepRoom,
+  LinesNeed,
   RunsHaveRoom,
   StatesAreOfRuns,
   StartsWithin,
@@ -32,10 +32,10 @@ pub fn steps_keep_room()
     ensures { StepsKeepRoom }
 {}
 
-/// What the first line of a procedure says is the greatest height of its lines, and what the routines of types that it may run add
-/// (own rule).
-pub fn entries_need()
-    ensures { EntriesNeed }
+/// What a line of the main program or of a procedure says is needed is the greatest height of all its lines, and what the routines
+/// of types add that it may run (own rule).
+pub fn lines_need()
+    ensures { LinesNeed }
 {}
 
 /// A program begins within what its main program needs (own rule).
@@ -49,7 +49,8 @@ pub fn within_has_room()
     ensures { WithinHasRoom }
 {}
 
-/// In each state of each run of a Core program no activation has more cells than it needs, and no caller as many (own rule).
+/// In each state of each run of a Core program no activation has more cells than its procedure needs, and no caller as many
+/// (own rule).
 pub fn runs_have_room()
     ensures { RunsHaveRoom }
 {}
