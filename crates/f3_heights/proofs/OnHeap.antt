@@ -37,7 +37,7 @@ heap_steps_fit size limit g code height heights s t out h e =
 
 pub heap_steps_keep_room : (p : c.Program) (size limit : ℕ) (g : Setting) (s t : State) (out : List Event) (need : ℕ) (others : List ℕ) →
     IsWithin (slice_index (program_heights p)) (slice_index (program_needs p)) need others s → heap_step size limit g (program_code p) s ≡ Goes out t →
-    NextWithin (slice_index (program_heights p)) (slice_index (program_needs p)) need others t
+    NextWithin limit (slice_index (program_heights p)) (slice_index (program_needs p)) need others t
 heap_steps_keep_room p size limit g s t out need others h e =
     let a = heap_answers size limit g (program_code p) s in
     let there : IsWithin (slice_index (program_heights p)) (slice_index (program_needs p)) need others (with_answers a.0 s) =

@@ -1,6 +1,7 @@
 -- The states of a run have no more cells than they need.
-use Rattle.std.proofs.Common.{◌≡◌, ℕ, zero, suc, ◌+◌, ◌-◌, ◌<◌, ◌≤◌, Bool, List, [], ◌∷◌, ◌++◌, length, Some, refl, sym, ap, ◌∙◌, subst, arith, append_assoc}
+use Rattle.std.proofs.Common.{◌≡◌, ℕ, zero, suc, ◌+◌, ◌-◌, ◌*◌, ◌<◌, ◌≤◌, Bool, List, [], ◌∷◌, ◌++◌, length, Some, refl, sym, ap, ◌∙◌, subst, arith, append_assoc}
 use Rattle.std.specs.Prelude.{slice_get, slice_index}
+use Rattle.std.proofs.Math.Nat.{mul-le-mul_right}
 use Rattle.f3_meaning_whole.specs.Ran.{Event, World, End, Gives, Fails, Stops, Beyond, ◌>>=◌}
 use Rattle.f3_meaning_whole.specs.Act.{Setting, claim, enter}
 use Rattle.f3_core.specs.Work as w
@@ -13,7 +14,7 @@ use Rattle.f3_code.specs.Code.{body_code, main_code, program_code}
 use Rattle.f3_code.specs.Run.{start}
 use Rattle.f3_heights.specs.Program.{work_heights, body_heights, main_heights, procedures_heights, routines_heights, program_heights}
 use Rattle.f3_heights.specs.Heights.{Stand, FramesFit, Fits}
-use Rattle.f3_heights.specs.Room.{greatest, home, alike, routines_need, procedure_need, main_need, routines_needs, procedures_needs, program_needs, Within, FramesWithin, IsWithin, FramesHave, HasRoom, NextWithin, state_next, state_run, state_after}
+use Rattle.f3_heights.specs.Room.{greatest, home, alike, routines_need, procedure_need, main_need, routines_needs, procedures_needs, program_needs, Within, FramesWithin, IsWithin, FramesHave, HasRoom, NextWithin, Change, Stays, Begins, Ends, frames_cells, all_cells, state_next, state_run, state_after}
 use Rattle.f3_heights.proofs.Keeping.{FramesIn, FitsIn}
 use Rattle.f3_heights.proofs.Stepping.{step_keeps}
 use Rattle.f3_heights.proofs.OfProgram.{heights_all}
@@ -163,41 +164,78 @@ module _ (p : c.Program) where
   main_needs j lt = all.main j lt
 
   pub step_within : (limit : ℕ) (g : Setting) (s t : State) (out : List Event) (need : ℕ) (others : List ℕ) → IsWithin height room need others s →
-      step limit g (program_code p) s ≡ Goes out t → NextWithin height room need others t
+      step limit g (program_code p) s ≡ Goes out t → NextWithin limit height room need others t
   step_within limit g s t out need others h e =
       let r = step_keeps limit g (program_code p) (plan height room) all.sound need others s t out (fits_in height room need others s h) e in
       record { need' = r.top; others' = r.others; change = r.change; is = fits_out height room r.top r.others t r.fits }
 
-  -- ---- runs
-
-  abbrev pub HasNeeds : State → Type 0
-  HasNeeds s = (need : ℕ) × (others : List ℕ) × IsWithin height room need others s
-
-  run_within : (limit : ℕ) (g : Setting) (k : ℕ) (s t : State) → HasNeeds s → state_run limit g (program_code p) k s ≡ Some t → HasNeeds t
-  run_within limit g zero s t h e = let same : s ≡ t = cc in subst (λ u. HasNeeds u) same h
-  run_within limit g (suc k) s t h e = by_next (step limit g (program_code p) s) refl e (λ u h e. run_within limit g k u t h e)
-    where
-      by_next : (x : Next) → step limit g (program_code p) s ≡ x → state_next x (state_run limit g (program_code p) k) ≡ Some t →
-          ((u : State) → HasNeeds u → state_run limit g (program_code p) k u ≡ Some t → HasNeeds t) → HasNeeds t
-      by_next (Goes out u) is e more =
-          let n = step_within limit g s u out h.0 h.1 h.2 is in
-          more u (n.need', n.others', n.is) e
-      by_next (state.Stays out halt) is e more = cc
-
   pub starts_within : (w : World) → IsWithin height room (main_need p) [] (start p w)
   starts_within w = record { stack = subst (λ h. Within height room (main_need p) (room 0) h []) (sym all.begins) (all.main 0 all.some); frames = tt }
 
-  pub runs_within : (limit : ℕ) (answers : ℕ → Bool) (k : ℕ) (s : State) → state_after limit p (program_code p) answers k ≡ Some s → HasNeeds s
-  runs_within limit answers k s e =
-      let r = (claim (core_here p) >>= λ done. enter p.main.initial).from (core_world p answers) in by_end r.out r.end e
-    where
-      by_end : {A : Type 0} (out : List Event) (end : End A) →
-          state_next (ends_so out end (λ done w. start p w)) (state_run limit (core_setting p) (program_code p) k) ≡ Some s → HasNeeds s
-      by_end out (Gives x w) e = run_within limit (core_setting p) k (start p w) s (main_need p, [], starts_within w) e
-      by_end out (Fails error place) e = cc
-      by_end out (Stops code) e = cc
-      by_end out Beyond e = cc
+  -- ---- runs
+
+  module _ (limit : ℕ) where
+    abbrev pub HasNeeds : State → Type 0
+    HasNeeds s = (need : ℕ) × (others : List ℕ) × IsWithin height room need others s × (length others ≤ limit)
+
+    few_others : (need : ℕ) (others : List ℕ) (new need' : ℕ) (others' : List ℕ) → Change limit need others new need' others' → length others ≤ limit →
+        length others' ≤ limit
+    few_others need others new need' others' (Stays a b) le = omega (arith, ap (λ (l : List ℕ). length l) b, le)
+    few_others need others new need' others' (Begins few a b) le = omega (arith, ap (λ (l : List ℕ). length l) b, few)
+    few_others need others new need' others' (Ends b) le = omega (arith, ap (λ (l : List ℕ). length l) b, le)
+
+    run_within : (g : Setting) (k : ℕ) (s t : State) → HasNeeds s → state_run limit g (program_code p) k s ≡ Some t → HasNeeds t
+    run_within g zero s t h e = let same : s ≡ t = cc in subst (λ u. HasNeeds u) same h
+    run_within g (suc k) s t h e = by_next (step limit g (program_code p) s) refl e (λ u h e. run_within g k u t h e)
+      where
+        by_next : (x : Next) → step limit g (program_code p) s ≡ x → state_next x (state_run limit g (program_code p) k) ≡ Some t →
+            ((u : State) → HasNeeds u → state_run limit g (program_code p) k u ≡ Some t → HasNeeds t) → HasNeeds t
+        by_next (Goes out u) is e more =
+            let n = step_within limit g s u out h.0 h.1 h.2 is in
+            more u (n.need', n.others', n.is, few_others h.0 h.1 (room u.pc) n.need' n.others' n.change h.3) e
+        by_next (state.Stays out halt) is e more = cc
+
+    pub runs_within : (answers : ℕ → Bool) (k : ℕ) (s : State) → state_after limit p (program_code p) answers k ≡ Some s → HasNeeds s
+    runs_within answers k s e =
+        let r = (claim (core_here p) >>= λ done. enter p.main.initial).from (core_world p answers) in by_end r.out r.end e
+      where
+        by_end : {A : Type 0} (out : List Event) (end : End A) →
+            state_next (ends_so out end (λ done w. start p w)) (state_run limit (core_setting p) (program_code p) k) ≡ Some s → HasNeeds s
+        by_end out (Gives x w) e = run_within (core_setting p) k (start p w) s (main_need p, [], starts_within w, omega arith) e
+        by_end out (Fails error place) e = cc
+        by_end out (Stops code) e = cc
+        by_end out Beyond e = cc
 
 pub runs_have_room : (limit : ℕ) (p : c.Program) (answers : ℕ → Bool) (k : ℕ) (s : State) → state_after limit p (program_code p) answers k ≡ Some s →
-    (need : ℕ) × (others : List ℕ) × IsWithin (slice_index (program_heights p)) (slice_index (program_needs p)) need others s × HasRoom (slice_index (program_heights p)) (slice_index (program_needs p)) need others s
+    (need : ℕ) × (others : List ℕ) × IsWithin (slice_index (program_heights p)) (slice_index (program_needs p)) need others s ×
+    HasRoom (slice_index (program_heights p)) (slice_index (program_needs p)) need others s
 runs_have_room limit p answers k s e = let h = runs_within p limit answers k s e in (h.0, h.1, h.2, room_of p h.0 h.1 s h.2)
+
+-- ---- all cells together
+
+index_greatest : (hs : List ℕ) (k : ℕ) → slice_index hs k ≤ greatest hs
+index_greatest [] k = omega arith
+index_greatest (h ∷ hs) zero = (greatest_first h hs).0
+index_greatest (h ∷ hs) (suc k) = omega (arith, index_greatest hs k, (greatest_first h hs).1)
+
+frames_bounded : (height needs : ℕ → ℕ) (g : ℕ) → ((pc : ℕ) → needs pc ≤ g) → (xs : List ℕ) (fs : List Frame) → FramesHave height needs xs fs →
+    (length fs ≡ length xs) × (frames_cells fs ≤ length xs * g)
+frames_bounded height needs g low [] [] h = (refl, omega arith)
+frames_bounded height needs g low [] (f ∷ fs) h = absurd h
+frames_bounded height needs g low (x ∷ xs) [] h = absurd h
+frames_bounded height needs g low (x ∷ xs) (f ∷ fs) h =
+    let more = frames_bounded height needs g low xs fs h.2 in
+    let least = low (home height f.pc (height f.pc - 1) f.stack) in
+    (ap suc more.0, omega (arith, more.1, h.0, h.1, least))
+
+pub runs_are_bounded : (limit : ℕ) (p : c.Program) (answers : ℕ → Bool) (k : ℕ) (s : State) → state_after limit p (program_code p) answers k ≡ Some s →
+    (length s.frames ≤ limit) × (all_cells s ≤ (limit + 1) * greatest (program_needs p))
+runs_are_bounded limit p answers k s e =
+    let h = runs_within p limit answers k s e in
+    let r = room_of p h.0 h.1 s h.2 in
+    let g = greatest (program_needs p) in
+    let low : (pc : ℕ) → slice_index (program_needs p) pc ≤ g = λ pc. index_greatest (program_needs p) pc in
+    let b = frames_bounded (slice_index (program_heights p)) (slice_index (program_needs p)) g low h.1 s.frames r.frames in
+    let top = low (home (slice_index (program_heights p)) s.pc (slice_index (program_heights p) s.pc) s.stack) in
+    let most : length h.1 * g ≤ limit * g = mul-le-mul_right g h.3 in
+    (omega (arith, b.0, h.3), omega (arith, b.1, most, top, r.procedure, r.stack))

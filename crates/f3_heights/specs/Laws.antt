@@ -1,5 +1,5 @@
 -- The laws of heights.
-use Rattle.std.specs.Prelude.{◌≡◌, ℕ, suc, ◌+◌, ◌<◌, Bool, List, [], length, Some, slice_get, slice_index}
+use Rattle.std.specs.Prelude.{◌≡◌, ℕ, suc, ◌+◌, ◌*◌, ◌<◌, ◌≤◌, Bool, List, [], length, Some, slice_get, slice_index}
 use Rattle.f3_meaning_whole.specs.Ran.{Event, World}
 use Rattle.f3_meaning_whole.specs.Act.{Setting}
 use Rattle.f3_core.specs.Core.{Procedure, Program}
@@ -11,7 +11,7 @@ use Rattle.f3_code.specs.Code.{body_code, main_code, program_code}
 use Rattle.f3_answers.specs.Heap.{heap_step}
 use Rattle.f3_heights.specs.Heights.{AreHeights, Fits}
 use Rattle.f3_heights.specs.Program.{program_heights}
-use Rattle.f3_heights.specs.Room.{main_need, procedure_need, program_needs, IsWithin, NextWithin, HasRoom, state_after}
+use Rattle.f3_heights.specs.Room.{greatest, all_cells, main_need, procedure_need, program_needs, IsWithin, NextWithin, HasRoom, state_after}
 
 -- Where heights are those of a code, each step from a state that fits them leads to one that fits them.
 abbrev pub StepsFit : Type 0
@@ -27,7 +27,7 @@ CodeHasHeights = (p : Program) → (length (program_heights p) ≡ length (progr
 abbrev pub StepsKeepRoom : Type 0
 StepsKeepRoom = (p : Program) (limit : ℕ) (g : Setting) (s t : State) (out : List Event) (need : ℕ) (others : List ℕ) →
     IsWithin (slice_index (program_heights p)) (slice_index (program_needs p)) need others s → step limit g (program_code p) s ≡ Goes out t →
-    NextWithin (slice_index (program_heights p)) (slice_index (program_needs p)) need others t
+    NextWithin limit (slice_index (program_heights p)) (slice_index (program_needs p)) need others t
 
 -- The lines of the main program and those of a procedure say what these need.
 abbrev pub LinesNeed : Type 0
@@ -51,6 +51,12 @@ abbrev pub RunsHaveRoom : Type 0
 RunsHaveRoom = (limit : ℕ) (p : Program) (answers : ℕ → Bool) (k : ℕ) (s : State) → state_after limit p (program_code p) answers k ≡ Some s →
     (need : ℕ) × (others : List ℕ) × IsWithin (slice_index (program_heights p)) (slice_index (program_needs p)) need others s × HasRoom (slice_index (program_heights p)) (slice_index (program_needs p)) need others s
 
+-- In each state of each run there are no more callers than there may be, and all activations together have no more cells than as
+-- many of the greatest need.
+abbrev pub RunsAreBounded : Type 0
+RunsAreBounded = (limit : ℕ) (p : Program) (answers : ℕ → Bool) (k : ℕ) (s : State) → state_after limit p (program_code p) answers k ≡ Some s →
+    (length s.frames ≤ limit) × (all_cells s ≤ (limit + 1) * greatest (program_needs p))
+
 -- A state after so many instructions is one of the run: this has happened, and from there on the run is that from the state.
 abbrev pub StatesAreOfRuns : Type 0
 StatesAreOfRuns = (limit : ℕ) (p : Program) (code : Code) (answers : ℕ → Bool) (k : ℕ) (s : State) → state_after limit p code answers k ≡ Some s →
@@ -64,4 +70,4 @@ HeapStepsFit = (size limit : ℕ) (g : Setting) (code : Code) (height : ℕ → 
 abbrev pub HeapStepsKeepRoom : Type 0
 HeapStepsKeepRoom = (p : Program) (size limit : ℕ) (g : Setting) (s t : State) (out : List Event) (need : ℕ) (others : List ℕ) →
     IsWithin (slice_index (program_heights p)) (slice_index (program_needs p)) need others s → heap_step size limit g (program_code p) s ≡ Goes out t →
-    NextWithin (slice_index (program_heights p)) (slice_index (program_needs p)) need others t
+    NextWithin limit (slice_index (program_heights p)) (slice_index (program_needs p)) need others t

@@ -90,18 +90,27 @@ pub record HasRoom (height needs : ℕ → ℕ) (need : ℕ) (others : List ℕ)
   pub procedure : needs (home height s.pc (height s.pc) s.stack) ≡ need
   pub frames : FramesHave height needs others s.frames
 
--- how a step changes what the activations need: not at all; or one more begins, which needs so much; or the newest one ends
-pub data Change (need : ℕ) (others : List ℕ) (new : ℕ) (need' : ℕ) (others' : List ℕ) : Type 0 where
-  Stays : need' ≡ need → others' ≡ others → Change need others new need' others'
-  Begins : need' ≡ new → others' ≡ need ∷ others → Change need others new need' others'
-  Ends : others ≡ need' ∷ others' → Change need others new need' others'
+-- How a step changes what the activations need: not at all; or one more begins, which needs so much, where there were fewer callers
+-- than there may be; or the newest one ends.
+pub data Change (limit need : ℕ) (others : List ℕ) (new : ℕ) (need' : ℕ) (others' : List ℕ) : Type 0 where
+  Stays : need' ≡ need → others' ≡ others → Change limit need others new need' others'
+  Begins : length others < limit → need' ≡ new → others' ≡ need ∷ others → Change limit need others new need' others'
+  Ends : others ≡ need' ∷ others' → Change limit need others new need' others'
 
 -- the needs of the activations of the state to which a step leads; one that begins needs what its first line says
-pub record NextWithin (height needs : ℕ → ℕ) (need : ℕ) (others : List ℕ) (t : State) : Type 0 where
+pub record NextWithin (limit : ℕ) (height needs : ℕ → ℕ) (need : ℕ) (others : List ℕ) (t : State) : Type 0 where
   pub need' : ℕ
   pub others' : List ℕ
-  pub change : Change need others (needs t.pc) need' others'
+  pub change : Change limit need others (needs t.pc) need' others'
   pub is : IsWithin height needs need' others' t
+
+-- the cells of all activations together
+abbrev pub frames_cells : List Frame → ℕ
+frames_cells [] = 0
+frames_cells (f ∷ fs) = length f.stack + frames_cells fs
+
+abbrev pub all_cells : State → ℕ
+all_cells s = length s.stack + frames_cells s.frames
 
 -- ---- runs
 

@@ -6,6 +6,7 @@ ghost use Rattle.f3_heights.specs.Laws.{
   HeapStepsFit,
   HeapStepsKeepRoom,
   LinesNeed,
+  RunsAreBounded,
   RunsHaveRoom,
   StatesAreOfRuns,
   StartsWithin,
@@ -53,6 +54,12 @@ pub fn within_has_room()
 /// (own rule).
 pub fn runs_have_room()
     ensures { RunsHaveRoom }
+{}
+
+/// In each state of each run of a Core program there are no more callers than there may be, and all activations together have no
+/// more cells than as many of the greatest need: so what a run needs for its cells is known before it (own rule).
+pub fn runs_are_bounded()
+    ensures { RunsAreBounded }
 {}
 
 /// The states of which this speaks are those of the run: what the run does from there on is what the machine does from the state
