@@ -1,5 +1,5 @@
 -- What instructions do keeps to heights: the parts.
-use Rattle.std.proofs.Common.{◌≡◌, ℕ, zero, suc, ◌+◌, ℤ, Bool, true, false, List, [], ◌∷◌, Option, Some, None, sym, refl, ◌∙◌, ap, subst, arith, if◌then◌else◌}
+use Rattle.std.proofs.Common.{◌≡◌, ℕ, zero, suc, ◌+◌, ℤ, Bool, true, false, List, [], ◌∷◌, length, Option, Some, None, sym, refl, ◌∙◌, ap, subst, arith, if◌then◌else◌}
 use Rattle.f3_rules.specs.declared.source.Place.{Place}
 use Rattle.f3_meaning_whole.specs.Value.{Span, Value}
 use Rattle.f3_meaning_whole.specs.Store.{Path}
@@ -45,6 +45,12 @@ FramesIn a [] [] = Unit {0}
 FramesIn a (need ∷ needs) (f ∷ fs) = (h : ℕ) × (a.height f.pc ≡ suc h) × Above a need (a.mark f.pc) h f.stack × FramesIn a needs fs
 FramesIn a needs fs = ⊥
 
+pub as_many : (a : Plan) (needs : List ℕ) (fs : List Frame) → FramesIn a needs fs → length needs ≡ length fs
+as_many a [] [] h = refl
+as_many a [] (f ∷ fs) h = absurd h
+as_many a (n ∷ ns) [] h = absurd h
+as_many a (n ∷ ns) (f ∷ fs) h = ap suc (as_many a ns fs h.3)
+
 pub record FitsIn (a : Plan) (need : ℕ) (needs : List ℕ) (s : State) : Type 0 where
   pub stack : Above a need (a.mark s.pc) (a.height s.pc) s.stack
   pub frames : FramesIn a needs s.frames
@@ -56,15 +62,15 @@ pub record Rules (a : Plan) : Type 0 where
   pub begin : (mark : ℕ) → a.under mark mark []
 
 -- where a step leads, and with what needs
-pub record Ahead (a : Plan) (need : ℕ) (needs : List ℕ) (t : State) : Type 0 where
+pub record Ahead (limit : ℕ) (a : Plan) (need : ℕ) (needs : List ℕ) (t : State) : Type 0 where
   pub top : ℕ
   pub others : List ℕ
-  pub change : Change need needs (a.mark t.pc) top others
+  pub change : Change limit need needs (a.mark t.pc) top others
   pub fits : FitsIn a top others t
 
-module _ (a : Plan) (need : ℕ) (needs : List ℕ) where
+module _ (limit : ℕ) (a : Plan) (need : ℕ) (needs : List ℕ) where
   abbrev pub FitsNext : Next → Type 0
-  FitsNext (Goes out t) = Ahead a need needs t
+  FitsNext (Goes out t) = Ahead limit a need needs t
   FitsNext (state.Stays out halt) = Unit {0}
 
   -- where it goes, the cells are those that the heights say
@@ -86,7 +92,7 @@ module _ (a : Plan) (need : ℕ) (needs : List ℕ) where
   -- a state at a line with so many cells, in the same activation
   pub fit : {pc mark : ℕ} {stack : List Cell} {here : Here} {frames : List Frame} {w : World} (rest k : ℕ) → a.height pc ≡ k + rest → a.mark pc ≡ mark →
       Above a need mark (above k rest) stack → FramesIn a needs frames →
-      Ahead a need needs (record { pc = pc; stack = stack; here = here; frames = frames; world = w })
+      Ahead limit a need needs (record { pc = pc; stack = stack; here = here; frames = frames; world = w })
   fit {pc = pc} {stack = stack} rest k e same h fs =
       let there = subst (λ m. Above a need m (above k rest) stack) (sym same) h in record {
         top = need;
@@ -101,7 +107,7 @@ module _ (a : Plan) (need : ℕ) (needs : List ℕ) where
       Keeps (Goes out (record { pc = pc; stack = stack; here = here; frames = frames; world = w }))
   goes_there rest k e same h fs = record { by = fit rest k e same h fs }
 
-  pub performing : {A : Type 0} (r : Ran A) (w : World) {f : A → World → State} → ((x : A) (w : World) → Ahead a need needs (f x w)) → Keeps (performs r w f)
+  pub performing : {A : Type 0} (r : Ran A) (w : World) {f : A → World → State} → ((x : A) (w : World) → Ahead limit a need needs (f x w)) → Keeps (performs r w f)
   performing {A = A} r w {f = f} h = record { by = by_end (r.from w).out (r.from w).end }
     where
       by_end : (out : List Event) (end : End A) → FitsNext (ends_so out end f)

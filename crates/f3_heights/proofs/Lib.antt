@@ -12,3 +12,4 @@ pub mod Older
 pub mod Needing
 pub mod Running
 pub mod States
+pub mod OnHeap

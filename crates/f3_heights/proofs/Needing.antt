@@ -1,5 +1,5 @@
 -- No activation of a run has more cells than it needs.
-use Rattle.std.proofs.Common.{◌≡◌, ℕ, zero, suc, ◌+◌, ◌≤◌, true, List, [], ◌∷◌, ◌++◌, length, None, Some, refl, sym, ap, ◌∙◌, subst, arith, append_assoc, length-append}
+use Rattle.std.proofs.Common.{◌≡◌, ℕ, zero, suc, ◌+◌, ◌<◌, ◌≤◌, true, List, [], ◌∷◌, ◌++◌, length, None, Some, refl, sym, ap, ◌∙◌, subst, arith, append_assoc, length-append}
 use Rattle.std.specs.Prelude.{slice_get, nat_eq, nat_lt}
 use Rattle.f3_core.specs.Work as w
 use Rattle.f3_core.specs.Core as c
@@ -55,6 +55,13 @@ module _ (height room : ℕ → ℕ) where
   alike_first : (c pc : ℕ) (a : List ℕ) (h : ℕ) (b : List ℕ) → HeightsAt room pc (alike c (a ++ (h ∷ b))) → room pc ≡ c
   alike_first c pc [] h b r = r.0
   alike_first c pc (x ∷ a) h b r = r.0
+
+  -- and each of them
+  alike_all : (c pc : ℕ) (hs : List ℕ) → HeightsAt room pc (alike c hs) → (j : ℕ) → j < length hs → room (pc + j) ≡ c
+  alike_all c pc [] r j lt = absurd (omega arith)
+  alike_all c pc (x ∷ hs) r zero lt = let e : pc + 0 ≡ pc = omega arith in ap room e ∙ r.0
+  alike_all c pc (x ∷ hs) r (suc j) lt =
+      let e : pc + suc j ≡ pc + 1 + j = omega arith in ap room e ∙ alike_all c (pc + 1) hs r.1 j (omega arith)
 
   -- ---- routines
 
@@ -193,20 +200,29 @@ module _ (height room : ℕ → ℕ) where
       (subst (λ n. HeightsAt height n (procedures_heights m qs)) e1 (heights_back height at hq (procedures_heights m qs) h))
       (subst (λ n. HeightsAt room n (procedures_needs p qs)) e2 (heights_back room at (alike need hq) (procedures_needs p qs) r)))
 
-  pub entries_need : (p : c.Program) (qs : List c.Procedure) (at : ℕ) → HeightsAt room at (procedures_needs p qs) → (f : ℕ) (e : Entry) (q : c.Procedure) →
-      slice_get (entries (length p.routines) at qs) f ≡ Some e → slice_get qs f ≡ Some q → room e.at ≡ procedure_need p q
-  entries_need p [] at r f e q a b = cc
-  entries_need p (x ∷ qs) at r zero e q a b =
+  pub lines_need : (p : c.Program) (qs : List c.Procedure) (at : ℕ) → HeightsAt room at (procedures_needs p qs) → (f : ℕ) (e : Entry) (q : c.Procedure) →
+      slice_get (entries (length p.routines) at qs) f ≡ Some e → slice_get qs f ≡ Some q → (j : ℕ) → j < length (body_code (length p.routines) q) →
+      room (e.at + j) ≡ procedure_need p q
+  lines_need p [] at r f e q a b j lt = cc
+  lines_need p (x ∷ qs) at r zero e q a b j lt =
       let same : x ≡ q = cc in
       let here : record { at = at; unit = x.unit; dummies = x.dummies; variables = x.variables; initial = x.initial } ≡ e = cc in
-      subst (λ y. room y.at ≡ procedure_need p q) here (subst (λ y. room at ≡ procedure_need p y) same r.0)
-  entries_need p (x ∷ qs) at r (suc f) e q a b =
+      let lt' : j < length (body_heights (length p.routines) x) = omega (
+        arith,
+        lt,
+        (body_part height (length p.routines) x).same,
+        ap (λ y. length (body_code (length p.routines) y)) same,
+      ) in
+      let first = alike_all (procedure_need p x) at (body_heights (length p.routines) x)
+      (heights_front room at (alike (procedure_need p x) (body_heights (length p.routines) x)) (procedures_needs p qs) r) j lt' in
+      subst (λ y. room (y.at + j) ≡ procedure_need p q) here (subst (λ y. room (at + j) ≡ procedure_need p y) same first)
+  lines_need p (x ∷ qs) at r (suc f) e q a b j lt =
       let m = length p.routines in
       let hx = body_heights m x in
       let n : at + length (alike (procedure_need p x) hx) ≡ at + length (body_code m x) =
       omega (arith, (body_part height m x).same, alike_length (procedure_need p x) hx) in
-      entries_need p qs (at + length (body_code m x))
-      (subst (λ k. HeightsAt room k (procedures_needs p qs)) n (heights_back room at (alike (procedure_need p x) hx) (procedures_needs p qs) r)) f e q a b
+      lines_need p qs (at + length (body_code m x))
+      (subst (λ k. HeightsAt room k (procedures_needs p qs)) n (heights_back room at (alike (procedure_need p x) hx) (procedures_needs p qs) r)) f e q a b j lt
 
   -- ---- the whole
 
@@ -227,10 +243,11 @@ module _ (height room : ℕ → ℕ) where
 
   pub record Whole (p : c.Program) : Type 0 where
     pub sound : Sound plan (program_code p)
-    pub main : room 0 ≡ main_need p
+    pub main : (j : ℕ) → j < length (main_code (length p.routines) p.main) → room j ≡ main_need p
+    pub some : 0 < length (main_code (length p.routines) p.main)
     pub begins : height 0 ≡ 0
     pub entry : (f : ℕ) (e : Entry) (q : c.Procedure) → slice_get (program_code p).procedures f ≡ Some e → slice_get p.procedures f ≡ Some q →
-        room e.at ≡ procedure_need p q
+        (j : ℕ) → j < length (body_code (length p.routines) q) → room (e.at + j) ≡ procedure_need p q
 
   pub whole : (p : c.Program) → HeightsAt height 0 (program_heights p) → HeightsAt room 0 (program_needs p) → Whole p
   whole p h r =
@@ -275,7 +292,9 @@ module _ (height room : ℕ → ℕ) where
           enters = λ pc l is t e. (line_at pc l is).2 t e;
           procedures = (program_keeps height p h).procedures;
         };
-        main = alike_first need 0 (code_heights m 0 0 p.main.body) 0 (0 ∷ []) rm;
+        main = λ j lt.
+            let lt' : j < length hm = omega (arith, lt, same) in let at : j ≡ 0 + j = omega arith in ap room at ∙ alike_all need 0 hm rm j lt';
+        some = omega (arith, same, length-append (code_heights m 0 0 p.main.body) (0 ∷ 0 ∷ []));
         begins = o.0;
-        entry = λ f e q a b. entries_need p p.procedures (length cm + length cr) r2 f e q a b;
+        entry = λ f e q a b j lt. lines_need p p.procedures (length cm + length cr) r2 f e q a b j lt;
       }

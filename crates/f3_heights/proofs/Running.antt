@@ -1,6 +1,7 @@
 -- The states of a run have no more cells than they need.
-use Rattle.std.proofs.Common.{◌≡◌, ℕ, zero, suc, ◌+◌, ◌≤◌, Bool, List, [], ◌∷◌, ◌++◌, length, Some, refl, sym, ◌∙◌, subst, arith, append_assoc}
+use Rattle.std.proofs.Common.{◌≡◌, ℕ, zero, suc, ◌+◌, ◌-◌, ◌*◌, ◌<◌, ◌≤◌, Bool, List, [], ◌∷◌, ◌++◌, length, Some, refl, sym, ap, ◌∙◌, subst, arith, append_assoc}
 use Rattle.std.specs.Prelude.{slice_get, slice_index}
+use Rattle.std.proofs.Math.Nat.{mul-le-mul_right}
 use Rattle.f3_meaning_whole.specs.Ran.{Event, World, End, Gives, Fails, Stops, Beyond, ◌>>=◌}
 use Rattle.f3_meaning_whole.specs.Act.{Setting, claim, enter}
 use Rattle.f3_core.specs.Work as w
@@ -9,10 +10,11 @@ use Rattle.f3_core.specs.Run.{core_setting, core_here, core_world}
 use Rattle.f3_code.specs.State.{Code, Entry, Cell, To, Frame, State, Next, Goes}
 use Rattle.f3_code.specs.State as state
 use Rattle.f3_code.specs.Machine.{ends_so, step}
-use Rattle.f3_code.specs.Code.{program_code}
+use Rattle.f3_code.specs.Code.{body_code, main_code, program_code}
 use Rattle.f3_code.specs.Run.{start}
 use Rattle.f3_heights.specs.Program.{work_heights, body_heights, main_heights, procedures_heights, routines_heights, program_heights}
-use Rattle.f3_heights.specs.Room.{greatest, alike, routines_need, procedure_need, main_need, routines_needs, procedures_needs, program_needs, Within, FramesWithin, IsWithin, FramesHave, HasRoom, NextWithin, state_next, state_run, state_after}
+use Rattle.f3_heights.specs.Heights.{Stand, FramesFit, Fits}
+use Rattle.f3_heights.specs.Room.{greatest, home, alike, routines_need, procedure_need, main_need, routines_needs, procedures_needs, program_needs, Within, FramesWithin, IsWithin, FramesHave, HasRoom, NextWithin, Change, Stays, Begins, Ends, frames_cells, all_cells, state_next, state_run, state_after}
 use Rattle.f3_heights.proofs.Keeping.{FramesIn, FitsIn}
 use Rattle.f3_heights.proofs.Stepping.{step_keeps}
 use Rattle.f3_heights.proofs.OfProgram.{heights_all}
@@ -89,18 +91,48 @@ module _ (height room : ℕ → ℕ) where
   within_length need mark zero (c ∷ below) s = absurd s
   within_length need mark (suc h) (c ∷ below) s = omega (arith, within_length need mark h below s)
 
-  frames_have : ((pc : ℕ) → height pc ≤ room pc) → (needs : List ℕ) (fs : List Frame) → FramesWithin height room needs fs → FramesHave needs fs
+  -- what is needed is what the line of the procedure says
+  within_home : (need pc h : ℕ) (st : List Cell) → Within height room need (room pc) h st → room (home height pc h st) ≡ need
+  within_home need pc zero [] s = s
+  within_home need pc (suc h) [] s = absurd s
+  within_home need pc zero (To back place ∷ below) s =
+      let e : height back - 1 ≡ s.0 = omega (arith, s.1) in
+      ap (λ h. room (home height back h below)) e ∙ within_home need back s.0 below s.3
+  within_home need pc zero (c ∷ below) s = absurd s
+  within_home need pc (suc h) (c ∷ below) s = within_home need pc h below s
+
+  frames_have : ((pc : ℕ) → height pc ≤ room pc) → (needs : List ℕ) (fs : List Frame) → FramesWithin height room needs fs → FramesHave height room needs fs
   frames_have low [] [] h = tt
   frames_have low [] (f ∷ fs) h = absurd h
   frames_have low (n ∷ ns) [] h = absurd h
   frames_have low (n ∷ ns) (f ∷ fs) h =
-      (omega (arith, within_length n (room f.pc) h.0 f.stack h.2, low f.pc, h.1), frames_have low ns fs h.3)
+      let e : height f.pc - 1 ≡ h.0 = omega (arith, h.1) in (
+        omega (arith, within_length n (room f.pc) h.0 f.stack h.2, low f.pc, h.1),
+        ap (λ h. room (home height f.pc h f.stack)) e ∙ within_home n f.pc h.0 f.stack h.2,
+        frames_have low ns fs h.3,
+      )
 
-  has_room : ((pc : ℕ) → height pc ≤ room pc) → (need : ℕ) (needs : List ℕ) (s : State) → IsWithin height room need needs s → HasRoom need needs s
+  has_room : ((pc : ℕ) → height pc ≤ room pc) → (need : ℕ) (needs : List ℕ) (s : State) → IsWithin height room need needs s →
+      HasRoom height room need needs s
   has_room low need needs s h = record {
     stack = omega (arith, within_length need (room s.pc) (height s.pc) s.stack h.stack, low s.pc);
+    procedure = within_home need s.pc (height s.pc) s.stack h.stack;
     frames = frames_have low needs s.frames h.frames;
   }
+
+  -- ---- and that they are those that the heights say
+
+  within_stand : (need mark h : ℕ) (st : List Cell) → Within height room need mark h st → Stand height h st
+  within_stand need mark zero [] s = tt
+  within_stand need mark (suc h) [] s = s
+  within_stand need mark zero (To back place ∷ below) s = (s.0, s.1, within_stand need (room back) s.0 below s.3)
+  within_stand need mark zero (c ∷ below) s = s
+  within_stand need mark (suc h) (c ∷ below) s = within_stand need mark h below s
+
+  frames_fit : (needs : List ℕ) (fs : List Frame) → FramesWithin height room needs fs → FramesFit height fs
+  frames_fit needs [] h = tt
+  frames_fit [] (f ∷ fs) h = absurd h
+  frames_fit (n ∷ ns) (f ∷ fs) h = (h.0, h.1, within_stand n (room f.pc) h.0 f.stack h.2, frames_fit ns fs h.3)
 
 module _ (p : c.Program) where
   abbrev height : ℕ → ℕ
@@ -112,49 +144,98 @@ module _ (p : c.Program) where
   all : Whole height room p
   all = whole height room p (heights_all (program_heights p) []) (heights_all (program_needs p) [])
 
-  pub room_of : (need : ℕ) (others : List ℕ) (s : State) → IsWithin height room need others s → HasRoom need others s
+  pub within_has_room : (need : ℕ) (others : List ℕ) (s : State) → IsWithin height room need others s → HasRoom height room need others s × Fits height s
+  within_has_room need others s h = (
+    has_room height room (program_below p) need others s h,
+    record {
+      stack = within_stand height room need (room s.pc) (height s.pc) s.stack h.stack;
+      frames = frames_fit height room others s.frames h.frames;
+    },
+  )
+
+  pub room_of : (need : ℕ) (others : List ℕ) (s : State) → IsWithin height room need others s → HasRoom height room need others s
   room_of need others s h = has_room height room (program_below p) need others s h
 
-  pub entry_needs : (f : ℕ) (e : Entry) (q : c.Procedure) → slice_get (program_code p).procedures f ≡ Some e → slice_get p.procedures f ≡ Some q →
-      room e.at ≡ procedure_need p q
-  entry_needs f e q a b = all.entry f e q a b
+  pub lines_need : (f : ℕ) (e : Entry) (q : c.Procedure) → slice_get (program_code p).procedures f ≡ Some e → slice_get p.procedures f ≡ Some q →
+      (j : ℕ) → j < length (body_code (length p.routines) q) → room (e.at + j) ≡ procedure_need p q
+  lines_need f e q a b j lt = all.entry f e q a b j lt
+
+  pub main_needs : (j : ℕ) → j < length (main_code (length p.routines) p.main) → room j ≡ main_need p
+  main_needs j lt = all.main j lt
 
   pub step_within : (limit : ℕ) (g : Setting) (s t : State) (out : List Event) (need : ℕ) (others : List ℕ) → IsWithin height room need others s →
-      step limit g (program_code p) s ≡ Goes out t → NextWithin height room need others t
+      step limit g (program_code p) s ≡ Goes out t → NextWithin limit height room need others t
   step_within limit g s t out need others h e =
       let r = step_keeps limit g (program_code p) (plan height room) all.sound need others s t out (fits_in height room need others s h) e in
       record { need' = r.top; others' = r.others; change = r.change; is = fits_out height room r.top r.others t r.fits }
 
+  pub starts_within : (w : World) → IsWithin height room (main_need p) [] (start p w)
+  starts_within w = record { stack = subst (λ h. Within height room (main_need p) (room 0) h []) (sym all.begins) (all.main 0 all.some); frames = tt }
+
   -- ---- runs
 
-  abbrev pub HasNeeds : State → Type 0
-  HasNeeds s = (need : ℕ) × (others : List ℕ) × IsWithin height room need others s
+  module _ (limit : ℕ) where
+    abbrev pub HasNeeds : State → Type 0
+    HasNeeds s = (need : ℕ) × (others : List ℕ) × IsWithin height room need others s × (length others ≤ limit)
 
-  run_within : (limit : ℕ) (g : Setting) (k : ℕ) (s t : State) → HasNeeds s → state_run limit g (program_code p) k s ≡ Some t → HasNeeds t
-  run_within limit g zero s t h e = let same : s ≡ t = cc in subst (λ u. HasNeeds u) same h
-  run_within limit g (suc k) s t h e = by_next (step limit g (program_code p) s) refl e (λ u h e. run_within limit g k u t h e)
-    where
-      by_next : (x : Next) → step limit g (program_code p) s ≡ x → state_next x (state_run limit g (program_code p) k) ≡ Some t →
-          ((u : State) → HasNeeds u → state_run limit g (program_code p) k u ≡ Some t → HasNeeds t) → HasNeeds t
-      by_next (Goes out u) is e more =
-          let n = step_within limit g s u out h.0 h.1 h.2 is in
-          more u (n.need', n.others', n.is) e
-      by_next (state.Stays out halt) is e more = cc
+    few_others : (need : ℕ) (others : List ℕ) (new need' : ℕ) (others' : List ℕ) → Change limit need others new need' others' → length others ≤ limit →
+        length others' ≤ limit
+    few_others need others new need' others' (Stays a b) le = omega (arith, ap (λ (l : List ℕ). length l) b, le)
+    few_others need others new need' others' (Begins few a b) le = omega (arith, ap (λ (l : List ℕ). length l) b, few)
+    few_others need others new need' others' (Ends b) le = omega (arith, ap (λ (l : List ℕ). length l) b, le)
 
-  starts : (w : World) → HasNeeds (start p w)
-  starts w = (main_need p, [], record { stack = subst (λ h. Within height room (main_need p) (room 0) h []) (sym all.begins) all.main; frames = tt })
+    run_within : (g : Setting) (k : ℕ) (s t : State) → HasNeeds s → state_run limit g (program_code p) k s ≡ Some t → HasNeeds t
+    run_within g zero s t h e = let same : s ≡ t = cc in subst (λ u. HasNeeds u) same h
+    run_within g (suc k) s t h e = by_next (step limit g (program_code p) s) refl e (λ u h e. run_within g k u t h e)
+      where
+        by_next : (x : Next) → step limit g (program_code p) s ≡ x → state_next x (state_run limit g (program_code p) k) ≡ Some t →
+            ((u : State) → HasNeeds u → state_run limit g (program_code p) k u ≡ Some t → HasNeeds t) → HasNeeds t
+        by_next (Goes out u) is e more =
+            let n = step_within limit g s u out h.0 h.1 h.2 is in
+            more u (n.need', n.others', n.is, few_others h.0 h.1 (room u.pc) n.need' n.others' n.change h.3) e
+        by_next (state.Stays out halt) is e more = cc
 
-  pub runs_within : (limit : ℕ) (answers : ℕ → Bool) (k : ℕ) (s : State) → state_after limit p (program_code p) answers k ≡ Some s → HasNeeds s
-  runs_within limit answers k s e =
-      let r = (claim (core_here p) >>= λ done. enter p.main.initial).from (core_world p answers) in by_end r.out r.end e
-    where
-      by_end : {A : Type 0} (out : List Event) (end : End A) →
-          state_next (ends_so out end (λ done w. start p w)) (state_run limit (core_setting p) (program_code p) k) ≡ Some s → HasNeeds s
-      by_end out (Gives x w) e = run_within limit (core_setting p) k (start p w) s (starts w) e
-      by_end out (Fails error place) e = cc
-      by_end out (Stops code) e = cc
-      by_end out Beyond e = cc
+    pub runs_within : (answers : ℕ → Bool) (k : ℕ) (s : State) → state_after limit p (program_code p) answers k ≡ Some s → HasNeeds s
+    runs_within answers k s e =
+        let r = (claim (core_here p) >>= λ done. enter p.main.initial).from (core_world p answers) in by_end r.out r.end e
+      where
+        by_end : {A : Type 0} (out : List Event) (end : End A) →
+            state_next (ends_so out end (λ done w. start p w)) (state_run limit (core_setting p) (program_code p) k) ≡ Some s → HasNeeds s
+        by_end out (Gives x w) e = run_within (core_setting p) k (start p w) s (main_need p, [], starts_within w, omega arith) e
+        by_end out (Fails error place) e = cc
+        by_end out (Stops code) e = cc
+        by_end out Beyond e = cc
 
 pub runs_have_room : (limit : ℕ) (p : c.Program) (answers : ℕ → Bool) (k : ℕ) (s : State) → state_after limit p (program_code p) answers k ≡ Some s →
-    (need : ℕ) × (others : List ℕ) × IsWithin (slice_index (program_heights p)) (slice_index (program_needs p)) need others s × HasRoom need others s
+    (need : ℕ) × (others : List ℕ) × IsWithin (slice_index (program_heights p)) (slice_index (program_needs p)) need others s ×
+    HasRoom (slice_index (program_heights p)) (slice_index (program_needs p)) need others s
 runs_have_room limit p answers k s e = let h = runs_within p limit answers k s e in (h.0, h.1, h.2, room_of p h.0 h.1 s h.2)
+
+-- ---- all cells together
+
+index_greatest : (hs : List ℕ) (k : ℕ) → slice_index hs k ≤ greatest hs
+index_greatest [] k = omega arith
+index_greatest (h ∷ hs) zero = (greatest_first h hs).0
+index_greatest (h ∷ hs) (suc k) = omega (arith, index_greatest hs k, (greatest_first h hs).1)
+
+frames_bounded : (height needs : ℕ → ℕ) (g : ℕ) → ((pc : ℕ) → needs pc ≤ g) → (xs : List ℕ) (fs : List Frame) → FramesHave height needs xs fs →
+    (length fs ≡ length xs) × (frames_cells fs ≤ length xs * g)
+frames_bounded height needs g low [] [] h = (refl, omega arith)
+frames_bounded height needs g low [] (f ∷ fs) h = absurd h
+frames_bounded height needs g low (x ∷ xs) [] h = absurd h
+frames_bounded height needs g low (x ∷ xs) (f ∷ fs) h =
+    let more = frames_bounded height needs g low xs fs h.2 in
+    let least = low (home height f.pc (height f.pc - 1) f.stack) in
+    (ap suc more.0, omega (arith, more.1, h.0, h.1, least))
+
+pub runs_are_bounded : (limit : ℕ) (p : c.Program) (answers : ℕ → Bool) (k : ℕ) (s : State) → state_after limit p (program_code p) answers k ≡ Some s →
+    (length s.frames ≤ limit) × (all_cells s ≤ (limit + 1) * greatest (program_needs p))
+runs_are_bounded limit p answers k s e =
+    let h = runs_within p limit answers k s e in
+    let r = room_of p h.0 h.1 s h.2 in
+    let g = greatest (program_needs p) in
+    let low : (pc : ℕ) → slice_index (program_needs p) pc ≤ g = λ pc. index_greatest (program_needs p) pc in
+    let b = frames_bounded (slice_index (program_heights p)) (slice_index (program_needs p)) g low h.1 s.frames r.frames in
+    let top = low (home (slice_index (program_heights p)) s.pc (slice_index (program_heights p) s.pc) s.stack) in
+    let most : length h.1 * g ≤ limit * g = mul-le-mul_right g h.3 in
+    (omega (arith, b.0, h.3), omega (arith, b.1, most, top, r.procedure, r.stack))

@@ -1,5 +1,5 @@
 -- How many cells an activation needs in all, and that it has no more.
-use Rattle.std.specs.Prelude.{⊤, ◌≡◌, ◌≤◌, ◌<◌, ℕ, zero, suc, ◌+◌, max, List, [], ◌∷◌, ◌++◌, length, Option, None, Some}
+use Rattle.std.specs.Prelude.{⊤, ◌≡◌, ◌≤◌, ◌<◌, ℕ, zero, suc, ◌+◌, ◌-◌, max, List, [], ◌∷◌, ◌++◌, length, Option, None, Some}
 use Rattle.std.specs.Prelude.{Bool}
 use Rattle.f3_meaning_whole.specs.Ran.{◌>>=◌}
 use Rattle.f3_meaning_whole.specs.Act.{Setting, claim, enter}
@@ -70,29 +70,47 @@ pub record IsWithin (height needs : ℕ → ℕ) (need : ℕ) (others : List ℕ
   pub stack : Within height needs need (needs s.pc) (height s.pc) s.stack
   pub frames : FramesWithin height needs others s.frames
 
+-- The line of its procedure at which an activation is, or to which the routines that it runs lead back: the cells of a line stand
+-- above the way back.
+abbrev pub home : (height : ℕ → ℕ) → ℕ → ℕ → List Cell → ℕ
+home height pc zero (To back place ∷ below) = home height back (height back - 1) below
+home height pc (suc h) (c ∷ below) = home height pc h below
+home height pc h stack = pc
+
 -- no caller has as many cells as it needs: the value that it is given is one more
-abbrev pub FramesHave : List ℕ → List Frame → Type 0
-FramesHave [] [] = ⊤
-FramesHave (x ∷ xs) (f ∷ fs) = (length f.stack < x) × FramesHave xs fs
-FramesHave xs fs = ⊥
+abbrev pub FramesHave : (height needs : ℕ → ℕ) → List ℕ → List Frame → Type 0
+FramesHave height needs [] [] = ⊤
+FramesHave height needs (x ∷ xs) (f ∷ fs) = (length f.stack < x) × (needs (home height f.pc (height f.pc - 1) f.stack) ≡ x) ×
+    FramesHave height needs xs fs
+FramesHave height needs xs fs = ⊥
 
--- No activation has more cells than it needs.
-pub record HasRoom (need : ℕ) (others : List ℕ) (s : State) : Type 0 where
+-- No activation has more cells than it needs, which is what the line of its procedure says.
+pub record HasRoom (height needs : ℕ → ℕ) (need : ℕ) (others : List ℕ) (s : State) : Type 0 where
   pub stack : length s.stack ≤ need
-  pub frames : FramesHave others s.frames
+  pub procedure : needs (home height s.pc (height s.pc) s.stack) ≡ need
+  pub frames : FramesHave height needs others s.frames
 
--- how a step changes what the activations need: not at all; or one more begins, which needs so much; or the newest one ends
-pub data Change (need : ℕ) (others : List ℕ) (new : ℕ) (need' : ℕ) (others' : List ℕ) : Type 0 where
-  Stays : need' ≡ need → others' ≡ others → Change need others new need' others'
-  Begins : need' ≡ new → others' ≡ need ∷ others → Change need others new need' others'
-  Ends : others ≡ need' ∷ others' → Change need others new need' others'
+-- How a step changes what the activations need: not at all; or one more begins, which needs so much, where there were fewer callers
+-- than there may be; or the newest one ends.
+pub data Change (limit need : ℕ) (others : List ℕ) (new : ℕ) (need' : ℕ) (others' : List ℕ) : Type 0 where
+  Stays : need' ≡ need → others' ≡ others → Change limit need others new need' others'
+  Begins : length others < limit → need' ≡ new → others' ≡ need ∷ others → Change limit need others new need' others'
+  Ends : others ≡ need' ∷ others' → Change limit need others new need' others'
 
 -- the needs of the activations of the state to which a step leads; one that begins needs what its first line says
-pub record NextWithin (height needs : ℕ → ℕ) (need : ℕ) (others : List ℕ) (t : State) : Type 0 where
+pub record NextWithin (limit : ℕ) (height needs : ℕ → ℕ) (need : ℕ) (others : List ℕ) (t : State) : Type 0 where
   pub need' : ℕ
   pub others' : List ℕ
-  pub change : Change need others (needs t.pc) need' others'
+  pub change : Change limit need others (needs t.pc) need' others'
   pub is : IsWithin height needs need' others' t
+
+-- the cells of all activations together
+abbrev pub frames_cells : List Frame → ℕ
+frames_cells [] = 0
+frames_cells (f ∷ fs) = length f.stack + frames_cells fs
+
+abbrev pub all_cells : State → ℕ
+all_cells s = length s.stack + frames_cells s.frames
 
 -- ---- runs
 

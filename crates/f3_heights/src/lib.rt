@@ -1,7 +1,19 @@
 //! How many cells stand on the stack of an activation at each line of the code of a program, known before the run.
 #![tactic(auto)]
 
-ghost use Rattle.f3_heights.specs.Laws.{CodeHasHeights, EntriesNeed, RunsHaveRoom, StatesAreOfRuns, StepsFit, StepsKeepRoom};
+ghost use Rattle.f3_heights.specs.Laws.{
+  CodeHasHeights,
+  HeapStepsFit,
+  HeapStepsKeepRoom,
+  LinesNeed,
+  RunsAreBounded,
+  RunsHaveRoom,
+  StatesAreOfRuns,
+  StartsWithin,
+  StepsFit,
+  StepsKeepRoom,
+  WithinHasRoom,
+};
 
 /// Where heights are those of a code, line by line, each step of the machine keeps to them: the stack of an activation has as many
 /// cells as the height of its line says, and so has the stack of each caller (own rule).
@@ -21,19 +33,47 @@ pub fn steps_keep_room()
     ensures { StepsKeepRoom }
 {}
 
-/// What the first line of a procedure says is the greatest height of its lines, and what the routines of types that it may run add
-/// (own rule).
-pub fn entries_need()
-    ensures { EntriesNeed }
+/// What a line of the main program or of a procedure says is needed is the greatest height of all its lines, and what the routines
+/// of types add that it may run (own rule).
+pub fn lines_need()
+    ensures { LinesNeed }
 {}
 
-/// In each state of each run of a Core program no activation has more cells than it needs, and no caller as many (own rule).
+/// A program begins within what its main program needs (own rule).
+pub fn starts_within()
+    ensures { StartsWithin }
+{}
+
+/// Where activations are within what they need, none has more cells than that, and no caller as many; and each has those that the
+/// heights say (own rule).
+pub fn within_has_room()
+    ensures { WithinHasRoom }
+{}
+
+/// In each state of each run of a Core program no activation has more cells than its procedure needs, and no caller as many
+/// (own rule).
 pub fn runs_have_room()
     ensures { RunsHaveRoom }
+{}
+
+/// In each state of each run of a Core program there are no more callers than there may be, and all activations together have no
+/// more cells than as many of the greatest need: so what a run needs for its cells is known before it (own rule).
+pub fn runs_are_bounded()
+    ensures { RunsAreBounded }
 {}
 
 /// The states of which this speaks are those of the run: what the run does from there on is what the machine does from the state
 /// (own rule).
 pub fn states_are_of_runs()
     ensures { StatesAreOfRuns }
+{}
+
+/// The machine over a heap of a size keeps to the heights of a code in the same way (own rule).
+pub fn heap_steps_fit()
+    ensures { HeapStepsFit }
+{}
+
+/// The machine over a heap of a size keeps to what activations need in the same way (own rule).
+pub fn heap_steps_keep_room()
+    ensures { HeapStepsKeepRoom }
 {}
