@@ -213,6 +213,10 @@ fn hold(alloc: Global, values: &mut Vec<Value>, argument: &Passed) -> Result<(),
     ensures { OnOk result (values_of values.new.items ≡ values_of values.old.items ++ held (passed_of argument.now ∷ [])) }
 {
     match argument {
+        Passed::Given(_, Value::Number(number)) => {
+            values.push(Value::Number(*number))?;
+            Ok(())
+        }
         Passed::Given(_, value) => {
             values.push(copies::value(alloc, value)?)?;
             Ok(())

@@ -15,8 +15,7 @@ fn pop_argument(stack: &mut Vec<Cell>) -> Option<Passed>
     ensures { PoppedOne passed_of argument_of result stack.old.items stack.new.items }
 {
     match stack.pop() {
-        Some(Cell::Argument(Passed::Given(number, value))) => Some(Passed::Given(number, value)),
-        Some(Cell::Argument(Passed::Lent(number, object))) => Some(Passed::Lent(number, object)),
+        Some(Cell::Argument(it)) => Some(it),
         Some(other) => {
             let_go(other);
             None

@@ -52,6 +52,7 @@ fn do_line<W: Write>(
 }
 
 /// The next instruction.
+#[inline(never)]
 pub(crate) fn step<W: Write>(
     alloc: Global,
     scene: &Scene<'_>,
