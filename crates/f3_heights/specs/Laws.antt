@@ -56,8 +56,8 @@ abbrev pub RunsHaveRoom : Type 0
 RunsHaveRoom = (limit : ℕ) (p : Program) (answers : ℕ → Bool) (k : ℕ) (s : State) → state_after limit p (program_code p) answers k ≡ Some s →
     (need : ℕ) × (others : List ℕ) × IsWithin (slice_index (program_heights p)) (slice_index (program_needs p)) need others s × HasRoom (slice_index (program_heights p)) (slice_index (program_needs p)) need others s
 
--- In each state of each run there are no more callers than there may be, and all activations together have no more cells than as
--- many of the greatest need.
+-- In each state of each run there are no more callers than there may be, and these and the newest activation together have no more
+-- cells than if each had the greatest need.
 abbrev pub RunsAreBounded : Type 0
 RunsAreBounded = (limit : ℕ) (p : Program) (answers : ℕ → Bool) (k : ℕ) (s : State) → state_after limit p (program_code p) answers k ≡ Some s →
     (length s.frames ≤ limit) × (all_cells s ≤ (limit + 1) * greatest (program_needs p))

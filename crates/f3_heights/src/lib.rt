@@ -63,8 +63,8 @@ pub fn runs_have_room()
     ensures { RunsHaveRoom }
 {}
 
-/// In each state of each run of a Core program there are no more callers than there may be, and all activations together have no
-/// more cells than as many of the greatest need: so what a run needs for its cells is known before it (own rule).
+/// In each state of each run of a Core program there are no more callers than there may be, and these and the newest activation
+/// together have no more cells than if each had the greatest need: what a run needs for its cells is known before it (own rule).
 pub fn runs_are_bounded()
     ensures { RunsAreBounded }
 {}
