@@ -10,6 +10,7 @@ pub mod OfProgram
 pub mod Regions
 pub mod Older
 pub mod Needing
+pub mod Within
 pub mod Running
 pub mod States
 pub mod OnHeap

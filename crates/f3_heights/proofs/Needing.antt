@@ -1,20 +1,17 @@
--- No activation of a run has more cells than it needs.
+-- The needs of the code of a Core program.
 use Rattle.std.proofs.Common.{◌≡◌, ℕ, zero, suc, ◌+◌, ◌<◌, ◌≤◌, true, List, [], ◌∷◌, ◌++◌, length, None, Some, refl, sym, ap, ◌∙◌, subst, arith, append_assoc, length-append}
 use Rattle.std.specs.Prelude.{slice_get, nat_eq, nat_lt}
 use Rattle.f3_core.specs.Work as w
 use Rattle.f3_core.specs.Core as c
 use Rattle.f3_code.specs.declared.instruction.Instruction.TheVariants as i
-use Rattle.f3_code.specs.State.{Line, line, Entry, Cell}
+use Rattle.f3_code.specs.State.{Line, line, Entry}
 use Rattle.f3_code.specs.Code.{work_code, body_code, main_code, procedures_code, entries, routines_code, places_of, program_code}
-use Rattle.f3_heights.specs.Effect.{on}
-use Rattle.f3_heights.specs.Heights.{Leads, IsAt}
 use Rattle.f3_heights.specs.Program.{work_heights, code_heights, body_heights, main_heights, procedures_heights, routines_heights, program_heights}
-use Rattle.f3_heights.specs.Room.{greatest, alike, routines_need, procedure_need, main_need, routines_needs, procedures_needs, program_needs, Within}
-use Rattle.f3_heights.proofs.Keeping.{Plan, Above, Rules}
-use Rattle.f3_heights.proofs.Stepping.{Kept, IsKept, Enters, RoutinesEnter, Sound}
+use Rattle.f3_heights.specs.Room.{greatest, alike, routines_need, procedure_need, main_need, routines_needs, procedures_needs, program_needs}
+use Rattle.f3_heights.specs.Needs.{IsKept, RoutineHasRoom}
 use Rattle.f3_heights.proofs.Parts.{HeightsAt, heights_front, heights_back}
 use Rattle.f3_heights.proofs.OfWork.{work_part}
-use Rattle.f3_heights.proofs.OfProgram.{routine_part, body_part, main_part, routines_same, program_keeps}
+use Rattle.f3_heights.proofs.OfProgram.{routine_part, body_part, main_part, routines_same}
 use Rattle.f3_heights.proofs.Regions.{AllAt, all_on, all_of, all_map, Own, own}
 use Rattle.f3_heights.proofs.Older.{IsOlder, work_older}
 
@@ -32,25 +29,6 @@ places_length at [] = refl
 places_length at (x ∷ xs) = ap suc (places_length (at + length (work_code (length xs) None x) + 1) xs)
 
 module _ (height room : ℕ → ℕ) where
-  abbrev pub plan : Plan
-  plan = record { height = height; mark = room; under = λ need mark st. Within height room need mark 0 st }
-
-  pub within_above : (need mark h : ℕ) (st : List Cell) → Within height room need mark h st → Above plan need mark h st
-  within_above need mark zero st s = s
-  within_above need mark (suc h) [] s = s
-  within_above need mark (suc h) (x ∷ st) s = within_above need mark h st s
-
-  pub above_within : (need mark h : ℕ) (st : List Cell) → Above plan need mark h st → Within height room need mark h st
-  above_within need mark zero st s = s
-  above_within need mark (suc h) [] s = s
-  above_within need mark (suc h) (x ∷ st) s = above_within need mark h st s
-
-  rules : Rules plan
-  rules = record {
-    back = λ need mark pc place st s. (s.0, s.1, within_above need (room pc) s.0 st s.3);
-    begin = λ mark. refl;
-  }
-
   -- the first of lines that are alike
   alike_first : (c pc : ℕ) (a : List ℕ) (h : ℕ) (b : List ℕ) → HeightsAt room pc (alike c (a ++ (h ∷ b))) → room pc ≡ c
   alike_first c pc [] h b r = r.0
@@ -71,35 +49,20 @@ module _ (height room : ℕ → ℕ) where
   RoomsBegin at (x ∷ xs) = (height at ≡ 1) × (room at ≡ routines_need (x ∷ xs)) × RoomsBegin (at + length (work_code (length xs) None x) + 1) xs
 
   record AtRoutine (g c pc : ℕ) : Type 0 where
-    at : Leads height pc (on 1 1)
-    kept : Kept room pc (on 1 1)
     low : height pc ≤ g
     same : room pc ≡ c
 
-  at_routine : (g c pc t : ℕ) (l : Line) → Own height room g c pc l → l.act ≡ i.Routine t → AtRoutine g c pc
-  at_routine g c pc t l h e = record {
-    at = subst (λ x. IsAt height pc x) e h.at;
-    kept = subst (λ x. IsKept room pc x) e h.kept;
-    low = h.low;
-    same = h.same;
-  }
-
-  enter_one : (g c pc to : ℕ) → AtRoutine g c pc → height to ≡ 1 → room to + g ≤ c → Enters plan pc to
-  enter_one g c pc to h one le = record {
-    one = one;
-    under = λ need place st k e s.
-        let more : room to + suc k ≤ room (pc + 1) = omega (arith, h.at.before, h.at.next, h.kept.next, h.low, h.same, le, e) in
-        (k, e, more, above_within need (room (pc + 1)) k st s);
-  }
+  at_routine : (g c pc : ℕ) (l : Line) → Own height room g c pc l → AtRoutine g c pc
+  at_routine g c pc l h = record { low = h.low; same = h.same }
 
   enter_all : (g c pc t : ℕ) → AtRoutine g c pc → (at : ℕ) (xs : List w.Work) → routines_need xs + g ≤ c → RoomsBegin at xs →
-      RoutinesEnter plan pc t (places_of at xs)
+      RoutineHasRoom height room pc t (places_of at xs)
   enter_all g c pc t h at [] le b = tt
   enter_all g c pc t h at (x ∷ xs) le b =
-      (λ is. enter_one g c pc at h b.0 (omega (arith, b.1, le)), enter_all g c pc t h (at + length (work_code (length xs) None x) + 1) xs (omega (arith, le)) b.2)
+      (λ is. omega (arith, b.1, le, h.low, h.same), enter_all g c pc t h (at + length (work_code (length xs) None x) + 1) xs (omega (arith, le)) b.2)
 
   enter_older : (g c pc t : ℕ) → AtRoutine g c pc → (at : ℕ) (newer xs : List w.Work) → nat_lt t (length xs) ≡ true → routines_need xs + g ≤ c →
-      RoomsBegin at (newer ++ xs) → RoutinesEnter plan pc t (places_of at (newer ++ xs))
+      RoomsBegin at (newer ++ xs) → RoutineHasRoom height room pc t (places_of at (newer ++ xs))
   enter_older g c pc t h at [] xs lt le b = enter_all g c pc t h at xs le b
   enter_older g c pc t h at (x ∷ newer) xs lt le b =
       let next = at + length (work_code (length (newer ++ xs)) None x) + 1 in
@@ -111,7 +74,7 @@ module _ (height room : ℕ → ℕ) where
 
   -- what is said of a line, where the routines stand there
   abbrev LineOf : List ℕ → ℕ → Line → Type 0
-  LineOf table pc l = IsAt height pc l.act × IsKept room pc l.act × ((t : ℕ) → l.act ≡ i.Routine t → RoutinesEnter plan pc t table)
+  LineOf table pc l = IsKept room pc l.act × ((t : ℕ) → l.act ≡ i.Routine t → RoutineHasRoom height room pc t table)
 
   -- ---- a routine and those behind it
 
@@ -163,11 +126,10 @@ module _ (height room : ℕ → ℕ) where
       let b' = subst (λ ws. RoomsBegin base ws) e' b in
       let older = all_on (IsOlder (length xs)) at cx (back ∷ []) (work_older (length xs) None x at) (λ t is. cc, tt) in
       let first : AllAt (LineOf (places_of base all)) at (cx ++ back ∷ []) = all_zip at (cx ++ back ∷ []) (λ k l o old. (
-        o.at,
         o.kept,
         λ t is.
-            subst (λ ws. RoutinesEnter plan k t (places_of base ws)) (sym e') (enter_older g (routines_need (x ∷ xs)) k t
-            (at_routine g (routines_need (x ∷ xs)) k t l o is) base (newer ++ x ∷ []) xs (old t is) (omega arith) b'),
+            subst (λ ws. RoutineHasRoom height room k t (places_of base ws)) (sym e') (enter_older g (routines_need (x ∷ xs)) k t
+            (at_routine g (routines_need (x ∷ xs)) k l o) base (newer ++ x ∷ []) xs (old t is) (omega arith) b'),
       )) p.lines older in
       let rest = routine_lines base all (newer ++ x ∷ []) xs b e' (at + length cx + 1) p.heights p.rooms in
       let here : at + length cx + 1 ≡ at + length (cx ++ back ∷ []) = omega (arith, length-append cx (back ∷ [])) in
@@ -191,9 +153,8 @@ module _ (height room : ℕ → ℕ) where
       let e1 : at + length hq ≡ at + length cq = omega (arith, same) in
       let e2 : at + length (alike need hq) ≡ at + length cq = omega (arith, same, alike_length need hq) in
       let first = all_map at cq (λ k l o. (
-        o.at,
         o.kept,
-        λ t is. enter_all (greatest hq) need k t (at_routine (greatest hq) need k t l o is) base p.routines
+        λ t is. enter_all (greatest hq) need k t (at_routine (greatest hq) need k l o) base p.routines
             (omega arith) b,
       )) o.1 in
       all_on (LineOf (places_of base p.routines)) at cq (procedures_code m qs) first (procedure_lines base p b qs (at + length cq)
@@ -241,8 +202,23 @@ module _ (height room : ℕ → ℕ) where
         routines_needs_length xs,
       )
 
+  procedures_needs_length : (p : c.Program) (qs : List c.Procedure) → length (procedures_needs p qs) ≡ length (procedures_code (length p.routines) qs)
+  procedures_needs_length p [] = refl
+  procedures_needs_length p (q ∷ qs) =
+      let m = length p.routines in
+      omega (
+        arith,
+        length-append (alike (procedure_need p q) (body_heights m q)) (procedures_needs p qs),
+        alike_length (procedure_need p q) (body_heights m q),
+        length-append (body_code m q) (procedures_code m qs),
+        (body_part height m q).same,
+        procedures_needs_length p qs,
+      )
+
   pub record Whole (p : c.Program) : Type 0 where
-    pub sound : Sound plan (program_code p)
+    pub kept : (pc : ℕ) (l : Line) → slice_get (program_code p).lines pc ≡ Some l → IsKept room pc l.act
+    pub routines : (pc : ℕ) (l : Line) (t : ℕ) → slice_get (program_code p).lines pc ≡ Some l → l.act ≡ i.Routine t →
+        RoutineHasRoom height room pc t (program_code p).routines
     pub main : (j : ℕ) → j < length (main_code (length p.routines) p.main) → room j ≡ main_need p
     pub some : 0 < length (main_code (length p.routines) p.main)
     pub begins : height 0 ≡ 0
@@ -272,9 +248,8 @@ module _ (height room : ℕ → ℕ) where
       let b = rooms_begin p.routines (length cm) hr1 rr1 in
       let table = places_of (length cm) p.routines in
       let lines_m : AllAt (LineOf table) 0 cm = all_map 0 cm (λ k l o. (
-        o.at,
         o.kept,
-        λ t is. enter_all (greatest hm) need k t (at_routine (greatest hm) need k t l o is) (length cm)
+        λ t is. enter_all (greatest hm) need k t (at_routine (greatest hm) need k l o) (length cm)
             p.routines (omega arith) b,
       )) o.1 in
       let lines_r = routine_lines (length cm) p.routines [] p.routines b refl (length cm) hr1 rr1 in
@@ -285,16 +260,30 @@ module _ (height room : ℕ → ℕ) where
       let line_at : (pc : ℕ) (l : Line) → slice_get (cm ++ (cr ++ cp)) pc ≡ Some l → LineOf table pc l =
       λ pc l is. let at : 0 + pc ≡ pc = omega arith in subst (λ n. LineOf table n l) at (all_of (LineOf table) (cm ++ (cr ++ cp)) 0 pc l all is) in
       record {
-        sound = record {
-          rules = rules;
-          lines = λ pc l is. (line_at pc l is).0;
-          kept = λ pc l is. (line_at pc l is).1;
-          enters = λ pc l is t e. (line_at pc l is).2 t e;
-          procedures = (program_keeps height p h).procedures;
-        };
+        kept = λ pc l is. (line_at pc l is).0;
+        routines = λ pc l t is e. (line_at pc l is).1 t e;
         main = λ j lt.
             let lt' : j < length hm = omega (arith, lt, same) in let at : j ≡ 0 + j = omega arith in ap room at ∙ alike_all need 0 hm rm j lt';
         some = omega (arith, same, length-append (code_heights m 0 0 p.main.body) (0 ∷ 0 ∷ []));
         begins = o.0;
         entry = λ f e q a b j lt. lines_need p p.procedures (length cm + length cr) r2 f e q a b j lt;
       }
+
+-- one for each line
+pub needs_length : (height : ℕ → ℕ) (p : c.Program) → length (program_needs p) ≡ length (program_code p).lines
+needs_length height p =
+    let m = length p.routines in
+    let cm = main_code m p.main in let hm = main_heights m p.main in
+    let cr = routines_code p.routines in let rs = routines_needs p.routines in
+    let cp = procedures_code m p.procedures in let ps = procedures_needs p p.procedures in
+    omega (
+      arith,
+      length-append (alike (main_need p) hm) (rs ++ ps),
+      length-append rs ps,
+      alike_length (main_need p) hm,
+      length-append cm (cr ++ cp),
+      length-append cr cp,
+      (main_part height m p.main).same,
+      routines_needs_length height height p.routines,
+      procedures_needs_length height height p p.procedures,
+    )

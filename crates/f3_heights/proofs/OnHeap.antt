@@ -1,20 +1,18 @@
 -- The machine over a heap of a size keeps to heights and needs.
 use Rattle.std.proofs.Common.{◌≡◌, ℕ, List, Bool, Option, None, Some, refl, sym, ap, ◌∙◌}
-use Rattle.std.specs.Prelude.{slice_get, slice_index}
+use Rattle.std.specs.Prelude.{slice_get}
 use Rattle.f3_meaning_whole.specs.Ran.{Event}
 use Rattle.f3_meaning_whole.specs.Act.{Setting}
-use Rattle.f3_core.specs.Core as c
 use Rattle.f3_code.specs.State.{Line, Code, State, Goes}
 use Rattle.f3_code.specs.Machine.{does_line, step}
-use Rattle.f3_code.specs.Code.{program_code}
 use Rattle.f3_account.specs.Account.{used}
 use Rattle.f3_answers.specs.Wants.{wants}
 use Rattle.f3_answers.specs.Heap.{with_answers, answers_to, heap_does_line, heap_step}
 use Rattle.f3_heights.specs.Heights.{AreHeights, Fits}
-use Rattle.f3_heights.specs.Program.{program_heights}
-use Rattle.f3_heights.specs.Room.{program_needs, IsWithin, NextWithin}
+use Rattle.f3_heights.specs.Room.{IsWithin, NextWithin}
 use Rattle.f3_heights.proofs.Plain.{steps_fit}
-use Rattle.f3_heights.proofs.Running.{step_within}
+use Rattle.f3_heights.proofs.Within.{steps_keep_room}
+use Rattle.f3_heights.specs.Needs.{AreNeeds}
 
 module _ (size limit : ℕ) (g : Setting) (code : Code) where
   -- a step over a heap is one with some answers of it
@@ -35,11 +33,10 @@ heap_steps_fit size limit g code height heights s t out h e =
     let there : Fits height (with_answers a.0 s) = record { stack = h.stack; frames = h.frames } in
     steps_fit limit g code height heights (with_answers a.0 s) t out there (sym a.1 ∙ e)
 
-pub heap_steps_keep_room : (p : c.Program) (size limit : ℕ) (g : Setting) (s t : State) (out : List Event) (need : ℕ) (others : List ℕ) →
-    IsWithin (slice_index (program_heights p)) (slice_index (program_needs p)) need others s → heap_step size limit g (program_code p) s ≡ Goes out t →
-    NextWithin limit (slice_index (program_heights p)) (slice_index (program_needs p)) need others t
-heap_steps_keep_room p size limit g s t out need others h e =
-    let a = heap_answers size limit g (program_code p) s in
-    let there : IsWithin (slice_index (program_heights p)) (slice_index (program_needs p)) need others (with_answers a.0 s) =
-    record { stack = h.stack; frames = h.frames } in
-    step_within p limit g (with_answers a.0 s) t out need others there (sym a.1 ∙ e)
+pub heap_steps_keep_room : (size limit : ℕ) (g : Setting) (code : Code) (height needs : ℕ → ℕ) → AreHeights height code → AreNeeds height needs code →
+    (s t : State) (out : List Event) (need : ℕ) (others : List ℕ) → IsWithin height needs need others s → heap_step size limit g code s ≡ Goes out t →
+    NextWithin limit height needs need others t
+heap_steps_keep_room size limit g code height needs hs ns s t out need others h e =
+    let a = heap_answers size limit g code s in
+    let there : IsWithin height needs need others (with_answers a.0 s) = record { stack = h.stack; frames = h.frames } in
+    steps_keep_room limit g code height needs hs ns (with_answers a.0 s) t out need others there (sym a.1 ∙ e)

@@ -8,9 +8,10 @@ use Rattle.f3_code.specs.declared.instruction.Instruction.TheVariants as i
 use Rattle.f3_code.specs.State.{Code, Cell, Frame, State, Goes}
 use Rattle.f3_code.specs.Machine.{step}
 use Rattle.f3_heights.specs.Effect.{Far, effect}
+use Rattle.f3_heights.specs.Needs.{KeptNext, KeptFar, IsKept}
 use Rattle.f3_heights.specs.Heights.{RoutinesBegin, AreHeights, Stand, FramesFit, Fits}
 use Rattle.f3_heights.proofs.Keeping.{Plan, Above, FramesIn, FitsIn}
-use Rattle.f3_heights.proofs.Stepping.{KeptNext, KeptFar, IsKept, RoutinesEnter, Sound, step_keeps}
+use Rattle.f3_heights.proofs.Stepping.{RoutinesEnter, Sound, step_keeps}
 
 module _ (height : ℕ → ℕ) where
   abbrev plan : Plan

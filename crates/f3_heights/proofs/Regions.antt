@@ -8,7 +8,7 @@ use Rattle.f3_heights.specs.Effect.{Far, effect}
 use Rattle.f3_heights.specs.Heights.{IsNext, AreFar, IsAt}
 use Rattle.f3_heights.specs.Room.{greatest, alike}
 use Rattle.f3_heights.proofs.Parts.{HeightsAt, LinesAt, Part}
-use Rattle.f3_heights.proofs.Stepping.{KeptNext, KeptFar, IsKept}
+use Rattle.f3_heights.specs.Needs.{KeptNext, KeptFar, IsKept}
 use Rattle.f3_heights.proofs.OfProgram.{Any}
 
 -- ---- something of each of some lines

@@ -13,13 +13,13 @@ use Rattle.f3_code.specs.Machine.{ends_so, step}
 use Rattle.f3_code.specs.Code.{body_code, main_code, program_code}
 use Rattle.f3_code.specs.Run.{start}
 use Rattle.f3_heights.specs.Program.{work_heights, body_heights, main_heights, procedures_heights, routines_heights, program_heights}
-use Rattle.f3_heights.specs.Heights.{Stand, FramesFit, Fits}
-use Rattle.f3_heights.specs.Room.{greatest, home, alike, routines_need, procedure_need, main_need, routines_needs, procedures_needs, program_needs, Within, FramesWithin, IsWithin, FramesHave, HasRoom, NextWithin, Change, Stays, Begins, Ends, frames_cells, all_cells, state_next, state_run, state_after}
-use Rattle.f3_heights.proofs.Keeping.{FramesIn, FitsIn}
-use Rattle.f3_heights.proofs.Stepping.{step_keeps}
-use Rattle.f3_heights.proofs.OfProgram.{heights_all}
+use Rattle.f3_heights.specs.Heights.{AreHeights}
+use Rattle.f3_heights.specs.Room.{greatest, home, alike, routines_need, procedure_need, main_need, routines_needs, procedures_needs, program_needs, Within, IsWithin, FramesHave, HasRoom, Change, Stays, Begins, Ends, frames_cells, all_cells, state_next, state_run, state_after}
+use Rattle.f3_heights.proofs.Within.{steps_keep_room, all_have_room}
+use Rattle.f3_heights.specs.Needs.{AreNeeds}
+use Rattle.f3_heights.proofs.OfProgram.{heights_all, code_has_heights}
 use Rattle.f3_heights.proofs.Regions.{greatest_first}
-use Rattle.f3_heights.proofs.Needing.{plan, within_above, above_within, Whole, whole}
+use Rattle.f3_heights.proofs.Needing.{Whole, whole, needs_length}
 
 -- ---- heights are not above needs
 
@@ -63,77 +63,6 @@ program_below p pc = below_index (program_heights p) (program_needs p) pc
     (routines_needs p.routines ++ procedures_needs p p.procedures) (omega arith)
     (routines_below p.routines (procedures_heights (length p.routines) p.procedures) (procedures_needs p p.procedures) (procedures_below p p.procedures)))
 
-module _ (height room : ℕ → ℕ) where
-  frames_in : (needs : List ℕ) (fs : List Frame) → FramesWithin height room needs fs → FramesIn (plan height room) needs fs
-  frames_in [] [] h = tt
-  frames_in [] (f ∷ fs) h = absurd h
-  frames_in (n ∷ ns) [] h = absurd h
-  frames_in (n ∷ ns) (f ∷ fs) h = (h.0, h.1, within_above height room n (room f.pc) h.0 f.stack h.2, frames_in ns fs h.3)
-
-  frames_out : (needs : List ℕ) (fs : List Frame) → FramesIn (plan height room) needs fs → FramesWithin height room needs fs
-  frames_out [] [] h = tt
-  frames_out [] (f ∷ fs) h = absurd h
-  frames_out (n ∷ ns) [] h = absurd h
-  frames_out (n ∷ ns) (f ∷ fs) h = (h.0, h.1, above_within height room n (room f.pc) h.0 f.stack h.2, frames_out ns fs h.3)
-
-  fits_in : (need : ℕ) (needs : List ℕ) (s : State) → IsWithin height room need needs s → FitsIn (plan height room) need needs s
-  fits_in need needs s h = record { stack = within_above height room need (room s.pc) (height s.pc) s.stack h.stack; frames = frames_in needs s.frames h.frames }
-
-  fits_out : (need : ℕ) (needs : List ℕ) (s : State) → FitsIn (plan height room) need needs s → IsWithin height room need needs s
-  fits_out need needs s h = record { stack = above_within height room need (room s.pc) (height s.pc) s.stack h.stack; frames = frames_out needs s.frames h.frames }
-
-  -- ---- how many cells there are
-
-  within_length : (need mark h : ℕ) (st : List Cell) → Within height room need mark h st → length st + mark ≤ need + h
-  within_length need mark zero [] s = omega (arith, s)
-  within_length need mark (suc h) [] s = absurd s
-  within_length need mark zero (To back place ∷ below) s = omega (arith, within_length need (room back) s.0 below s.3, s.2)
-  within_length need mark zero (c ∷ below) s = absurd s
-  within_length need mark (suc h) (c ∷ below) s = omega (arith, within_length need mark h below s)
-
-  -- what is needed is what the line of the procedure says
-  within_home : (need pc h : ℕ) (st : List Cell) → Within height room need (room pc) h st → room (home height pc h st) ≡ need
-  within_home need pc zero [] s = s
-  within_home need pc (suc h) [] s = absurd s
-  within_home need pc zero (To back place ∷ below) s =
-      let e : height back - 1 ≡ s.0 = omega (arith, s.1) in
-      ap (λ h. room (home height back h below)) e ∙ within_home need back s.0 below s.3
-  within_home need pc zero (c ∷ below) s = absurd s
-  within_home need pc (suc h) (c ∷ below) s = within_home need pc h below s
-
-  frames_have : ((pc : ℕ) → height pc ≤ room pc) → (needs : List ℕ) (fs : List Frame) → FramesWithin height room needs fs → FramesHave height room needs fs
-  frames_have low [] [] h = tt
-  frames_have low [] (f ∷ fs) h = absurd h
-  frames_have low (n ∷ ns) [] h = absurd h
-  frames_have low (n ∷ ns) (f ∷ fs) h =
-      let e : height f.pc - 1 ≡ h.0 = omega (arith, h.1) in (
-        omega (arith, within_length n (room f.pc) h.0 f.stack h.2, low f.pc, h.1),
-        ap (λ h. room (home height f.pc h f.stack)) e ∙ within_home n f.pc h.0 f.stack h.2,
-        frames_have low ns fs h.3,
-      )
-
-  has_room : ((pc : ℕ) → height pc ≤ room pc) → (need : ℕ) (needs : List ℕ) (s : State) → IsWithin height room need needs s →
-      HasRoom height room need needs s
-  has_room low need needs s h = record {
-    stack = omega (arith, within_length need (room s.pc) (height s.pc) s.stack h.stack, low s.pc);
-    procedure = within_home need s.pc (height s.pc) s.stack h.stack;
-    frames = frames_have low needs s.frames h.frames;
-  }
-
-  -- ---- and that they are those that the heights say
-
-  within_stand : (need mark h : ℕ) (st : List Cell) → Within height room need mark h st → Stand height h st
-  within_stand need mark zero [] s = tt
-  within_stand need mark (suc h) [] s = s
-  within_stand need mark zero (To back place ∷ below) s = (s.0, s.1, within_stand need (room back) s.0 below s.3)
-  within_stand need mark zero (c ∷ below) s = s
-  within_stand need mark (suc h) (c ∷ below) s = within_stand need mark h below s
-
-  frames_fit : (needs : List ℕ) (fs : List Frame) → FramesWithin height room needs fs → FramesFit height fs
-  frames_fit needs [] h = tt
-  frames_fit [] (f ∷ fs) h = absurd h
-  frames_fit (n ∷ ns) (f ∷ fs) h = (h.0, h.1, within_stand n (room f.pc) h.0 f.stack h.2, frames_fit ns fs h.3)
-
 module _ (p : c.Program) where
   abbrev height : ℕ → ℕ
   height = slice_index (program_heights p)
@@ -144,17 +73,14 @@ module _ (p : c.Program) where
   all : Whole height room p
   all = whole height room p (heights_all (program_heights p) []) (heights_all (program_needs p) [])
 
-  pub within_has_room : (need : ℕ) (others : List ℕ) (s : State) → IsWithin height room need others s → HasRoom height room need others s × Fits height s
-  within_has_room need others s h = (
-    has_room height room (program_below p) need others s h,
-    record {
-      stack = within_stand height room need (room s.pc) (height s.pc) s.stack h.stack;
-      frames = frames_fit height room others s.frames h.frames;
-    },
-  )
+  heights : AreHeights height (program_code p)
+  heights = (code_has_heights p).1
+
+  pub needs : AreNeeds height room (program_code p)
+  needs = record { low = program_below p; lines = all.kept; routines = all.routines }
 
   pub room_of : (need : ℕ) (others : List ℕ) (s : State) → IsWithin height room need others s → HasRoom height room need others s
-  room_of need others s h = has_room height room (program_below p) need others s h
+  room_of need others s h = (all_have_room (program_code p) height room needs need others s h).0
 
   pub lines_need : (f : ℕ) (e : Entry) (q : c.Procedure) → slice_get (program_code p).procedures f ≡ Some e → slice_get p.procedures f ≡ Some q →
       (j : ℕ) → j < length (body_code (length p.routines) q) → room (e.at + j) ≡ procedure_need p q
@@ -162,12 +88,6 @@ module _ (p : c.Program) where
 
   pub main_needs : (j : ℕ) → j < length (main_code (length p.routines) p.main) → room j ≡ main_need p
   main_needs j lt = all.main j lt
-
-  pub step_within : (limit : ℕ) (g : Setting) (s t : State) (out : List Event) (need : ℕ) (others : List ℕ) → IsWithin height room need others s →
-      step limit g (program_code p) s ≡ Goes out t → NextWithin limit height room need others t
-  step_within limit g s t out need others h e =
-      let r = step_keeps limit g (program_code p) (plan height room) all.sound need others s t out (fits_in height room need others s h) e in
-      record { need' = r.top; others' = r.others; change = r.change; is = fits_out height room r.top r.others t r.fits }
 
   pub starts_within : (w : World) → IsWithin height room (main_need p) [] (start p w)
   starts_within w = record { stack = subst (λ h. Within height room (main_need p) (room 0) h []) (sym all.begins) (all.main 0 all.some); frames = tt }
@@ -191,7 +111,7 @@ module _ (p : c.Program) where
         by_next : (x : Next) → step limit g (program_code p) s ≡ x → state_next x (state_run limit g (program_code p) k) ≡ Some t →
             ((u : State) → HasNeeds u → state_run limit g (program_code p) k u ≡ Some t → HasNeeds t) → HasNeeds t
         by_next (Goes out u) is e more =
-            let n = step_within limit g s u out h.0 h.1 h.2 is in
+            let n = steps_keep_room limit g (program_code p) height room heights needs s u out h.0 h.1 h.2 is in
             more u (n.need', n.others', n.is, few_others h.0 h.1 (room u.pc) n.need' n.others' n.change h.3) e
         by_next (state.Stays out halt) is e more = cc
 
@@ -239,3 +159,7 @@ runs_are_bounded limit p answers k s e =
     let top = low (home (slice_index (program_heights p)) s.pc (slice_index (program_heights p) s.pc) s.stack) in
     let most : length h.1 * g ≤ limit * g = mul-le-mul_right g h.3 in
     (omega (arith, b.0, h.3), omega (arith, b.1, most, top, r.procedure, r.stack))
+
+pub code_has_needs : (p : c.Program) → (length (program_needs p) ≡ length (program_code p).lines) ×
+    AreNeeds (slice_index (program_heights p)) (slice_index (program_needs p)) (program_code p)
+code_has_needs p = (needs_length (slice_index (program_heights p)) p, needs p)

@@ -17,32 +17,12 @@ use Rattle.f3_code.specs.State.{Line, placed, Entry, Code, Cell, Datum, Object, 
 use Rattle.std.proofs.Common.{◌≡◌, ℕ, zero, suc, ◌+◌, ◌-◌, ◌<◌, true, ℤ, Bool, List, [], ◌∷◌, length, drop, Option, None, Some, refl, sym, subst, arith, slice_get, nat_eq, nat_lt}
 use Rattle.f3_code.specs.Machine.{act, does_line, step, begun, selects, opens, checked, tested, no_calls, called_at, returned, outward, passed_in, routine_at, departs, branches, next_turn_at, next_element, next_object, next_argument, skips_failed, argument_of, choice_of, extent_of, selector_of}
 use Rattle.f3_rules.specs.declared.source.Place.{Place}
-use Rattle.f3_heights.specs.Effect.{Far, Effect, effect}
 use Rattle.f3_heights.specs.Heights.{IsAt}
+use Rattle.f3_heights.specs.Needs.{IsKept}
 use Rattle.f3_heights.specs.Room.{Stays, Begins, Ends}
 use Rattle.f3_heights.proofs.Keeping.{Plan, Above, FramesIn, FitsIn, Rules, Ahead, as_many, above, Keeps, stays_so, took, more, fit, goes_there, performing, if_keeps, if_known, at_datum, at_object, at_bound, at_bounds, at_status, at_elements, at_objects, at_outside, at_going, at_turns, at_level, at_any, at_to, at_many}
 use Rattle.f3_program.specs.declared.declarations.Base.TheVariants as base
 use Rattle.f3_code.specs.declared.instruction.Instruction.TheVariants as i
-
--- ---- what a code keeps
-
-abbrev pub KeptNext : (mark : ℕ → ℕ) → ℕ → Option ℕ → Type 0
-KeptNext mark pc None = Unit {0}
-KeptNext mark pc (Some left) = mark (pc + 1) ≡ mark pc
-
-abbrev pub KeptFar : (mark : ℕ → ℕ) → ℕ → List Far → Type 0
-KeptFar mark pc [] = Unit {0}
-KeptFar mark pc (x ∷ xs) = (mark (pc + 1 + x.over) ≡ mark pc) × KeptFar mark pc xs
-
-pub record Kept (mark : ℕ → ℕ) (pc : ℕ) (e : Effect) : Type 0 where
-  pub next : KeptNext mark pc e.next
-  pub far : KeptFar mark pc e.far
-
--- the lines to which an instruction leads have its mark
-abbrev pub IsKept : (mark : ℕ → ℕ) → ℕ → Instruction → Type 0
-IsKept mark pc (i.GoBack d) = mark (pc - d) ≡ mark pc
-IsKept mark pc i.Back = Unit {0}
-IsKept mark pc x = Kept mark pc (effect x)
 
 -- what stands beneath a routine, where it leads back to the line behind this one
 pub record Enters (a : Plan) (pc to : ℕ) : Type 0 where

@@ -1,5 +1,6 @@
 pub mod Effect
 pub mod Heights
 pub mod Program
+pub mod Needs
 pub mod Room
 pub mod Laws

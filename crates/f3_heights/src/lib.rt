@@ -3,6 +3,7 @@
 
 ghost use Rattle.f3_heights.specs.Laws.{
   CodeHasHeights,
+  CodeHasNeeds,
   HeapStepsFit,
   HeapStepsKeepRoom,
   LinesNeed,
@@ -27,10 +28,16 @@ pub fn code_has_heights()
     ensures { CodeHasHeights }
 {}
 
-/// Each step of the machine with the code of a Core program keeps to what activations need, and these needs change only where a
-/// procedure begins or ends: one that begins needs what its first line says (own rule).
+/// Where heights and needs are those of a code, line by line, each step of the machine keeps to what activations need; and these
+/// needs change only where a procedure begins or ends: one that begins needs what its first line says (own rule).
 pub fn steps_keep_room()
     ensures { StepsKeepRoom }
+{}
+
+/// The code of every Core program has needs, known before the run: of each line what its procedure needs, or its routine with those
+/// that it may run (own rule).
+pub fn code_has_needs()
+    ensures { CodeHasNeeds }
 {}
 
 /// What a line of the main program or of a procedure says is needed is the greatest height of all its lines, and what the routines
@@ -56,8 +63,8 @@ pub fn runs_have_room()
     ensures { RunsHaveRoom }
 {}
 
-/// In each state of each run of a Core program there are no more callers than there may be, and all activations together have no
-/// more cells than as many of the greatest need: so what a run needs for its cells is known before it (own rule).
+/// In each state of each run of a Core program there are no more callers than there may be, and these and the newest activation
+/// together have no more cells than if each had the greatest need: what a run needs for its cells is known before it (own rule).
 pub fn runs_are_bounded()
     ensures { RunsAreBounded }
 {}

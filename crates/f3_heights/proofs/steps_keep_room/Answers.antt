@@ -1,5 +1,5 @@
-use Rattle.f3_heights.proofs.Running.{step_within}
+use Rattle.f3_heights.proofs.Within.{steps_keep_room}
 use Rattle.f3_heights.proofs.steps_keep_room.Goals as goal
 
 pub returns : goal.returns
-returns c = step_within
+returns c = steps_keep_room
