@@ -1,0 +1,13 @@
+-- The laws of sorts.
+use Rattle.std.specs.Prelude.{◌≡◌, ℕ, List}
+use Rattle.f3_meaning_whole.specs.Ran.{Event}
+use Rattle.f3_meaning_whole.specs.Act.{Setting}
+use Rattle.f3_code.specs.State.{Code, State, Goes}
+use Rattle.f3_code.specs.Machine.{step}
+use Rattle.f3_sorts.specs.Effect.{Sort}
+use Rattle.f3_sorts.specs.Sorts.{AreSorts, Fits}
+
+-- Where sorts are those of a code, each step from a state that fits them leads to one that fits them.
+abbrev pub StepsFit : Type 0
+StepsFit = (limit : ℕ) (g : Setting) (code : Code) (sorts : ℕ → List Sort) → AreSorts sorts code →
+    (s t : State) (out : List Event) → Fits sorts s → step limit g code s ≡ Goes out t → Fits sorts t
