@@ -6,3 +6,5 @@ pub mod OfWork
 pub mod OfParts
 pub mod OfStatements
 pub mod OfProgram
+pub mod Lengths
+pub mod Finding

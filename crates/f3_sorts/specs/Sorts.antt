@@ -73,3 +73,11 @@ abbrev pub Tops : List Sort → List Cell → Type 0
 Tops [] stack = ⊤
 Tops (x ∷ xs) [] = ⊥
 Tops (x ∷ xs) (c ∷ stack) = (sort_of c ≡ Some x) × Tops xs stack
+
+-- an instruction finds the cells that it takes on top of a stack
+abbrev pub Finds : Instruction → List Cell → Type 0
+Finds i.Back stack = Tops (sort.Object ∷ []) stack
+Finds i.Drop stack = (x : Sort) × Tops (x ∷ []) stack
+Finds (i.Unwind k) stack = (xs : List Sort) × (length xs ≡ k) × Tops xs stack
+Finds i.Swap stack = (x : Sort) × (y : Sort) × Tops (x ∷ y ∷ []) stack
+Finds x stack = Tops (effect x).takes stack

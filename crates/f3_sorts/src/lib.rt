@@ -1,7 +1,7 @@
 //! Of which sort each cell is on the stack of an activation at each line of the code of a program, known before the run.
 #![tactic(auto)]
 
-ghost use Rattle.f3_sorts.specs.Laws.{CodeHasSorts, StepsFit};
+ghost use Rattle.f3_sorts.specs.Laws.{CodeHasSorts, SortsHaveHeights, StepsFind, StepsFit};
 
 /// Where sorts are those of a code, line by line, each step of the machine keeps to them: the cells on the stack of an activation are
 /// of the sorts that its line says, and so are those of each caller (own rule).
@@ -9,8 +9,18 @@ pub fn steps_fit()
     ensures { StepsFit }
 {}
 
+/// Where sorts are those of a code, the next instruction finds on the stack the cells that it takes, each of its sort (own rule).
+pub fn steps_find()
+    ensures { StepsFind }
+{}
+
 /// The code of every Core program has sorts, known before the run: at each line the cells are of these on whatever way the machine comes
 /// to it (own rule).
 pub fn code_has_sorts()
     ensures { CodeHasSorts }
+{}
+
+/// At each line of the code of a Core program there are as many sorts as the height of the line says (own rule).
+pub fn sorts_have_heights()
+    ensures { SortsHaveHeights }
 {}
