@@ -8,3 +8,4 @@ pub mod OfStatements
 pub mod OfProgram
 pub mod Lengths
 pub mod Finding
+pub mod Running

@@ -190,3 +190,12 @@ pub code_has_sorts : (p : c.Program) → (length (program_sorts p) ≡ length (p
 code_has_sorts p =
     let sorts : ℕ → List Sort = λ pc. slice_index_or (program_sorts p) pc [] in
     (program_same sorts p, program_keeps sorts p (sorts_all (program_sorts p) []))
+
+-- the main program begins with no cell
+pub program_starts : (p : c.Program) → slice_index_or (program_sorts p) 0 [] ≡ []
+program_starts p =
+    let sorts : ℕ → List Sort = λ pc. slice_index_or (program_sorts p) pc [] in
+    let m = length p.routines in
+    let hm = main_sorts m p.main in
+    let has = sorts_front sorts 0 hm (routines_sorts p.routines ++ procedures_sorts m p.procedures) (sorts_all (program_sorts p) []) in
+    ((main_part sorts m p.main).keeps 0 has tt).0

@@ -1,11 +1,13 @@
 -- The laws of sorts.
-use Rattle.std.specs.Prelude.{◌≡◌, ℕ, List, [], length, Some, slice_get, slice_index, slice_index_or}
+use Rattle.std.specs.Prelude.{◌≡◌, ℕ, Bool, List, [], length, Some, slice_get, slice_index, slice_index_or}
 use Rattle.f3_meaning_whole.specs.Ran.{Event}
 use Rattle.f3_meaning_whole.specs.Act.{Setting}
 use Rattle.f3_core.specs.Core.{Program}
 use Rattle.f3_code.specs.State.{Line, Code, State, Goes}
 use Rattle.f3_code.specs.Machine.{step}
 use Rattle.f3_code.specs.Code.{program_code}
+use Rattle.f3_answers.specs.Heap.{heap_step}
+use Rattle.f3_heights.specs.Room.{state_after}
 use Rattle.f3_heights.specs.Program.{program_heights}
 use Rattle.f3_sorts.specs.Effect.{Sort}
 use Rattle.f3_sorts.specs.Sorts.{AreSorts, Fits, Finds}
@@ -29,3 +31,13 @@ CodeHasSorts = (p : Program) → (length (program_sorts p) ≡ length (program_c
 -- At each line there are as many as its height says.
 abbrev pub SortsHaveHeights : Type 0
 SortsHaveHeights = (p : Program) (pc : ℕ) → length (slice_index_or (program_sorts p) pc []) ≡ slice_index (program_heights p) pc
+
+-- In each state of each run of a program, whatever the heap answers, the cells of each activation are of the sorts that its line says.
+abbrev pub RunsFit : Type 0
+RunsFit = (limit : ℕ) (p : Program) (answers : ℕ → Bool) (k : ℕ) (s : State) → state_after limit p (program_code p) answers k ≡ Some s →
+    Fits (λ pc. slice_index_or (program_sorts p) pc []) s
+
+-- The machine over a heap of a size keeps to sorts in the same way.
+abbrev pub HeapStepsFit : Type 0
+HeapStepsFit = (size limit : ℕ) (g : Setting) (code : Code) (sorts : ℕ → List Sort) → AreSorts sorts code →
+    (s t : State) (out : List Event) → Fits sorts s → heap_step size limit g code s ≡ Goes out t → Fits sorts t
