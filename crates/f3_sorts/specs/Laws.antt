@@ -3,14 +3,14 @@ use Rattle.std.specs.Prelude.{◌≡◌, ℕ, Bool, List, [], length, Some, slic
 use Rattle.f3_meaning_whole.specs.Ran.{Event}
 use Rattle.f3_meaning_whole.specs.Act.{Setting}
 use Rattle.f3_core.specs.Core.{Program}
-use Rattle.f3_code.specs.State.{Line, Code, State, Goes}
+use Rattle.f3_code.specs.State.{Line, Code, State, Stuck, Goes, Stays}
 use Rattle.f3_code.specs.Machine.{step}
 use Rattle.f3_code.specs.Code.{program_code}
 use Rattle.f3_answers.specs.Heap.{heap_step}
 use Rattle.f3_heights.specs.Room.{state_after}
 use Rattle.f3_heights.specs.Program.{program_heights}
 use Rattle.f3_sorts.specs.Effect.{Sort}
-use Rattle.f3_sorts.specs.Sorts.{AreSorts, Fits, Finds}
+use Rattle.f3_sorts.specs.Sorts.{AreSorts, Fits, Finds, LineLacks}
 use Rattle.f3_sorts.specs.Program.{program_sorts}
 
 -- Where sorts are those of a code, each step from a state that fits them leads to one that fits them.
@@ -22,6 +22,12 @@ StepsFit = (limit : ℕ) (g : Setting) (code : Code) (sorts : ℕ → List Sort)
 abbrev pub StepsFind : Type 0
 StepsFind = (code : Code) (sorts : ℕ → List Sort) → AreSorts sorts code → (s : State) (l : Line) → Fits sorts s →
     slice_get code.lines s.pc ≡ Some l → Finds l.act s.stack
+
+-- And it is stuck only where there is no line, where a procedure that returns, or looks at its caller, has none, or where a routine
+-- is left that none has entered.
+abbrev pub StepsLack : Type 0
+StepsLack = (limit : ℕ) (g : Setting) (code : Code) (sorts : ℕ → List Sort) → AreSorts sorts code →
+    (s : State) (out : List Event) → Fits sorts s → step limit g code s ≡ Stays out Stuck → LineLacks (slice_get code.lines s.pc) s
 
 -- The sorts of the code of each Core program, known before its run, are those of its code: one list for each line.
 abbrev pub CodeHasSorts : Type 0

@@ -81,3 +81,15 @@ Finds i.Drop stack = (x : Sort) × Tops (x ∷ []) stack
 Finds (i.Unwind k) stack = (xs : List Sort) × (length xs ≡ k) × Tops xs stack
 Finds i.Swap stack = (x : Sort) × (y : Sort) × Tops (x ∷ y ∷ []) stack
 Finds x stack = Tops (effect x).takes stack
+
+-- what an instruction that finds its cells may lack all the same: a caller, or a routine that is to be left
+abbrev pub Lacks : Instruction → State → Type 0
+Lacks i.Outward s = s.frames ≡ []
+Lacks i.Return s = s.frames ≡ []
+Lacks i.Back s = (c : Cell) × (s.stack ≡ c ∷ [])
+Lacks x s = ⊥
+
+-- or there is no line
+abbrev pub LineLacks : Option Line → State → Type 0
+LineLacks None s = ⊤
+LineLacks (Some l) s = Lacks l.act s

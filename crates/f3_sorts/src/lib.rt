@@ -1,7 +1,7 @@
 //! Of which sort each cell is on the stack of an activation at each line of the code of a program, known before the run.
 #![tactic(auto)]
 
-ghost use Rattle.f3_sorts.specs.Laws.{CodeHasSorts, HeapStepsFit, RunsFit, SortsHaveHeights, StepsFind, StepsFit};
+ghost use Rattle.f3_sorts.specs.Laws.{CodeHasSorts, HeapStepsFit, RunsFit, SortsHaveHeights, StepsFind, StepsFit, StepsLack};
 
 /// Where sorts are those of a code, line by line, each step of the machine keeps to them: the cells on the stack of an activation are
 /// of the sorts that its line says, and so are those of each caller (own rule).
@@ -12,6 +12,12 @@ pub fn steps_fit()
 /// Where sorts are those of a code, the next instruction finds on the stack the cells that it takes, each of its sort (own rule).
 pub fn steps_find()
     ensures { StepsFind }
+{}
+
+/// Where sorts are those of a code, no step is stuck for want of a cell or by one of another sort: only where there is no line, where a
+/// procedure that returns or looks at its caller has none, or where a routine is left that none has entered (own rule).
+pub fn steps_lack()
+    ensures { StepsLack }
 {}
 
 /// The code of every Core program has sorts, known before the run: at each line the cells are of these on whatever way the machine comes
