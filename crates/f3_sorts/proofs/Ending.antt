@@ -22,7 +22,7 @@ use Rattle.f3_meaning_whole.specs.Exec.{text_of, print_value, request, too_many,
 use Rattle.f3_core.specs.Exec.{allocate}
 use Rattle.f3_code.specs.Machine.{begun, opens, checked, tested, selects}
 use Rattle.f3_meaning_whole.specs.Store.{Store}
-use Rattle.f3_meaning_whole.specs.Ran.{Event, World, End, Gives, Fails, Stops, Beyond, Ran, go_on, after, ◌>>=◌, gives, fails, looks, does, asks, prints_bytes, each}
+use Rattle.f3_meaning_whole.specs.Ran.{Event, World, End, Gives, Fails, Stops, Beyond, Ran, go_on, ◌>>=◌, gives, fails, looks, does, asks, prints_bytes, each}
 
 -- it does not go on beyond a bound
 abbrev pub IsEnd : {A : Type 0} → End A → Type 0

@@ -1,5 +1,6 @@
 -- The sorts of the code of statements.
 use Rattle.std.proofs.Common.{◌≡◌, ◌∙◌, sym, ap, drop, ℕ, suc, ◌+◌, ◌-◌, true, false, List, [], ◌∷◌, ◌++◌, length, Option, Some, refl, subst, arith, length-append}
+use Rattle.std.proofs.Math.Seq.{drop-append_seam}
 use Rattle.f3_rules.specs.declared.source.Place.{Place}
 use Rattle.f3_program.specs.declared.declarations.Kind.{Kind}
 use Rattle.f3_program.specs.declared.expression.Designator.{Designator}
@@ -18,12 +19,8 @@ use Rattle.f3_sorts.proofs.OfValues.{value_part, locate_part}
 use Rattle.f3_sorts.proofs.OfWork.{work_part}
 use Rattle.f3_sorts.proofs.OfParts.{transfer_part, allocate_part, deallocate_part, status_part, items_part, ranges_part, selectors_part, discards_part}
 
-drop_front : (xs ys : List Sort) → drop (length xs) (xs ++ ys) ≡ ys
-drop_front [] ys = refl
-drop_front (x ∷ xs) ys = drop_front xs ys
-
 gone_drop : {h left : List Sort} {k : ℕ} → Gone h k left → drop k h ≡ left
-gone_drop {left = left} {k = k} g = ap (drop k) g.is ∙ ap (λ n. drop n (g.gone ++ left)) (sym g.many) ∙ drop_front g.gone left
+gone_drop {left = left} {k = k} g = ap (drop k) g.is ∙ ap (λ n. drop n (g.gone ++ left)) (sym g.many) ∙ drop-append_seam g.gone left
 
 gone_more : {h left : List Sort} {k : ℕ} (x : Sort) → Gone h k left → Gone (x ∷ h) (suc k) left
 gone_more x g = record { gone = x ∷ g.gone; many = ap suc g.many; is = ap (λ l. x ∷ l) g.is }
