@@ -1,0 +1,12 @@
+pub mod Ending
+pub mod Keeping
+pub mod Stepping
+pub mod Parts
+pub mod OfValues
+pub mod OfWork
+pub mod OfParts
+pub mod OfStatements
+pub mod OfProgram
+pub mod Lengths
+pub mod Finding
+pub mod Running

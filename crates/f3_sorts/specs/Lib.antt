@@ -1,0 +1,4 @@
+pub mod Effect
+pub mod Sorts
+pub mod Program
+pub mod Laws
