@@ -1,0 +1,9 @@
+pub mod Seen
+pub mod Bases
+pub mod Alike
+pub mod Scalars
+pub mod Operators
+pub mod Arrays
+pub mod Components
+pub mod Selecting
+pub mod Walking

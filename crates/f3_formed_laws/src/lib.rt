@@ -1,0 +1,2 @@
+//! Laws that the elaborated program of what breaks no rule makes sense.
+#![tactic(auto)]
