@@ -1,5 +1,5 @@
 -- Components of types and dummies of procedures, in the rules and in the program.
-use Rattle.std.proofs.Common.{◌≡◌, ℕ, zero, suc, Bool, true, false, cond, List, [], ◌∷◌, map, position, nat_eq, None, Some, Option, option_map, refl, sym, ap, ◌∙◌}
+use Rattle.std.proofs.Common.{◌≡◌, ℕ, zero, suc, Bool, true, false, cond, List, [], ◌∷◌, map, length, position, nat_eq, None, Some, Option, option_map, refl, sym, ap, ◌∙◌}
 use Rattle.std.specs.Prelude.{slice_get}
 use mathlib.Core.Path.{subst}
 use Rattle.f3_program.specs.declared.declarations.Base.TheVariants as base_is
@@ -14,7 +14,7 @@ use Rattle.f3_meaning_whole.specs.Act as Act
 use Rattle.f3_meaning_whole.specs.Formed.{kinds_of}
 use Rattle.f3_elaboration.specs.Context.{Surroundings}
 use Rattle.f3_elaboration.specs.Expressions.{number_of}
-use Rattle.f3_lawful_laws.proofs.Facts.{nothing, same}
+use Rattle.f3_lawful_laws.proofs.Facts.{no, nothing, same}
 use Rattle.f3_lawful_laws.proofs.Positions.{position_cons}
 use Rattle.f3_formed_laws.specs.Agreement.{kind_of, AreComponents, HasComponents}
 
@@ -81,6 +81,33 @@ pub record DummyAt (s : Surroundings) (xs : List program_dummy.Dummy) (place : �
   pub there : slice_get xs place ≡ Some dummy
   pub kind : dummy.kind ≡ kind_of s d.object
 
-head_or : {A : Type 0} → A → List A → A
+abbrev head_or : {A : Type 0} → A → List A → A
 head_or x [] = x
 head_or x (y ∷ ys) = y
+
+abbrev tail_of : {A : Type 0} → List A → List A
+tail_of [] = []
+tail_of (y ∷ ys) = ys
+
+abbrev is_some_in : {A : Type 0} → List A → Bool
+is_some_in [] = false
+is_some_in (y ∷ ys) = true
+
+pub dummy_at : (s : Surroundings) (xs : List program_dummy.Dummy) (ds : List (ℕ × Dummy)) (place : ℕ) (d : ℕ × Dummy)
+    → kinds_of xs ≡ map (λ (d : ℕ × Dummy). kind_of s (d.1).object) ds → slice_get ds place ≡ Some d → DummyAt s xs place d.1
+dummy_at s xs [] place d h e = nothing e
+dummy_at s [] (y ∷ ds) place d h e = no (ap is_some_in (sym h))
+dummy_at s (x ∷ xs) (y ∷ ds) zero d h e = record {
+  dummy = x;
+  there = refl;
+  kind = ap (head_or x.kind) h ∙ ap (λ (c : ℕ × Dummy). kind_of s (c.1).object) (same e);
+}
+dummy_at s (x ∷ xs) (y ∷ ds) (suc place) d h e =
+    let rest : DummyAt s xs place d.1 = dummy_at s xs ds place d (ap tail_of h) e in
+    record { dummy = rest.dummy; there = rest.there; kind = rest.kind }
+
+pub as_long : {A B C : Type 0} (f : A → C) (g : B → C) (xs : List A) (ys : List B) → map f xs ≡ map g ys → length xs ≡ length ys
+as_long f g [] [] h = refl
+as_long f g [] (y ∷ ys) h = no (ap is_some_in (sym h))
+as_long f g (x ∷ xs) [] h = no (ap is_some_in h)
+as_long f g (x ∷ xs) (y ∷ ys) h = ap suc (as_long f g xs ys (ap tail_of h))

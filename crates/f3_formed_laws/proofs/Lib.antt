@@ -7,3 +7,10 @@ pub mod Arrays
 pub mod Components
 pub mod Selecting
 pub mod Walking
+pub mod Holding
+pub mod Counting
+pub mod Passing
+pub mod Storing
+pub mod Intrinsics
+pub mod Meant
+pub mod Expressions

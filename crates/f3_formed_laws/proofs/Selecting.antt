@@ -36,7 +36,7 @@ pub same_self : (b : Bool) → same_truth b b ≡ true
 same_self true = refl
 same_self false = refl
 
-positive : (n : ℕ) → not (nat_eq n 0) ≡ true → nat_lt 0 n ≡ true
+pub positive : (n : ℕ) → not (nat_eq n 0) ≡ true → nat_lt 0 n ≡ true
 positive zero e = no (sym e)
 positive (suc n) e = elim (leb_tells 1 (suc n)) [ inl h ↦ h.0 | inr h ↦ (let x = h.1 in absurd (omega (arith, x))) ]
 
