@@ -14,3 +14,5 @@ pub mod Storing
 pub mod Intrinsics
 pub mod Meant
 pub mod Expressions
+pub mod Variables
+pub mod InMemory

@@ -43,7 +43,7 @@ IsOne wanted.Integer = ⊤
 IsOne wanted.Logical = ⊤
 IsOne wanted.Intrinsic = ⊥
 
-one_by : (o : Operator) → IsOne (wanted_by o)
+pub one_by : (o : Operator) → IsOne (wanted_by o)
 one_by operator.Power = tt
 one_by operator.Multiply = tt
 one_by operator.Divide = tt

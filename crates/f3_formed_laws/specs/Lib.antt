@@ -1,3 +1,4 @@
 pub mod Nodes
-pub mod Agreement
 pub mod Levels
+pub mod Agreement
+pub mod Laws
