@@ -16,3 +16,6 @@ pub mod Meant
 pub mod Expressions
 pub mod Variables
 pub mod InMemory
+pub mod Targets
+pub mod Heap
+pub mod Requests

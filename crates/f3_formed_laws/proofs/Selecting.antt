@@ -55,7 +55,7 @@ long f (x ∷ xs) = ap suc (long f xs)
 module _ (p : Program) (vs : List Declared) (ns : List Kind) (s : Surroundings) where
   -- ---- subscripts
 
-  perhaps_whole : (a : Option ExpressionNode) (b : Option Said) → MayBeOf p vs ns s a b → fits_perhaps b ≡ true
+  pub perhaps_whole : (a : Option ExpressionNode) (b : Option Said) → MayBeOf p vs ns s a b → fits_perhaps b ≡ true
       → some (value_kind p vs ns (or_one a)) is_whole_number ≡ true
   perhaps_whole None None h f = refl
   perhaps_whole None (Some y) h f = absurd h
