@@ -19,3 +19,5 @@ pub mod InMemory
 pub mod Targets
 pub mod Heap
 pub mod Requests
+pub mod Moving
+pub mod Actions

@@ -72,7 +72,7 @@ module _ (p : Program) (vs : List Declared) (ns : List Kind) (s : Surroundings) 
     pub value : value_kind p vs ns e ≡ Some (of_kind of 0)
     pub wanted : is_wanted_base want of ≡ true
 
-  type_wanted : (want : Wanted) (of : Base) (d : Option DataType) → alike of (base s d) ≡ true → type_fits want d ≡ true → is_wanted_base want of ≡ true
+  pub type_wanted : (want : Wanted) (of : Base) (d : Option DataType) → alike of (base s d) ≡ true → type_fits want d ≡ true → is_wanted_base want of ≡ true
   type_wanted want of None a f = no (sym f)
   type_wanted want of (Some d) a f = wanted_alike want of (base s (Some d)) a (wanted_base s.type want d f)
 
