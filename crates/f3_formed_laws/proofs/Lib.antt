@@ -21,3 +21,7 @@ pub mod Heap
 pub mod Requests
 pub mod Moving
 pub mod Actions
+pub mod Naming
+pub mod Inside
+pub mod Statements
+pub mod SeenStatements

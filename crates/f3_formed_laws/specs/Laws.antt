@@ -1,24 +1,34 @@
 -- What breaks no rule on types makes sense in the elaborated program: as f3_meaning_whole's Formed says it.
-use Rattle.std.specs.Prelude.{◌≡◌, ⊤, true, List, [], Option, None, Some}
+use Rattle.std.specs.Prelude.{◌≡◌, ⊤, ℕ, true, List, [], length, Option, None, Some}
+use Rattle.std.specs.List.{flat_map}
 use Rattle.f3_tree.specs.Expressions as e
+use Rattle.f3_tree.specs.Statements.{Act, Block}
 use Rattle.f3_program.specs.declared.declarations.Base.{Base}
 use Rattle.f3_program.specs.declared.declarations.Declared.{Declared}
 use Rattle.f3_program.specs.declared.declarations.Kind.{Kind}
 use Rattle.f3_program.specs.declared.expression.Designator.{Designator}
 use Rattle.f3_program.specs.declared.expression.Expression.{Expression}
+use Rattle.f3_program.specs.declared.statement.Statement.{Statement}
 use Rattle.f3_program.specs.declared.program.Program.{Program}
 use Rattle.f3_kinds.specs.declared.said.Form.{Form}
 use Rattle.f3_kinds.specs.declared.said.Form.TheVariants.{Computed, Constant, Variable}
 use Rattle.f3_kinds.specs.declared.said.Has.{Has}
 use Rattle.f3_kinds.specs.Typing.{said, breaks}
-use Rattle.f3_meaning_whole.specs.Formed.{alike, of_kind, value_kind, object_kind}
+use Rattle.f3_meaning_whole.specs.Formed.{alike, of_kind, value_kind, object_kind, is_formed}
+use Rattle.f3_type_rules.specs.declared.definition.Holder.{Holder}
+use Rattle.f3_type_rules.specs.Bodies.{block_breaks}
+use Rattle.f3_type_rules.specs.Definitions.{Site, defined, definition_rows}
+use Rattle.f3_type_rules.specs.Statements.{act_breaks}
+use Rattle.f3_elaboration.specs.Nodes.{block as block_node}
 use Rattle.f3_elaboration.specs.Context.{Surroundings, base}
 use Rattle.f3_elaboration.specs.Expressions.{expression, itself}
-use Rattle.f3_elaboration.specs.Actions.{kind, held_kind, variable}
-use Rattle.f3_elaboration.specs.Views.{expression_view, designator_view}
-use Rattle.f3_lawful_laws.specs.Written.{IsWritten}
+use Rattle.f3_elaboration.specs.Actions.{kind, held_kind, variable, action}
+use Rattle.f3_elaboration.specs.Statements.{block}
+use Rattle.f3_elaboration.specs.Views.{expression_view, designator_view, statement_view}
+use Rattle.f3_lawful_laws.specs.Written.{IsWritten, IsActWritten}
+use Rattle.f3_lawful_laws.specs.Blocks.{IsBlockPlaced}
 use Rattle.f3_formed_laws.specs.Agreement.{AgreesInKinds}
-use Rattle.f3_formed_laws.specs.Levels.{IsLevelled}
+use Rattle.f3_formed_laws.specs.Levels.{IsLevelled, IsActLevelled, IsBlockLevelled}
 
 -- An expression of the program makes sense: it has the rank that is said of it, is no allocatable, and its type agrees with the one that is
 -- said. Integers of either kind agree, since a literal does not tell its own.
@@ -52,3 +62,17 @@ VariablesHaveKinds = (p : Program) (variables : List Declared) (names : List Kin
     → IsVariable (said s.context (e.designator v)).has
     → ((d : Designator) → designator_view d ≡ variable s v → object_kind p variables names d ≡ Some (held_kind (kind s (e.designator v))))
     × ((d : Designator) → designator_view d ≡ itself (variable s v) → object_kind p variables names d ≡ Some (kind s (e.designator v)))
+
+-- An action that breaks no rule of phase 6, and defines variables alone (phase 7), makes sense.
+abbrev pub ActionsMakeSense : Type 0
+ActionsMakeSense = (p : Program) (variables : List Declared) (names : List Kind) (s : Surroundings) → AgreesInKinds p variables names s
+    → (site : Site) → site.context ≡ s.context
+    → (a : Act) → IsActWritten a → IsActLevelled a → act_breaks s.context a ≡ [] → flat_map (definition_rows site) (defined s.context a) ≡ []
+    → (x : Statement) → statement_view x ≡ action s a → is_formed p variables x names ≡ true
+
+-- So do blocks, with the constructs in them. What is asked of a construct's names beside their place does not matter here.
+abbrev pub BlocksMakeSense : Type 0
+BlocksMakeSense = (p : Program) (variables : List Declared) (names : List Kind) (s : Surroundings) → AgreesInKinds p variables names s
+    → s.lent ≡ length names → (site : Site) → site.context ≡ s.context → (held : ℕ → Option Holder)
+    → (next : ℕ) (b : Block) → IsBlockPlaced (s.context).look held (s.context).scope next b → IsBlockLevelled b → block_breaks site next b ≡ []
+    → (x : Statement) → statement_view x ≡ block_node (block s next b) → is_formed p variables x names ≡ true
