@@ -25,3 +25,6 @@ pub mod Naming
 pub mod Inside
 pub mod Statements
 pub mod SeenStatements
+pub mod Right
+pub mod Declared
+pub mod Listed

@@ -7,6 +7,8 @@ use Rattle.f3_tree.specs.Expressions.{ArgumentTree, value, triplet, Perhaps, abs
 use Rattle.f3_tree.specs.Statements.{Act, assign, call, allocate, deallocate, print, Controls, forever, counted, while, AssociationTree}
 use Rattle.f3_tree.specs.Statements.{StatementTree, acts, acts_if, branches, selects, repeats, associates, Block, no_statements, statements}
 use Rattle.f3_tree.specs.Statements.{Branches, no_branches, branch, Alternative, no_alternative, alternative, Cases, no_cases, case_block}
+use Rattle.f3_tree.specs.Tree as Tree
+use Rattle.f3_tree.specs.Tree.{ProcedureTree, UnitTree}
 use Rattle.f3_kinds.specs.declared.types.Wanted.{Wanted}
 use Rattle.f3_kinds.specs.Operands.{wanted_by}
 use Rattle.f3_kinds.specs.Typing.{level_of}
@@ -104,3 +106,10 @@ abbrev mutual
   pub AreCasesLevelled : Cases → Type 0
   AreCasesLevelled no_cases = ⊤
   AreCasesLevelled (case_block p vs b cs) = IsBlockLevelled b × AreCasesLevelled cs
+
+abbrev pub IsUnitLevelled : UnitTree → Type 0
+IsUnitLevelled u = IsBlockLevelled u.body × Each (λ (p : ProcedureTree). IsBlockLevelled p.body) u.procedures
+
+-- so of all bodies of a program
+abbrev pub AreBodiesLevelled : Tree.Tree → Type 0
+AreBodiesLevelled t = Each IsUnitLevelled t.units

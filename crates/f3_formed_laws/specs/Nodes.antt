@@ -1,6 +1,6 @@
 -- The kinds of what stands in an elaborated program, and whether its statements make sense, on its data: as f3_meaning_whole says it of
 -- the program in memory.
-use Rattle.std.specs.Prelude.{ℕ, Bool, true, false, not, ◌&&◌, ◌||◌, nat_eq, nat_lt, List, [], ◌∷◌, ◌++◌, map, length, Option, None, Some}
+use Rattle.std.specs.Prelude.{ℕ, Bool, true, false, not, ◌&&◌, ◌||◌, if◌then◌else◌, nat_eq, nat_lt, List, [], ◌∷◌, ◌++◌, map, length, Option, None, Some}
 use Rattle.f3_program.specs.declared.declarations.Base.TheVariants as base
 use Rattle.f3_program.specs.declared.declarations.Constant.TheVariants as constant
 use Rattle.f3_program.specs.declared.declarations.Declared.{Declared}
@@ -9,10 +9,10 @@ use Rattle.f3_program.specs.declared.program.Program.{Program}
 use Rattle.f3_meaning_whole.specs.Permitted.{same_type}
 use Rattle.f3_meaning_whole.specs.Formed.{all, some, found, only, is_number, alike, of_kind, is_scalar, is_whole_number, is_condition, valued, Given}
 use Rattle.f3_meaning_whole.specs.Formed.{given_all, constructed, takes, kind_of_name, sectioned, element_of_each, component_kind, structured, referenced}
-use Rattle.f3_meaning_whole.specs.Formed.{same_kind, or_none}
+use Rattle.f3_meaning_whole.specs.Formed.{same_kind, or_none, is_before}
 use Rattle.f3_elaboration.specs.Nodes as n
 use Rattle.f3_elaboration.specs.Nodes.{ExpressionNode, ArgumentNode, ArgumentNodes, DesignatorNode, SelectionNode, SubscriptNode, SubscriptNodes}
-use Rattle.f3_elaboration.specs.Nodes.{ItemNode, BoundsNode, RequestNode, SelectorNode, StatementNode, StatementNodes}
+use Rattle.f3_elaboration.specs.Nodes.{ItemNode, BoundsNode, RequestNode, SelectorNode, StatementNode, StatementNodes, DeclaredNode}
 
 module _ (p : Program) (variables : List Declared) (names : List Kind) where
   abbrev mutual
@@ -120,3 +120,9 @@ module _ (p : Program) (variables : List Declared) where
     pub are_formed : StatementNodes → List Kind → Bool
     are_formed n.no_statements names = true
     are_formed (n.statements x xs) names = is_formed x names && are_formed xs names
+
+-- ---- what is declared
+
+abbrev pub is_declared : ℕ → DeclaredNode → Bool
+is_declared count y = is_before count y.kind.of && (if y.kind.is_allocatable then nat_eq (length y.dimensions) 0
+    else nat_eq (length y.dimensions) y.kind.rank)
