@@ -28,3 +28,4 @@ pub mod SeenStatements
 pub mod Right
 pub mod Declared
 pub mod Listed
+pub mod Finals
