@@ -29,3 +29,5 @@ pub mod Right
 pub mod Declared
 pub mod Listed
 pub mod Finals
+pub mod Procedures
+pub mod Whole

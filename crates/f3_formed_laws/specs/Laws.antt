@@ -1,8 +1,14 @@
 -- What breaks no rule on types makes sense in the elaborated program: as f3_meaning_whole's Formed says it.
-use Rattle.std.specs.Prelude.{◌≡◌, ⊤, ℕ, true, List, [], length, Option, None, Some}
+use Rattle.std.specs.Prelude.{◌≡◌, ⊤, ℕ, true, List, [], length, Contains, Option, None, Some}
 use Rattle.std.specs.List.{flat_map}
+use Rattle.f3_access.specs.declared.table.Lookup.{Lookup}
+use Rattle.f3_access.specs.Access.{IsVisible}
+use Rattle.f3_access.specs.Lookups.{Resolves}
+use Rattle.f3_rules.specs.declared.breaks.Break.{Break}
+use Rattle.f3_scopes.specs.Scopes.{scopes_of}
 use Rattle.f3_tree.specs.Expressions as e
 use Rattle.f3_tree.specs.Statements.{Act, Block}
+use Rattle.f3_tree.specs.Tree.{Tree}
 use Rattle.f3_program.specs.declared.declarations.Base.{Base}
 use Rattle.f3_program.specs.declared.declarations.Declared.{Declared}
 use Rattle.f3_program.specs.declared.declarations.Kind.{Kind}
@@ -14,21 +20,25 @@ use Rattle.f3_kinds.specs.declared.said.Form.{Form}
 use Rattle.f3_kinds.specs.declared.said.Form.TheVariants.{Computed, Constant, Variable}
 use Rattle.f3_kinds.specs.declared.said.Has.{Has}
 use Rattle.f3_kinds.specs.Typing.{said, breaks}
-use Rattle.f3_meaning_whole.specs.Formed.{alike, of_kind, value_kind, object_kind, is_formed}
+use Rattle.f3_meaning_whole.specs.Formed.{alike, of_kind, value_kind, object_kind, is_formed, IsWellFormed}
 use Rattle.f3_type_rules.specs.declared.definition.Holder.{Holder}
 use Rattle.f3_type_rules.specs.Bodies.{block_breaks}
 use Rattle.f3_type_rules.specs.Definitions.{Site, defined, definition_rows}
+use Rattle.f3_type_rules.specs.Program.{program_breaks}
 use Rattle.f3_type_rules.specs.Statements.{act_breaks}
 use Rattle.f3_elaboration.specs.Nodes.{block as block_node}
 use Rattle.f3_elaboration.specs.Context.{Surroundings, base}
 use Rattle.f3_elaboration.specs.Expressions.{expression, itself}
 use Rattle.f3_elaboration.specs.Actions.{kind, held_kind, variable, action}
 use Rattle.f3_elaboration.specs.Statements.{block}
+use Rattle.f3_elaboration.specs.DeclaredViews.{program_view}
+use Rattle.f3_elaboration.specs.Program.{elaborated}
 use Rattle.f3_elaboration.specs.Views.{expression_view, designator_view, statement_view}
 use Rattle.f3_lawful_laws.specs.Written.{IsWritten, IsActWritten}
-use Rattle.f3_lawful_laws.specs.Blocks.{IsBlockPlaced}
+use Rattle.f3_lawful_laws.specs.Blocks.{IsBlockPlaced, AreBodiesSpelled}
 use Rattle.f3_formed_laws.specs.Agreement.{AgreesInKinds}
-use Rattle.f3_formed_laws.specs.Levels.{IsLevelled, IsActLevelled, IsBlockLevelled}
+use Rattle.f3_formed_laws.specs.Entities.{KindsAgree}
+use Rattle.f3_formed_laws.specs.Levels.{IsLevelled, IsActLevelled, IsBlockLevelled, AreBodiesLevelled}
 
 -- An expression of the program makes sense: it has the rank that is said of it, is no allocatable, and its type agrees with the one that is
 -- said. Integers of either kind agree, since a literal does not tell its own.
@@ -76,3 +86,10 @@ BlocksMakeSense = (p : Program) (variables : List Declared) (names : List Kind) 
     → s.lent ≡ length names → (site : Site) → site.context ≡ s.context → (held : ℕ → Option Holder)
     → (next : ℕ) (b : Block) → IsBlockPlaced (s.context).look held (s.context).scope next b → IsBlockLevelled b → block_breaks site next b ≡ []
     → (x : Statement) → statement_view x ≡ block_node (block s next b) → is_formed p variables x names ≡ true
+
+-- So a program that breaks no rule of phases 5 to 7 makes sense as a whole, where the rules and the program are of the same kinds:
+-- whatever its names are resolved to, and along whatever order of its units.
+abbrev pub UnbrokenMakesSense : Type 0
+UnbrokenMakesSense = (t : Tree) (look : ℕ → ℕ → Lookup) (order : List ℕ) (p : Program) → AreBodiesSpelled t → AreBodiesLevelled t
+    → ((scope symbol : ℕ) → Resolves (look scope symbol) (IsVisible (scopes_of t) scope symbol)) → program_view p ≡ elaborated t look order
+    → KindsAgree p t look order → ((b : Break) → Contains (program_breaks t look order) b → ⊥) → IsWellFormed p
