@@ -1,9 +1,8 @@
 -- Actions that break no rule make sense.
-use Rattle.std.proofs.Common.{◌≡◌, ℕ, ◌+◌, Bool, true, false, ◌&&◌, ◌||◌, not, List, [], ◌∷◌, ◌++◌, map, Option, Some, None, refl, sym, ap, ◌∙◌, if◌then◌else◌, nat_eq}
-use Rattle.std.specs.Prelude.{⊤, ◌==◌}
+use Rattle.std.proofs.Common.{◌≡◌, ℕ, Bool, true, ◌&&◌, ◌||◌, List, [], ◌∷◌, ◌++◌, map, Option, Some, None, refl, sym, ap, ◌∙◌}
+use Rattle.std.specs.Prelude.{◌==◌}
 use Rattle.std.specs.Option.{option_map}
 use Rattle.std.specs.List.{flat_map}
-use mathlib.Core.Path.{subst}
 use Rattle.f3_rules.specs.declared.source.Place.{Place}
 use Rattle.f3_rules.specs.declared.rule.Rule.TheVariants.{T6}
 use Rattle.f3_access.specs.declared.table.Lookup.{Lookup}
@@ -19,23 +18,21 @@ use Rattle.f3_program.specs.declared.program.Program.{Program}
 use Rattle.f3_kinds.specs.declared.types.DataType.{DataType}
 use Rattle.f3_kinds.specs.declared.types.Wanted.TheVariants as wanted
 use Rattle.f3_kinds.specs.declared.said.Given.{Given}
-use Rattle.f3_kinds.specs.declared.said.Given.TheVariants.{Value, Triplet}
+use Rattle.f3_kinds.specs.declared.said.Given.TheVariants.{Value}
 use Rattle.f3_kinds.specs.declared.said.Has.{Has}
-use Rattle.f3_kinds.specs.declared.said.Role.{Role}
 use Rattle.f3_kinds.specs.declared.said.Role.TheVariants as role
 use Rattle.f3_kinds.specs.declared.things.Dummy.{Dummy}
 use Rattle.f3_kinds.specs.declared.things.Intrinsic.{Intrinsic}
 use Rattle.f3_kinds.specs.declared.things.Intrinsic.TheVariants as i
 use Rattle.f3_kinds.specs.Things.{Nature, constant, variable, derived, subroutine, function, Meaning, nothing, intrinsic, entity, entity_or, meaning_by, meaning_of}
 use Rattle.f3_kinds.specs.Things.{look_here, map_or}
-use Rattle.f3_kinds.specs.Rows.{unless, at_place, is_known, has_type, has_fits, fits, is_intrinsic_type, scalar_rows, type_fits}
+use Rattle.f3_kinds.specs.Rows.{unless, at_place, is_known, has_type, has_fits, is_intrinsic_type, scalar_rows, type_fits}
 use Rattle.f3_kinds.specs.Operands.{type_in}
-use Rattle.f3_kinds.specs.Designators.{is_allocation}
-use Rattle.f3_kinds.specs.Calls.{no_match, argument_rows, argument_fits, match_next, is_complete, type_takes}
+use Rattle.f3_kinds.specs.Calls.{no_match, argument_rows, argument_fits, is_complete, type_takes}
 use Rattle.f3_kinds.specs.Typing.{said, said_arguments, breaks, breaks_arguments, designator_at, designator_breaks}
 use Rattle.f3_meaning_whole.specs.Permitted.{Each, same_type}
-use Rattle.f3_meaning_whole.specs.Formed.{all, alike, of_kind, some, found, takes, is_whole_number, is_number, same_kind}
-use Rattle.f3_type_rules.specs.Statements.{act_breaks, called_rows, item_breaks, item_rows, number_defined, assigned_has, assigned_rows, moving_dummies}
+use Rattle.f3_meaning_whole.specs.Formed.{all, alike, of_kind, some, takes, is_whole_number, is_number, same_kind}
+use Rattle.f3_type_rules.specs.Statements.{act_breaks, called_rows, item_breaks, item_rows, number_defined, assigned_has, moving_dummies}
 use Rattle.f3_type_rules.specs.Definitions.{Site, definition_rows, defined, call_defined, value_given}
 use Rattle.f3_elaboration.specs.Nodes as n
 use Rattle.f3_elaboration.specs.Nodes.{ExpressionNode, RequestNode}
@@ -46,14 +43,11 @@ use Rattle.f3_elaboration.specs.Actions.{called, move, item, action, request, ki
 use Rattle.f3_lawful_laws.specs.Written.{IsWritten, IsVariableWritten, IsStatWritten, IsActWritten}
 use Rattle.f3_lawful_laws.proofs.Facts.{no, first, second, holds, both, left, right, when_true, none_before, none_behind}
 use Rattle.f3_lawful_laws.proofs.Typed.{fit}
-use Rattle.f3_lawful_laws.proofs.Positions.{eq_same, eq_self}
-use Rattle.f3_lawful_laws.proofs.Bounded.{IsHeap}
 use Rattle.f3_formed_laws.specs.Nodes.{value_kind, object_kind, is_formed, is_request, has_bounds, is_status, is_object_of, is_item}
 use Rattle.f3_formed_laws.specs.Levels.{IsLevelled, ArePartsLevelled, IsStatLevelled, IsActLevelled}
 use Rattle.f3_formed_laws.specs.Agreement.{AgreesInKinds}
-use Rattle.f3_formed_laws.specs.Laws.{IsVariable}
-use Rattle.f3_formed_laws.proofs.Bases.{is_wanted_base, takes_alike, alike_back, alike_through}
-use Rattle.f3_formed_laws.proofs.Alike.{IsKind, IsOf, AreGiven}
+use Rattle.f3_formed_laws.proofs.Bases.{takes_alike, alike_back, alike_through}
+use Rattle.f3_formed_laws.proofs.Alike.{IsOf, AreGiven}
 use Rattle.f3_formed_laws.proofs.Scalars.{typed_of, type_wanted}
 use Rattle.f3_formed_laws.proofs.Operators.{type_number}
 use Rattle.f3_formed_laws.proofs.Passing.{reference_is}
@@ -124,17 +118,17 @@ module _ (p : Program) (vs : List Declared) (ns : List Kind) (s : Surroundings) 
 
     -- ---- ALLOCATE and DEALLOCATE
 
-    allocations_are : (vs' : List t.Parts) → Each IsVariableWritten vs' → Each ArePartsLevelled vs' → flat_map (designator_breaks s.context role.Allocated) vs' ≡ []
-        → flat_map (definition_rows site) (map (designator_at s.context role.Allocated) vs') ≡ []
-        → all (λ r. is_request p vs ns r && has_bounds p vs ns r) (map (request s) vs') ≡ true
+    allocations_are : (targets : List t.Parts) → Each IsVariableWritten targets → Each ArePartsLevelled targets → flat_map (designator_breaks s.context role.Allocated) targets ≡ []
+        → flat_map (definition_rows site) (map (designator_at s.context role.Allocated) targets) ≡ []
+        → all (λ r. is_request p vs ns r && has_bounds p vs ns r) (map (request s) targets) ≡ true
     allocations_are [] w l b free = refl
     allocations_are (v ∷ rest) w l b free =
         let h : Requested p vs ns s agrees role.Allocated v = request_is p vs ns s agrees site here role.Allocated tt v w.0 l.0 (first _ _ b) (first _ _ free) in
         both (is_request p vs ns (request s v) && has_bounds p vs ns (request s v)) _ (both _ _ h.is (h.counted refl))
         (allocations_are rest w.1 l.1 (second (designator_breaks s.context role.Allocated v) _ b) (second (definition_rows site (designator_at s.context role.Allocated v)) _ free))
 
-    deallocations_are : (vs' : List t.Parts) → Each IsVariableWritten vs' → Each ArePartsLevelled vs' → flat_map (designator_breaks s.context role.Deallocated) vs' ≡ []
-        → flat_map (definition_rows site) (map (designator_at s.context role.Deallocated) vs') ≡ [] → all (is_request p vs ns) (map (request s) vs') ≡ true
+    deallocations_are : (targets : List t.Parts) → Each IsVariableWritten targets → Each ArePartsLevelled targets → flat_map (designator_breaks s.context role.Deallocated) targets ≡ []
+        → flat_map (definition_rows site) (map (designator_at s.context role.Deallocated) targets) ≡ [] → all (is_request p vs ns) (map (request s) targets) ≡ true
     deallocations_are [] w l b free = refl
     deallocations_are (v ∷ rest) w l b free =
         let h : Requested p vs ns s agrees role.Deallocated v = request_is p vs ns s agrees site here role.Deallocated tt v w.0 l.0 (first _ _ b) (first _ _ free) in

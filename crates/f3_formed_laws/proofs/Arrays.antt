@@ -1,8 +1,7 @@
 -- Array constructors are arrays of the type that is said.
-use Rattle.std.proofs.Common.{◌≡◌, ℕ, Bool, true, false, ◌&&◌, List, [], ◌∷◌, Option, Some, None, refl, sym, ap, ◌∙◌}
-use Rattle.std.specs.Prelude.{⊤, ◌==◌}
+use Rattle.std.proofs.Common.{◌≡◌, Bool, true, false, ◌&&◌, List, [], ◌∷◌, Option, Some, None, refl, sym, ap, ◌∙◌}
+use Rattle.std.specs.Prelude.{⊤}
 use Rattle.std.specs.List.{list_all}
-use mathlib.Core.Path.{subst}
 use Rattle.f3_tree.specs.Expressions as t
 use Rattle.f3_program.specs.declared.declarations.Base.{Base}
 use Rattle.f3_program.specs.declared.declarations.Declared.{Declared}
@@ -11,8 +10,8 @@ use Rattle.f3_program.specs.declared.program.Program.{Program}
 use Rattle.f3_kinds.specs.declared.types.DataType.{DataType}
 use Rattle.f3_kinds.specs.declared.types.Wanted.TheVariants as wanted
 use Rattle.f3_kinds.specs.declared.said.Has.{Has}
-use Rattle.f3_kinds.specs.Rows.{has_type, has_fits, fits, computed, is_known}
-use Rattle.f3_kinds.specs.Operands.{has_same, same_known, type_in, array_has, when_right}
+use Rattle.f3_kinds.specs.Rows.{has_type, fits, computed, is_known}
+use Rattle.f3_kinds.specs.Operands.{has_same, same_known, type_in, array_has}
 use Rattle.f3_kinds.specs.Typing.{said, said_all}
 use Rattle.f3_meaning_whole.specs.Permitted.{Each}
 use Rattle.f3_meaning_whole.specs.Formed.{alike, all, of_kind, found, only, is_scalar, given_all, constructed, Given}
@@ -21,7 +20,7 @@ use Rattle.f3_elaboration.specs.Nodes.{ExpressionNode}
 use Rattle.f3_elaboration.specs.Context.{Surroundings, base}
 use Rattle.f3_elaboration.specs.Expressions.{expression, items}
 use Rattle.f3_lawful_laws.proofs.Facts.{no, both, left, right}
-use Rattle.f3_formed_laws.specs.Nodes.{value_kind, argument, arguments}
+use Rattle.f3_formed_laws.specs.Nodes.{arguments}
 use Rattle.f3_formed_laws.proofs.Bases.{alike_back, alike_through, known_alike}
 use Rattle.f3_formed_laws.proofs.Alike.{IsKind, IsOf}
 use Rattle.f3_formed_laws.proofs.Scalars.{Scalar, scalar, typed_of}

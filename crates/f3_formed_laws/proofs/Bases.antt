@@ -8,7 +8,6 @@ use Rattle.f3_kinds.specs.declared.types.DataType.{DataType}
 use Rattle.f3_kinds.specs.declared.types.DataType.TheVariants.{Integer, Logical, Derived}
 use Rattle.f3_kinds.specs.declared.types.Wanted.{Wanted}
 use Rattle.f3_kinds.specs.declared.types.Wanted.TheVariants as wanted
-use Rattle.f3_kinds.specs.Rows as rows
 use Rattle.f3_kinds.specs.Rows.{is_known, is_wanted, may_take}
 use Rattle.f3_kinds.specs.Operands.{same_known}
 use Rattle.f3_kinds.specs.Calls.{type_takes}

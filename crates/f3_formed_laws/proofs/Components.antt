@@ -1,22 +1,16 @@
 -- Components of types and dummies of procedures, in the rules and in the program.
-use Rattle.std.proofs.Common.{◌≡◌, ℕ, zero, suc, Bool, true, false, cond, List, [], ◌∷◌, map, length, position, nat_eq, None, Some, Option, option_map, refl, sym, ap, ◌∙◌}
+use Rattle.std.proofs.Common.{◌≡◌, ℕ, zero, suc, Bool, true, false, cond, List, [], ◌∷◌, map, length, nat_eq, Some, option_map, refl, sym, ap, ◌∙◌}
 use Rattle.std.specs.Prelude.{slice_get}
-use mathlib.Core.Path.{subst}
-use Rattle.f3_program.specs.declared.declarations.Base.TheVariants as base_is
 use Rattle.f3_program.specs.declared.declarations.Component as program
-use Rattle.f3_program.specs.declared.declarations.Kind.{Kind}
 use Rattle.f3_program.specs.declared.program.Dummy as program_dummy
-use Rattle.f3_program.specs.declared.program.Program.{Program}
 use Rattle.f3_kinds.specs.declared.things.Component.{Component}
 use Rattle.f3_kinds.specs.declared.things.Dummy.{Dummy}
-use Rattle.f3_kinds.specs.Things.{component_of, place_of, map_or, at_place_of}
-use Rattle.f3_meaning_whole.specs.Act as Act
+use Rattle.f3_kinds.specs.Things.{component_of, place_of}
 use Rattle.f3_meaning_whole.specs.Formed.{kinds_of}
 use Rattle.f3_elaboration.specs.Context.{Surroundings}
-use Rattle.f3_elaboration.specs.Expressions.{number_of}
 use Rattle.f3_lawful_laws.proofs.Facts.{no, nothing, same}
 use Rattle.f3_lawful_laws.proofs.Positions.{position_cons}
-use Rattle.f3_formed_laws.specs.Agreement.{kind_of, AreComponents, HasComponents}
+use Rattle.f3_formed_laws.specs.Agreement.{kind_of, AreComponents}
 
 -- the component of a name
 pub record Standing (s : Surroundings) (xs : List program.Component) (ks : List (ℕ × Component)) (symbol : ℕ) (k : Component) : Type 0 where

@@ -1,14 +1,12 @@
 -- What is declared without a break has a dimension for each rank, unless it is allocatable, and a type with a number.
-use Rattle.std.proofs.Common.{◌≡◌, ℕ, ◌<◌, Bool, true, false, ◌&&◌, ◌||◌, not, List, [], ◌∷◌, length, map, suc, nat_eq, nat_lt, Option, Some, None, refl, sym, ap, ◌∙◌, if◌then◌else◌, arith, inl, inr}
+use Rattle.std.proofs.Common.{◌≡◌, ℕ, ◌<◌, Bool, true, false, ◌&&◌, ◌||◌, not, length, suc, nat_eq, nat_lt, Option, Some, None, refl, sym, ap, ◌∙◌, if◌then◌else◌, arith, inl, inr}
 use Rattle.std.specs.Prelude.{slice_get}
 use Rattle.std.specs.List.{list_any}
 use Rattle.std.proofs.lemmas.Bool.Decides.{leb_tells}
-use mathlib.Core.Path.{subst}
 use Rattle.f3_access.specs.declared.table.Lookup.{Lookup}
 use Rattle.f3_access.specs.declared.table.Lookup.TheVariants.{One, Nothing, Several}
 use Rattle.f3_scopes.specs.declared.outline.EntityKind.{EntityKind}
 use Rattle.f3_scopes.specs.declared.outline.EntityKind.TheVariants as entity
-use Rattle.f3_tree.specs.declared.expression.Name.{Name}
 use Rattle.f3_tree.specs.declared.expression.IntegerKind.TheVariants.{Four, Eight}
 use Rattle.f3_tree.specs.declared.declaration.TypeSpecifier.{TypeSpecifier}
 use Rattle.f3_tree.specs.declared.declaration.TypeSpecifier.TheVariants as specifier
@@ -18,12 +16,12 @@ use Rattle.f3_kinds.specs.declared.types.DataType.{DataType}
 use Rattle.f3_kinds.specs.declared.types.DataType.TheVariants.{Integer, Logical, Derived}
 use Rattle.f3_kinds.specs.Things.{map_or}
 use Rattle.f3_meaning_whole.specs.Formed.{is_before}
-use Rattle.f3_type_rules.specs.Attributes.{same_sort, has, is_deferred, is_open, conflicts}
+use Rattle.f3_type_rules.specs.Attributes.{has, is_deferred, is_open, conflicts}
 use Rattle.f3_type_rules.specs.Names.{Declared, attributes_of, shape_of, is_allocatable, dimensions as dimension_count, type_of, type_named, type_if, is_given}
 use Rattle.f3_type_rules.specs.Walks.{Spot, is_among}
 use Rattle.f3_elaboration.specs.Declarations.{Whole, context, dimension, dimensions, declared}
 use Rattle.f3_elaboration.specs.Numbers.{number_in, base_of}
-use Rattle.f3_lawful_laws.proofs.Facts.{no, nothing, same, both}
+use Rattle.f3_lawful_laws.proofs.Facts.{no, nothing, both}
 use Rattle.f3_lawful_laws.proofs.Positions.{eq_self}
 use Rattle.f3_formed_laws.specs.Nodes.{is_declared}
 use Rattle.f3_formed_laws.proofs.Selecting.{long}

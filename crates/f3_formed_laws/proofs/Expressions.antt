@@ -1,7 +1,6 @@
 -- Expressions that break no rule are of the kinds that are said.
-use Rattle.std.proofs.Common.{◌≡◌, true, false, Bool, ◌&&◌, List, [], ◌∷◌, ◌++◌, Option, Some, None, refl, sym, ap, ◌∙◌, if◌then◌else◌}
+use Rattle.std.proofs.Common.{◌≡◌, true, false, Bool, ◌&&◌, List, [], ◌∷◌, ◌++◌, Option, refl, sym, ◌∙◌, if◌then◌else◌}
 use Rattle.std.specs.List.{flat_map, list_all}
-use mathlib.Core.Path.{subst}
 use Rattle.f3_rules.specs.declared.source.Place.{Place}
 use Rattle.f3_rules.specs.declared.rule.Rule.TheVariants.{T6}
 use Rattle.f3_tree.specs.declared.expression.IntegerLiteral.{IntegerLiteral}
@@ -20,7 +19,7 @@ use Rattle.f3_kinds.specs.declared.types.Wanted.{Wanted}
 use Rattle.f3_kinds.specs.declared.types.Wanted.TheVariants as wanted
 use Rattle.f3_kinds.specs.declared.said.Said.{Said}
 use Rattle.f3_kinds.specs.Rows.{at_place, has_type, fits, computed, scalar_rows}
-use Rattle.f3_kinds.specs.Operands.{signed_said, not_said, comparison_said, chain_said, chain_rows, array_said, array_rows, mixed_rows, has_same, type_in, wanted_by, result_of, widest, kind_of, when_right}
+use Rattle.f3_kinds.specs.Operands.{chain_said, chain_rows, array_said, array_rows, mixed_rows, has_same, type_in, wanted_by, result_of, widest, kind_of, when_right}
 use Rattle.f3_kinds.specs.Typing.{said, said_rest, said_all, said_parts, said_behind, said_arguments, said_argument, said_perhaps, breaks, breaks_rest}
 use Rattle.f3_kinds.specs.Typing.{breaks_all, breaks_parts, breaks_behind, breaks_arguments, breaks_argument, breaks_perhaps, level_of}
 use Rattle.f3_elaboration.specs.Nodes as n
@@ -35,10 +34,9 @@ use Rattle.f3_meaning_whole.specs.Permitted.{Scope}
 use Rattle.f3_formed_laws.specs.Agreement.{AgreesInKinds}
 use Rattle.f3_formed_laws.specs.Levels.{AreOfSort, IsLevelled, IsRestLevelled, AreLevelled, ArePartsLevelled, IsBehindLevelled, AreArgumentsLevelled}
 use Rattle.f3_formed_laws.specs.Levels.{IsArgumentLevelled, IsPerhapsLevelled}
-use Rattle.f3_formed_laws.proofs.Bases.{number_base}
-use Rattle.f3_formed_laws.proofs.Alike.{IsKind, IsOf, MayBeOf, IsGiven, AreGiven, IsBehind, AreParts}
+use Rattle.f3_formed_laws.proofs.Alike.{IsOf, MayBeOf, IsGiven, AreGiven, IsBehind, AreParts}
 use Rattle.f3_formed_laws.proofs.Scalars.{Scalar, scalar, typed_of}
-use Rattle.f3_formed_laws.proofs.Operators.{IsOne, one_by, right_is, computed_is, result_is, unary_is, binary_value, type_number, signed_is, group_is, RestIs, chain_scalar, alone}
+use Rattle.f3_formed_laws.proofs.Operators.{one_by, right_is, computed_is, result_is, unary_is, binary_value, type_number, signed_is, group_is, RestIs, chain_scalar, alone}
 use Rattle.f3_formed_laws.proofs.Arrays.{ItemsAre, array_is}
 use Rattle.f3_formed_laws.proofs.Meant.{meant_is}
 

@@ -1,5 +1,5 @@
 -- A final subroutine has one dummy, of its rank and not allocatable; and types make sense.
-use Rattle.std.proofs.Common.{◌≡◌, ℕ, zero, suc, ◌+◌, ◌<◌, Bool, true, false, ◌&&◌, not, List, [], ◌∷◌, ◌++◌, map, nat_eq, Option, None, Some, refl, sym, ap, ◌∙◌, if◌then◌else◌, arith}
+use Rattle.std.proofs.Common.{◌≡◌, ℕ, suc, ◌+◌, Bool, true, false, ◌&&◌, not, List, [], ◌∷◌, map, nat_eq, Option, None, Some, refl, sym, ap, ◌∙◌, if◌then◌else◌, arith}
 use Rattle.std.specs.Prelude.{slice_get}
 use Rattle.std.specs.List.{flat_map}
 use Rattle.std.specs.Map.{lookup}
@@ -12,7 +12,6 @@ use Rattle.f3_tree.specs.declared.program.ProcedureKind.TheVariants.{Subroutine,
 use Rattle.f3_program.specs.declared.declarations.Component as c
 use Rattle.f3_program.specs.declared.declarations.Derived.{Derived}
 use Rattle.f3_program.specs.declared.declarations.Final.{Final}
-use Rattle.f3_program.specs.declared.declarations.Kind.{Kind}
 use Rattle.f3_program.specs.declared.program.Dummy as program
 use Rattle.f3_program.specs.declared.program.Procedure.{Procedure}
 use Rattle.f3_program.specs.declared.program.Program.{Program}
@@ -25,13 +24,13 @@ use Rattle.f3_type_rules.specs.Finals.{is_type, is_out, is_explicit, dummy_rank,
 use Rattle.f3_type_rules.specs.Members.{Member}
 use Rattle.f3_type_rules.specs.Names.{Names, Declared, intent_of, shape_of, object_of, undeclared}
 use Rattle.f3_elaboration.specs.Nodes.{ComponentNode, DerivedNode, DummyNode, ProcedureNode}
-use Rattle.f3_elaboration.specs.Numbers.{Definition, number_in, kind_of, entity_of}
+use Rattle.f3_elaboration.specs.Numbers.{Definition, number_in, entity_of}
 use Rattle.f3_elaboration.specs.Declarations.{Whole, final, finals, derived, components}
 use Rattle.f3_elaboration.specs.DeclaredViews.{component_view, derived_view, dummy_view}
-use Rattle.f3_elaboration.specs.Units.{declarations_in, dummy, procedure}
+use Rattle.f3_elaboration.specs.Units.{declarations_in, dummy}
 use Rattle.f3_lawful_laws.proofs.Numbered.{IsProcedure}
 use Rattle.f3_lawful_laws.proofs.Finals.{HasProcedures}
-use Rattle.f3_lawful_laws.proofs.Facts.{no, not_nil, nothing, same, both, left, right, negated, negated_back}
+use Rattle.f3_lawful_laws.proofs.Facts.{not_nil, nothing, same, both, left, right, negated_back}
 use Rattle.f3_lawful_laws.proofs.Positions.{eq_same, eq_self}
 use Rattle.f3_formed_laws.specs.Nodes.{is_declared}
 use Rattle.f3_formed_laws.specs.Entities.{StandsBehind}

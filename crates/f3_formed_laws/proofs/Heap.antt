@@ -16,11 +16,11 @@ use Rattle.f3_kinds.specs.declared.said.Reach.{Reach}
 use Rattle.f3_kinds.specs.declared.said.Role.{Role}
 use Rattle.f3_kinds.specs.declared.said.Role.TheVariants as role
 use Rattle.f3_kinds.specs.declared.things.Component.{Component}
-use Rattle.f3_kinds.specs.Things.{Context, map_or}
+use Rattle.f3_kinds.specs.Things.{Context}
 use Rattle.f3_kinds.specs.Rows.{is_known}
-use Rattle.f3_kinds.specs.Designators.{Part, subscript_fits, is_bounds, are_fit, count_is_right, is_allocation, is_last, start, enter, enter_rows, rank_left, is_bare, role_fits}
-use Rattle.f3_kinds.specs.Designators.{select, step, step_rows, step_selected, step_selected_rows, along, along_rows, reach_rows}
-use Rattle.f3_meaning_whole.specs.Formed.{all, some, is_whole_number}
+use Rattle.f3_kinds.specs.Designators.{Part, subscript_fits, are_fit, count_is_right, is_allocation, enter, enter_rows, rank_left, role_fits}
+use Rattle.f3_kinds.specs.Designators.{step, step_rows, step_selected, step_selected_rows, along, along_rows, reach_rows}
+use Rattle.f3_meaning_whole.specs.Formed.{all}
 use Rattle.f3_elaboration.specs.Context.{Surroundings}
 use Rattle.f3_elaboration.specs.Expressions as x
 use Rattle.f3_elaboration.specs.Expressions.{given_in}
@@ -31,7 +31,7 @@ use Rattle.f3_lawful_laws.proofs.Positions.{eq_same}
 use Rattle.f3_lawful_laws.proofs.Designating.{Enters, enters, entered, Selects, selects, component_known}
 use Rattle.f3_lawful_laws.proofs.Reaching.{role_holds}
 use Rattle.f3_lawful_laws.proofs.Bounded.{IsHeap, bare_last}
-use Rattle.f3_formed_laws.specs.Nodes.{value_kind, is_bound}
+use Rattle.f3_formed_laws.specs.Nodes.{is_bound}
 use Rattle.f3_formed_laws.proofs.Alike.{IsGiven, AreGiven, IsBehind, AreParts}
 use Rattle.f3_formed_laws.proofs.Scalars.{scalar, whole_number, behind_typed}
 use Rattle.f3_formed_laws.proofs.Selecting.{perhaps_whole, long}

@@ -10,7 +10,7 @@ use Rattle.f3_meaning_whole.specs.Formed.{of_kind, found, only, kind_of_name}
 use Rattle.f3_elaboration.specs.Nodes as n
 use Rattle.f3_elaboration.specs.Nodes.{DesignatorNode}
 use Rattle.f3_elaboration.specs.Expressions.{itself, is_whole_allocatable}
-use Rattle.f3_lawful_laws.proofs.Facts.{no, nothing, same}
+use Rattle.f3_lawful_laws.proofs.Facts.{nothing, same}
 use Rattle.f3_formed_laws.specs.Nodes.{object_kind}
 
 pub only_some : {A : Type 0} (b : Bool) (x y : A) → only b x ≡ Some y → (b ≡ true) × (x ≡ y)

@@ -1,5 +1,5 @@
 -- Expressions, variables, actions and blocks in memory.
-use Rattle.std.proofs.Common.{◌≡◌, List, Option, Some, None, refl, sym, ap, ◌∙◌}
+use Rattle.std.proofs.Common.{◌≡◌, List, Option, Some, None, refl, ap, ◌∙◌}
 use Rattle.f3_tree.specs.Expressions as t
 use Rattle.f3_program.specs.declared.declarations.Declared.{Declared}
 use Rattle.f3_program.specs.declared.declarations.Kind.{Kind}
@@ -7,11 +7,10 @@ use Rattle.f3_program.specs.declared.expression.Expression.{Expression}
 use Rattle.f3_program.specs.declared.program.Program.{Program}
 use Rattle.f3_kinds.specs.declared.said.Has.{Has}
 use Rattle.f3_kinds.specs.Typing.{said}
-use Rattle.f3_meaning_whole.specs.Formed as formed
-use Rattle.f3_elaboration.specs.Nodes.{ExpressionNode, DesignatorNode}
+use Rattle.f3_elaboration.specs.Nodes.{ExpressionNode}
 use Rattle.f3_elaboration.specs.Context.{Surroundings}
 use Rattle.f3_elaboration.specs.Expressions.{expression}
-use Rattle.f3_elaboration.specs.Views.{expression_view, designator_view}
+use Rattle.f3_elaboration.specs.Views.{expression_view}
 use Rattle.f3_formed_laws.specs.Nodes.{value_kind, object_kind, is_formed}
 use Rattle.f3_formed_laws.specs.Laws.{HasKind, ExpressionsHaveKinds, VariablesHaveKinds, ActionsMakeSense, BlocksMakeSense}
 use Rattle.f3_formed_laws.proofs.Alike.{IsOf}

@@ -1,9 +1,8 @@
 -- Inside an ASSOCIATE construct the rules and the program are of the same kinds too.
-use Rattle.std.proofs.Common.{◌≡◌, ℕ, zero, suc, ◌+◌, Bool, true, false, List, [], ◌∷◌, ◌++◌, length, map, position, nat_eq, Option, None, Some, refl, sym, ap, ◌∙◌, arith}
+use Rattle.std.proofs.Common.{◌≡◌, ℕ, suc, ◌+◌, Bool, true, false, List, [], ◌∷◌, ◌++◌, length, map, position, nat_eq, Option, None, Some, refl, sym, ap, ◌∙◌, arith}
 use Rattle.std.specs.Prelude.{slice_get}
 use Rattle.std.specs.List.{flat_map}
 use Rattle.std.specs.Map.{lookup}
-use mathlib.Core.Path.{subst}
 use Rattle.f3_access.specs.declared.table.Lookup.TheVariants.{One}
 use Rattle.f3_tree.specs.Statements.{AssociationTree}
 use Rattle.f3_program.specs.declared.declarations.Declared.{Declared}
@@ -21,18 +20,18 @@ use Rattle.f3_kinds.specs.Rows.{is_known, has_type}
 use Rattle.f3_kinds.specs.Operands.{type_in}
 use Rattle.f3_kinds.specs.Typing.{said}
 use Rattle.f3_meaning_whole.specs.Permitted.{Each}
-use Rattle.f3_meaning_whole.specs.Formed.{kind_of_name, of_kind, result_kind}
+use Rattle.f3_meaning_whole.specs.Formed.{kind_of_name}
 use Rattle.f3_type_rules.specs.declared.definition.Holder.{Holder}
-use Rattle.f3_type_rules.specs.Associates.{associated, associate_nature, site_inside}
-use Rattle.f3_elaboration.specs.Context.{Surroundings, base, associate_entity, inside}
+use Rattle.f3_type_rules.specs.Associates.{associated, associate_nature}
+use Rattle.f3_elaboration.specs.Context.{Surroundings, associate_entity, inside}
 use Rattle.f3_elaboration.specs.Expressions.{expression}
 use Rattle.f3_lawful_laws.specs.Agreement.{IsKnown, Knows}
 use Rattle.f3_lawful_laws.specs.Blocks.{Opens}
-use Rattle.f3_lawful_laws.proofs.Facts.{no, nothing, same}
+use Rattle.f3_lawful_laws.proofs.Facts.{no, same}
 use Rattle.f3_lawful_laws.proofs.Opening.{at_front}
-use Rattle.f3_formed_laws.specs.Agreement.{AgreesInKinds, HasComponents, HasDummies, IsConstant, AreComponents, kind_of}
+use Rattle.f3_formed_laws.specs.Agreement.{AgreesInKinds, HasComponents, HasDummies, IsConstant, kind_of}
 use Rattle.f3_formed_laws.proofs.Scalars.{typed_of}
-use Rattle.f3_formed_laws.proofs.Naming.{behind_front, IsSelector, name_kind, kinds_for, Named, Among, is_named, is_other, among}
+use Rattle.f3_formed_laws.proofs.Naming.{behind_front, IsSelector, kinds_for, Among, is_named, is_other, among}
 
 abbrev object_in : Object → Nature → Object
 object_in o (variable v) = v

@@ -1,8 +1,6 @@
 -- References to intrinsic functions are scalars of the types that are said.
-use Rattle.std.proofs.Common.{◌≡◌, ℕ, ◌+◌, Bool, true, false, ◌&&◌, ◌||◌, not, List, [], ◌∷◌, length, map, Option, Some, None, refl, sym, ap, ◌∙◌, nat_lt, nat_eq}
-use Rattle.std.proofs.Common.{zero, suc, if◌then◌else◌}
+use Rattle.std.proofs.Common.{◌≡◌, ℕ, ◌+◌, true, false, ◌&&◌, not, List, [], ◌∷◌, length, map, Option, Some, None, refl, sym, ap, ◌∙◌, nat_lt}
 use Rattle.std.specs.Prelude.{⊤, ◌==◌}
-use mathlib.Core.Path.{subst}
 use Rattle.f3_program.specs.declared.declarations.Base.{Base}
 use Rattle.f3_program.specs.declared.declarations.Base.TheVariants as base_is
 use Rattle.f3_program.specs.declared.declarations.Declared.{Declared}
@@ -24,9 +22,9 @@ use Rattle.f3_kinds.specs.declared.things.Intrinsic.TheVariants as i
 use Rattle.f3_kinds.specs.Things.{map_or}
 use Rattle.f3_kinds.specs.Rows.{has_type, is_known, fits, unless}
 use Rattle.f3_kinds.specs.Operands.{type_in}
-use Rattle.f3_kinds.specs.Calls.{least_count, is_within, is_alike, actual_fits, actual_right, actual_rows, or_first, integer_type, typed_result}
+use Rattle.f3_kinds.specs.Calls.{least_count, is_within, actual_fits, actual_right, actual_rows, or_first, integer_type, typed_result}
 use Rattle.f3_meaning_whole.specs.Permitted.{Each}
-use Rattle.f3_meaning_whole.specs.Formed.{of_kind, found, only, is_number, is_whole_number, alike, Given}
+use Rattle.f3_meaning_whole.specs.Formed.{of_kind, found, only, is_number, is_whole_number, Given}
 use Rattle.f3_elaboration.specs.Nodes as n
 use Rattle.f3_elaboration.specs.Nodes.{ExpressionNode, ArgumentNode}
 use Rattle.f3_elaboration.specs.Context.{Surroundings, base}
@@ -34,7 +32,7 @@ use Rattle.f3_elaboration.specs.Expressions as x
 use Rattle.f3_elaboration.specs.Expressions.{intrinsic_value, nested, given_value, asked, itself, is_whole_allocatable}
 use Rattle.f3_lawful_laws.proofs.Facts.{no, first, second, holds, left, right, otherwise, when_true}
 use Rattle.f3_lawful_laws.proofs.Intrinsics.{IsPlain}
-use Rattle.f3_formed_laws.specs.Nodes.{value_kind, object_kind, argument}
+use Rattle.f3_formed_laws.specs.Nodes.{value_kind, argument}
 use Rattle.f3_formed_laws.proofs.Bases.{alike_numbers, alike_equal}
 use Rattle.f3_formed_laws.proofs.Alike.{IsKind, IsOf, IsGiven, AreGiven}
 use Rattle.f3_formed_laws.proofs.Scalars.{Scalar, scalar, typed_of}

@@ -1,9 +1,8 @@
 -- Variables, components and results as they are listed for the elaborated program make sense as they are declared.
-use Rattle.std.proofs.Common.{◌≡◌, ℕ, ◌+◌, ◌<◌, Bool, true, false, cond, ◌&&◌, ◌||◌, not, List, [], ◌∷◌, ◌++◌, length, map, filter, nat_eq, Option, Some, None, refl, sym, ap, ◌∙◌, if◌then◌else◌}
+use Rattle.std.proofs.Common.{◌≡◌, ℕ, ◌+◌, ◌<◌, Bool, true, false, cond, ◌&&◌, ◌||◌, not, List, [], ◌∷◌, ◌++◌, length, map, filter, nat_eq, Option, Some, None, refl, sym, ap, ◌∙◌}
 use Rattle.std.specs.Prelude.{⊤, slice_get}
 use Rattle.std.specs.List.{flat_map, list_any}
 use Rattle.std.specs.Map.{lookup}
-use Rattle.std.proofs.lemmas.List.Folds.{list_any-append}
 use mathlib.Core.Path.{subst}
 use Rattle.f3_scopes.specs.Scopes.{declared_in, name_or}
 use Rattle.f3_scopes.specs.Scopes as Scopes
@@ -14,15 +13,13 @@ use Rattle.f3_tree.specs.declared.declaration.TypeSpecifier.{TypeSpecifier}
 use Rattle.f3_tree.specs.declared.program.ProcedureKind.TheVariants.{Subroutine, Function}
 use Rattle.f3_tree.specs.Declarations as t
 use Rattle.f3_tree.specs.Declarations.{EntityTree, DeclarationTree, SpecificationTree, declares, accesses, protects, saves, defines}
-use Rattle.f3_kinds.specs.declared.types.DataType.TheVariants.{Derived}
 use Rattle.f3_kinds.specs.Things.{map_or}
 use Rattle.f3_meaning_whole.specs.Permitted.{Each}
 use Rattle.f3_meaning_whole.specs.Formed.{is_before}
 use Rattle.f3_type_rules.specs.Attributes.{has, conflicts}
 use Rattle.f3_type_rules.specs.Declarations.{spot_of, unit_spot, within_member}
 use Rattle.f3_type_rules.specs.Members.{Member, Numbered}
-use Rattle.f3_type_rules.specs.Names.{Declared, entries, entries_in, is_given, object_of, type_of, undeclared}
-use Rattle.f3_type_rules.specs.Natures.{typed_object, dummy as dummy_nature}
+use Rattle.f3_type_rules.specs.Names.{Declared, entries, is_given, object_of, type_of, undeclared}
 use Rattle.f3_type_rules.specs.Program.{nothing_known}
 use Rattle.f3_type_rules.specs.Scene.{Scene}
 use Rattle.f3_type_rules.specs.Walks.{Spot, is_among}
@@ -31,7 +28,7 @@ use Rattle.f3_elaboration.specs.Declarations.{Whole, declared, variable, compone
 use Rattle.f3_elaboration.specs.Numbers.{Variable, Definition, along_part, names_in, types_in, declared_from, unit_names, member_names, definitions, is_variable, is_saved}
 use Rattle.f3_elaboration.specs.Numbers.{is_static_in, unit_statics, main_locals, member_locals, is_in_header, result_name, number_in, base_of}
 use Rattle.f3_elaboration.specs.Units.{declarations_in, declaration_of, result_of, plain, dummy}
-use Rattle.f3_lawful_laws.proofs.Facts.{no, nothing, same, both, left, right, otherwise, negated_back}
+use Rattle.f3_lawful_laws.proofs.Facts.{no, nothing, same, both, right, otherwise, negated_back}
 use Rattle.f3_lawful_laws.proofs.Positions.{eq_same}
 use Rattle.f3_formed_laws.specs.Nodes.{is_declared}
 use Rattle.f3_formed_laws.specs.Entities.{HasOwnResult, IsBelow, StandsBehind}

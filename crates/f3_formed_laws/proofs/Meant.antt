@@ -1,25 +1,21 @@
 -- A designator, a reference or a constructor in an expression is of the kind that is said, by what its first name means.
-use Rattle.std.proofs.Common.{◌≡◌, ℕ, Bool, true, false, ◌&&◌, ◌||◌, not, List, [], ◌∷◌, length, map, Option, Some, None, refl, sym, ap, ◌∙◌, if◌then◌else◌, nat_lt}
+use Rattle.std.proofs.Common.{◌≡◌, ℕ, Bool, true, false, ◌&&◌, not, List, [], ◌∷◌, length, map, Option, Some, None, refl, sym, ap, ◌∙◌, if◌then◌else◌, nat_lt}
 use Rattle.std.specs.Prelude.{◌==◌}
-use Rattle.std.specs.List.{list_all}
 use mathlib.Core.Path.{subst}
 use Rattle.f3_access.specs.declared.table.Lookup.{Lookup}
 use Rattle.f3_access.specs.declared.table.Lookup.TheVariants.{One, Nothing, Several}
 use Rattle.f3_rules.specs.declared.breaks.Break.{Break}
 use Rattle.f3_tree.specs.declared.expression.Name.{Name}
-use Rattle.f3_program.specs.declared.declarations.Base.{Base}
 use Rattle.f3_program.specs.declared.declarations.Base.TheVariants as base_is
 use Rattle.f3_program.specs.declared.declarations.Constant.{Constant}
 use Rattle.f3_program.specs.declared.declarations.Constant.TheVariants as constant_is
 use Rattle.f3_program.specs.declared.declarations.Declared.{Declared}
 use Rattle.f3_program.specs.declared.declarations.Kind.{Kind}
 use Rattle.f3_program.specs.declared.program.Program.{Program}
-use Rattle.f3_kinds.specs.declared.types.DataType.{DataType}
 use Rattle.f3_kinds.specs.declared.types.DataType.TheVariants.{Derived}
 use Rattle.f3_kinds.specs.declared.types.Object.{Object}
 use Rattle.f3_kinds.specs.declared.said.Form.TheVariants as form
 use Rattle.f3_kinds.specs.declared.said.Has.{Has}
-use Rattle.f3_kinds.specs.declared.said.Reach.{Reach}
 use Rattle.f3_kinds.specs.declared.said.Given.{Given}
 use Rattle.f3_kinds.specs.declared.said.Role.TheVariants as role
 use Rattle.f3_kinds.specs.declared.things.Component.{Component}
@@ -30,9 +26,9 @@ use Rattle.f3_kinds.specs.Things.{Nature, constant, variable, derived, subroutin
 use Rattle.f3_kinds.specs.Things.{look_here, map_or}
 use Rattle.f3_kinds.specs.Rows.{has_type, is_known, unless, computed}
 use Rattle.f3_kinds.specs.Operands.{type_in}
-use Rattle.f3_kinds.specs.Designators.{Part, reach_has, object_reach, object_rows, is_typed, enter, enter_rows, start, along_rows, step_selected_rows, select, count_is_right}
+use Rattle.f3_kinds.specs.Designators.{Part, reach_has, object_reach, object_rows, enter_rows, start, along_rows, step_selected_rows, select, count_is_right}
 use Rattle.f3_kinds.specs.Calls.{least_count, no_match, function_has, function_rows, are_right, is_complete, argument_rows, intrinsic_has, intrinsic_parts, actual_rows, typed_result}
-use Rattle.f3_kinds.specs.Calls.{intrinsic_rows, constructor_has, constructor_parts, constructor_rows, constructor_given, is_constructed, in_order, are_given, matched, no_breaks, result_has}
+use Rattle.f3_kinds.specs.Calls.{intrinsic_rows, constructor_has, constructor_parts, constructor_rows, constructor_given, is_constructed, no_breaks, result_has}
 use Rattle.f3_kinds.specs.Typing.{called, sense_of, sense_has, sense_rows}
 use Rattle.f3_meaning_whole.specs.Formed.{of_kind, alike, found, valued}
 use Rattle.f3_elaboration.specs.Nodes as n
@@ -41,7 +37,7 @@ use Rattle.f3_elaboration.specs.Declarations.{constant_of}
 use Rattle.f3_elaboration.specs.Context.{Surroundings, base}
 use Rattle.f3_elaboration.specs.Expressions as x
 use Rattle.f3_elaboration.specs.Expressions.{meant, given_value, arguments_for, components_for, is_whole_allocatable}
-use Rattle.f3_lawful_laws.proofs.Facts.{no, not_nil, first, second, holds, both, left, right, when_true, negated_back}
+use Rattle.f3_lawful_laws.proofs.Facts.{no, not_nil, first, second, holds, both, left, right, when_true}
 use Rattle.f3_lawful_laws.proofs.Positions.{eq_same}
 use Rattle.f3_lawful_laws.proofs.Designating.{Enters, enters, Selects, selects}
 use Rattle.f3_lawful_laws.proofs.Calling.{fitting, intrinsic_typed, intrinsic_counted}
@@ -49,11 +45,11 @@ use Rattle.f3_formed_laws.specs.Nodes.{value_kind}
 use Rattle.f3_formed_laws.specs.Agreement.{AgreesInKinds, IsConstant, constant_type}
 use Rattle.f3_formed_laws.proofs.Bases.{alike_equal}
 use Rattle.f3_formed_laws.proofs.Alike.{IsHeldAs, IsKind, IsOf, AreGiven, IsBehind, AreParts}
-use Rattle.f3_formed_laws.proofs.Scalars.{all_typed, behind_typed, all_parts_typed}
+use Rattle.f3_formed_laws.proofs.Scalars.{all_typed, behind_typed}
 use Rattle.f3_formed_laws.proofs.Walking.{Stands, stands, entered_count}
 use Rattle.f3_formed_laws.proofs.Passing.{implied, reference_is}
 use Rattle.f3_formed_laws.proofs.Storing.{structure_is}
-use Rattle.f3_formed_laws.proofs.Intrinsics.{Pair, unkeyed, IsFunction, Zipped, zipped, intrinsic_is, result_as}
+use Rattle.f3_formed_laws.proofs.Intrinsics.{Pair, IsFunction, Zipped, zipped, intrinsic_is, result_as}
 
 no_break : (bs : List Break) → bs ≡ [] → no_breaks bs ≡ true
 no_break [] e = refl

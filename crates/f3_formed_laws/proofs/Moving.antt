@@ -4,8 +4,6 @@ use Rattle.std.specs.Prelude.{nat_eq, slice_get, ◌==◌}
 use Rattle.std.specs.List.{list_any}
 use mathlib.Core.Path.{subst}
 use Rattle.f3_tree.specs.declared.expression.Name.{Name}
-use Rattle.f3_program.specs.declared.declarations.Base.{Base}
-use Rattle.f3_program.specs.declared.declarations.Kind.{Kind}
 use Rattle.f3_kinds.specs.declared.said.Has.{Has}
 use Rattle.f3_kinds.specs.declared.said.Said.{Said}
 use Rattle.f3_kinds.specs.declared.said.Given.{Given}

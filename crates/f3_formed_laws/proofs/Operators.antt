@@ -1,6 +1,6 @@
 -- Operators make scalars of the types that are said.
-use Rattle.std.proofs.Common.{◌≡◌, ℕ, Bool, true, false, ◌&&◌, List, [], ◌∷◌, Option, Some, None, refl, sym, ap, ◌∙◌, if◌then◌else◌}
-use Rattle.std.specs.Prelude.{⊤, ◌==◌}
+use Rattle.std.proofs.Common.{◌≡◌, Bool, true, false, ◌&&◌, List, Option, Some, None, refl, sym, ap, ◌∙◌, if◌then◌else◌}
+use Rattle.std.specs.Prelude.{⊤}
 use Rattle.std.specs.List.{list_all}
 use mathlib.Core.Path.{subst}
 use Rattle.f3_tree.specs.declared.expression.Operator.{Operator}
@@ -20,7 +20,7 @@ use Rattle.f3_kinds.specs.declared.types.DataType.TheVariants.{Integer, Logical,
 use Rattle.f3_kinds.specs.declared.types.Wanted.{Wanted}
 use Rattle.f3_kinds.specs.declared.types.Wanted.TheVariants as wanted
 use Rattle.f3_kinds.specs.declared.said.Has.{Has}
-use Rattle.f3_kinds.specs.Rows.{has_type, has_fits, type_fits, fits, computed, wider}
+use Rattle.f3_kinds.specs.Rows.{has_fits, type_fits, fits, computed, wider}
 use Rattle.f3_kinds.specs.Operands.{when_right, result_of, enclosed, kind_of, kind_in, type_in, wanted_by}
 use Rattle.f3_kinds.specs.Typing.{said, said_rest}
 use Rattle.f3_meaning_whole.specs.Formed.{alike, of_kind, found, only, is_scalar, is_number}
@@ -28,14 +28,14 @@ use Rattle.f3_elaboration.specs.Nodes as n
 use Rattle.f3_elaboration.specs.Nodes.{ExpressionNode}
 use Rattle.f3_elaboration.specs.Context.{Surroundings, base}
 use Rattle.f3_elaboration.specs.Expressions.{Operand, operand, joined, operation, is_power, chain, expression, signed}
-use Rattle.f3_lawful_laws.proofs.Facts.{no, both, left, right, when_true}
+use Rattle.f3_lawful_laws.proofs.Facts.{no, left, right}
 use Rattle.f3_lawful_laws.proofs.Intrinsics.{IsPlain}
 use Rattle.f3_lawful_laws.proofs.Positions.{eq_same}
 use Rattle.f3_formed_laws.specs.Nodes.{value_kind}
 use Rattle.f3_formed_laws.specs.Levels.{AreOfSort}
-use Rattle.f3_formed_laws.proofs.Bases.{is_wanted_base, alike_numbers, alike_equal, alike_back, type_same, number_base}
+use Rattle.f3_formed_laws.proofs.Bases.{is_wanted_base, alike_numbers, alike_equal, type_same, number_base}
 use Rattle.f3_formed_laws.proofs.Alike.{IsNoVariable, IsAs, IsKind, IsOf}
-use Rattle.f3_formed_laws.proofs.Scalars.{Scalar, scalar, logical}
+use Rattle.f3_formed_laws.proofs.Scalars.{Scalar, scalar}
 
 -- integers or logicals, and not either
 abbrev pub IsOne : Wanted → Type 0

@@ -1,7 +1,7 @@
 -- Arguments are of the kinds of their dummies, one for each.
-use Rattle.std.proofs.Common.{◌≡◌, ℕ, zero, suc, ◌+◌, ◌<◌, ◌≤◌, Bool, true, false, ◌&&◌, ◌||◌, not, List, [], ◌∷◌, length, map, Option, Some, None, refl, sym, ap, ◌∙◌}
+use Rattle.std.proofs.Common.{◌≡◌, ℕ, zero, suc, ◌+◌, ◌<◌, Bool, true, false, ◌&&◌, ◌||◌, not, List, [], ◌∷◌, length, map, Option, Some, None, refl, sym, ap, ◌∙◌}
 use Rattle.std.proofs.Common.{if◌then◌else◌, nat_eq, arith}
-use Rattle.std.specs.Prelude.{⊤, ◌==◌, slice_get}
+use Rattle.std.specs.Prelude.{◌==◌, slice_get}
 use Rattle.std.specs.List.{list_any}
 use mathlib.Core.Path.{subst}
 use Rattle.f3_program.specs.declared.declarations.Base.{Base}
@@ -10,7 +10,6 @@ use Rattle.f3_program.specs.declared.declarations.Kind.{Kind}
 use Rattle.f3_program.specs.declared.program.Dummy as program
 use Rattle.f3_program.specs.declared.program.Procedure.{Procedure}
 use Rattle.f3_program.specs.declared.program.Program.{Program}
-use Rattle.f3_kinds.specs.declared.types.DataType.{DataType}
 use Rattle.f3_kinds.specs.declared.types.Object.{Object}
 use Rattle.f3_kinds.specs.declared.said.Form.{Form}
 use Rattle.f3_kinds.specs.declared.said.Form.TheVariants.{Computed, Constant, Variable}
@@ -18,9 +17,9 @@ use Rattle.f3_kinds.specs.declared.said.Has.{Has}
 use Rattle.f3_kinds.specs.declared.said.Given as said
 use Rattle.f3_kinds.specs.declared.said.Given.TheVariants.{Value, Triplet}
 use Rattle.f3_kinds.specs.declared.things.Dummy.{Dummy}
-use Rattle.f3_kinds.specs.Things.{map_or, at_place_of}
+use Rattle.f3_kinds.specs.Things.{map_or}
 use Rattle.f3_kinds.specs.Rows.{has_type, is_known, unless}
-use Rattle.f3_kinds.specs.Calls.{Matched, match_next, matched, argument_fits, argument_rows, place_for, has_fits_dummy, is_free, is_keyed, fits_at, added, no_match, is_complete}
+use Rattle.f3_kinds.specs.Calls.{Matched, match_next, matched, argument_fits, argument_rows, place_for, has_fits_dummy, is_free, is_keyed, added, no_match, is_complete}
 use Rattle.f3_meaning_whole.specs.Permitted.{Each, same_type}
 use Rattle.f3_meaning_whole.specs.Formed.{of_kind, found, some, alike, same_truth, given_all, Given, dummy_takes, fits_dummy, kinds_of, all, all_given, only, result_kind, referenced}
 use Rattle.f3_elaboration.specs.Nodes as n
@@ -34,7 +33,7 @@ use Rattle.f3_lawful_laws.proofs.Positions.{eq_same, eq_self}
 use Rattle.f3_lawful_laws.proofs.Passing.{Fits, fits_by, numbered, known_same, alike_by}
 use Rattle.f3_formed_laws.specs.Nodes.{value_kind, object_kind, argument, arguments}
 use Rattle.f3_formed_laws.specs.Agreement.{kind_of, HasDummies}
-use Rattle.f3_formed_laws.proofs.Bases.{alike_back, alike_through, known_alike}
+use Rattle.f3_formed_laws.proofs.Bases.{alike_back}
 use Rattle.f3_formed_laws.proofs.Alike.{IsHeldAs, IsAs, IsKind, IsOf, IsGiven, AreGiven}
 use Rattle.f3_formed_laws.proofs.Components.{DummyAt, dummy_at, as_long}
 use Rattle.f3_formed_laws.proofs.Holding.{itself_kind, kind_by}

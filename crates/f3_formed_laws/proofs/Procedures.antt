@@ -1,6 +1,6 @@
 -- Procedures and main programs that break no rule make sense.
-use Rattle.std.proofs.Common.{◌≡◌, ℕ, zero, suc, ◌+◌, ◌<◌, Bool, true, false, cond, ◌&&◌, List, [], ◌∷◌, ◌++◌, length, map, filter, Option, Some, None, refl, sym, ap, ◌∙◌}
-use Rattle.std.specs.Prelude.{⊤, slice_get}
+use Rattle.std.proofs.Common.{◌≡◌, ℕ, ◌+◌, ◌<◌, Bool, true, false, cond, ◌&&◌, List, [], ◌∷◌, ◌++◌, length, map, filter, Option, Some, None, refl, sym, ap, ◌∙◌}
+use Rattle.std.specs.Prelude.{slice_get}
 use Rattle.std.specs.Option.{option_map}
 use Rattle.std.specs.List.{flat_map}
 use mathlib.Core.Path.{subst}
@@ -8,7 +8,6 @@ use Rattle.f3_rules.specs.declared.source.Place.{Place}
 use Rattle.f3_scopes.specs.declared.outline.EntityKind.TheVariants.{DerivedType}
 use Rattle.f3_tree.specs.declared.expression.Name.{Name}
 use Rattle.f3_program.specs.declared.declarations.Declared.{Declared}
-use Rattle.f3_program.specs.declared.declarations.Kind.{Kind}
 use Rattle.f3_program.specs.declared.program.Dummy.{Dummy}
 use Rattle.f3_program.specs.declared.program.Procedure.{Procedure}
 use Rattle.f3_program.specs.declared.program.Program.{Program}
@@ -21,7 +20,6 @@ use Rattle.f3_type_rules.specs.Declarations.{spot_of}
 use Rattle.f3_type_rules.specs.Members.{Member, Numbered}
 use Rattle.f3_type_rules.specs.Program.{body_breaks, member_breaks, unit_breaks}
 use Rattle.f3_type_rules.specs.Scene.{site_in}
-use Rattle.f3_elaboration.specs.Nodes as n
 use Rattle.f3_elaboration.specs.Nodes.{DeclaredNode, DummyNode, ProcedureNode}
 use Rattle.f3_elaboration.specs.Declarations.{Whole, variable}
 use Rattle.f3_elaboration.specs.DeclaredViews.{declared_view, dummy_view, procedure_view}
@@ -32,7 +30,6 @@ use Rattle.f3_lawful_laws.specs.Blocks.{IsBlockPlaced}
 use Rattle.f3_lawful_laws.proofs.Facts.{not_nil, first, second, both}
 use Rattle.f3_formed_laws.specs.Nodes.{is_declared, is_formed}
 use Rattle.f3_formed_laws.specs.Levels.{IsBlockLevelled}
-use Rattle.f3_formed_laws.specs.Agreement.{AgreesInKinds}
 use Rattle.f3_formed_laws.specs.Entities.{MemberAgrees, UnitAgrees}
 use Rattle.f3_formed_laws.proofs.InMemory.{blocks_make}
 use Rattle.f3_formed_laws.proofs.Selecting.{long}

@@ -1,6 +1,5 @@
 -- Objects of ALLOCATE and DEALLOCATE are allocatables of the kinds that are told, with as many bounds as they have dimensions.
 use Rattle.std.proofs.Common.{◌≡◌, ℕ, true, false, Bool, ◌&&◌, not, List, [], ◌∷◌, ◌++◌, length, map, Option, Some, None, refl, sym, ap, ◌∙◌, if◌then◌else◌, nat_eq}
-use Rattle.std.specs.Prelude.{⊤}
 use mathlib.Core.Path.{subst}
 use Rattle.f3_rules.specs.declared.breaks.Break.{Break}
 use Rattle.f3_tree.specs.declared.expression.Name.{Name}
@@ -16,23 +15,22 @@ use Rattle.f3_kinds.specs.declared.said.Has.{Has}
 use Rattle.f3_kinds.specs.declared.said.Reach.{Reach}
 use Rattle.f3_kinds.specs.declared.said.Role.{Role}
 use Rattle.f3_kinds.specs.declared.said.Role.TheVariants as role
-use Rattle.f3_kinds.specs.Things.{Context, variable, Meaning, entity, meaning_of, look_here, map_or}
+use Rattle.f3_kinds.specs.Things.{Context, variable, Meaning, entity, meaning_of}
 use Rattle.f3_kinds.specs.Rows.{has_type, is_known}
-use Rattle.f3_kinds.specs.Designators.{Part, parts_typed, reach_has, reach_rows, object_reach, object_rows, role_fits, is_allocation, is_last, enter, enter_rows, start, along, along_rows}
-use Rattle.f3_kinds.specs.Typing.{said, said_parts, said_behind, breaks_parts, breaks_behind, designator_at, designator_breaks, sense_of, sense_has, sense_rows, sense_parts, named_said, called}
-use Rattle.f3_meaning_whole.specs.Formed.{all, some, same_kind}
+use Rattle.f3_kinds.specs.Designators.{Part, reach_has, reach_rows, object_reach, object_rows, role_fits, is_allocation, enter, enter_rows, start, along, along_rows}
+use Rattle.f3_kinds.specs.Typing.{said, said_parts, said_behind, breaks_parts, designator_at, designator_breaks, sense_of, sense_has, sense_rows, sense_parts, named_said, called}
+use Rattle.f3_meaning_whole.specs.Formed.{some, same_kind}
 use Rattle.f3_type_rules.specs.Definitions.{Site, definition_rows}
 use Rattle.f3_elaboration.specs.Context.{Surroundings, base}
-use Rattle.f3_elaboration.specs.Expressions as x
 use Rattle.f3_elaboration.specs.Expressions.{expression, parts, behind, itself}
 use Rattle.f3_elaboration.specs.Actions.{kind, kind_by, variable as named_variable, unbounded, last_given, bounds, request}
 use Rattle.f3_lawful_laws.specs.Written.{IsVariableWritten}
-use Rattle.f3_lawful_laws.proofs.Facts.{no, first, second, both, left, right}
+use Rattle.f3_lawful_laws.proofs.Facts.{no, first, second, both}
 use Rattle.f3_lawful_laws.proofs.Designating.{Enters, enters}
 use Rattle.f3_lawful_laws.proofs.Passing.{alike_by}
 use Rattle.f3_lawful_laws.proofs.Positions.{eq_self}
 use Rattle.f3_lawful_laws.proofs.Bounded.{IsHeap, bare_last, bare_rows}
-use Rattle.f3_formed_laws.specs.Nodes.{object_kind, is_object_of, is_bound, is_request, has_bounds}
+use Rattle.f3_formed_laws.specs.Nodes.{object_kind, is_request, has_bounds}
 use Rattle.f3_formed_laws.specs.Levels.{ArePartsLevelled}
 use Rattle.f3_formed_laws.specs.Agreement.{AgreesInKinds}
 use Rattle.f3_formed_laws.specs.Laws.{IsVariable}

@@ -1,14 +1,12 @@
 -- In a program that breaks no rule no declared name has attributes that do not stand together.
-use Rattle.std.proofs.Common.{◌≡◌, ℕ, ◌+◌, Bool, true, false, not, List, [], ◌∷◌, ◌++◌, length, refl, sym, ap, ◌∙◌}
+use Rattle.std.proofs.Common.{◌≡◌, ℕ, true, false, List, [], ◌∷◌}
 use Rattle.std.specs.Prelude.{⊤}
 use Rattle.std.specs.List.{flat_map}
-use Rattle.f3_tree.specs.Declarations.{EntityTree, DeclarationTree, TypeTree, SpecificationTree, declares, accesses, protects, saves, defines}
-use Rattle.f3_kinds.specs.Things.{Context}
-use Rattle.f3_kinds.specs.Rows.{unless}
+use Rattle.f3_tree.specs.Declarations.{EntityTree, DeclarationTree, SpecificationTree, declares, accesses, protects, saves, defines}
 use Rattle.f3_meaning_whole.specs.Permitted.{Each}
 use Rattle.f3_type_rules.specs.Attributes.{conflicts}
-use Rattle.f3_type_rules.specs.Declarations.{specifier_rows, entity_rows, entity_next, declaration_rows, component_rows, type_definition_rows, specification_rows, specification_next}
-use Rattle.f3_type_rules.specs.Declarations.{header_rows, local_rows, spot_of, within_member, member_rows, member_next, unit_spot, within_unit, behind_part, unit_rows, unit_next}
+use Rattle.f3_type_rules.specs.Declarations.{specifier_rows, entity_rows, entity_next, component_rows, specification_rows, specification_next}
+use Rattle.f3_type_rules.specs.Declarations.{header_rows, spot_of, within_member, member_rows, member_next, unit_spot, within_unit, behind_part, unit_rows, unit_next}
 use Rattle.f3_type_rules.specs.Members.{Member, Numbered}
 use Rattle.f3_type_rules.specs.Names.{attributes_of}
 use Rattle.f3_type_rules.specs.Scene.{Scene}

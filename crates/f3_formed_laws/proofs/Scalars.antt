@@ -1,8 +1,6 @@
 -- What has types, and what is a scalar of a type that is wanted.
-use Rattle.std.proofs.Common.{◌≡◌, ℕ, Bool, true, false, ◌&&◌, ◌||◌, not, List, [], ◌∷◌, Option, Some, None, refl, sym, ap, ◌∙◌, nat_eq}
-use Rattle.std.specs.Prelude.{◌==◌}
+use Rattle.std.proofs.Common.{◌≡◌, true, List, [], ◌∷◌, Option, Some, None, refl, sym, ap, ◌∙◌}
 use Rattle.std.specs.List.{list_all}
-use mathlib.Core.Path.{subst}
 use Rattle.f3_program.specs.declared.declarations.Base.{Base}
 use Rattle.f3_program.specs.declared.declarations.Base.TheVariants as base_is
 use Rattle.f3_program.specs.declared.declarations.Declared.{Declared}
@@ -15,10 +13,9 @@ use Rattle.f3_kinds.specs.declared.said.Has.{Has}
 use Rattle.f3_kinds.specs.declared.said.Said.{Said}
 use Rattle.f3_kinds.specs.declared.said.Given.{Given}
 use Rattle.f3_kinds.specs.declared.said.Given.TheVariants.{Value, Triplet}
-use Rattle.f3_kinds.specs.Rows.{has_type, has_fits, type_fits, fits}
+use Rattle.f3_kinds.specs.Rows.{has_type, has_fits, type_fits}
 use Rattle.f3_kinds.specs.Designators.{Part, is_typed, is_typed_perhaps, are_typed, parts_typed}
-use Rattle.f3_meaning_whole.specs.Permitted.{same_type}
-use Rattle.f3_meaning_whole.specs.Formed.{alike, of_kind, some, is_number, is_scalar, is_whole_number, is_condition}
+use Rattle.f3_meaning_whole.specs.Formed.{alike, of_kind, some, is_whole_number, is_condition}
 use Rattle.f3_elaboration.specs.Nodes.{ExpressionNode}
 use Rattle.f3_elaboration.specs.Context.{Surroundings, base}
 use Rattle.f3_elaboration.specs.Expressions as x
@@ -26,7 +23,7 @@ use Rattle.f3_lawful_laws.proofs.Facts.{no, both, left, right}
 use Rattle.f3_lawful_laws.proofs.Positions.{eq_same}
 use Rattle.f3_formed_laws.specs.Nodes.{value_kind}
 use Rattle.f3_formed_laws.proofs.Bases.{is_wanted_base, wanted_base, wanted_alike, type_same}
-use Rattle.f3_formed_laws.proofs.Alike.{IsKind, IsOf, MayBeOf, IsGiven, AreGiven, IsBehind, AreParts}
+use Rattle.f3_formed_laws.proofs.Alike.{IsOf, MayBeOf, IsGiven, AreGiven, IsBehind, AreParts}
 
 module _ (p : Program) (vs : List Declared) (ns : List Kind) (s : Surroundings) where
   -- ---- types

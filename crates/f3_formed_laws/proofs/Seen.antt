@@ -1,5 +1,5 @@
 -- What stands in memory is of the kind of its data.
-use Rattle.std.proofs.Common.{◌≡◌, ℕ, Bool, true, false, ◌&&◌, List, [], ◌∷◌, ◌++◌, map, not, nat_eq, nat_lt, if◌then◌else◌, Option, None, Some, refl, sym, ap, ◌∙◌}
+use Rattle.std.proofs.Common.{◌≡◌, ℕ, Bool, true, false, ◌&&◌, List, ◌∷◌, map, not, nat_eq, nat_lt, if◌then◌else◌, Option, None, Some, refl, sym, ap, ◌∙◌}
 use Rattle.f3_meaning_whole.specs.Act.{component_of}
 use Rattle.f3_program.specs.declared.declarations.Component.{Component}
 use Rattle.f3_program.specs.declared.declarations.Constant.TheVariants as constant
@@ -15,7 +15,6 @@ use Rattle.f3_meaning_whole.specs.Formed as formed
 use Rattle.f3_meaning_whole.specs.Formed.{some, found, only, given_all, valued, constructed, structured, referenced, component_kind, sectioned, element_of_each, is_whole_number, Given}
 use Rattle.f3_meaning_whole.specs.Formed.{is_scalar, alike, of_kind, kind_of_name}
 use Rattle.f3_program.specs.declared.declarations.Base.TheVariants as base
-use Rattle.f3_elaboration.specs.Nodes.{ExpressionNode, ArgumentNode, ArgumentNodes, DesignatorNode, SelectionNode, SubscriptNode, SubscriptNodes}
 use Rattle.f3_elaboration.specs.Views.{expression_view, argument_view, designator_view, selection_view, subscript_view, arguments_of, subscripts_of}
 use Rattle.f3_elaboration.proofs.Views as v
 use Rattle.f3_formed_laws.specs.Nodes.{value_kind, argument, arguments, object_kind, taken, taken_of_each, subscripts, subscript}

@@ -1,5 +1,5 @@
 -- A statement in memory makes sense where its data does.
-use Rattle.std.proofs.Common.{◌≡◌, Bool, true, false, ◌&&◌, ◌||◌, List, [], ◌∷◌, ◌++◌, map, length, nat_eq, suc, Option, Some, None, refl, sym, ap, ◌∙◌}
+use Rattle.std.proofs.Common.{◌≡◌, Bool, true, ◌&&◌, ◌||◌, List, [], ◌∷◌, ◌++◌, map, length, nat_eq, suc, Option, Some, None, refl, sym, ap, ◌∙◌}
 use Rattle.std.specs.Option.{option_map}
 use Rattle.f3_program.specs.declared.declarations.Base.TheVariants as base
 use Rattle.f3_program.specs.declared.declarations.Declared.{Declared}
@@ -16,7 +16,7 @@ use Rattle.f3_program.specs.declared.program.Program.{Program}
 use Rattle.f3_meaning_whole.specs.Permitted.{same_type}
 use Rattle.f3_meaning_whole.specs.Formed as formed
 use Rattle.f3_meaning_whole.specs.Formed.{all, some, found, only, valued, alike, is_number, is_scalar, is_condition, is_whole_number, takes, same_kind, given_all, or_none}
-use Rattle.f3_elaboration.specs.Nodes.{StatementNode, RequestNode, SelectorNode}
+use Rattle.f3_elaboration.specs.Nodes.{StatementNode}
 use Rattle.f3_elaboration.specs.Views.{expression_view, designator_view, bounds_view, request_view, item_view, selector_view, statement_view, statements_of}
 use Rattle.f3_elaboration.proofs.Views as v
 use Rattle.f3_lawful_laws.proofs.Primed as is

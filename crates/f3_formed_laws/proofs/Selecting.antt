@@ -1,11 +1,9 @@
 -- Subscripts, and one part of a designator.
 use Rattle.std.proofs.Common.{◌≡◌, ℕ, zero, suc, Bool, true, false, ◌&&◌, ◌||◌, not, List, [], ◌∷◌, length, map, filter, Option, Some, None, refl, sym, ap, ◌∙◌}
 use Rattle.std.proofs.Common.{if◌then◌else◌, cond, nat_eq, nat_lt, arith, inl, inr}
-use Rattle.std.specs.Prelude.{⊤, ◌==◌}
+use Rattle.std.specs.Prelude.{◌==◌}
 use Rattle.std.specs.List.{list_all}
 use Rattle.std.proofs.lemmas.Bool.Decides.{leb_tells}
-use mathlib.Core.Path.{subst}
-use Rattle.f3_program.specs.declared.declarations.Base.{Base}
 use Rattle.f3_program.specs.declared.declarations.Declared.{Declared}
 use Rattle.f3_program.specs.declared.declarations.Kind.{Kind}
 use Rattle.f3_program.specs.declared.program.Program.{Program}
@@ -15,14 +13,14 @@ use Rattle.f3_kinds.specs.declared.said.Said.{Said}
 use Rattle.f3_kinds.specs.declared.said.Given.{Given}
 use Rattle.f3_kinds.specs.declared.said.Given.TheVariants.{Value, Triplet}
 use Rattle.f3_kinds.specs.Designators.{subscript_fits, fits_perhaps, is_triplet, are_fit, count_is_right, triplets, rank_left, is_bare}
-use Rattle.f3_meaning_whole.specs.Formed.{of_kind, found, only, some, given_all, count_ranges, same_truth, is_scalar, is_whole_number}
+use Rattle.f3_meaning_whole.specs.Formed.{of_kind, found, only, some, given_all, count_ranges, same_truth, is_whole_number}
 use Rattle.f3_elaboration.specs.Nodes as n
 use Rattle.f3_elaboration.specs.Nodes.{ExpressionNode, SelectionNode}
 use Rattle.f3_elaboration.specs.Context.{Surroundings, base}
 use Rattle.f3_elaboration.specs.Expressions as x
 use Rattle.f3_elaboration.specs.Expressions.{or_one, selection, is_held, held}
-use Rattle.f3_lawful_laws.proofs.Facts.{no, both, left, right, negated, negated_back}
-use Rattle.f3_lawful_laws.proofs.Positions.{eq_same, eq_self}
+use Rattle.f3_lawful_laws.proofs.Facts.{no, both, left, right}
+use Rattle.f3_lawful_laws.proofs.Positions.{eq_same}
 use Rattle.f3_formed_laws.specs.Nodes.{value_kind, taken, taken_of_each, subscript, subscripts}
 use Rattle.f3_formed_laws.specs.Agreement.{kind_of}
 use Rattle.f3_formed_laws.proofs.Alike.{MayBeOf, IsGiven, AreGiven, IsBehind}

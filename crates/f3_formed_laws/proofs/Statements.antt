@@ -1,10 +1,9 @@
 -- Statements that break no rule make sense.
-use Rattle.std.proofs.Common.{◌≡◌, ℕ, ◌+◌, Bool, true, false, ◌&&◌, List, [], ◌∷◌, ◌++◌, length, map, Option, None, Some, refl, sym, ap, ◌∙◌}
-use Rattle.std.specs.Prelude.{pos, ⊤}
+use Rattle.std.proofs.Common.{◌≡◌, ℕ, ◌+◌, Bool, true, false, List, [], ◌∷◌, ◌++◌, length, map, Option, None, Some, refl, sym, ap, ◌∙◌}
+use Rattle.std.specs.Prelude.{pos}
 use Rattle.std.specs.List.{flat_map}
 use Rattle.std.specs.Map.{lookup}
 use Rattle.std.specs.Prelude.{nat_eq}
-use mathlib.Core.Path.{subst}
 use Rattle.f3_rules.specs.declared.source.Place.{Place}
 use Rattle.f3_rules.specs.declared.breaks.Break.{Break}
 use Rattle.f3_tree.specs.Expressions as e
@@ -18,7 +17,7 @@ use Rattle.f3_kinds.specs.declared.types.Wanted.TheVariants as wanted
 use Rattle.f3_kinds.specs.declared.said.Role.TheVariants as role
 use Rattle.f3_kinds.specs.Things.{map_or, Context}
 use Rattle.f3_kinds.specs.Rows.{scalar_rows}
-use Rattle.f3_kinds.specs.Typing.{said, breaks, designator_at, designator_breaks}
+use Rattle.f3_kinds.specs.Typing.{said, breaks, designator_at}
 use Rattle.f3_meaning_whole.specs.Permitted.{Each}
 use Rattle.f3_meaning_whole.specs.Formed.{some, given_all, or_none, is_scalar, is_condition, is_whole_number, same_kind}
 use Rattle.f3_type_rules.specs.declared.definition.Holder.{Holder}

@@ -1,13 +1,12 @@
 -- Values of components are of the kinds of these, none twice.
-use Rattle.std.proofs.Common.{◌≡◌, ℕ, zero, suc, ◌+◌, ◌<◌, ◌≤◌, Bool, true, false, ◌&&◌, ◌||◌, not, List, [], ◌∷◌, length, map, Option, Some, None, refl, sym, ap, ◌∙◌}
+use Rattle.std.proofs.Common.{◌≡◌, ℕ, zero, suc, ◌+◌, ◌<◌, ◌≤◌, Bool, true, false, ◌&&◌, ◌||◌, not, List, [], ◌∷◌, length, Option, Some, None, refl, sym, ap, ◌∙◌}
 use Rattle.std.proofs.Common.{if◌then◌else◌, nat_eq, nat_lt, arith, inl, inr}
 use Rattle.std.proofs.lemmas.Bool.Decides.{leb_tells}
-use Rattle.std.specs.Prelude.{⊤, ◌==◌, slice_get}
+use Rattle.std.specs.Prelude.{◌==◌, slice_get}
 use Rattle.std.specs.List.{list_any}
 use mathlib.Core.Path.{subst}
 use Rattle.f3_rules.specs.declared.source.Place.{Place}
 use Rattle.f3_tree.specs.declared.expression.Name.{Name}
-use Rattle.f3_program.specs.declared.declarations.Base.{Base}
 use Rattle.f3_program.specs.declared.declarations.Base.TheVariants as base_is
 use Rattle.f3_program.specs.declared.declarations.Component as program
 use Rattle.f3_program.specs.declared.declarations.Declared.{Declared}
@@ -20,30 +19,29 @@ use Rattle.f3_kinds.specs.declared.said.Said.{Said}
 use Rattle.f3_kinds.specs.declared.said.Given as said
 use Rattle.f3_kinds.specs.declared.said.Given.TheVariants.{Value, Triplet}
 use Rattle.f3_kinds.specs.declared.things.Component.{Component}
-use Rattle.f3_kinds.specs.Things.{map_or, at_place_of, place_of}
-use Rattle.f3_kinds.specs.Rows.{has_type, is_known, unless, at_place, at_name}
+use Rattle.f3_kinds.specs.Things.{map_or, at_place_of}
+use Rattle.f3_kinds.specs.Rows.{has_type, is_known, unless}
 use Rattle.f3_kinds.specs.Designators.{is_triplet}
 use Rattle.f3_kinds.specs.Calls.{Matched, no_match, match_next, place_for, within_count, is_new, in_order, is_keyed, added, value_rows, type_takes, private_at}
 use Rattle.f3_kinds.specs.Calls.{component_rows, given_rows, constructor_given}
 use Rattle.f3_meaning_whole.specs.Permitted.{Each}
-use Rattle.f3_meaning_whole.specs.Formed.{of_kind, found, some, only, all, alike, given_all, Given, given_for, component_takes, fits_component, at_most_once, structured, takes}
+use Rattle.f3_meaning_whole.specs.Formed.{of_kind, found, some, only, all, alike, given_all, Given, given_for, component_takes, fits_component, at_most_once, structured}
 use Rattle.f3_elaboration.specs.Nodes as n
 use Rattle.f3_elaboration.specs.Nodes.{ExpressionNode, DesignatorNode}
 use Rattle.f3_elaboration.specs.Context.{Surroundings, base}
 use Rattle.f3_elaboration.specs.Expressions as x
 use Rattle.f3_elaboration.specs.Expressions.{stored, stored_for, components_for, given_value, number_for, allocatable_component, itself, is_whole_allocatable}
 use Rattle.f3_lawful_laws.specs.Agreement.{KnowsComponents}
-use Rattle.f3_lawful_laws.proofs.Facts.{no, not_nil, nothing, same, first, second, holds, both, left, right, otherwise, negated_back, when_true}
+use Rattle.f3_lawful_laws.proofs.Facts.{no, not_nil, nothing, same, first, second, holds, both, left, right, negated_back, when_true}
 use Rattle.f3_lawful_laws.proofs.Positions.{eq_same, eq_self}
-use Rattle.f3_formed_laws.specs.Nodes.{value_kind, object_kind, argument, arguments}
+use Rattle.f3_formed_laws.specs.Nodes.{value_kind, argument, arguments}
 use Rattle.f3_formed_laws.specs.Agreement.{kind_of, AreComponents, HasComponents}
 use Rattle.f3_formed_laws.proofs.Bases.{alike_back, alike_through, takes_alike}
-use Rattle.f3_formed_laws.proofs.Alike.{IsAs, IsKind, IsOf, IsGiven, AreGiven}
+use Rattle.f3_formed_laws.proofs.Alike.{IsKind, IsOf, IsGiven, AreGiven}
 use Rattle.f3_formed_laws.proofs.Components.{At, component_at}
 use Rattle.f3_formed_laws.proofs.Holding.{itself_kind, kind_by}
 use Rattle.f3_formed_laws.proofs.Selecting.{when_only}
 use Rattle.f3_formed_laws.proofs.Counting.{Once, once_none, once_more, stand_once}
-use Rattle.f3_formed_laws.proofs.Passing.{held_by}
 
 -- ---- the place of a component
 

@@ -1,6 +1,5 @@
 -- Where a variable is defined that stands in no expression: it breaks no rule in one.
 use Rattle.std.proofs.Common.{◌≡◌, ℕ, true, false, Bool, ◌&&◌, not, List, [], ◌∷◌, ◌++◌, Option, Some, None, refl, sym, ap, ◌∙◌, if◌then◌else◌}
-use Rattle.std.specs.Prelude.{⊤}
 use mathlib.Core.Path.{subst}
 use Rattle.f3_access.specs.declared.table.Lookup.TheVariants.{One}
 use Rattle.f3_rules.specs.declared.breaks.Break.{Break}
@@ -26,7 +25,7 @@ use Rattle.f3_kinds.specs.Designators.{Part, parts_typed, reach_has, object_reac
 use Rattle.f3_kinds.specs.Typing.{said, said_parts, said_behind, breaks, breaks_parts, breaks_behind, designator_at, designator_breaks, sense_of, sense_has, sense_rows, sense_parts, named_said, called}
 use Rattle.f3_meaning_whole.specs.Permitted.{Scope}
 use Rattle.f3_type_rules.specs.Definitions.{Site, definition_rows, form_rows}
-use Rattle.f3_elaboration.specs.Context.{Surroundings, base}
+use Rattle.f3_elaboration.specs.Context.{Surroundings}
 use Rattle.f3_elaboration.specs.Expressions.{expression, parts, behind}
 use Rattle.f3_lawful_laws.specs.Written.{HasName, ArePartsWritten}
 use Rattle.f3_lawful_laws.specs.Agreement.{Knows, Allows}
@@ -35,7 +34,7 @@ use Rattle.f3_lawful_laws.proofs.Defining.{Defined, defined_by}
 use Rattle.f3_formed_laws.specs.Levels.{ArePartsLevelled}
 use Rattle.f3_formed_laws.specs.Agreement.{AgreesInKinds}
 use Rattle.f3_formed_laws.specs.Laws.{IsForm, IsVariable}
-use Rattle.f3_formed_laws.proofs.Alike.{IsOf, AreParts, IsBehind}
+use Rattle.f3_formed_laws.proofs.Alike.{IsOf}
 use Rattle.f3_formed_laws.proofs.Scalars.{typed_of, behind_typed, all_parts_typed}
 use Rattle.f3_formed_laws.proofs.Expressions.{expression_is, parts_are, behind_is}
 

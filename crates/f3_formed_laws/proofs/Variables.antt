@@ -1,15 +1,11 @@
 -- Variables where they are defined are of the kinds that are said.
-use Rattle.std.proofs.Common.{◌≡◌, ℕ, true, Bool, List, [], ◌∷◌, Option, Some, None, refl, sym, ap, ◌∙◌}
-use mathlib.Core.Path.{subst}
-use Rattle.f3_tree.specs.Expressions as t
+use Rattle.std.proofs.Common.{◌≡◌, Bool, List, Option, Some, None}
 use Rattle.f3_program.specs.declared.declarations.Declared.{Declared}
 use Rattle.f3_program.specs.declared.declarations.Kind.{Kind}
 use Rattle.f3_program.specs.declared.program.Program.{Program}
 use Rattle.f3_kinds.specs.declared.said.Form.{Form}
 use Rattle.f3_kinds.specs.declared.said.Form.TheVariants.{Computed, Constant, Variable}
 use Rattle.f3_kinds.specs.declared.said.Has.{Has}
-use Rattle.f3_kinds.specs.Typing.{said}
-use Rattle.f3_meaning_whole.specs.Formed.{of_kind}
 use Rattle.f3_elaboration.specs.Nodes as n
 use Rattle.f3_elaboration.specs.Nodes.{ExpressionNode}
 use Rattle.f3_elaboration.specs.Context.{Surroundings, base}
@@ -17,7 +13,7 @@ use Rattle.f3_elaboration.specs.Expressions.{itself, is_whole_allocatable}
 use Rattle.f3_elaboration.specs.Actions.{kind_by, held_kind, named_by}
 use Rattle.f3_formed_laws.specs.Nodes.{object_kind}
 use Rattle.f3_formed_laws.specs.Laws.{IsForm, IsVariable}
-use Rattle.f3_formed_laws.proofs.Alike.{IsHeldAs, IsNoVariable, IsAs, IsKind, IsOf}
+use Rattle.f3_formed_laws.proofs.Alike.{IsHeldAs, IsNoVariable, IsAs, IsOf}
 use Rattle.f3_formed_laws.proofs.Holding.{itself_kind}
 
 no_variable : (f : Form) → IsForm f → IsNoVariable f → ⊥

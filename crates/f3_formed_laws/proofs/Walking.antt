@@ -16,9 +16,9 @@ use Rattle.f3_kinds.specs.declared.said.Given.{Given}
 use Rattle.f3_kinds.specs.declared.said.Reach.{Reach}
 use Rattle.f3_kinds.specs.declared.said.Role.TheVariants as role
 use Rattle.f3_kinds.specs.declared.things.Component.{Component}
-use Rattle.f3_kinds.specs.Things.{Context, component_of, map_or}
+use Rattle.f3_kinds.specs.Things.{component_of, map_or}
 use Rattle.f3_kinds.specs.Rows.{is_known}
-use Rattle.f3_kinds.specs.Designators.{Part, select, step_selected, step_selected_rows, step, along, along_rows, start, enter_rows, are_fit, count_is_right, rank_left, is_bare}
+use Rattle.f3_kinds.specs.Designators.{Part, select, step_selected, step_selected_rows, step, along, along_rows, start, enter_rows, are_fit, count_is_right, rank_left}
 use Rattle.f3_kinds.specs.Designators.{reach_has, reach_rows, object_reach, object_rows, role_fits, enter}
 use Rattle.f3_meaning_whole.specs.Act as Act
 use Rattle.f3_meaning_whole.specs.Formed.{of_kind, found, component_kind, kind_of_name}
@@ -27,9 +27,8 @@ use Rattle.f3_elaboration.specs.Nodes.{DesignatorNode}
 use Rattle.f3_elaboration.specs.Context.{Surroundings, base}
 use Rattle.f3_elaboration.specs.Expressions as x
 use Rattle.f3_elaboration.specs.Expressions.{components_in, components_of, number_of, selection, is_whole_allocatable}
-use Rattle.f3_lawful_laws.proofs.Facts.{no, nothing, same, first, second, left, right, otherwise, negated_back, both, when_true}
-use Rattle.f3_lawful_laws.proofs.Positions.{eq_same}
-use Rattle.f3_lawful_laws.proofs.Designating.{Enters, enters, entered, Selects, selects, component_known}
+use Rattle.f3_lawful_laws.proofs.Facts.{no, nothing, same, first, second, left, right, negated_back, both, when_true}
+use Rattle.f3_lawful_laws.proofs.Designating.{Enters, enters, Selects, selects, component_known}
 use Rattle.f3_lawful_laws.proofs.Reaching.{role_holds}
 use Rattle.f3_formed_laws.specs.Nodes.{object_kind, taken, taken_of_each}
 use Rattle.f3_formed_laws.specs.Agreement.{kind_of, HasComponents, AgreesInKinds}

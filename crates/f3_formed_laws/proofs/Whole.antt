@@ -1,5 +1,5 @@
 -- A program that breaks no rule makes sense as a whole.
-use Rattle.std.proofs.Common.{◌≡◌, ℕ, zero, suc, ◌+◌, ◌<◌, length, arith, Bool, true, false, ◌&&◌, List, [], ◌∷◌, ◌++◌, map, filter, Option, Some, None, Contains, refl, sym, ap, ◌∙◌}
+use Rattle.std.proofs.Common.{◌≡◌, ℕ, zero, suc, ◌+◌, ◌<◌, length, arith, Bool, true, List, [], ◌∷◌, map, filter, Option, Some, None, Contains, refl, sym, ap, ◌∙◌}
 use Rattle.std.specs.Prelude.{⊤, slice_get}
 use Rattle.std.specs.List.{flat_map}
 use mathlib.Core.Path.{subst}
@@ -19,10 +19,10 @@ use Rattle.f3_meaning_whole.specs.Formed as formed
 use Rattle.f3_meaning_whole.specs.Formed.{all, are_types, are_declared, is_procedure}
 use Rattle.f3_type_rules.specs.Associates.{constructs_of_block}
 use Rattle.f3_type_rules.specs.Declarations.{unit_rows, unit_next}
-use Rattle.f3_type_rules.specs.Members.{Member, Numbered, members_from, numbered, units_from}
+use Rattle.f3_type_rules.specs.Members.{Member, Numbered, members_from, units_from}
 use Rattle.f3_type_rules.specs.Program.{unit_breaks, units_in, nothing_known, program_breaks}
 use Rattle.f3_type_rules.specs.Walks.{along}
-use Rattle.f3_elaboration.specs.Nodes.{DerivedNode, ProcedureNode, ProgramNode, StaticNode}
+use Rattle.f3_elaboration.specs.Nodes.{ProgramNode, StaticNode}
 use Rattle.f3_elaboration.specs.Declarations.{Whole, variable, static, derived}
 use Rattle.f3_elaboration.specs.DeclaredViews.{derived_view, static_view, procedure_view}
 use Rattle.f3_elaboration.specs.Numbers.{Variable, Definition, number_in, along_part, types_in, definitions, unit_statics}
@@ -37,7 +37,7 @@ use Rattle.f3_lawful_laws.proofs.SeenStatements.{each_seen}
 use Rattle.f3_lawful_laws.proofs.Trees.{units_placed, all_lie}
 use Rattle.f3_formed_laws.specs.Nodes.{is_declared}
 use Rattle.f3_formed_laws.specs.Levels.{IsBlockLevelled, IsUnitLevelled}
-use Rattle.f3_formed_laws.specs.Entities.{StandsBehind, KindsAgree}
+use Rattle.f3_formed_laws.specs.Entities.{StandsBehind}
 use Rattle.f3_formed_laws.specs.Laws.{UnbrokenMakesSense}
 use Rattle.f3_formed_laws.proofs.Selecting.{long}
 use Rattle.f3_formed_laws.proofs.Right.{IsUnitRight, units_right}
@@ -132,7 +132,7 @@ well_formed t look order p spelled levelled means seen h none =
     let free : flat_map (unit_breaks w.scene w.values) (units_of t) ≡ [] =
     second (along (unit_rows w.scene) (unit_next w.scene) nothing_known (units_in (units_of t) order)) _ nil in
     let placed = units_placed (scopes_of t) look means 0 t.units spelled (all_lie (scopes_of t)) in
-    let leveled = units_levelled p w types (scopes_of t) 0 t.units levelled in
+    let levels = units_levelled p w types (scopes_of t) 0 t.units levelled in
     let numbers : Each (λ (u : Numbered). Each (IsProcedure p w u.scope) u.members) (units_of t) =
     numbered_all p w (units_of t) refl (first_entity (scopes_of t) 0) (units_ascend (scopes_of t) 0 t.units (all_lie (scopes_of t)))
     (ap (λ (y : ProgramNode). y.procedures) seen) in
@@ -140,12 +140,12 @@ well_formed t look order p spelled levelled means seen h none =
     each_flat (λ (u : Numbered). Each (IsProcedure p w u.scope) u.members) (HasProcedures p w) definitions (own_procedures p w) (units_in (units_of t) order)
     (ordered_each (λ (u : Numbered). Each (IsProcedure p w u.scope) u.members) (units_of t) numbers order) in
     let main_is : MakesAs p w types _ =
-    main_of p w types t.end (filter (λ (u : Numbered). is_main (u.tree).kind) (units_of t)) (mains p w types (units_of t) h.units right placed leveled free) in
+    main_of p w types t.end (filter (λ (u : Numbered). is_main (u.tree).kind) (units_of t)) (mains p w types (units_of t) h.units right placed levels free) in
     let in_main = main_is p.main (ap (λ (y : ProgramNode). y.main) seen) in
     let procedures =
     first_of (are_declared p) (is_procedure p) p.procedures.items
     (each_seen (MakesAs p w types) (λ (q : Procedure). (are_declared p q ≡ true) × (is_procedure p q ≡ true)) procedure_view (λ q k. k q refl) p.procedures.items
-    (subst (Each (MakesAs p w types)) (sym (ap (λ (y : ProgramNode). y.procedures) seen)) (units_make p w types (units_of t) h.units right placed leveled free))) in
+    (subst (Each (MakesAs p w types)) (sym (ap (λ (y : ProgramNode). y.procedures) seen)) (units_make p w types (units_of t) h.units right placed levels free))) in
     both (are_types p 0 p.types.items) _
     (types_are p w 0 p.types.items ds (ap (λ (y : ProgramNode). y.types) seen) (all_definitions_right w.scene (units_in (units_of t) order) right_ordered) own
     (λ k d at. subst (λ j. StandsBehind w j d) (let z : k ≡ 0 + k = omega arith in z) (h.components k d at)))
