@@ -21,6 +21,7 @@ use Rattle.f3_elaboration.specs.Context.{Surroundings, base}
 use Rattle.f3_elaboration.specs.Expressions.{expression, items}
 use Rattle.f3_lawful_laws.proofs.Facts.{no, both, left, right}
 use Rattle.f3_formed_laws.specs.Nodes.{arguments}
+use Rattle.f3_formed_laws.proofs.Facts.{when_only}
 use Rattle.f3_formed_laws.proofs.Bases.{alike_back, alike_through, known_alike}
 use Rattle.f3_formed_laws.proofs.Alike.{IsKind, IsOf}
 use Rattle.f3_formed_laws.proofs.Scalars.{Scalar, scalar, typed_of}
@@ -94,10 +95,6 @@ module _ (p : Program) (vs : List Declared) (ns : List Kind) (s : Surroundings) 
   all_alike t u (g ∷ gs) e h =
       both (is_scalar g.kind && alike g.kind.of u) _ (both (is_scalar g.kind) _ h.0.0 (alike_through g.kind.of t u h.0.1 (alike_back u t e))) (all_alike t u gs e h.1)
 
-  when_all : (b : Bool) (k : Kind) → b ≡ true → only b k ≡ Some k
-  when_all true k e = refl
-  when_all false k e = no (sym e)
-
   known : (o : Option Has) → has_type o ≡ true → is_known (type_in o) ≡ true
   known None t = no (sym t)
   known (Some y) t = t
@@ -118,7 +115,7 @@ module _ (p : Program) (vs : List Declared) (ns : List Kind) (s : Surroundings) 
         of = j.first;
         value =
             ap (λ o. found o constructed) j.all_given
-            ∙ when_all _ (of_kind j.first 1)
+            ∙ when_only _ (of_kind j.first 1)
             (all_alike (base s (Some d)) j.first (record { number = 0; kind = of_kind j.first 0; is_variable = false } ∷ j.others) j.first_alike ((refl, j.first_alike), j.each));
         alike_to = j.first_alike;
         is_as = (refl, tt);

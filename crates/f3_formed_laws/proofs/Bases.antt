@@ -65,10 +65,6 @@ alike_numbers t u e f = when_either (is_number t && is_number u) (same_type t u)
 pub alike_equal : (t u : Base) → t ≡ u → alike t u ≡ true
 alike_equal t u e = or_else (is_number t && is_number u) (same_type t u) (alike_by t u e)
 
-pub alike_of : (t u : Base) → Agree t u → alike t u ≡ true
-alike_of t u (numbers e f) = alike_numbers t u e f
-alike_of t u (equal e) = alike_equal t u e
-
 pub alike_back : (t u : Base) → alike t u ≡ true → alike u t ≡ true
 alike_back t u e = elim (agree t u e) [ numbers a b ↦ alike_numbers u t b a | equal a ↦ alike_equal u t (sym a) ]
 

@@ -24,13 +24,9 @@ use Rattle.f3_elaboration.specs.Numbers.{number_in, base_of}
 use Rattle.f3_lawful_laws.proofs.Facts.{no, nothing, both}
 use Rattle.f3_lawful_laws.proofs.Positions.{eq_self}
 use Rattle.f3_formed_laws.specs.Nodes.{is_declared}
-use Rattle.f3_formed_laws.proofs.Selecting.{long}
+use Rattle.f3_formed_laws.proofs.Facts.{neither, long}
 
 -- ---- attributes that stand together
-
-pub neither : (a b : Bool) → (a || b) ≡ false → (a ≡ false) × (b ≡ false)
-neither true b e = no e
-neither false b e = (refl, e)
 
 -- what does not conflict: an allocatable's shape, an initializer, SAVE and a shape of `:`
 pub record Stands (s : Spot) (x : Declared) : Type 0 where
@@ -63,10 +59,6 @@ stands s x e =
 -- ---- dimensions
 
 module _ (w : Whole) where
-  negative : (a : Bool) → not a ≡ false → a ≡ true
-  negative true e = refl
-  negative false e = no e
-
   -- as many as ranks, and none of an allocatable
   dimensioned : (u sc : ℕ) (held : Bool) (shape : Option ShapeTree) (c i dummy : Bool) → (held && (c || i || not (is_open shape))) ≡ false
       → (is_deferred shape && not held && not dummy) ≡ false → dummy ≡ false

@@ -34,7 +34,8 @@ use Rattle.f3_lawful_laws.proofs.Facts.{not_nil, nothing, same, both, left, righ
 use Rattle.f3_lawful_laws.proofs.Positions.{eq_same, eq_self}
 use Rattle.f3_formed_laws.specs.Nodes.{is_declared}
 use Rattle.f3_formed_laws.specs.Entities.{StandsBehind}
-use Rattle.f3_formed_laws.proofs.Listed.{each_joined, IsDefinitionRight, components_listed}
+use Rattle.f3_formed_laws.proofs.Facts.{all_each, all_seen, each_joined}
+use Rattle.f3_formed_laws.proofs.Listed.{IsDefinitionRight, components_listed}
 
 abbrev rest : {A : Type 0} → List A → List A
 rest [] = []
@@ -125,14 +126,6 @@ module _ (p : Program) (w : Whole) (unit : ℕ) where
       by_look Several looked e = nothing e
 
 -- ---- all types
-
-pub all_each : {A : Type 0} (f : A → Bool) (xs : List A) → Each (λ (x : A). f x ≡ true) xs → all f xs ≡ true
-all_each f [] h = refl
-all_each f (x ∷ xs) h = both (f x) _ h.0 (all_each f xs h.1)
-
-pub all_seen : {A B : Type 0} (f : A → Bool) (g : B → Bool) (view : A → B) → ((x : A) → f x ≡ g (view x)) → (xs : List A) → all f xs ≡ all g (map view xs)
-all_seen f g view h [] = refl
-all_seen f g view h (x ∷ xs) = ap (λ b. b && all f xs) (h x) ∙ ap (λ b. g (view x) && b) (all_seen f g view h xs)
 
 module _ (p : Program) (w : Whole) where
   finals_are : (d : Definition) → HasProcedures p w d → Each (λ (f : Final). is_final p f ≡ true) (finals w d)

@@ -32,12 +32,13 @@ use Rattle.f3_lawful_laws.proofs.Designating.{Enters, enters, entered, Selects, 
 use Rattle.f3_lawful_laws.proofs.Reaching.{role_holds}
 use Rattle.f3_lawful_laws.proofs.Bounded.{IsHeap, bare_last}
 use Rattle.f3_formed_laws.specs.Nodes.{is_bound}
+use Rattle.f3_formed_laws.proofs.Facts.{long}
 use Rattle.f3_formed_laws.proofs.Alike.{IsGiven, AreGiven, IsBehind, AreParts}
 use Rattle.f3_formed_laws.proofs.Scalars.{scalar, whole_number, behind_typed}
-use Rattle.f3_formed_laws.proofs.Selecting.{perhaps_whole, long}
+use Rattle.f3_formed_laws.proofs.Selecting.{perhaps_whole}
 use Rattle.f3_formed_laws.proofs.Walking.{entered_count}
 
-never_bounds : (u : Role) → (is_allocation u && false) ≡ false
+pub never_bounds : (u : Role) → (is_allocation u && false) ≡ false
 never_bounds role.Allocated = refl
 never_bounds role.Deallocated = refl
 never_bounds role.Expression = refl

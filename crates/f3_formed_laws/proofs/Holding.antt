@@ -12,10 +12,7 @@ use Rattle.f3_elaboration.specs.Nodes.{DesignatorNode}
 use Rattle.f3_elaboration.specs.Expressions.{itself, is_whole_allocatable}
 use Rattle.f3_lawful_laws.proofs.Facts.{nothing, same}
 use Rattle.f3_formed_laws.specs.Nodes.{object_kind}
-
-pub only_some : {A : Type 0} (b : Bool) (x y : A) → only b x ≡ Some y → (b ≡ true) × (x ≡ y)
-only_some true x y e = (refl, same e)
-only_some false x y e = nothing e
+use Rattle.f3_formed_laws.proofs.Facts.{only_some}
 
 -- a kind by its parts
 pub kind_by : (k : Kind) (t : Base) (r : ℕ) (b : Bool) → k.of ≡ t → k.rank ≡ r → k.is_allocatable ≡ b → k ≡ record { of = t; rank = r; is_allocatable = b }

@@ -1,3 +1,4 @@
+pub mod Facts
 pub mod Seen
 pub mod Bases
 pub mod Alike

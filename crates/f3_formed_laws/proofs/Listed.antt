@@ -32,34 +32,9 @@ use Rattle.f3_lawful_laws.proofs.Facts.{no, nothing, same, both, right, otherwis
 use Rattle.f3_lawful_laws.proofs.Positions.{eq_same}
 use Rattle.f3_formed_laws.specs.Nodes.{is_declared}
 use Rattle.f3_formed_laws.specs.Entities.{HasOwnResult, IsBelow, StandsBehind}
+use Rattle.f3_formed_laws.proofs.Facts.{neither, each_joined, each_so, each_taken, each_flat}
 use Rattle.f3_formed_laws.proofs.Right.{in_type, AreRight, IsRight, IsMemberRight, IsUnitRight}
-use Rattle.f3_formed_laws.proofs.Declared.{Stands, stands, neither, typed_before, named_type, declared_is}
-
--- ---- lists
-
-pub each_joined : {A : Type 0} (P : A → Type 0) (xs ys : List A) → Each P xs → Each P ys → Each P (xs ++ ys)
-each_joined P [] ys h k = k
-each_joined P (x ∷ xs) ys h k = (h.0, each_joined P xs ys h.1 k)
-
-pub each_so : {A : Type 0} (P Q : A → Type 0) → ((x : A) → P x → Q x) → (xs : List A) → Each P xs → Each Q xs
-each_so P Q g [] h = tt
-each_so P Q g (x ∷ xs) h = (g x h.0, each_so P Q g xs h.1)
-
-pub each_taken : {A : Type 0} (P Q : A → Type 0) (f : A → Bool) → ((x : A) → P x → f x ≡ true → Q x) → (xs : List A) → Each P xs → Each Q (filter f xs)
-each_taken P Q f g [] h = tt
-each_taken P Q f g (x ∷ xs) h = go (f x) refl (each_taken P Q f g xs h.1)
-  where
-    go : (b : Bool) → f x ≡ b → Each Q (filter f xs) → Each Q (cond b (x ∷ filter f xs) (filter f xs))
-    go true e rest = (g x h.0 e, rest)
-    go false e rest = rest
-
-pub each_mapped : {A B : Type 0} (P : A → Type 0) (Q : B → Type 0) (f : A → B) → ((x : A) → P x → Q (f x)) → (xs : List A) → Each P xs → Each Q (map f xs)
-each_mapped P Q f g [] h = tt
-each_mapped P Q f g (x ∷ xs) h = (g x h.0, each_mapped P Q f g xs h.1)
-
-pub each_flat : {A B : Type 0} (P : A → Type 0) (Q : B → Type 0) (f : A → List B) → ((x : A) → P x → Each Q (f x)) → (xs : List A) → Each P xs → Each Q (flat_map f xs)
-each_flat P Q f g [] h = tt
-each_flat P Q f g (x ∷ xs) h = each_joined Q (f x) (flat_map f xs) (g x h.0) (each_flat P Q f g xs h.1)
+use Rattle.f3_formed_laws.proofs.Declared.{Stands, stands, typed_before, named_type, declared_is}
 
 -- ---- declared names with their entities
 

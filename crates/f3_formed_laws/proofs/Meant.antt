@@ -43,11 +43,12 @@ use Rattle.f3_lawful_laws.proofs.Designating.{Enters, enters, Selects, selects}
 use Rattle.f3_lawful_laws.proofs.Calling.{fitting, intrinsic_typed, intrinsic_counted}
 use Rattle.f3_formed_laws.specs.Nodes.{value_kind}
 use Rattle.f3_formed_laws.specs.Agreement.{AgreesInKinds, IsConstant, constant_type}
+use Rattle.f3_formed_laws.proofs.Facts.{implied}
 use Rattle.f3_formed_laws.proofs.Bases.{alike_equal}
 use Rattle.f3_formed_laws.proofs.Alike.{IsHeldAs, IsKind, IsOf, AreGiven, IsBehind, AreParts}
 use Rattle.f3_formed_laws.proofs.Scalars.{all_typed, behind_typed}
 use Rattle.f3_formed_laws.proofs.Walking.{Stands, stands, entered_count}
-use Rattle.f3_formed_laws.proofs.Passing.{implied, reference_is}
+use Rattle.f3_formed_laws.proofs.Passing.{reference_is}
 use Rattle.f3_formed_laws.proofs.Storing.{structure_is}
 use Rattle.f3_formed_laws.proofs.Intrinsics.{Pair, IsFunction, Zipped, zipped, intrinsic_is, result_as}
 

@@ -25,9 +25,9 @@ use Rattle.f3_lawful_laws.proofs.Facts.{both}
 use Rattle.f3_lawful_laws.proofs.Positions.{eq_self, position_cons}
 use Rattle.f3_formed_laws.specs.Nodes as node
 use Rattle.f3_formed_laws.specs.Nodes.{value_kind, object_kind}
+use Rattle.f3_formed_laws.proofs.Facts.{when_only}
 use Rattle.f3_formed_laws.proofs.Bases.{alike_back}
 use Rattle.f3_formed_laws.proofs.Alike.{IsKind, IsOf}
-use Rattle.f3_formed_laws.proofs.Selecting.{when_only}
 
 -- what is behind the front of a list
 pub behind_front : {X : Type 0} (xs ys : List X) (k : ℕ) → slice_get (xs ++ ys) (length xs + k) ≡ slice_get ys k

@@ -33,6 +33,7 @@ use Rattle.f3_lawful_laws.proofs.Intrinsics.{IsPlain}
 use Rattle.f3_lawful_laws.proofs.Positions.{eq_same}
 use Rattle.f3_formed_laws.specs.Nodes.{value_kind}
 use Rattle.f3_formed_laws.specs.Levels.{AreOfSort}
+use Rattle.f3_formed_laws.proofs.Facts.{when_only}
 use Rattle.f3_formed_laws.proofs.Bases.{is_wanted_base, alike_numbers, alike_equal, type_same, number_base}
 use Rattle.f3_formed_laws.proofs.Alike.{IsNoVariable, IsAs, IsKind, IsOf}
 use Rattle.f3_formed_laws.proofs.Scalars.{Scalar, scalar}
@@ -102,17 +103,13 @@ module _ (p : Program) (vs : List Declared) (ns : List Kind) (s : Surroundings) 
 
   -- ---- one operator
 
-  when_scalar : (b : Bool) (k : Kind) → b ≡ true → only b k ≡ Some k
-  when_scalar true k e = refl
-  when_scalar false k e = no (sym e)
-
   pub unary_is : (want : Wanted) (o : UnaryOperator) (of : Base) (e : ExpressionNode) → IsOne want → Scalar p vs ns s want e → is_wanted_base want of ≡ true
       → Scalar p vs ns s want (n.unary o of e)
   unary_is want o of e one h w = record {
     of = of;
     value =
         ap (λ y. found y (λ k. only (is_scalar k && alike k.of of) (of_kind of 0))) h.value
-        ∙ when_scalar (alike h.of of) (of_kind of 0) (both_wanted want one h.of of h.wanted w);
+        ∙ when_only (alike h.of of) (of_kind of 0) (both_wanted want one h.of of h.wanted w);
     wanted = w;
   }
 
@@ -121,7 +118,7 @@ module _ (p : Program) (vs : List Declared) (ns : List Kind) (s : Surroundings) 
   binary_value want o of e f one h k =
       ap (λ y. found y (λ k. found (value_kind p vs ns f) (λ j. only (is_scalar k && (is_scalar j && alike k.of j.of)) (of_kind of 0)))) h.value
       ∙ ap (λ y. found y (λ j. only (is_scalar j && alike h.of j.of) (of_kind of 0))) k.value
-      ∙ when_scalar (alike h.of k.of) (of_kind of 0) (both_wanted want one h.of k.of h.wanted k.wanted)
+      ∙ when_only (alike h.of k.of) (of_kind of 0) (both_wanted want one h.of k.of h.wanted k.wanted)
 
   pub binary_is : (want : Wanted) (o : BinaryOperator) (of : Base) (e f : ExpressionNode) → IsOne want → Scalar p vs ns s want e → Scalar p vs ns s want f
       → is_wanted_base want of ≡ true → Scalar p vs ns s want (n.binary o of e f)

@@ -33,16 +33,12 @@ use Rattle.f3_lawful_laws.proofs.Positions.{eq_same, eq_self}
 use Rattle.f3_lawful_laws.proofs.Passing.{Fits, fits_by, numbered, known_same, alike_by}
 use Rattle.f3_formed_laws.specs.Nodes.{value_kind, object_kind, argument, arguments}
 use Rattle.f3_formed_laws.specs.Agreement.{kind_of, HasDummies}
+use Rattle.f3_formed_laws.proofs.Facts.{when_only, same_self, implied, long}
 use Rattle.f3_formed_laws.proofs.Bases.{alike_back}
 use Rattle.f3_formed_laws.proofs.Alike.{IsHeldAs, IsAs, IsKind, IsOf, IsGiven, AreGiven}
 use Rattle.f3_formed_laws.proofs.Components.{DummyAt, dummy_at, as_long}
 use Rattle.f3_formed_laws.proofs.Holding.{itself_kind, kind_by}
-use Rattle.f3_formed_laws.proofs.Selecting.{same_self, when_only}
 use Rattle.f3_formed_laws.proofs.Counting.{Once, once_none, once_more, added_longer, all_stand, each_dummy}
-
-pub implied : (a b : Bool) → (not a || b) ≡ true → a ≡ true → b ≡ true
-implied true b e h = e
-implied false b e h = no (sym h)
 
 -- what is said to be allocatable is a whole allocatable
 pub held_by : (held : Bool) (h : Has) (f : Form) → IsHeldAs held h f → h.is_allocatable ≡ true → held ≡ true

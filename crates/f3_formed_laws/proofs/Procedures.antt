@@ -31,12 +31,11 @@ use Rattle.f3_lawful_laws.proofs.Facts.{not_nil, first, second, both}
 use Rattle.f3_formed_laws.specs.Nodes.{is_declared, is_formed}
 use Rattle.f3_formed_laws.specs.Levels.{IsBlockLevelled}
 use Rattle.f3_formed_laws.specs.Entities.{MemberAgrees, UnitAgrees}
+use Rattle.f3_formed_laws.proofs.Facts.{long, all_each, all_seen, each_joined, each_mapped}
 use Rattle.f3_formed_laws.proofs.InMemory.{blocks_make}
-use Rattle.f3_formed_laws.proofs.Selecting.{long}
 use Rattle.f3_formed_laws.proofs.SeenStatements.{statement_seen}
 use Rattle.f3_formed_laws.proofs.Right.{IsMemberRight, IsUnitRight}
-use Rattle.f3_formed_laws.proofs.Listed.{each_joined, each_mapped, IsResultListed, locals_listed, main_listed, result_listed, dummies_listed}
-use Rattle.f3_formed_laws.proofs.Finals.{all_each, all_seen}
+use Rattle.f3_formed_laws.proofs.Listed.{IsResultListed, locals_listed, main_listed, result_listed, dummies_listed}
 
 empty : {A B : Type 0} (f : A → B) (xs : List A) → map f xs ≡ [] → xs ≡ []
 empty f [] e = refl

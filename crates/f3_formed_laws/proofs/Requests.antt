@@ -34,20 +34,14 @@ use Rattle.f3_formed_laws.specs.Nodes.{object_kind, is_request, has_bounds}
 use Rattle.f3_formed_laws.specs.Levels.{ArePartsLevelled}
 use Rattle.f3_formed_laws.specs.Agreement.{AgreesInKinds}
 use Rattle.f3_formed_laws.specs.Laws.{IsVariable}
+use Rattle.f3_formed_laws.proofs.Facts.{same_self}
 use Rattle.f3_formed_laws.proofs.Alike.{IsOf, AreParts, IsBehind}
 use Rattle.f3_formed_laws.proofs.Scalars.{typed_of, behind_typed, all_parts_typed}
-use Rattle.f3_formed_laws.proofs.Selecting.{same_self}
 use Rattle.f3_formed_laws.proofs.Meant.{meant_is}
 use Rattle.f3_formed_laws.proofs.Expressions.{parts_are}
 use Rattle.f3_formed_laws.proofs.Variables.{Named, named}
 use Rattle.f3_formed_laws.proofs.Targets.{Begins, begins, reached_variable}
-use Rattle.f3_formed_laws.proofs.Heap.{Reached, reached, last_reached, last_is}
-
-never_bounds : (u : Role) → (is_allocation u && false) ≡ false
-never_bounds role.Allocated = refl
-never_bounds role.Deallocated = refl
-never_bounds role.Expression = refl
-never_bounds role.Variable = refl
+use Rattle.f3_formed_laws.proofs.Heap.{never_bounds, Reached, reached, last_reached, last_is}
 
 module _ (p : Program) (vs : List Declared) (ns : List Kind) where
   pub kind_itself : (k : Kind) → same_kind p vs ns k k ≡ true

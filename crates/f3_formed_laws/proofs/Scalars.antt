@@ -87,5 +87,3 @@ module _ (p : Program) (vs : List Declared) (ns : List Kind) (s : Surroundings) 
   pub condition : (e : ExpressionNode) → Scalar wanted.Logical e → some (value_kind p vs ns e) is_condition ≡ true
   condition e h = ap (λ k. some k is_condition) h.value ∙ h.wanted
 
-  pub logical : (e : ExpressionNode) → Scalar wanted.Logical e → value_kind p vs ns e ≡ Some (of_kind base_is.Logical 0)
-  logical e h = h.value ∙ ap (λ t. Some (of_kind t 0)) (type_same _ _ h.wanted)

@@ -21,15 +21,8 @@ use Rattle.f3_elaboration.specs.Views.{expression_view, designator_view, bounds_
 use Rattle.f3_elaboration.proofs.Views as v
 use Rattle.f3_lawful_laws.proofs.Primed as is
 use Rattle.f3_formed_laws.specs.Nodes as node
+use Rattle.f3_formed_laws.proofs.Facts.{long, all_seen}
 use Rattle.f3_formed_laws.proofs.Seen.{value_seen, object_seen}
-
-all_seen : {A B : Type 0} (f : A → Bool) (g : B → Bool) (view : A → B) → ((x : A) → f x ≡ g (view x)) → (xs : List A) → all f xs ≡ all g (map view xs)
-all_seen f g view h [] = refl
-all_seen f g view h (x ∷ xs) = ap (λ b. b && all f xs) (h x) ∙ ap (λ b. g (view x) && b) (all_seen f g view h xs)
-
-long_seen : {A B : Type 0} (view : A → B) (xs : List A) → length xs ≡ length (map view xs)
-long_seen view [] = refl
-long_seen view (x ∷ xs) = ap suc (long_seen view xs)
 
 module _ (p : Program) (vs : List Declared) (ns : List Kind) where
   object_of_seen : (k : Kind) (x : d.Designator) → formed.is_object_of p vs ns k x ≡ node.is_object_of p vs ns k (designator_view x)
@@ -54,7 +47,7 @@ module _ (p : Program) (vs : List Declared) (ns : List Kind) where
       ≡ (node.is_request p vs ns (request_view r) && node.has_bounds p vs ns (request_view r))
   bounded_seen r =
       ap (λ b. b && formed.has_bounds p vs ns r) (request_seen r)
-      ∙ ap (λ n. node.is_request p vs ns (request_view r) && nat_eq n r.kind.rank) (long_seen bounds_view r.bounds.items)
+      ∙ ap (λ n. node.is_request p vs ns (request_view r) && nat_eq n r.kind.rank) (sym (long bounds_view r.bounds.items))
 
   item_seen : (x : Item) → formed.is_item p vs ns x ≡ node.is_item p vs ns (item_view x)
   item_seen (item.Value x) = ap (λ o. some o (λ k. is_number k.of || same_type k.of base.Logical)) (value_seen p vs ns x)

@@ -23,16 +23,9 @@ use Rattle.f3_lawful_laws.proofs.Facts.{no, both, left, right}
 use Rattle.f3_lawful_laws.proofs.Positions.{eq_same}
 use Rattle.f3_formed_laws.specs.Nodes.{value_kind, taken, taken_of_each, subscript, subscripts}
 use Rattle.f3_formed_laws.specs.Agreement.{kind_of}
+use Rattle.f3_formed_laws.proofs.Facts.{when_only, same_self, long}
 use Rattle.f3_formed_laws.proofs.Alike.{MayBeOf, IsGiven, AreGiven, IsBehind}
 use Rattle.f3_formed_laws.proofs.Scalars.{scalar, whole_number}
-
-pub when_only : {A : Type 0} (b : Bool) (x : A) → b ≡ true → only b x ≡ Some x
-when_only true x e = refl
-when_only false x e = no (sym e)
-
-pub same_self : (b : Bool) → same_truth b b ≡ true
-same_self true = refl
-same_self false = refl
 
 pub positive : (n : ℕ) → not (nat_eq n 0) ≡ true → nat_lt 0 n ≡ true
 positive zero e = no (sym e)
@@ -45,10 +38,6 @@ counted (y ∷ ys) = go (is_triplet y) (counted ys)
     go : (b : Bool) → count_ranges (map is_triplet ys) ≡ triplets ys → count_ranges (b ∷ map is_triplet ys) ≡ length (cond b (y ∷ filter is_triplet ys) (filter is_triplet ys))
     go true h = ap suc h
     go false h = h
-
-pub long : {A B : Type 0} (f : A → B) (xs : List A) → length (map f xs) ≡ length xs
-long f [] = refl
-long f (x ∷ xs) = ap suc (long f xs)
 
 module _ (p : Program) (vs : List Declared) (ns : List Kind) (s : Surroundings) where
   -- ---- subscripts

@@ -36,11 +36,11 @@ use Rattle.f3_lawful_laws.proofs.Facts.{no, not_nil, nothing, same, first, secon
 use Rattle.f3_lawful_laws.proofs.Positions.{eq_same, eq_self}
 use Rattle.f3_formed_laws.specs.Nodes.{value_kind, argument, arguments}
 use Rattle.f3_formed_laws.specs.Agreement.{kind_of, AreComponents, HasComponents}
+use Rattle.f3_formed_laws.proofs.Facts.{when_only}
 use Rattle.f3_formed_laws.proofs.Bases.{alike_back, alike_through, takes_alike}
 use Rattle.f3_formed_laws.proofs.Alike.{IsKind, IsOf, IsGiven, AreGiven}
 use Rattle.f3_formed_laws.proofs.Components.{At, component_at}
 use Rattle.f3_formed_laws.proofs.Holding.{itself_kind, kind_by}
-use Rattle.f3_formed_laws.proofs.Selecting.{when_only}
 use Rattle.f3_formed_laws.proofs.Counting.{Once, once_none, once_more, stand_once}
 
 -- ---- the place of a component

@@ -32,6 +32,7 @@ use Rattle.f3_lawful_laws.proofs.Designating.{Enters, enters, Selects, selects, 
 use Rattle.f3_lawful_laws.proofs.Reaching.{role_holds}
 use Rattle.f3_formed_laws.specs.Nodes.{object_kind, taken, taken_of_each}
 use Rattle.f3_formed_laws.specs.Agreement.{kind_of, HasComponents, AgreesInKinds}
+use Rattle.f3_formed_laws.proofs.Facts.{neither, denied}
 use Rattle.f3_formed_laws.proofs.Alike.{IsBehind, AreParts}
 use Rattle.f3_formed_laws.proofs.Scalars.{behind_typed}
 use Rattle.f3_formed_laws.proofs.Components.{Standing, standing}
@@ -116,14 +117,6 @@ module _ (p : Program) (vs : List Declared) (ns : List Kind) (s : Surroundings) 
           each_is p vs ns s k.object q.1 b (of_kind (base s (Some (Derived h.type))) rank) behind fit count
           (neither (k.object).is_allocatable (not (rank_left false k.object b == 0)) free).0
           (denied (rank_left false k.object b == 0) (neither (k.object).is_allocatable (not (rank_left false k.object b == 0)) free).1)
-        where
-          neither : (a c : Bool) → (a || c) ≡ false → (a ≡ false) × (c ≡ false)
-          neither true c e = no e
-          neither false c e = (refl, e)
-
-          denied : (a : Bool) → not a ≡ false → a ≡ true
-          denied true e = refl
-          denied false e = no e
 
   -- what is reached behind parts without a break, and the designator
   pub record Arrives (qs : List x.Part) (rs : List Part) (r : Reach) (d : DesignatorNode) (o : Object) : Type 0 where
@@ -133,10 +126,6 @@ module _ (p : Program) (vs : List Declared) (ns : List Kind) (s : Surroundings) 
     pub known : is_known (reach.object).data_type ≡ true
     pub kind : reach.offends ≡ false → object_kind p vs ns (x.along s.context d o qs) ≡ Some (of_kind (base s (reach.object).data_type) reach.rank)
     pub held : reach.is_allocatable ≡ is_whole_allocatable (x.along s.context d o qs)
-
-  neither_of : (a c : Bool) → (a || c) ≡ false → (a ≡ false) × (c ≡ false)
-  neither_of true c e = no e
-  neither_of false c e = (refl, e)
 
   -- one part further
   further : (q : x.Part) (qs : List x.Part) (y : Part) (rs : List Part) → IsBehind p vs ns s q.1 y.1 → (r : Reach) (d : DesignatorNode) (o : Object) (k : Component)
@@ -153,7 +142,7 @@ module _ (p : Program) (vs : List Declared) (ns : List Kind) (s : Surroundings) 
           → object_kind p vs ns (n.component d (number_of pick.components (q.0).symbol) (selection k.object q.1)) ≡ Some (of_kind (base s (k.object).data_type) inside.reach.rank)
       next_kind free =
           let counts = entered_count false r k.object y.1 inside in
-          let free_both = neither_of r.offends _ (ap (λ (z : Reach). z.offends) (sym inside.reach_is) ∙ free) in
+          let free_both = neither r.offends _ (ap (λ (z : Reach). z.offends) (sym inside.reach_is) ∙ free) in
           component_is d o r.rank q k pick y.1 (kind free_both.0) behind counts.0 counts.1 free_both.1
           ∙ ap (λ (z : Reach). Some (of_kind (base s (k.object).data_type) z.rank)) (sym inside.reach_is)
 

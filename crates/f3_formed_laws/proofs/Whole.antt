@@ -39,10 +39,10 @@ use Rattle.f3_formed_laws.specs.Nodes.{is_declared}
 use Rattle.f3_formed_laws.specs.Levels.{IsBlockLevelled, IsUnitLevelled}
 use Rattle.f3_formed_laws.specs.Entities.{StandsBehind}
 use Rattle.f3_formed_laws.specs.Laws.{UnbrokenMakesSense}
-use Rattle.f3_formed_laws.proofs.Selecting.{long}
+use Rattle.f3_formed_laws.proofs.Facts.{long, all_each, all_seen, each_joined, each_so, each_mapped, each_flat}
 use Rattle.f3_formed_laws.proofs.Right.{IsUnitRight, units_right}
-use Rattle.f3_formed_laws.proofs.Listed.{each_joined, each_so, each_mapped, each_flat, statics_listed, all_definitions_right}
-use Rattle.f3_formed_laws.proofs.Finals.{all_each, all_seen, types_are}
+use Rattle.f3_formed_laws.proofs.Listed.{statics_listed, all_definitions_right}
+use Rattle.f3_formed_laws.proofs.Finals.{types_are}
 use Rattle.f3_formed_laws.proofs.Procedures.{IsUnitLevelledThere, MakesAs, units_make, mains, main_of}
 
 nil_of : (bs : List Break) → ((b : Break) → Contains bs b → ⊥) → bs ≡ []
