@@ -14,7 +14,7 @@ use Rattle.f3_kinds.specs.Rows.{has_type, fits, computed, is_known}
 use Rattle.f3_kinds.specs.Operands.{has_same, same_known, type_in, array_has}
 use Rattle.f3_kinds.specs.Typing.{said, said_all}
 use Rattle.f3_meaning_whole.specs.Permitted.{Each}
-use Rattle.f3_meaning_whole.specs.Formed.{alike, all, of_kind, found, only, is_scalar, given_all, constructed, Given}
+use Rattle.f3_meaning_whole.specs.Formed.{alike, all, of_kind, found, is_scalar, given_all, constructed, Given}
 use Rattle.f3_elaboration.specs.Nodes as n
 use Rattle.f3_elaboration.specs.Nodes.{ExpressionNode}
 use Rattle.f3_elaboration.specs.Context.{Surroundings, base}

@@ -1,5 +1,5 @@
 -- An allocatable itself, and what it holds.
-use Rattle.std.proofs.Common.{◌≡◌, ℕ, Bool, true, false, List, Option, Some, None, refl, sym, ap, ◌∙◌, if◌then◌else◌, nat_eq}
+use Rattle.std.proofs.Common.{◌≡◌, ℕ, Bool, true, false, List, Option, Some, None, sym, ap, ◌∙◌, if◌then◌else◌, nat_eq}
 use Rattle.f3_program.specs.declared.declarations.Base.{Base}
 use Rattle.f3_program.specs.declared.declarations.Component.{Component}
 use Rattle.f3_program.specs.declared.declarations.Declared.{Declared}
@@ -10,7 +10,7 @@ use Rattle.f3_meaning_whole.specs.Formed.{of_kind, found, only, kind_of_name}
 use Rattle.f3_elaboration.specs.Nodes as n
 use Rattle.f3_elaboration.specs.Nodes.{DesignatorNode}
 use Rattle.f3_elaboration.specs.Expressions.{itself, is_whole_allocatable}
-use Rattle.f3_lawful_laws.proofs.Facts.{nothing, same}
+use Rattle.f3_lawful_laws.proofs.Facts.{nothing}
 use Rattle.f3_formed_laws.specs.Nodes.{object_kind}
 use Rattle.f3_formed_laws.proofs.Facts.{only_some}
 

@@ -39,8 +39,7 @@ expressions_have p vs ns s agrees e w l b x seen =
 pub variables_have : VariablesHaveKinds
 variables_have p vs ns s agrees v w l b is =
     let at : Named p vs ns s (expression s (t.designator v)) (said s.context (t.designator v)).has =
-    named p vs ns s (expression s (t.designator v)) (said s.context (t.designator v)).has (expression_is p vs ns s agrees (t.designator v) w l b) is in
-    (
+    named p vs ns s (expression s (t.designator v)) (said s.context (t.designator v)).has (expression_is p vs ns s agrees (t.designator v) w l b) is in (
       λ d seen. object_seen p vs ns d ∙ ap (object_kind p vs ns) seen ∙ at.kind,
       λ d seen. object_seen p vs ns d ∙ ap (object_kind p vs ns) seen ∙ at.itself_is,
     )

@@ -33,7 +33,7 @@ use Rattle.f3_lawful_laws.proofs.Positions.{eq_same, eq_self}
 use Rattle.f3_lawful_laws.proofs.Passing.{Fits, fits_by, numbered, known_same, alike_by}
 use Rattle.f3_formed_laws.specs.Nodes.{value_kind, object_kind, argument, arguments}
 use Rattle.f3_formed_laws.specs.Agreement.{kind_of, HasDummies}
-use Rattle.f3_formed_laws.proofs.Facts.{when_only, same_self, implied, long}
+use Rattle.f3_formed_laws.proofs.Facts.{when_only, same_self, implied}
 use Rattle.f3_formed_laws.proofs.Bases.{alike_back}
 use Rattle.f3_formed_laws.proofs.Alike.{IsHeldAs, IsAs, IsKind, IsOf, IsGiven, AreGiven}
 use Rattle.f3_formed_laws.proofs.Components.{DummyAt, dummy_at, as_long}

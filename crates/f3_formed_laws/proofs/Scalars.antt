@@ -2,7 +2,6 @@
 use Rattle.std.proofs.Common.{◌≡◌, true, List, [], ◌∷◌, Option, Some, None, refl, sym, ap, ◌∙◌}
 use Rattle.std.specs.List.{list_all}
 use Rattle.f3_program.specs.declared.declarations.Base.{Base}
-use Rattle.f3_program.specs.declared.declarations.Base.TheVariants as base_is
 use Rattle.f3_program.specs.declared.declarations.Declared.{Declared}
 use Rattle.f3_program.specs.declared.declarations.Kind.{Kind}
 use Rattle.f3_program.specs.declared.program.Program.{Program}
@@ -22,7 +21,7 @@ use Rattle.f3_elaboration.specs.Expressions as x
 use Rattle.f3_lawful_laws.proofs.Facts.{no, both, left, right}
 use Rattle.f3_lawful_laws.proofs.Positions.{eq_same}
 use Rattle.f3_formed_laws.specs.Nodes.{value_kind}
-use Rattle.f3_formed_laws.proofs.Bases.{is_wanted_base, wanted_base, wanted_alike, type_same}
+use Rattle.f3_formed_laws.proofs.Bases.{is_wanted_base, wanted_base, wanted_alike}
 use Rattle.f3_formed_laws.proofs.Alike.{IsOf, MayBeOf, IsGiven, AreGiven, IsBehind, AreParts}
 
 module _ (p : Program) (vs : List Declared) (ns : List Kind) (s : Surroundings) where
@@ -86,4 +85,3 @@ module _ (p : Program) (vs : List Declared) (ns : List Kind) (s : Surroundings) 
 
   pub condition : (e : ExpressionNode) → Scalar wanted.Logical e → some (value_kind p vs ns e) is_condition ≡ true
   condition e h = ap (λ k. some k is_condition) h.value ∙ h.wanted
-

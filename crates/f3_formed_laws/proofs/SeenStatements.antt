@@ -1,5 +1,5 @@
 -- A statement in memory makes sense where its data does.
-use Rattle.std.proofs.Common.{◌≡◌, Bool, true, ◌&&◌, ◌||◌, List, [], ◌∷◌, ◌++◌, map, length, nat_eq, suc, Option, Some, None, refl, sym, ap, ◌∙◌}
+use Rattle.std.proofs.Common.{◌≡◌, true, ◌&&◌, ◌||◌, List, [], ◌∷◌, ◌++◌, map, nat_eq, Option, Some, None, refl, sym, ap, ◌∙◌}
 use Rattle.std.specs.Option.{option_map}
 use Rattle.f3_program.specs.declared.declarations.Base.TheVariants as base
 use Rattle.f3_program.specs.declared.declarations.Declared.{Declared}
