@@ -25,6 +25,7 @@ use Rattle.f3_lawful_laws.specs.Agreement.{Knows}
 abbrev pub kind_of : Surroundings → Object → Kind
 kind_of s o = record { of = base s o.data_type; rank = o.rank; is_allocatable = o.is_allocatable }
 
+-- a number is told as one of the default kind, whatever its own
 abbrev pub constant_type : Constant → Base
 constant_type (Number z) = base_is.Integer
 constant_type (Truth b) = base_is.Logical
@@ -35,6 +36,7 @@ pub record IsConstant (s : Surroundings) (e : ℕ) (o : Object) : Type 0 where
   pub plain : o.is_allocatable ≡ false
   pub alike_to : alike (constant_type (constant_of ((s.context).value e))) (base s o.data_type) ≡ true
 
+-- components of the program, and those that the rules know, in one order
 abbrev pub AreComponents : Surroundings → List program.Component → List (ℕ × Component) → Type 0
 AreComponents s [] [] = ⊤
 AreComponents s [] (k ∷ ks) = ⊥

@@ -47,6 +47,7 @@ module _ (w : Whole) where
   abbrev pub StandsBehind : ℕ → Definition → Type 0
   StandsBehind k d = Each (IsBelow k (d.unit).scope) (d.tree).components
 
+-- So of a whole program: each unit is among those that are checked, and types are numbered along them.
 pub record KindsAgree (p : Program) (t : Tree) (look : ℕ → ℕ → Lookup) (order : List ℕ) : Type 0 where
   pub units : Each (UnitAgrees p (whole_of t look order)) (units_of t)
   pub all_ordered : Each (λ (u : Numbered). (k : ℕ) × (slice_get (units_in (units_of t) order) k ≡ Some u)) (units_of t)

@@ -55,12 +55,12 @@ ExpressionsHaveKinds = (p : Program) (variables : List Declared) (names : List K
     → (e : e.Tree) → IsWritten e → IsLevelled e → breaks s.context e ≡ [] → (x : Expression) → expression_view x ≡ expression s e
     → HasKind p variables names s x (said s.context e).has
 
+-- the form of a variable or a part of one
 abbrev pub IsForm : Form → Type 0
 IsForm (Variable e) = ⊤
 IsForm Computed = ⊥
 IsForm Constant = ⊥
 
--- said to be a variable or a part of one
 abbrev pub IsVariable : Option Has → Type 0
 IsVariable None = ⊥
 IsVariable (Some h) = IsForm h.form
@@ -88,7 +88,7 @@ BlocksMakeSense = (p : Program) (variables : List Declared) (names : List Kind) 
     → (x : Statement) → statement_view x ≡ block_node (block s next b) → is_formed p variables x names ≡ true
 
 -- So a program that breaks no rule of phases 5 to 7 makes sense as a whole, where the rules and the program are of the same kinds:
--- whatever its names are resolved to, and along whatever order of its units.
+-- whatever its names are resolved to, and along whatever order of its units in which each stands.
 abbrev pub UnbrokenMakesSense : Type 0
 UnbrokenMakesSense = (t : Tree) (look : ℕ → ℕ → Lookup) (order : List ℕ) (p : Program) → AreBodiesSpelled t → AreBodiesLevelled t
     → ((scope symbol : ℕ) → Resolves (look scope symbol) (IsVisible (scopes_of t) scope symbol)) → program_view p ≡ elaborated t look order
