@@ -1,0 +1,4 @@
+use Rattle.f3_cell_kinds.proofs.code_has_kinds.Goals as goal
+
+pub returns : goal.returns
+returns c = ?

@@ -1,0 +1,4 @@
+use Rattle.f3_cell_kinds.proofs.kinds_have_sorts.Goals as goal
+
+pub returns : goal.returns
+returns c = ?

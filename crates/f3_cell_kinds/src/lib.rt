@@ -1,0 +1,15 @@
+//! Of which kind each cell is on the stack of an activation at each line of the code of a program, known before the run.
+#![tactic(auto)]
+
+ghost use Rattle.f3_cell_kinds.specs.Laws.{CodeHasKinds, KindsHaveSorts};
+
+/// The code of every program that makes sense has kinds, known before the run: at each line the cells are of these on whatever way the
+/// machine comes to it (own rule).
+pub fn code_has_kinds()
+    ensures { CodeHasKinds }
+{}
+
+/// Without their kinds the cells of each line are of the sorts of the same code (own rule).
+pub fn kinds_have_sorts()
+    ensures { KindsHaveSorts }
+{}
