@@ -237,7 +237,7 @@ module _ (p : Program) (s : Site) (v : Value) where
   Does i.StoreStatus by = (k : Kind) × (is_whole_number k ≡ true) × by (on s (Object k ∷ Status ∷ []) [])
   Does i.PrintValue by = (k : Kind) × ((is_number k.of || same_type k.of base.Logical) ≡ true) × by (on s (Datum k ∷ []) [])
   Does (i.PrintByte b) by = by (on s [] [])
-  Does (i.Stop number) by = by (ends [])
+  Does (i.Stop n) by = by (ends [])
   Does i.SetPlace by = by (on s [] [])
   Does (i.GoOn d) by = by (record { takes = []; next = None; far = after d (way s []) ∷ [] })
   Does (i.SkipIfFalse d) by = by (fork s (Datum truth ∷ []) [] d [])
