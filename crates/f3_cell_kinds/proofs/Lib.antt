@@ -1,3 +1,5 @@
 pub mod Parts
 pub mod Asked
 pub mod OfValues
+pub mod Steps
+pub mod OfWork
