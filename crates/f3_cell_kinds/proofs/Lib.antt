@@ -3,3 +3,4 @@ pub mod Asked
 pub mod OfValues
 pub mod Steps
 pub mod OfWork
+pub mod OfParts

@@ -18,12 +18,10 @@ use Rattle.f3_program.specs.declared.statement.Request.{Request}
 use Rattle.f3_program.specs.declared.statement.Selector.{Selector}
 use Rattle.f3_program.specs.declared.statement.Selector.TheVariants as selector
 use Rattle.f3_program.specs.declared.statement.Statement as s
-use Rattle.f3_program.specs.declared.program.Dummy.{Dummy}
 use Rattle.f3_program.specs.declared.program.Procedure.{Procedure}
 use Rattle.f3_program.specs.declared.program.Program.{Program}
 use Rattle.f3_meaning_whole.specs.Exec.{declared_in}
-use Rattle.f3_meaning_whole.specs.Permitted.{same_type}
-use Rattle.f3_meaning_whole.specs.Formed.{Given, all, some, given_all, value_kind, arguments, selected, or_none, kinds_of}
+use Rattle.f3_meaning_whole.specs.Formed.{all, some, given_all, of_kind, value_kind, arguments, referenced, selected, or_none, kinds_of}
 use Rattle.f3_cell_kinds.specs.Types.{Scope, selecting, associating}
 use Rattle.f3_cell_kinds.specs.Effect.{is_word, unary_fits, binary_fits, are_values, are_for, range_fits}
 use Rattle.f3_cell_kinds.specs.Values.{kind_or}
@@ -122,13 +120,9 @@ module _ (p : Program) where
   abbrev pub procedure_fits : Procedure → Bool
   procedure_fits q = statement_fits q.body (record { variables = declared_in q; names = kinds_of q.dummies.items; selected = None })
 
-  -- the dummy of a final subroutine is of its type (ISO/IEC 1539-1:2004, 4.5.5)
-  abbrev pub is_of_type : Base → List Dummy → Bool
-  is_of_type of [] = true
-  is_of_type of (y ∷ ys) = same_type y.kind.of of
-
+  -- a final subroutine can be called with an object of its type and rank (ISO/IEC 1539-1:2004, 4.5.5)
   abbrev pub final_fits : Base → Final → Bool
-  final_fits of f = some (slice_get p.procedures.items f.procedure) (λ (q : Procedure). is_of_type of q.dummies.items)
+  final_fits of f = some (referenced p [] [] f.procedure (record { number = 0; kind = of_kind of f.rank; is_variable = true } ∷ [])) (λ k. true)
 
 -- Beside IsWellFormed a program that makes sense has this.
 pub record MakesSense (p : Program) : Type 0 where
