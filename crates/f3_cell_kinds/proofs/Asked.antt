@@ -1,6 +1,9 @@
 -- What follows where something asked of kinds holds.
 use Rattle.std.proofs.Common.{◌≡◌, ℕ, suc, Bool, true, false, ◌&&◌, not, List, [], ◌∷◌, ◌++◌, length, Option, Some, None, refl, sym, ap, ◌∙◌, subst, if◌then◌else◌}
-use Rattle.std.specs.Prelude.{nat_eq, slice_get}
+use Rattle.std.specs.Prelude.{nat_eq, slice_get, ◌||◌}
+use Rattle.std.proofs.lemmas.Bool.{eqb-true}
+use Rattle.f3_program.specs.declared.declarations.Declared.{Declared}
+use Rattle.f3_program.specs.declared.program.Program.{Program}
 use Rattle.f3_program.specs.declared.declarations.Base.{Base}
 use Rattle.f3_program.specs.declared.declarations.Base.TheVariants as base
 use Rattle.f3_program.specs.declared.declarations.Kind.{Kind}
@@ -60,3 +63,33 @@ kind_is o k e = ap kind_or e
 
 pub itself : (o : Option Kind) (k : Kind) → o ≡ Some k → o ≡ Some (kind_or o)
 itself o k e = e ∙ ap (λ j. Some j) (sym (kind_is o k e))
+
+pub or_is : (a b : Bool) → (a || b) ≡ true → a ≡ false → b ≡ true
+or_is true b e f = cc
+or_is false b e f = e
+
+pub base_same : (t u : Base) → same_type t u ≡ true → t ≡ u
+base_same base.Integer base.Integer e = refl
+base_same base.Long base.Long e = refl
+base_same base.Logical base.Logical e = refl
+base_same (base.Derived t) (base.Derived u) e = ap base.Derived (eqb-true t u e)
+base_same t u e = cc
+
+pub truth_same : (a b : Bool) → same_truth a b ≡ true → a ≡ b
+truth_same true b e = sym e
+truth_same false true e = cc
+truth_same false false e = refl
+
+pub kind_same : (k : Kind) (of : Base) (rank : ℕ) (b : Bool) → k.of ≡ of → k.rank ≡ rank → k.is_allocatable ≡ b →
+    k ≡ record { of = of; rank = rank; is_allocatable = b }
+kind_same k of rank b e f g =
+    ap (λ (x : Base). record { of = x; rank = k.rank; is_allocatable = k.is_allocatable }) e
+    ∙ ap (λ (x : ℕ). record { of = of; rank = x; is_allocatable = k.is_allocatable }) f
+    ∙ ap (λ (x : Bool). record { of = of; rank = rank; is_allocatable = x }) g
+
+module _ (p : Program) (variables : List Declared) (names : List Kind) where
+  pub kinds_same : (k j : Kind) → same_kind p variables names k j ≡ true → k ≡ j
+  kinds_same k j e =
+      let a = and_is _ _ e in
+      let b = and_is _ _ a.1 in
+      kind_same k j.of j.rank j.is_allocatable (base_same _ _ a.0) (eqb-true k.rank j.rank b.0) (truth_same _ _ b.1)

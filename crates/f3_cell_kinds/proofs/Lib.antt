@@ -4,3 +4,5 @@ pub mod OfValues
 pub mod Steps
 pub mod OfWork
 pub mod OfParts
+pub mod Fitting
+pub mod OfActions

@@ -160,7 +160,7 @@ result_in variables (Some n) = found (slice_get variables n) (λ (y : Declared).
 
 abbrev pub extents_on : ℕ → List CellType → List CellType
 extents_on zero h = h
-extents_on (suc n) h = Extent ∷ extents_on n h
+extents_on (suc n) h = extents_on n (Extent ∷ h)
 
 abbrev pub In : Option Scope → (Scope → Type 0) → Type 0
 In None f = ⊥
