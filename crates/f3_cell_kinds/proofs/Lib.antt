@@ -6,3 +6,5 @@ pub mod OfWork
 pub mod OfParts
 pub mod Fitting
 pub mod OfActions
+pub mod OfBlocks
+pub mod OfStatements

@@ -42,7 +42,7 @@ extents_over : (n : ℕ) (xs h : List CellType) → extents_on n (xs ++ h) ≡ e
 extents_over zero xs h = refl
 extents_over (suc n) xs h = extents_over n (cell.Extent ∷ xs) h
 
-selectors_over : (ks : List Kind) (xs h : List CellType) → selectors_on ks (xs ++ h) ≡ selectors_on ks xs ++ h
+pub selectors_over : (ks : List Kind) (xs h : List CellType) → selectors_on ks (xs ++ h) ≡ selectors_on ks xs ++ h
 selectors_over [] xs h = refl
 selectors_over (k ∷ ks) xs h = selectors_over ks (cell.Selector k ∷ xs) h
 
