@@ -8,3 +8,4 @@ pub mod Fitting
 pub mod OfActions
 pub mod OfBlocks
 pub mod OfStatements
+pub mod OfProgram
