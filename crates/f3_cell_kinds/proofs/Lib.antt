@@ -9,3 +9,4 @@ pub mod OfActions
 pub mod OfBlocks
 pub mod OfStatements
 pub mod OfProgram
+pub mod Sorting
