@@ -1,6 +1,6 @@
 -- What follows where something asked of kinds holds.
-use Rattle.std.proofs.Common.{◌≡◌, ℕ, suc, Bool, true, false, ◌&&◌, not, List, [], ◌∷◌, ◌++◌, length, Option, Some, None, refl, sym, ap, ◌∙◌, subst, if◌then◌else◌}
-use Rattle.std.specs.Prelude.{nat_eq, slice_get, ◌||◌}
+use Rattle.std.proofs.Common.{◌≡◌, ℕ, Bool, true, false, ◌&&◌, not, List, Option, Some, None, refl, sym, ap, ◌∙◌, subst, if◌then◌else◌}
+use Rattle.std.specs.Prelude.{◌||◌}
 use Rattle.std.proofs.lemmas.Bool.{eqb-true}
 use Rattle.f3_program.specs.declared.declarations.Declared.{Declared}
 use Rattle.f3_program.specs.declared.program.Program.{Program}
@@ -8,7 +8,7 @@ use Rattle.f3_program.specs.declared.declarations.Base.{Base}
 use Rattle.f3_program.specs.declared.declarations.Base.TheVariants as base
 use Rattle.f3_program.specs.declared.declarations.Kind.{Kind}
 use Rattle.f3_meaning_whole.specs.Permitted.{same_type}
-use Rattle.f3_meaning_whole.specs.Formed.{all, some, found, only, same_truth, same_kind}
+use Rattle.f3_meaning_whole.specs.Formed.{some, found, only, same_truth, same_kind}
 use Rattle.f3_cell_kinds.specs.Values.{kind_or}
 
 pub some_same : {A : Type 0} {x y : A} → Some x ≡ Some y → x ≡ y

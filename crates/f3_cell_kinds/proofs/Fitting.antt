@@ -1,5 +1,5 @@
 -- What the language does to objects fits their kinds.
-use Rattle.std.proofs.Common.{◌≡◌, ◌∙◌, sym, refl, ap, ℕ, zero, suc, ◌+◌, ◌-◌, Bool, true, false, ◌&&◌, ◌||◌, not, List, [], ◌∷◌, ◌++◌, length, Option, Some, None, subst, arith, length-append, if◌then◌else◌}
+use Rattle.std.proofs.Common.{◌≡◌, ◌∙◌, sym, refl, ap, ℕ, zero, suc, ◌+◌, Bool, true, false, ◌||◌, not, List, [], ◌∷◌, length, Option, Some, None, subst, arith, if◌then◌else◌}
 use Rattle.std.specs.Prelude.{nat_lt, nat_eq, slice_get}
 use Rattle.std.proofs.lemmas.Bool.{eqb-true}
 use Rattle.std.proofs.Math.Dec.{eqb-suc-zero}
@@ -34,12 +34,14 @@ module _ (p : Program) where
       WorkFits p k (final_work fs)
   finals_fit t k [] of held fits = tt
   finals_fit t k (f ∷ fs) of held fits =
-      let a = and_is _ _ fits in
-      (held, λ same.
-      let v = some_is _ _ a.0 in
-      let is = kind_same k (base.Derived t) f.rank false of (sym (eqb-true f.rank k.rank same)) held in
-      (v.0, subst (λ (y : Kind). referenced p [] [] f.procedure (passed y ∷ []) ≡ Some v.0) (sym is) v.1),
-      λ other. finals_fit t k fs of held a.1)
+      let a = and_is _ _ fits in (
+        held,
+        λ same.
+            let v = some_is _ _ a.0 in
+            let is = kind_same k (base.Derived t) f.rank false of (sym (eqb-true f.rank k.rank same)) held in
+            (v.0, subst (λ (y : Kind). referenced p [] [] f.procedure (passed y ∷ []) ≡ Some v.0) (sym is) v.1),
+        λ other. finals_fit t k fs of held a.1,
+      )
 
   finals_of : FinalsFit → (t : ℕ) (o : Option Derived) → slice_get p.types.items t ≡ o → all (final_fits p (base.Derived t)) (finals_in o) ≡ true
   finals_of fits t None e = refl
@@ -134,9 +136,10 @@ module _ (p : Program) where
       WorkFits p (of_kind (base.Derived t) 0) (routine_of p.types.items m n xs)
   routine_fits fits m t n [] are = tt
   routine_fits fits m t n (x ∷ xs) are =
-      let same : component_at p (of_kind (base.Derived t) 0) n ≡ x.declared.kind = ap kind_of_part are.0 in
-      ((refl, x, are.0, subst (λ (y : Kind). WorkFits p y (finish_work p.types.items m x.declared.kind)) (sym same) (finish_fits fits m x.declared.kind)),
-      routine_fits fits m t (suc n) xs are.1)
+      let same : component_at p (of_kind (base.Derived t) 0) n ≡ x.declared.kind = ap kind_of_part are.0 in (
+        (refl, x, are.0, subst (λ (y : Kind). WorkFits p y (finish_work p.types.items m x.declared.kind)) (sym same) (finish_fits fits m x.declared.kind)),
+        routine_fits fits m t (suc n) xs are.1,
+      )
 
   -- each routine fits an object of its type
   abbrev pub RoutinesFit : List w.Work → Type 0
@@ -146,9 +149,10 @@ module _ (p : Program) where
   components_from : (of : Base) (n : ℕ) (xs : List Component) → ((k : ℕ) → slice_get xs k ≡ component_of p.types.items of (n + k)) → ComponentsFrom of n xs
   components_from of n [] f = tt
   components_from of n (x ∷ xs) f =
-      let here : n ≡ n + 0 = omega arith in
-      (ap (component_of p.types.items of) here ∙ sym (f 0),
-      components_from of (suc n) xs (λ k. let there : n + suc k ≡ suc n + k = omega arith in f (suc k) ∙ ap (component_of p.types.items of) there))
+      let here : n ≡ n + 0 = omega arith in (
+        ap (component_of p.types.items of) here ∙ sym (f 0),
+        components_from of (suc n) xs (λ k. let there : n + suc k ≡ suc n + k = omega arith in f (suc k) ∙ ap (component_of p.types.items of) there),
+      )
 
   routines_all : FinalsFit → (older : List w.Work) (ts : List Derived) → RoutinesFit older →
       ((k : ℕ) → slice_get ts k ≡ slice_get p.types.items (length older + k)) → RoutinesFit (routines_from p.types.items older ts)

@@ -1,10 +1,7 @@
 -- The kinds of the code of actions.
-use Rattle.std.proofs.Common.{refl, ◌≡◌, ◌∙◌, sym, ap, ℕ, zero, suc, ◌+◌, Bool, true, false, ◌&&◌, ◌||◌, List, [], ◌∷◌, ◌++◌, map, length, Option, Some, None, subst, arith, length-append}
-use Rattle.std.specs.Prelude.{nat_eq}
+use Rattle.std.proofs.Common.{refl, ◌≡◌, ◌∙◌, sym, ap, ℕ, zero, suc, ◌+◌, true, false, ◌&&◌, List, [], ◌∷◌, ◌++◌, map, length, Option, Some, None, subst, arith, length-append}
 use Rattle.std.proofs.lemmas.Bool.{eqb-true}
 use Rattle.f3_rules.specs.declared.source.Place.{Place}
-use Rattle.f3_program.specs.declared.declarations.Base.{Base}
-use Rattle.f3_program.specs.declared.declarations.Base.TheVariants as base
 use Rattle.f3_program.specs.declared.declarations.Kind.{Kind}
 use Rattle.f3_program.specs.declared.expression.Designator.{Designator}
 use Rattle.f3_program.specs.declared.statement.Bounds.{Bounds}
@@ -15,11 +12,9 @@ use Rattle.f3_program.specs.declared.statement.Request.{Request}
 use Rattle.f3_program.specs.declared.statement.Selector.{Selector}
 use Rattle.f3_program.specs.declared.statement.Selector.TheVariants as selector
 use Rattle.f3_program.specs.declared.program.Program.{Program}
-use Rattle.f3_meaning_whole.specs.Formed.{all, some, only, given_all, alike, of_kind, is_number, is_whole_number, valued, value_kind, object_kind, is_status, is_bound, is_request, has_bounds, is_item, same_kind, selected}
-use Rattle.f3_meaning_whole.specs.Permitted.{same_type}
+use Rattle.f3_meaning_whole.specs.Formed.{all, given_all, of_kind, is_whole_number, value_kind, object_kind, is_status, is_bound, is_request, has_bounds, is_item, selected}
 use Rattle.f3_meaning_whole.specs.Run.{setting_of}
 use Rattle.f3_core.specs.Work as w
-use Rattle.f3_core.specs.Core as c
 use Rattle.f3_core.specs.Lower.{initial, destroy_work, discard_work, allocation, deallocation}
 use Rattle.f3_core.specs.Lower as lower
 use Rattle.f3_code.specs.declared.instruction.Instruction.TheVariants as i
@@ -28,15 +23,15 @@ use Rattle.f3_code.specs.Code.{work_code, dimensions_code, allocate_code, free_c
 use Rattle.f3_cell_kinds.specs.Types.{CellType, Scope, Site, selectors_on}
 use Rattle.f3_cell_kinds.specs.Types as cell
 use Rattle.f3_cell_kinds.specs.Effect.{truth, range_fits, extents_on}
-use Rattle.f3_cell_kinds.specs.Values.{kind_or, at, stacked, value_at, object_at, work_sites, value_sites, locate_sites}
+use Rattle.f3_cell_kinds.specs.Values.{at, value_at, object_at}
 use Rattle.f3_cell_kinds.specs.Program.{dimensions_sites, allocate_sites, free_sites, deallocate_sites, status_sites, bytes_sites, items_sites, ranges_sites, selected_at, selectors_sites, discards_sites}
 use Rattle.f3_cell_kinds.specs.Sense.{none_or, object_fits, bounds_fit, request_fits, item_fits, selector_fits}
 use Rattle.f3_cell_kinds.proofs.Asked.{some_same, found_is, found_kind, only_is, and_is, not_is, some_kind, kinds_same, kind_same}
-use Rattle.f3_cell_kinds.proofs.Parts.{At, same_at, same_site, live_of, in_scope, Part, Onto, wider, nothing, seq, before, Falls, plain, first, last}
+use Rattle.f3_cell_kinds.proofs.Parts.{same_at, same_site, in_scope, Part, Onto, wider, nothing, seq, before, Falls, plain, first, last}
 use Rattle.f3_cell_kinds.proofs.Steps.{fork_leads, drops}
 use Rattle.f3_cell_kinds.proofs.OfValues.{value_part, object_part}
 use Rattle.f3_cell_kinds.proofs.OfWork.{WorkFits, work_part}
-use Rattle.f3_cell_kinds.proofs.Fitting.{FinalsFit, destroy_fits, contents_fit, discard_fits}
+use Rattle.f3_cell_kinds.proofs.Fitting.{FinalsFit, contents_fit, discard_fits}
 
 extents_over : (n : ℕ) (xs h : List CellType) → extents_on n (xs ++ h) ≡ extents_on n xs ++ h
 extents_over zero xs h = refl

@@ -1,9 +1,8 @@
 -- The kinds of the code of constructs.
-use Rattle.std.proofs.Common.{◌≡◌, ◌∙◌, sym, ap, drop, ℕ, suc, ◌+◌, ◌-◌, Bool, true, false, ◌&&◌, List, [], ◌∷◌, ◌++◌, map, length, Option, Some, None, refl, subst, arith, length-append}
+use Rattle.std.proofs.Common.{◌≡◌, ◌∙◌, sym, ap, drop, ℕ, suc, ◌+◌, ◌-◌, true, List, [], ◌∷◌, ◌++◌, length, Option, Some, refl, subst, arith, length-append}
 use Rattle.std.proofs.Math.Seq.{drop-append_seam}
 use Rattle.f3_rules.specs.declared.source.Place.{Place}
 use Rattle.f3_program.specs.declared.declarations.Kind.{Kind}
-use Rattle.f3_program.specs.declared.expression.Designator.{Designator}
 use Rattle.f3_program.specs.declared.statement.Range.{Range}
 use Rattle.f3_program.specs.declared.program.Program.{Program}
 use Rattle.f3_meaning_whole.specs.Formed.{all}
@@ -16,9 +15,9 @@ use Rattle.f3_cell_kinds.specs.Types.{CellType, Scope, Site}
 use Rattle.f3_cell_kinds.specs.Types as cell
 use Rattle.f3_cell_kinds.specs.Effect.{way, truth, range_fits}
 use Rattle.f3_cell_kinds.specs.Kinds.{arrived, Leads, IsAt}
-use Rattle.f3_cell_kinds.specs.Values.{at, stacked}
+use Rattle.f3_cell_kinds.specs.Values.{at}
 use Rattle.f3_cell_kinds.specs.Program.{leaving_sites, departing_sites, case_sites, while_sites, turns_sites}
-use Rattle.f3_cell_kinds.proofs.Parts.{At, SitesAt, LinesAt, lands, sites_front, sites_back, lines_on, same_site, same_at, comes, Part, Onto, wider, behind_with, seq, before, before_end, Falls, Gone, plain, first, forked_keeps, forked_same, forked, Exits, exits_at, farther_exits}
+use Rattle.f3_cell_kinds.proofs.Parts.{At, SitesAt, LinesAt, lands, sites_front, sites_back, lines_on, same_site, same_at, comes, Part, Onto, wider, behind_with, seq, before, Gone, plain, first, forked_keeps, forked_same, forked, Exits, exits_at, farther_exits}
 use Rattle.f3_cell_kinds.proofs.Steps.{on_leads, fork_leads, goes_on, goes_back, on_part}
 use Rattle.f3_cell_kinds.proofs.Fitting.{FinalsFit}
 use Rattle.f3_cell_kinds.proofs.OfActions.{ranges_part}
@@ -40,8 +39,12 @@ module _ (p : Program) (sites : ℕ → Site) (finals : FinalsFit p) (m : ℕ) (
   -- so many go
   unwinds : {left : List CellType} {k : ℕ} (o : Option Place) (s : Scope) (h : List CellType) (pc : ℕ) → sites pc ≡ at r s h → At p sites (pc + 1) (at r s (drop k h)) → Gone h k left →
       IsAt p sites pc (line o (i.Unwind k))
-  unwinds {left = left} o s h pc is next g = λ t. (g.gone, g.many, on_leads p sites (at r s left) g.gone [] pc refl
-      (is ∙ ap (λ l. at r s l) g.is) (λ live. next live ∙ ap (λ l. at r s l) (gone_drop g)))
+  unwinds {left = left} o s h pc is next g = λ t. (
+    g.gone,
+    g.many,
+    on_leads p sites (at r s left) g.gone [] pc refl
+        (is ∙ ap (λ l. at r s l) g.is) (λ live. next live ∙ ap (λ l. at r s l) (gone_drop g)),
+  )
 
   -- on with another scope
   pub changes : (s c : Scope) (h xs ys : List CellType) (pc : ℕ) → sites pc ≡ at r s (xs ++ h) → At p sites (pc + 1) (at r c (ys ++ h)) →
@@ -68,12 +71,15 @@ module _ (p : Program) (sites : ℕ → Site) (finals : FinalsFit p) (m : ℕ) (
 
   leaves : (o : Option Place) (by : Way) (d : ℕ) (s c : Scope) (h : List CellType) (pc : ℕ) → sites pc ≡ at r c (cell.Outside s ∷ h) → sites (pc + 1 + d) ≡ at r s (cell.Going ∷ h) →
       IsAt p sites pc (line o (i.Leave by d))
-  leaves o by d s c h pc is to = λ t. (s, record {
-    rest = h;
-    before = ap (λ (y : Site). y.cells) is;
-    next = tt;
-    far = (to ∙ lands (at r c h) (cell.Outside s ∷ []) (cell.Going ∷ []) (Some s) (sites pc) refl is, tt);
-  })
+  leaves o by d s c h pc is to = λ t. (
+    s,
+    record {
+      rest = h;
+      before = ap (λ (y : Site). y.cells) is;
+      next = tt;
+      far = (to ∙ lands (at r c h) (cell.Outside s ∷ []) (cell.Going ∷ []) (Some s) (sites pc) refl is, tt);
+    },
+  )
 
   leaving_keeps : {Out : ℕ → Type 0} (o : Option Place) (b : List Line) (hb : List Site) (s c : Scope) (h : List CellType) → Part p sites Out b hb (at r s (cell.Going ∷ h)) → (pc : ℕ) →
       SitesAt p sites pc (leaving_sites p m r c (cell.Outside s ∷ h) ++ hb) → Out (pc + length (leaving_code o ++ b)) →

@@ -1,38 +1,25 @@
 -- The kinds of the code of parts of statements.
-use Rattle.std.proofs.Common.{refl, append_assoc, ◌≡◌, ◌∙◌, sym, ap, ℕ, zero, suc, ◌+◌, Bool, true, false, ◌&&◌, ◌||◌, List, [], ◌∷◌, ◌++◌, length, Option, Some, None, subst, arith, length-append, if◌then◌else◌}
+use Rattle.std.proofs.Common.{◌≡◌, ap, ℕ, ◌+◌, Bool, true, false, List, [], ◌∷◌, ◌++◌, length, Option, subst, arith, length-append, if◌then◌else◌}
 use Rattle.std.specs.Prelude.{nat_eq, nat_lt}
 use Rattle.f3_rules.specs.declared.source.Place.{Place}
-use Rattle.f3_program.specs.declared.declarations.Base.TheVariants as base
 use Rattle.f3_program.specs.declared.declarations.Kind.{Kind}
-use Rattle.f3_program.specs.declared.expression.Designator.{Designator}
-use Rattle.f3_program.specs.declared.statement.Bounds.{Bounds}
-use Rattle.f3_program.specs.declared.statement.Item.{Item}
-use Rattle.f3_program.specs.declared.statement.Item.TheVariants as item
-use Rattle.f3_program.specs.declared.statement.Range.{Range}
-use Rattle.f3_program.specs.declared.statement.Request.{Request}
-use Rattle.f3_program.specs.declared.statement.Selector.{Selector}
-use Rattle.f3_program.specs.declared.statement.Selector.TheVariants as selector
 use Rattle.f3_program.specs.declared.program.Program.{Program}
-use Rattle.f3_meaning_whole.specs.Formed.{all, some, only, alike, is_number, is_whole_number, takes, valued, value_kind, object_kind, is_status, is_bound, is_request, has_bounds, is_item}
-use Rattle.f3_meaning_whole.specs.Permitted.{same_type}
+use Rattle.f3_meaning_whole.specs.Formed.{only, takes}
 use Rattle.f3_meaning_whole.specs.Run.{setting_of}
-use Rattle.f3_core.specs.Work as w
 use Rattle.f3_core.specs.Core as c
 use Rattle.f3_core.specs.Lower.{initial}
 use Rattle.f3_code.specs.declared.instruction.Instruction.TheVariants as i
 use Rattle.f3_code.specs.State.{Line, line, line_with}
-use Rattle.f3_code.specs.Code.{work_code, transfer_code, dimensions_code, allocate_code, free_code, deallocate_code, status_code, bytes_code, items_code, ranges_code, selectors_code, discards_code}
+use Rattle.f3_code.specs.Code.{transfer_code}
 use Rattle.f3_cell_kinds.specs.Types.{CellType, Scope, Site, selectors_on}
 use Rattle.f3_cell_kinds.specs.Types as cell
-use Rattle.f3_cell_kinds.specs.Effect.{Far, way, after, truth, held_kind, range_fits, extents_on}
-use Rattle.f3_cell_kinds.specs.Kinds.{arrived, IsNext, AreFar}
-use Rattle.f3_cell_kinds.specs.Values.{at, stacked, reached_if, value_at, object_at, work_sites, value_sites, locate_sites}
-use Rattle.f3_cell_kinds.specs.Program.{transfer_sites, dimensions_sites, allocate_sites, free_sites, deallocate_sites, status_sites, bytes_sites, items_sites, ranges_sites, selected_at, selectors_sites, discards_sites}
-use Rattle.f3_cell_kinds.specs.Sense.{none_or, object_fits, bounds_fit, request_fits, item_fits}
-use Rattle.f3_cell_kinds.proofs.Asked.{and_is, some_kind}
-use Rattle.f3_cell_kinds.proofs.Parts.{At, SitesAt, sites_front, sites_back, lines_on, same_at, live_of, comes, in_scope, Part, Onto, wider, nothing, seq, before, Falls, plain, first, last, onto_same, forked}
-use Rattle.f3_cell_kinds.proofs.Steps.{fork_leads, less, goes_on, drops}
-use Rattle.f3_cell_kinds.proofs.OfValues.{value_part, object_part}
+use Rattle.f3_cell_kinds.specs.Effect.{Far, way, after, held_kind}
+use Rattle.f3_cell_kinds.specs.Kinds.{IsNext, AreFar}
+use Rattle.f3_cell_kinds.specs.Values.{stacked, reached_if}
+use Rattle.f3_cell_kinds.specs.Program.{transfer_sites}
+use Rattle.f3_cell_kinds.proofs.Asked.{and_is}
+use Rattle.f3_cell_kinds.proofs.Parts.{At, SitesAt, sites_front, sites_back, lines_on, same_at, live_of, comes, Part, Onto, wider, seq, before, plain, first, last}
+use Rattle.f3_cell_kinds.proofs.Steps.{less, goes_on}
 use Rattle.f3_cell_kinds.proofs.OfWork.{WorkFits, work_part}
 
 module _ (p : Program) where
@@ -99,14 +86,19 @@ module _ (p : Program) (sites : ℕ → Site) (m : ℕ) (o : Option Place) where
           λ live. has.0,
           (
             λ r.
-            let live = live_of p sites h top pc has.0 r in
-            (k, j, (fits live).0, (fits live).1, record {
-              rest = h.cells;
-              before = ap (λ (s : Site). s.cells) has.0;
-              next = comes p sites h top top pc (pc + 1) live has.0 rx.0;
-              far = if_far (nat_lt 0 j.rank) h top (length cx + 1) pc _ live has.0 to_y
-                  (comes p sites h top top pc (pc + 1 + (length cx + 1 + (length cy + 1))) live has.0 to_z, tt);
-            }),
+                let live = live_of p sites h top pc has.0 r in (
+                  k,
+                  j,
+                  (fits live).0,
+                  (fits live).1,
+                  record {
+                    rest = h.cells;
+                    before = ap (λ (s : Site). s.cells) has.0;
+                    next = comes p sites h top top pc (pc + 1) live has.0 rx.0;
+                    far = if_far (nat_lt 0 j.rank) h top (length cx + 1) pc _ live has.0 to_y
+                        (comes p sites h top top pc (pc + 1 + (length cx + 1 + (length cy + 1))) live has.0 to_z, tt);
+                  },
+                ),
             lines_on p sites (pc + 1) cx onto_y rx.1 (
               goes_on p sites o (length cy + 1 + length cz) h p1 has1.0 to_end,
               lines_on p sites (p1 + 1) cy onto_z ry.1 (

@@ -1,5 +1,5 @@
 -- The kinds of the code of procedures, routines and programs.
-use Rattle.std.proofs.Common.{◌≡◌, ◌∙◌, sym, ap, ℕ, zero, suc, ◌+◌, Bool, true, ◌&&◌, List, [], ◌∷◌, ◌++◌, map, length, Option, None, Some, refl, subst, arith, append_assoc, length-append}
+use Rattle.std.proofs.Common.{◌≡◌, ◌∙◌, sym, ap, ℕ, zero, suc, ◌+◌, true, ◌&&◌, List, [], ◌∷◌, ◌++◌, map, length, Option, None, Some, refl, subst, arith, append_assoc, length-append}
 use Rattle.std.specs.Prelude.{slice_get, slice_index_or}
 use Rattle.std.proofs.Math.Seq.{get_or-append_seam}
 use Rattle.f3_program.specs.declared.declarations.Base.TheVariants as base
@@ -15,9 +15,9 @@ use Rattle.f3_meaning_whole.specs.Formed.{all, of_kind, kinds_of, kind_of_name, 
 use Rattle.f3_meaning_whole.specs.Run.{setting_of}
 use Rattle.f3_core.specs.Work as w
 use Rattle.f3_core.specs.Core as c
-use Rattle.f3_core.specs.Lower.{end_work, out_work, discard_work, result_number, lowered, lowered_procedure, lowered_main, lowered_program}
+use Rattle.f3_core.specs.Lower.{end_work, out_work, discard_work, result_number, lowered_procedure, lowered_main, lowered_program}
 use Rattle.f3_code.specs.declared.instruction.Instruction.TheVariants as i
-use Rattle.f3_code.specs.State.{line, Entry, Code}
+use Rattle.f3_code.specs.State.{line}
 use Rattle.f3_code.specs.Code.{work_code, begin_code, finish_code, discard_code, body_ways, last_code, body_code, main_ways, main_code, procedures_code, entries, routines_code, places_of, program_code}
 use Rattle.f3_cell_kinds.specs.Types.{CellType, Scope, Site}
 use Rattle.f3_cell_kinds.specs.Types as cell
@@ -28,7 +28,7 @@ use Rattle.f3_cell_kinds.specs.Program.{variable_in, in_routine, each_sites, fin
 use Rattle.f3_cell_kinds.specs.Sense.{procedure_fits, statement_fits, MakesSense}
 use Rattle.f3_cell_kinds.specs.Laws.{nowhere, site_at}
 use Rattle.f3_cell_kinds.proofs.Asked.{and_is, itself}
-use Rattle.f3_cell_kinds.proofs.Parts.{At, SitesAt, LinesAt, lands, in_scope, sites_front, sites_back, lines_on, line_of, same_site, Part, Onto, nothing, behind_with, behind, seq, before, before_end, plain, first, last, forked, Exits}
+use Rattle.f3_cell_kinds.proofs.Parts.{SitesAt, LinesAt, lands, in_scope, sites_front, sites_back, lines_on, line_of, same_site, Part, Onto, nothing, behind_with, behind, seq, before, before_end, plain, first, forked}
 use Rattle.f3_cell_kinds.proofs.Steps.{on_leads, fork_leads, drops}
 use Rattle.f3_cell_kinds.proofs.OfWork.{WorkFits, work_part}
 use Rattle.f3_cell_kinds.proofs.Fitting.{FinalsFit, end_fits, out_fits, discard_fits, RoutinesFit, routines_fit}
@@ -99,18 +99,25 @@ module _ (p : Program) (sites : ℕ → Site) (finals : FinalsFit p) (m : ℕ) w
       let x = discard_work d.kind in let ks = kinds_of ds in let k = d.kind in
       let cx = work_code m None x in
       forked p sites {n = stacked (cell.Objects ks ∷ []) h} (line None (i.NextArgument n (length cx + 1))) (line None i.Drop)
-      (λ pc is next far t. (k, ks, fork_leads p sites h (cell.Objects (k ∷ ks) ∷ []) (cell.Object k ∷ cell.Objects ks ∷ []) (cell.Objects ks ∷ []) (length cx + 1) pc
-      (ap (λ (z : Site). z.is_reached) (sym is) ∙ t) is next far))
+      (λ pc is next far t. (
+        k,
+        ks,
+        fork_leads p sites h (cell.Objects (k ∷ ks) ∷ []) (cell.Object k ∷ cell.Objects ks ∷ []) (cell.Objects ks ∷ []) (length cx + 1) pc
+            (ap (λ (z : Site). z.is_reached) (sym is) ∙ t) is next far,
+      ))
       (λ e is out live. is) (λ e is next out. (drops p sites None (stacked (cell.Objects ks ∷ []) h) (cell.Object k)).by e is next)
       (work_part p sites m None x (stacked (cell.Objects ks ∷ []) h) k (λ live. discard_fits p k k)) (discard_part ds (suc n) h)
 
   return_part : (r : Kind) → Part p sites Any (line None i.Return ∷ []) (outward p r (cell.Objects [] ∷ cell.Datum r ∷ []) ∷ []) (outward p r (cell.Objects [] ∷ cell.Datum r ∷ []))
-  return_part r = before_end p sites (line None i.Return) (λ pc is out live. ([], record {
-    rest = [];
-    before = subst (λ (z : Site). z.cells ≡ cell.Objects [] ∷ cell.Datum z.returns ∷ []) (sym is) refl;
-    next = tt;
-    far = tt;
-  }))
+  return_part r = before_end p sites (line None i.Return) (λ pc is out live. (
+    [],
+    record {
+      rest = [];
+      before = subst (λ (z : Site). z.cells ≡ cell.Objects [] ∷ cell.Datum z.returns ∷ []) (sym is) refl;
+      next = tt;
+      far = tt;
+    },
+  ))
 
   module _ (q : Procedure) where
     abbrev core : c.Procedure
@@ -128,9 +135,10 @@ module _ (p : Program) (sites : ℕ → Site) (finals : FinalsFit p) (m : ℕ) w
         (before p sites {m = at r s (cell.Datum r ∷ [])} (line None (i.ResultOf core.result)) (λ pc is next out live.
         let same : r ≡ (sites pc).returns = ap (λ (z : Site). z.returns) (sym is) in
         let known = itself _ _ (result_is p q.locals.items q.result) in
-        in_scope (sites pc).scope s _ (ap (λ (z : Site). z.scope) is)
-        (known ∙ ap (λ (z : Kind). Some z) same,
-        subst (λ (z : Kind). Leads sites pc (on (sites pc) [] (cell.Datum z ∷ []))) same (on_leads p sites (at r s []) [] (cell.Datum r ∷ []) pc refl is next)))
+        in_scope (sites pc).scope s _ (ap (λ (z : Site). z.scope) is) (
+          known ∙ ap (λ (z : Kind). Some z) same,
+          subst (λ (z : Kind). Leads sites pc (on (sites pc) [] (cell.Datum z ∷ []))) same (on_leads p sites (at r s []) [] (cell.Datum r ∷ []) pc refl is next),
+        ))
         (before p sites {m = outward p r (cell.Objects s.names ∷ cell.Datum r ∷ [])} (line None i.Outward) (λ pc is next out live.
         in_scope (sites pc).scope s _ (ap (λ (z : Site). z.scope) is) (record {
           rest = cell.Datum r ∷ [];

@@ -1,19 +1,15 @@
 -- The kinds of the code of statements.
-use Rattle.std.proofs.Common.{◌≡◌, ◌∙◌, sym, ap, ℕ, suc, ◌+◌, Bool, true, false, ◌&&◌, List, [], ◌∷◌, ◌++◌, map, length, Option, Some, None, refl, subst}
-use Rattle.std.specs.Prelude.{nat_eq}
+use Rattle.std.proofs.Common.{◌≡◌, ◌∙◌, sym, ap, ℕ, suc, ◌+◌, Bool, true, false, List, [], ◌∷◌, ◌++◌, map, length, Option, Some, refl, subst}
 use Rattle.std.proofs.lemmas.Bool.{eqb-true}
 use Rattle.f3_rules.specs.declared.source.Place.{Place}
-use Rattle.f3_program.specs.declared.declarations.Base.{Base}
 use Rattle.f3_program.specs.declared.declarations.Base.TheVariants as base
 use Rattle.f3_program.specs.declared.declarations.Kind.{Kind}
 use Rattle.f3_program.specs.declared.expression.Designator.{Designator}
 use Rattle.f3_program.specs.declared.expression.Expression.{Expression}
-use Rattle.f3_program.specs.declared.statement.Selector.{Selector}
 use Rattle.f3_program.specs.declared.statement.Statement as y
 use Rattle.f3_program.specs.declared.program.Program.{Program}
-use Rattle.f3_meaning_whole.specs.Formed.{all, some, given_all, of_kind, is_number, is_scalar, is_condition, is_whole_number, takes, value_kind, object_kind, same_kind, is_object_of, selected, or_none, is_formed, are_formed}
+use Rattle.f3_meaning_whole.specs.Formed.{some, given_all, of_kind, is_number, is_scalar, is_condition, is_whole_number, takes, value_kind, object_kind, is_object_of, selected, or_none, is_formed, are_formed}
 use Rattle.f3_meaning_whole.specs.Run.{setting_of}
-use Rattle.f3_core.specs.Work as w
 use Rattle.f3_core.specs.Core as c
 use Rattle.f3_core.specs.Lower.{assigning, end_work, lowered, lowered_block}
 use Rattle.f3_core.specs.Lower as lower
@@ -24,17 +20,17 @@ use Rattle.f3_cell_kinds.specs.Types.{CellType, Scope, Site, selecting, associat
 use Rattle.f3_cell_kinds.specs.Types as cell
 use Rattle.f3_cell_kinds.specs.Effect.{on, truth}
 use Rattle.f3_cell_kinds.specs.Kinds.{Leads}
-use Rattle.f3_cell_kinds.specs.Values.{kind_or, at, value_at, object_at, value_sites, locate_sites, work_sites}
-use Rattle.f3_cell_kinds.specs.Program.{selected_at, departing_sites, up_sites, limits_sites, code_sites}
-use Rattle.f3_cell_kinds.specs.Sense.{value_fits, object_fits, selector_fits, statement_fits, statements_fit}
+use Rattle.f3_cell_kinds.specs.Values.{at, value_at, object_at, value_sites, locate_sites, work_sites}
+use Rattle.f3_cell_kinds.specs.Program.{selected_at, departing_sites, up_sites, code_sites}
+use Rattle.f3_cell_kinds.specs.Sense.{value_fits, object_fits, statement_fits, statements_fit}
 use Rattle.f3_cell_kinds.proofs.Asked.{some_is, and_is, not_is, some_kind, base_same, kind_same, kinds_same}
-use Rattle.f3_cell_kinds.proofs.Parts.{At, in_scope, Part, Onto, wider, nothing, behind, seq, before, before_end, Falls, plain, first, last, Exits, farther_exits}
+use Rattle.f3_cell_kinds.proofs.Parts.{in_scope, Part, Onto, nothing, behind, seq, before, before_end, plain, first, last, farther_exits}
 use Rattle.f3_cell_kinds.proofs.Steps.{on_part, drops}
 use Rattle.f3_cell_kinds.proofs.OfValues.{value_part, object_part}
 use Rattle.f3_cell_kinds.proofs.OfWork.{WorkFits, work_part}
 use Rattle.f3_cell_kinds.proofs.OfParts.{TransferFits, transfer_part}
 use Rattle.f3_cell_kinds.proofs.Fitting.{FinalsFit, end_fits, assigning_fits}
-use Rattle.f3_cell_kinds.proofs.OfActions.{selectors_over, stack_same, allocate_part, deallocate_part, status_part, items_part, selected_are, selectors_part, discards_part}
+use Rattle.f3_cell_kinds.proofs.OfActions.{selectors_over, allocate_part, deallocate_part, status_part, items_part, selected_are, selectors_part, discards_part}
 use Rattle.f3_cell_kinds.proofs.OfBlocks.{One, simple, changes, return_part, scope_part, departing_part, if_part, case_part, while_part, turns_part}
 
 -- a condition is a scalar truth value
@@ -83,12 +79,17 @@ module _ (p : Program) (sites : ℕ → Site) (finals : FinalsFit p) (m : ℕ) (
   moving_part k u v o s h is_u is_v held =
       let same : u ≡ v = sym is_u ∙ is_v in
       let held_v : v.is_allocatable ≡ true = ap (λ (z : Kind). z.is_allocatable) (sym is_v) ∙ held in
-      first p sites (plain p sites (line o i.LendBoth) (at r s h) (cell.Object u ∷ cell.Object v ∷ []) (cell.Object u ∷ cell.Object v ∷ []) (λ pc live c b. (v,
-      subst (λ (z : Kind). Leads sites pc (on (sites pc) (cell.Object z ∷ cell.Object v ∷ []) (cell.Object z ∷ cell.Object v ∷ []))) same b)))
+      first p sites (plain p sites (line o i.LendBoth) (at r s h) (cell.Object u ∷ cell.Object v ∷ []) (cell.Object u ∷ cell.Object v ∷ []) (λ pc live c b. (
+        v,
+        subst (λ (z : Kind). Leads sites pc (on (sites pc) (cell.Object z ∷ cell.Object v ∷ []) (cell.Object z ∷ cell.Object v ∷ []))) same b,
+      )))
       (seq p sites (work_part p sites m o (end_work (setting_of p) k) (at r s (cell.Object v ∷ h)) u
       (λ live. subst (λ (z : Kind). WorkFits p u (end_work (setting_of p) z)) (sym is_u) (end_fits p finals u)))
-      (last p sites (plain p sites (line o i.TakeOver) (at r s h) (cell.Object u ∷ cell.Object v ∷ []) [] (λ pc live c b. (v, held_v,
-      subst (λ (z : Kind). Leads sites pc (on (sites pc) (cell.Object z ∷ cell.Object v ∷ []) [])) same b)))))
+      (last p sites (plain p sites (line o i.TakeOver) (at r s h) (cell.Object u ∷ cell.Object v ∷ []) [] (λ pc live c b. (
+        v,
+        held_v,
+        subst (λ (z : Kind). Leads sites pc (on (sites pc) (cell.Object z ∷ cell.Object v ∷ []) [])) same b,
+      )))))
 
   move_part : (b : Bool) (k : Kind) (d e : Designator) (o : Option Place) (ws : Ways) (s : Scope) (h : List CellType) → k.is_allocatable ≡ true →
       is_object_of p s.variables s.names k d ≡ true → is_object_of p s.variables s.names k e ≡ true → object_fits p s d ≡ true → object_fits p s e ≡ true →
@@ -144,8 +145,12 @@ module _ (p : Program) (sites : ℕ → Site) (finals : FinalsFit p) (m : ℕ) (
       let number_n = subst (λ (z : Kind). is_whole_number z ≡ true) x.1 number in
       seq p sites (object_part p sites r s d o (cell.Datum j ∷ cell.Datum j ∷ cell.Datum j ∷ h) n (x.0 ∙ ap (λ (z : Kind). Some z) x.1) fit)
       (first p sites (plain p sites (line o i.CountBegin) (at r s h) (cell.Object n ∷ cell.Datum j ∷ cell.Datum j ∷ cell.Datum j ∷ []) (cell.Turns ∷ [])
-      (λ pc live c b. (n, number_n, subst (λ (z : Kind). Leads sites pc (on (sites pc) (cell.Object n ∷ cell.Datum (of_kind z.of 0) ∷ cell.Datum (of_kind z.of 0)
-      ∷ cell.Datum (of_kind z.of 0) ∷ []) (cell.Turns ∷ []))) x.1 b))) q)
+      (λ pc live c b. (
+        n,
+        number_n,
+        subst (λ (z : Kind). Leads sites pc (on (sites pc) (cell.Object n ∷ cell.Datum (of_kind z.of 0) ∷ cell.Datum (of_kind z.of 0)
+            ∷ cell.Datum (of_kind z.of 0) ∷ []) (cell.Turns ∷ []))) x.1 b,
+      ))) q)
 
   mutual
     pub statement_part : (x : y.Statement) (o : Option Place) (ws : Ways) (s : Scope) (h : List CellType) → is_formed p s.variables x s.names ≡ true →
@@ -217,9 +222,12 @@ module _ (p : Program) (sites : ℕ → Site) (finals : FinalsFit p) (m : ℕ) (
         let inner = associating ks s in
         seq p sites (selectors_part p sites finals m r s o xs.items v.0 h v.1 f.0)
         (before p sites {m = at r inner (cell.Outside s ∷ cell.Level ks ∷ h)} (line o (i.Associate (length cs)))
-        (λ pc at_pc next out live. in_scope (sites pc).scope s _ (ap (λ (z : Site). z.scope) at_pc)
-        (ks, selected_count s cs, changes p sites finals m r s inner h (selectors_on ks []) (cell.Outside s ∷ cell.Level ks ∷ []) pc
-        (at_pc ∙ ap (λ l. at r s l) (selectors_over ks [] h)) next))
+        (λ pc at_pc next out live. in_scope (sites pc).scope s _ (ap (λ (z : Site). z.scope) at_pc) (
+          ks,
+          selected_count s cs,
+          changes p sites finals m r s inner h (selectors_on ks []) (cell.Outside s ∷ cell.Level ks ∷ []) pc
+              (at_pc ∙ ap (λ l. at r s l) (selectors_over ks [] h)) next,
+        ))
         (scope_part p sites finals m r o (code_of m o (lowered (setting_of p) x) scoped) _ (code_sites p m r inner (cell.Outside s ∷ cell.Level ks ∷ h) 0 (lowered (setting_of p) x)) _
         s inner (cell.Level ks ∷ h)
         (first p sites (plain p sites (line o i.Associated) (at r s h) (cell.Going ∷ cell.Level ks ∷ []) (cell.Objects ks ∷ cell.Going ∷ cell.Level ks ∷ []) (λ pc live c b. (ks, b)))

@@ -1,5 +1,5 @@
 -- The kinds of the code of expressions and designators.
-use Rattle.std.proofs.Common.{◌≡◌, ℕ, zero, suc, Bool, true, false, ◌&&◌, List, [], ◌∷◌, ◌++◌, length, Option, Some, None, refl, sym, ap, ◌∙◌, subst, append_assoc, if◌then◌else◌}
+use Rattle.std.proofs.Common.{◌≡◌, ℕ, suc, Bool, true, false, List, [], ◌∷◌, ◌++◌, length, Option, Some, None, refl, sym, ap, ◌∙◌, subst, if◌then◌else◌}
 use Rattle.std.specs.Prelude.{nat_eq}
 use Rattle.f3_rules.specs.declared.source.Place.{Place}
 use Rattle.f3_program.specs.declared.declarations.Component.{Component}
@@ -19,9 +19,9 @@ use Rattle.f3_code.specs.State.{Line, line}
 use Rattle.f3_code.specs.Code.{argument_count, subscript_count, value_code, bounds_code, argument_code, arguments_code, locate_code, select_code, select_of_code, chosen_code, subscript_code}
 use Rattle.f3_cell_kinds.specs.Types.{Scope, CellType, Site, arguments_on, choices_on}
 use Rattle.f3_cell_kinds.specs.Types as cell
-use Rattle.f3_cell_kinds.specs.Effect.{on, truth, number, held_kind, declared_kind, part_kind, part_cell, picked_kind}
+use Rattle.f3_cell_kinds.specs.Effect.{on, truth, number, held_kind, declared_kind, part_kind, part_cell}
 use Rattle.f3_cell_kinds.specs.Kinds.{Leads}
-use Rattle.f3_cell_kinds.specs.Values.{kind_or, at, stacked, kind_of_part, kind_of_procedure, returned, component_at, is_triplet, triplets, value_at, object_at, argument_at, arguments_at, value_sites, bounds_sites, argument_sites, arguments_sites, locate_sites, select_sites, select_of_sites, chosen_sites, subscript_sites}
+use Rattle.f3_cell_kinds.specs.Values.{kind_or, at, kind_of_part, kind_of_procedure, returned, component_at, is_triplet, triplets, value_at, object_at, argument_at, arguments_at, value_sites, bounds_sites, argument_sites, arguments_sites, locate_sites, select_sites, select_of_sites, chosen_sites, subscript_sites}
 use Rattle.f3_cell_kinds.specs.Sense.{value_fits, argument_fits, arguments_fit, object_fits, selection_fits, subscripts_fit, subscript_fits}
 use Rattle.f3_cell_kinds.proofs.Asked.{some_same, found_is, found_kind, found_at, some_at, only_is, unless_is, and_is, not_is, some_kind, kind_is, itself}
 use Rattle.f3_cell_kinds.proofs.Parts.{in_scope, Part, Onto, nothing, seq, Falls, plain, first, last, onto_same}
@@ -174,8 +174,15 @@ module _ (p : Program) (sites : ℕ → Site) (r : Kind) (s : Scope) where
         datum_same _ _ (ap held_kind same ∙ sym (result_held v.0.result) ∙ g.1)
         (seq p sites (arguments_part xs o h gs f.0 fit) (first p sites (from_same _ _ (sym (arguments_over gs [] h))
         (plain p sites (line o (i.Call t (argument_count xs))) (at r s h) (arguments_on gs []) (cell.Datum j ∷ [])
-        (λ pc live c b. (gs, v.0, k, arguments_count xs, v.1, f.1,
-        subst (λ (y : Kind). Leads sites pc (on (sites pc) (arguments_on gs []) (cell.Datum y ∷ []))) same b))))
+        (λ pc live c b. (
+          gs,
+          v.0,
+          k,
+          arguments_count xs,
+          v.1,
+          f.1,
+          subst (λ (y : Kind). Leads sites pc (on (sites pc) (arguments_on gs []) (cell.Datum y ∷ []))) same b,
+        ))))
         (last p sites (plain p sites (line o i.Result) (at r s h) (cell.Datum j ∷ []) (cell.Datum (held_kind j) ∷ []) (λ pc live c b. (j, b))))))
     value_part (e.Allocated' q x) o h k is fit =
         let f = found_kind (object_kind p s.variables s.names x) _ k is in
@@ -293,13 +300,26 @@ module _ (p : Program) (sites : ℕ → Site) (r : Kind) (s : Scope) where
         let same : y ≡ m.declared.kind = ap kind_of_part part in
         let f = picked (nat_eq j.rank 0) is_opened all bs j m.declared.kind k (subscripts_are xs) is in
         first p sites (plain p sites (line o (i.ComponentOf n)) (at r s h) (cell.Object j ∷ []) (part_cell j y ∷ cell.Object j ∷ [])
-        (λ pc live c b. (j, m, held, part,
-        subst (λ (z : Kind). Leads sites pc (on (sites pc) (cell.Object j ∷ []) (part_cell j z ∷ cell.Object j ∷ []))) same b)))
+        (λ pc live c b. (
+          j,
+          m,
+          held,
+          part,
+          subst (λ (z : Kind). Leads sites pc (on (sites pc) (cell.Object j ∷ []) (part_cell j z ∷ cell.Object j ∷ []))) same b,
+        )))
         (seq p sites (chosen_part xs o (part_cell j y ∷ cell.Object j ∷ h) bs f.0 fit)
         (last p sites (from_same _ _ (sym (choices_over bs (part_cell j y ∷ cell.Object j ∷ []) h))
         (plain p sites (line o (i.SelectOf is_opened n (subscript_count xs))) (at r s h) (choices_on bs (part_cell j y ∷ cell.Object j ∷ [])) (cell.Object k ∷ [])
-        (λ pc live c b. (j, m, bs, k, triplets_count xs, part, f.1,
-        subst (λ (z : Kind). Leads sites pc (on (sites pc) (choices_on bs (part_cell j z ∷ cell.Object j ∷ [])) (cell.Object k ∷ []))) same b))))))
+        (λ pc live c b. (
+          j,
+          m,
+          bs,
+          k,
+          triplets_count xs,
+          part,
+          f.1,
+          subst (λ (z : Kind). Leads sites pc (on (sites pc) (choices_on bs (part_cell j z ∷ cell.Object j ∷ [])) (cell.Object k ∷ []))) same b,
+        ))))))
 
     pub chosen_part : {m : _} (xs : l.Row_of-Subscript m) (o : Option Place) (h : List CellType) (bs : List Bool) →
         given_all (subscripts p s.variables s.names xs) ≡ Some bs → subscripts_fit p s xs ≡ true →

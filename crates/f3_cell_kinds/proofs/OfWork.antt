@@ -1,5 +1,5 @@
 -- The kinds of the code of work on an object.
-use Rattle.std.proofs.Common.{◌≡◌, ◌∙◌, sym, refl, ap, ℕ, ◌+◌, ◌-◌, Bool, true, false, ◌&&◌, not, List, [], ◌∷◌, ◌++◌, length, Option, Some, None, subst, arith, length-append, if◌then◌else◌}
+use Rattle.std.proofs.Common.{◌≡◌, refl, ap, ℕ, ◌+◌, ◌-◌, Bool, true, false, not, List, [], ◌∷◌, ◌++◌, length, Option, Some, subst, arith, length-append, if◌then◌else◌}
 use Rattle.std.specs.Prelude.{nat_lt, nat_eq}
 use Rattle.f3_rules.specs.declared.source.Place.{Place}
 use Rattle.f3_program.specs.declared.declarations.Base.TheVariants as base
@@ -20,7 +20,7 @@ use Rattle.f3_cell_kinds.specs.Effect.{on, held_kind, declared_kind}
 use Rattle.f3_cell_kinds.specs.Kinds.{Leads}
 use Rattle.f3_cell_kinds.specs.Values.{stacked, reached_if, kind_of_part, kind_of_procedure, returned, component_at, work_sites}
 use Rattle.f3_cell_kinds.proofs.Asked.{found_is, and_is, not_is}
-use Rattle.f3_cell_kinds.proofs.Parts.{At, SitesAt, sites_front, sites_back, lines_on, same_at, live_of, Part, Onto, wider, nothing, seq, before, plain, first, last, forked}
+use Rattle.f3_cell_kinds.proofs.Parts.{SitesAt, sites_front, sites_back, lines_on, same_at, live_of, Part, Onto, wider, nothing, seq, before, plain, first, last, forked}
 use Rattle.f3_cell_kinds.proofs.Steps.{fork_leads, either_leads, less, goes_on, goes_back, drops}
 
 -- an object that is passed to a final subroutine
@@ -70,8 +70,11 @@ module _ (p : Program) (sites : ℕ → Site) (m : ℕ) (o : Option Place) where
         let back = same_at p sites {h = walking} (pc + 1 + length cx + 1 - (length cx + 2)) pc (omega arith) (λ live. has.0) in (
           λ live. has.0,
           (
-            λ r. (k, fork_leads p sites h (cell.Elements k.of ∷ cell.Object k ∷ []) (cell.Object (of_kind k.of 0) ∷ cell.Elements k.of ∷ cell.Object k ∷ [])
-            (cell.Object k ∷ []) (length cx + 2) pc (live_of p sites h (cell.Elements k.of ∷ cell.Object k ∷ []) pc has.0 r) has.0 rx.0 over),
+            λ r. (
+              k,
+              fork_leads p sites h (cell.Elements k.of ∷ cell.Object k ∷ []) (cell.Object (of_kind k.of 0) ∷ cell.Elements k.of ∷ cell.Object k ∷ [])
+                  (cell.Object k ∷ []) (length cx + 2) pc (live_of p sites h (cell.Elements k.of ∷ cell.Object k ∷ []) pc has.0 r) has.0 rx.0 over,
+            ),
             lines_on p sites (pc + 1) cx tail rx.1 (
               (drops p sites o walking (cell.Object (of_kind k.of 0))).by (pc + 1 + length cx) has_tail.0 (λ live. has_tail.1.0),
               (goes_back p sites o (length cx + 2) walking (pc + 1 + length cx + 1) has_tail.1.0 back, tt),
@@ -94,9 +97,15 @@ module _ (p : Program) (sites : ℕ → Site) (m : ℕ) (o : Option Place) where
       (first p sites (plain p sites (line o (i.Call f 1)) (stacked (cell.Object k ∷ []) h) (cell.Argument (passed k) ∷ []) (cell.Datum (returned p f) ∷ []) (λ pc live c b.
       let fit = fits live in
       let v = found_is _ _ fit.0 fit.1 in
-      let same : returned p f ≡ declared_kind v.0.result = ap kind_of_procedure v.1 in
-      (passed k ∷ [], v.0, fit.0, refl, v.1, fit.1,
-      subst (λ (y : Kind). Leads sites pc (on (sites pc) (cell.Argument (passed k) ∷ []) (cell.Datum y ∷ []))) same b)))
+      let same : returned p f ≡ declared_kind v.0.result = ap kind_of_procedure v.1 in (
+        passed k ∷ [],
+        v.0,
+        fit.0,
+        refl,
+        v.1,
+        fit.1,
+        subst (λ (y : Kind). Leads sites pc (on (sites pc) (cell.Argument (passed k) ∷ []) (cell.Datum y ∷ []))) same b,
+      )))
       (last p sites (drops p sites o (stacked (cell.Object k ∷ []) h) (cell.Datum (returned p f)))))
 
   pub work_part : (x : w.Work) (h : Site) (k : Kind) → (h.is_reached ≡ true → WorkFits p k x) → Work (work_code m o x) (work_sites p m h k x) h k

@@ -1,9 +1,8 @@
 -- Without their kinds the cells of each line are of the sorts of the same code.
-use Rattle.std.proofs.Common.{◌≡◌, ℕ, zero, suc, ◌+◌, Bool, true, false, not, List, [], ◌∷◌, ◌++◌, length, drop, Option, Some, None, refl, sym, ap, ◌∙◌, subst, if◌then◌else◌}
+use Rattle.std.proofs.Common.{◌≡◌, ℕ, zero, suc, Bool, true, false, not, List, [], ◌∷◌, ◌++◌, length, drop, Option, Some, None, refl, sym, ap, ◌∙◌, subst, if◌then◌else◌}
 use Rattle.std.specs.Prelude.{map, nat_eq, nat_lt, slice_index_or}
 use Rattle.std.proofs.lemmas.List.{map-append}
 use Rattle.std.proofs.Math.ListN.{get_or-map}
-use Rattle.f3_program.specs.declared.declarations.Declared.{Declared}
 use Rattle.f3_program.specs.declared.declarations.Kind.{Kind}
 use Rattle.f3_program.specs.declared.expression.Argument as a
 use Rattle.f3_program.specs.declared.expression.Designator as d
@@ -21,16 +20,16 @@ use Rattle.f3_meaning_whole.specs.Formed.{of_kind, kinds_of}
 use Rattle.f3_meaning_whole.specs.Run.{setting_of}
 use Rattle.f3_core.specs.Work as w
 use Rattle.f3_core.specs.Core as c
-use Rattle.f3_core.specs.Lower.{out_work, end_work, discard_work, lowered_procedure, lowered_main, lowered_program, routines}
+use Rattle.f3_core.specs.Lower.{out_work, discard_work, lowered_procedure, lowered_program}
 use Rattle.f3_code.specs.Code.{argument_count, subscript_count}
 use Rattle.f3_sorts.specs.Effect.{Sort, times}
 use Rattle.f3_sorts.specs.Effect as sort
-use Rattle.f3_sorts.specs.Program.{allocate_sorts, argument_sorts, arguments_sorts, body_sorts, bounds_sorts, bytes_sorts, case_sorts, chosen_sorts, code_sorts, deallocate_sorts, departing_sorts, dimensions_sorts, discards_sorts, each_sorts, finish_sorts, free_sorts, if_sorts, items_sorts, last_sorts, leaving_sorts, limits_sorts, locate_sorts, main_sorts, procedures_sorts, program_sorts, ranges_sorts, routines_sorts, select_of_sorts, select_sorts, selectors_sorts, status_sorts, subscript_sorts, transfer_sorts, turns_sorts, up_sorts, value_sorts, while_sorts, work_sorts}
+use Rattle.f3_sorts.specs.Program.{allocate_sorts, argument_sorts, arguments_sorts, body_sorts, bounds_sorts, bytes_sorts, case_sorts, chosen_sorts, code_sorts, deallocate_sorts, departing_sorts, dimensions_sorts, discards_sorts, each_sorts, finish_sorts, free_sorts, if_sorts, items_sorts, leaving_sorts, limits_sorts, locate_sorts, procedures_sorts, program_sorts, ranges_sorts, routines_sorts, select_of_sorts, select_sorts, selectors_sorts, status_sorts, subscript_sorts, transfer_sorts, turns_sorts, up_sorts, value_sorts, while_sorts, work_sorts}
 use Rattle.f3_cell_kinds.specs.Types.{CellType, Scope, Site, sort_of_type, selecting, associating, arguments_on, choices_on, selectors_on}
 use Rattle.f3_cell_kinds.specs.Types as cell
 use Rattle.f3_cell_kinds.specs.Effect.{part_cell, held_kind, extents_on}
-use Rattle.f3_cell_kinds.specs.Values.{kind_or, at, stacked, reached_if, component_at, is_triplet, triplets, value_at, object_at, argument_at, arguments_at, value_sites, bounds_sites, argument_sites, arguments_sites, locate_sites, select_sites, select_of_sites, chosen_sites, subscript_sites, work_sites}
-use Rattle.f3_cell_kinds.specs.Program.{variable_kind, in_routine, transfer_sites, free_sites, dimensions_sites, allocate_sites, deallocate_sites, status_sites, bytes_sites, items_sites, ranges_sites, selected_at, selectors_sites, discards_sites, leaving_sites, departing_sites, if_sites, case_sites, while_sites, up_sites, turns_sites, limits_sites, code_sites, each_sites, finish_sites, scope_of, returns_of, outward, last_sites, body_sites, main_sites, procedures_sites, routines_sites, program_sites}
+use Rattle.f3_cell_kinds.specs.Values.{at, stacked, reached_if, component_at, is_triplet, triplets, value_at, object_at, argument_at, arguments_at, value_sites, bounds_sites, argument_sites, arguments_sites, locate_sites, select_sites, select_of_sites, chosen_sites, subscript_sites, work_sites}
+use Rattle.f3_cell_kinds.specs.Program.{variable_kind, in_routine, transfer_sites, free_sites, dimensions_sites, allocate_sites, deallocate_sites, status_sites, bytes_sites, items_sites, ranges_sites, selected_at, selectors_sites, discards_sites, leaving_sites, departing_sites, if_sites, case_sites, while_sites, up_sites, turns_sites, limits_sites, code_sites, each_sites, finish_sites, scope_of, returns_of, outward, body_sites, procedures_sites, routines_sites, program_sites}
 use Rattle.f3_cell_kinds.specs.Laws.{nowhere, site_at}
 
 abbrev forget : List CellType → List Sort

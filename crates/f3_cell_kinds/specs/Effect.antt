@@ -1,5 +1,5 @@
 -- Of which kinds the cells are that instructions take and leave.
-use Rattle.std.specs.Prelude.{⊤, ◌≡◌, ℕ, zero, suc, Bool, true, false, not, ◌&&◌, ◌||◌, nat_eq, nat_lt, if◌then◌else◌, List, [], ◌∷◌, ◌++◌, length, Option, Some, None, slice_get}
+use Rattle.std.specs.Prelude.{◌≡◌, ℕ, zero, suc, Bool, true, false, not, ◌&&◌, ◌||◌, nat_eq, nat_lt, if◌then◌else◌, List, [], ◌∷◌, ◌++◌, length, Option, Some, None, slice_get}
 use Rattle.f3_program.specs.declared.declarations.Base.{Base}
 use Rattle.f3_program.specs.declared.declarations.Base.TheVariants as base
 use Rattle.f3_program.specs.declared.declarations.Component.{Component}
@@ -21,7 +21,7 @@ use Rattle.f3_meaning_whole.specs.Arithmetic.{fits}
 use Rattle.f3_meaning_whole.specs.Act.{component_of}
 use Rattle.f3_meaning_whole.specs.Permitted.{same_type}
 use Rattle.f3_meaning_whole.specs.Run.{setting_of}
-use Rattle.f3_meaning_whole.specs.Formed.{Given, all, some, only, found, alike, is_number, of_kind, is_scalar, is_whole_number, takes, constructed, kind_of_name, sectioned, element_of_each, structured, referenced, same_kind}
+use Rattle.f3_meaning_whole.specs.Formed.{Given, all, some, only, found, alike, is_number, of_kind, is_scalar, is_whole_number, takes, constructed, kind_of_name, sectioned, element_of_each, structured, referenced}
 use Rattle.f3_core.specs.Lower.{initial}
 use Rattle.f3_code.specs.declared.instruction.Instruction.{Instruction}
 use Rattle.f3_code.specs.declared.instruction.Instruction.TheVariants as i

@@ -1,5 +1,5 @@
 -- What IsWellFormed leaves open of a program that makes sense.
-use Rattle.std.specs.Prelude.{◌≡◌, Bool, true, not, ◌&&◌, ℕ, List, [], ◌∷◌, map, Option, None, Some, slice_get}
+use Rattle.std.specs.Prelude.{◌≡◌, Bool, true, not, ◌&&◌, ℕ, [], ◌∷◌, map, Option, None, Some, slice_get}
 use Rattle.f3_program.specs.declared.declarations.Base.{Base}
 use Rattle.f3_program.specs.declared.declarations.Base.TheVariants as base
 use Rattle.f3_program.specs.declared.declarations.Derived.{Derived}
@@ -13,7 +13,6 @@ use Rattle.f3_program.specs.declared.expression.Subscript as u
 use Rattle.f3_program.specs.declared.statement.Bounds.{Bounds}
 use Rattle.f3_program.specs.declared.statement.Item.{Item}
 use Rattle.f3_program.specs.declared.statement.Item.TheVariants as item
-use Rattle.f3_program.specs.declared.statement.Range.{Range}
 use Rattle.f3_program.specs.declared.statement.Request.{Request}
 use Rattle.f3_program.specs.declared.statement.Selector.{Selector}
 use Rattle.f3_program.specs.declared.statement.Selector.TheVariants as selector
