@@ -10,3 +10,5 @@ pub mod OfBlocks
 pub mod OfStatements
 pub mod OfProgram
 pub mod Sorting
+pub mod Yielding
+pub mod Scalars

@@ -120,7 +120,7 @@ unary_fits c t k = is_of (is_on_numbers c) t && (is_scalar k && is_of (is_on_num
 
 abbrev pub binary_fits : BinaryOperator → Base → Kind → Kind → Bool
 binary_fits c t k j = is_of (is_of_numbers c && not (is_comparison c)) t
-    && (is_scalar k && is_of (is_of_numbers c) k.of && (is_scalar j && is_of (is_of_numbers c) j.of))
+    && ((is_scalar k && is_of (is_of_numbers c) k.of) && (is_scalar j && is_of (is_of_numbers c) j.of))
 
 -- items of an array constructor are values
 abbrev pub are_values : List Given → Bool

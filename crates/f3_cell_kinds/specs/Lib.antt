@@ -4,4 +4,6 @@ pub mod Kinds
 pub mod Values
 pub mod Program
 pub mod Sense
+pub mod Holds
+pub mod Reading
 pub mod Laws
