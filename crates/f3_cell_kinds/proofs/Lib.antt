@@ -10,5 +10,6 @@ pub mod OfBlocks
 pub mod OfStatements
 pub mod OfProgram
 pub mod Sorting
+pub mod Valued
 pub mod Yielding
 pub mod Scalars

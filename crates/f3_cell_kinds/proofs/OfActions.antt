@@ -29,6 +29,7 @@ use Rattle.f3_cell_kinds.specs.Sense.{none_or, object_fits, bounds_fit, request_
 use Rattle.f3_cell_kinds.proofs.Asked.{some_same, found_is, found_kind, only_is, and_is, not_is, some_kind, kinds_same, kind_same}
 use Rattle.f3_cell_kinds.proofs.Parts.{same_at, same_site, in_scope, Part, Onto, wider, nothing, seq, before, Falls, plain, first, last}
 use Rattle.f3_cell_kinds.proofs.Steps.{fork_leads, drops}
+use Rattle.f3_cell_kinds.proofs.Valued.{value_held}
 use Rattle.f3_cell_kinds.proofs.OfValues.{value_part, object_part}
 use Rattle.f3_cell_kinds.proofs.OfWork.{WorkFits, work_part}
 use Rattle.f3_cell_kinds.proofs.Fitting.{FinalsFit, contents_fit, discard_fits}
@@ -190,7 +191,7 @@ module _ (p : Program) (sites : ℕ → Site) (finals : FinalsFit p) (m : ℕ) (
       let k = value_at p r s e in
       let q = only_is _ j f.0 v.1 in let a = and_is _ _ q.0 in
       seq p sites (value_part p sites r s e o h k v.0 w'.1)
-      (first p sites (plain p sites (line o (i.SelectValue j.of)) (at r s h) (cell.Datum k ∷ []) (cell.Selector (of_kind j.of k.rank) ∷ []) (λ pc live c b. (k, a.0, b)))
+      (first p sites (plain p sites (line o (i.SelectValue j.of)) (at r s h) (cell.Datum k ∷ []) (cell.Selector (of_kind j.of k.rank) ∷ []) (λ pc live c b. (k, value_held p s.variables s.names e k v.0, a.0, b)))
       (selectors_part xs g.0 (cell.Selector (of_kind j.of k.rank) ∷ h) g.1 w.1))
 
   pub discards_part : (xs : List Selector) (h : List CellType) →

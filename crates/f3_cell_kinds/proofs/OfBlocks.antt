@@ -11,13 +11,13 @@ use Rattle.f3_code.specs.declared.instruction.Way.{Way}
 use Rattle.f3_code.specs.declared.instruction.Way.TheVariants as by
 use Rattle.f3_code.specs.State.{Line, line}
 use Rattle.f3_code.specs.Code.{Ways, farther, looped, counting, scoped, leaving_code, departing_code, case_code, while_code, turns_code}
-use Rattle.f3_cell_kinds.specs.Types.{CellType, Scope, Site}
+use Rattle.f3_cell_kinds.specs.Types.{CellType, Scope, Told, Site}
 use Rattle.f3_cell_kinds.specs.Types as cell
 use Rattle.f3_cell_kinds.specs.Effect.{way, truth, range_fits}
 use Rattle.f3_cell_kinds.specs.Kinds.{arrived, Leads, IsAt}
 use Rattle.f3_cell_kinds.specs.Values.{at}
 use Rattle.f3_cell_kinds.specs.Program.{leaving_sites, departing_sites, case_sites, while_sites, turns_sites}
-use Rattle.f3_cell_kinds.proofs.Parts.{At, SitesAt, LinesAt, lands, sites_front, sites_back, lines_on, same_site, same_at, comes, Part, Onto, wider, behind_with, seq, before, Gone, plain, first, forked_keeps, forked_same, forked, Exits, exits_at, farther_exits}
+use Rattle.f3_cell_kinds.proofs.Parts.{in_scope, At, SitesAt, LinesAt, lands, sites_front, sites_back, lines_on, same_site, same_at, comes, Part, Onto, wider, behind_with, seq, before, Gone, plain, first, forked_keeps, forked_same, forked, Exits, exits_at, farther_exits}
 use Rattle.f3_cell_kinds.proofs.Steps.{on_leads, fork_leads, goes_on, goes_back, on_part}
 use Rattle.f3_cell_kinds.proofs.Fitting.{FinalsFit}
 use Rattle.f3_cell_kinds.proofs.OfActions.{ranges_part}
@@ -48,11 +48,11 @@ module _ (p : Program) (sites : ℕ → Site) (finals : FinalsFit p) (m : ℕ) (
 
   -- on with another scope
   pub changes : (s c : Scope) (h xs ys : List CellType) (pc : ℕ) → sites pc ≡ at r s (xs ++ h) → At p sites (pc + 1) (at r c (ys ++ h)) →
-      Leads sites pc (record { takes = xs; next = Some (record { scope = Some c; left = ys }); far = [] })
+      Leads sites pc (record { takes = xs; next = Some (record { scope = Told c; left = ys }); far = [] })
   changes s c h xs ys pc is next = record {
     rest = h;
     before = ap (λ (y : Site). y.cells) is;
-    next = next refl ∙ lands (at r s h) xs ys (Some c) (sites pc) refl is;
+    next = next refl ∙ lands (at r s h) xs ys (Told c) (sites pc) refl is;
     far = tt;
   }
 
@@ -71,13 +71,11 @@ module _ (p : Program) (sites : ℕ → Site) (finals : FinalsFit p) (m : ℕ) (
 
   leaves : (o : Option Place) (by : Way) (d : ℕ) (s c : Scope) (h : List CellType) (pc : ℕ) → sites pc ≡ at r c (cell.Outside s ∷ h) → sites (pc + 1 + d) ≡ at r s (cell.Going ∷ h) →
       IsAt p sites pc (line o (i.Leave by d))
-  leaves o by d s c h pc is to = λ t. (
-    s,
-    record {
+  leaves o by d s c h pc is to = λ t. in_scope (sites pc).scope c _ (ap (λ (y : Site). y.scope) is) (s, record {
       rest = h;
       before = ap (λ (y : Site). y.cells) is;
       next = tt;
-      far = (to ∙ lands (at r c h) (cell.Outside s ∷ []) (cell.Going ∷ []) (Some s) (sites pc) refl is, tt);
+      far = (to ∙ lands (at r c h) (cell.Outside s ∷ []) (cell.Going ∷ []) (Told s) (sites pc) refl is, tt);
     },
   )
 

@@ -19,7 +19,7 @@ use Rattle.f3_core.specs.Lower.{end_work, out_work, discard_work, result_number,
 use Rattle.f3_code.specs.declared.instruction.Instruction.TheVariants as i
 use Rattle.f3_code.specs.State.{line}
 use Rattle.f3_code.specs.Code.{work_code, begin_code, finish_code, discard_code, body_ways, last_code, body_code, main_ways, main_code, procedures_code, entries, routines_code, places_of, program_code}
-use Rattle.f3_cell_kinds.specs.Types.{CellType, Scope, Site}
+use Rattle.f3_cell_kinds.specs.Types.{Untold, CellType, Scope, Site}
 use Rattle.f3_cell_kinds.specs.Types as cell
 use Rattle.f3_cell_kinds.specs.Effect.{on, declared_kind, result_in}
 use Rattle.f3_cell_kinds.specs.Kinds.{Leads, IsAt, first_site, main_site, routine_site, ProceduresBegin, RoutinesBegin, AreKinds}
@@ -109,11 +109,7 @@ module _ (p : Program) (sites : ℕ → Site) (finals : FinalsFit p) (m : ℕ) w
       (work_part p sites m None x (stacked (cell.Objects ks ∷ []) h) k (λ live. discard_fits p k k)) (discard_part ds (suc n) h)
 
   return_part : (r : Kind) → Part p sites Any (line None i.Return ∷ []) (outward p r (cell.Objects [] ∷ cell.Datum r ∷ []) ∷ []) (outward p r (cell.Objects [] ∷ cell.Datum r ∷ []))
-  return_part r = before_end p sites (line None i.Return) (λ pc is out live. (
-    [],
-    record {
-      rest = [];
-      before = subst (λ (z : Site). z.cells ≡ cell.Objects [] ∷ cell.Datum z.returns ∷ []) (sym is) refl;
+  return_part r = before_end p sites (line None i.Return) (λ pc is out live. (ap (λ (z : Site). z.scope) is, [], record { rest = []; before = subst (λ (z : Site). z.cells ≡ cell.Objects [] ∷ cell.Datum z.returns ∷ []) (sym is) refl;
       next = tt;
       far = tt;
     },
@@ -143,7 +139,7 @@ module _ (p : Program) (sites : ℕ → Site) (finals : FinalsFit p) (m : ℕ) w
         in_scope (sites pc).scope s _ (ap (λ (z : Site). z.scope) is) (record {
           rest = cell.Datum r ∷ [];
           before = ap (λ (z : Site). z.cells) is;
-          next = next refl ∙ lands (at r s (cell.Datum r ∷ [])) [] (cell.Objects s.names ∷ []) None (sites pc) refl is;
+          next = next refl ∙ lands (at r s (cell.Datum r ∷ [])) [] (cell.Objects s.names ∷ []) Untold (sites pc) refl is;
           far = tt;
         }))
         (seq p sites (discard_part q.dummies.items 0 (outward p r (cell.Datum r ∷ []))) (return_part r))))

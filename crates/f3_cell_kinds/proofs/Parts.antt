@@ -5,22 +5,22 @@ use Rattle.f3_program.specs.declared.declarations.Kind.{Kind}
 use Rattle.f3_program.specs.declared.program.Program.{Program}
 use Rattle.f3_code.specs.State.{Line}
 use Rattle.f3_code.specs.Code.{Ways, farther}
-use Rattle.f3_cell_kinds.specs.Types.{CellType, Scope, Site}
+use Rattle.f3_cell_kinds.specs.Types.{CellType, Scope, Around, Told, Site}
 use Rattle.f3_cell_kinds.specs.Effect.{way, on, In}
 use Rattle.f3_cell_kinds.specs.Kinds.{arrived, Leads, Goes, IsAt}
 use Rattle.f3_cell_kinds.specs.Values.{at, stacked}
 
 -- a site with other cells that are told of another scope
-abbrev pub moved : Option Scope → List CellType → Site → Site
+abbrev pub moved : Around → List CellType → Site → Site
 moved o ys h = record { is_reached = h.is_reached; returns = h.returns; scope = o; cells = ys ++ h.cells }
 
-pub lands : (h : Site) (xs ys : List CellType) (o : Option Scope) (s : Site) → h.is_reached ≡ true → s ≡ stacked xs h →
+pub lands : (h : Site) (xs ys : List CellType) (o : Around) (s : Site) → h.is_reached ≡ true → s ≡ stacked xs h →
     moved o ys h ≡ arrived s (record { scope = o; left = ys }) h.cells
 lands h xs ys o s live is =
     subst (λ t. moved o ys h ≡ arrived t (record { scope = o; left = ys }) h.cells) (sym is)
     (ap (λ (b : Bool). record { is_reached = b; returns = h.returns; scope = o; cells = ys ++ h.cells }) live)
 
-pub in_scope : (o : Option Scope) (c : Scope) (f : Scope → Type 0) → o ≡ Some c → f c → In o f
+pub in_scope : (o : Around) (c : Scope) (f : Scope → Type 0) → o ≡ Told c → f c → In o f
 in_scope o c f e x = subst (λ y. In y f) (sym e) x
 
 -- so many go, and what is beneath stays

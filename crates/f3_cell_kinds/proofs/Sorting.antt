@@ -25,7 +25,7 @@ use Rattle.f3_code.specs.Code.{argument_count, subscript_count}
 use Rattle.f3_sorts.specs.Effect.{Sort, times}
 use Rattle.f3_sorts.specs.Effect as sort
 use Rattle.f3_sorts.specs.Program.{allocate_sorts, argument_sorts, arguments_sorts, body_sorts, bounds_sorts, bytes_sorts, case_sorts, chosen_sorts, code_sorts, deallocate_sorts, departing_sorts, dimensions_sorts, discards_sorts, each_sorts, finish_sorts, free_sorts, if_sorts, items_sorts, leaving_sorts, limits_sorts, locate_sorts, procedures_sorts, program_sorts, ranges_sorts, routines_sorts, select_of_sorts, select_sorts, selectors_sorts, status_sorts, subscript_sorts, transfer_sorts, turns_sorts, up_sorts, value_sorts, while_sorts, work_sorts}
-use Rattle.f3_cell_kinds.specs.Types.{CellType, Scope, Site, sort_of_type, selecting, associating, arguments_on, choices_on, selectors_on}
+use Rattle.f3_cell_kinds.specs.Types.{Told, CellType, Scope, Site, sort_of_type, selecting, associating, arguments_on, choices_on, selectors_on}
 use Rattle.f3_cell_kinds.specs.Types as cell
 use Rattle.f3_cell_kinds.specs.Effect.{part_cell, held_kind, extents_on}
 use Rattle.f3_cell_kinds.specs.Values.{at, stacked, reached_if, component_at, is_triplet, triplets, value_at, object_at, argument_at, arguments_at, value_sites, bounds_sites, argument_sites, arguments_sites, locate_sites, select_sites, select_of_sites, chosen_sites, subscript_sites, work_sites}
@@ -291,7 +291,7 @@ module _ (p : Program) where
 
   finish_same : (m : ℕ) (r : Kind) (s : Scope) (n : ℕ) (xs : List w.Work) → Same (finish_sites p m (at r s []) n xs) (finish_sorts m xs)
   finish_same m r s n [] = none
-  finish_same m r s n (x ∷ xs) = cons refl (on (work_same m (at r s []) (variable_kind (Some s) n) x) (cons refl (finish_same m r s (suc n) xs)))
+  finish_same m r s n (x ∷ xs) = cons refl (on (work_same m (at r s []) (variable_kind (Told s) n) x) (cons refl (finish_same m r s (suc n) xs)))
 
   body_same : (m : ℕ) (q : Procedure) → Same (body_sites p m (lowered_procedure (setting_of p) q)) (body_sorts m (lowered_procedure (setting_of p) q))
   body_same m q =

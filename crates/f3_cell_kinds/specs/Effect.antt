@@ -25,13 +25,13 @@ use Rattle.f3_meaning_whole.specs.Formed.{Given, all, some, only, found, alike, 
 use Rattle.f3_core.specs.Lower.{initial}
 use Rattle.f3_code.specs.declared.instruction.Instruction.{Instruction}
 use Rattle.f3_code.specs.declared.instruction.Instruction.TheVariants as i
-use Rattle.f3_cell_kinds.specs.Types.{Scope, CellType, Datum, Object, Each, Argument, Choice, Bound, Bounds, Extent, Status, Turns, Elements, Objects, Selector, Level, Outside, Going, Site, selecting, associating, arguments_on, choices_on, selectors_on}
+use Rattle.f3_cell_kinds.specs.Types.{Scope, Around, Told, Untold, CellType, Datum, Object, Each, Argument, Choice, Bound, Bounds, Extent, Status, Turns, Elements, Objects, Selector, Level, Outside, Going, Site, selecting, associating, arguments_on, choices_on, selectors_on}
 
 -- ---- ways on
 
 -- a way on: what statements may name there, and which cells are left
 pub record Way : Type 0 where
-  pub scope : Option Scope
+  pub scope : Around
   pub left : List CellType
 
 pub record Far : Type 0 where
@@ -162,9 +162,9 @@ abbrev pub extents_on : ℕ → List CellType → List CellType
 extents_on zero h = h
 extents_on (suc n) h = extents_on n (Extent ∷ h)
 
-abbrev pub In : Option Scope → (Scope → Type 0) → Type 0
-In None f = ⊥
-In (Some c) f = f c
+abbrev pub In : Around → (Scope → Type 0) → Type 0
+In (Told c) f = f c
+In o f = ⊥
 
 -- ---- instructions
 
@@ -245,24 +245,24 @@ module _ (p : Program) (s : Site) (v : Value) where
   Does (i.Meets r) by = In s.scope (λ c. (k : Kind) × (c.selected ≡ Some k) × (range_fits k.of r ≡ true) × by (on s [] (Datum truth ∷ [])))
   Does i.Selecting by = In s.scope (λ c. (k : Kind) × (is_scalar k ≡ true) × by (record {
     takes = Datum k ∷ [];
-    next = Some (record { scope = Some (selecting k c); left = Outside c ∷ [] });
+    next = Some (record { scope = Told (selecting k c); left = Outside c ∷ [] });
     far = [];
   }))
-  Does (i.Leave out d) by = (c : Scope) × by (record {
+  Does (i.Leave out d) by = In s.scope (λ inner. (c : Scope) × by (record {
     takes = Outside c ∷ [];
     next = None;
-    far = after d (record { scope = Some c; left = Going ∷ [] }) ∷ [];
-  })
+    far = after d (record { scope = Told c; left = Going ∷ [] }) ∷ [];
+  }))
   Does (i.Depart cycle exit) by = by (record {
     takes = Going ∷ [];
     next = Some (way s []);
     far = after 2 (way s []) ∷ after cycle (way s []) ∷ after exit (way s []) ∷ [];
   })
   Does i.SelectVariable by = (k : Kind) × (k.is_allocatable ≡ false) × by (on s (Object k ∷ []) (Selector k ∷ []))
-  Does (i.SelectValue of) by = (k : Kind) × (alike of k.of ≡ true) × by (on s (Datum k ∷ []) (Selector (of_kind of k.rank) ∷ []))
+  Does (i.SelectValue of) by = (k : Kind) × (k.is_allocatable ≡ false) × (alike of k.of ≡ true) × by (on s (Datum k ∷ []) (Selector (of_kind of k.rank) ∷ []))
   Does (i.Associate n) by = In s.scope (λ c. (ks : List Kind) × (length ks ≡ n) × by (record {
     takes = selectors_on ks [];
-    next = Some (record { scope = Some (associating ks c); left = Outside c ∷ Level ks ∷ [] });
+    next = Some (record { scope = Told (associating ks c); left = Outside c ∷ Level ks ∷ [] });
     far = [];
   }))
   Does i.Associated by = (ks : List Kind) × by (on s (Going ∷ Level ks ∷ []) (Objects ks ∷ Going ∷ Level ks ∷ []))
@@ -290,9 +290,9 @@ module _ (p : Program) (s : Site) (v : Value) where
   Does i.Discard by = by (on s [] [])
   Does i.Dummies by = In s.scope (λ c. by (on s [] (Objects c.names ∷ [])))
   Does (i.ResultOf x) by = In s.scope (λ c. (result_in c.variables x ≡ Some s.returns) × by (on s [] (Datum s.returns ∷ [])))
-  Does i.Outward by = In s.scope (λ c. by (record { takes = []; next = Some (record { scope = None; left = Objects c.names ∷ [] }); far = [] }))
+  Does i.Outward by = In s.scope (λ c. by (record { takes = []; next = Some (record { scope = Untold; left = Objects c.names ∷ [] }); far = [] }))
   Does (i.NextArgument n d) by = (k : Kind) × (ks : List Kind) × by (fork s (Objects (k ∷ ks) ∷ []) (Object k ∷ Objects ks ∷ []) d (Objects ks ∷ []))
-  Does i.Return by = (ks : List Kind) × by (ends (Objects ks ∷ Datum s.returns ∷ []))
+  Does i.Return by = (s.scope ≡ Untold) × (ks : List Kind) × by (ends (Objects ks ∷ Datum s.returns ∷ []))
   Does i.Finish by = by (ends [])
   Does (i.GoBack d) by = ⊥
   Does i.Back by = ⊥

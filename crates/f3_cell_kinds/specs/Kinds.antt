@@ -8,7 +8,7 @@ use Rattle.f3_meaning_whole.specs.Formed.{of_kind, kinds_of}
 use Rattle.f3_code.specs.declared.instruction.Instruction.{Instruction}
 use Rattle.f3_code.specs.declared.instruction.Instruction.TheVariants as i
 use Rattle.f3_code.specs.State.{Line, Entry, Code}
-use Rattle.f3_cell_kinds.specs.Types.{CellType, Object, Site}
+use Rattle.f3_cell_kinds.specs.Types.{Told, InRoutine, CellType, Object, Site}
 use Rattle.f3_cell_kinds.specs.Effect.{Way, Far, Effect, Does, declared_kind, truth}
 
 -- where a way leads, above the cells that stay
@@ -36,7 +36,7 @@ abbrev pub first_site : Procedure → Site
 first_site q = record {
   is_reached = true;
   returns = declared_kind q.result;
-  scope = Some (record { variables = declared_in q; names = kinds_of q.dummies.items; selected = None });
+  scope = Told (record { variables = declared_in q; names = kinds_of q.dummies.items; selected = None });
   cells = [];
 }
 
@@ -45,7 +45,7 @@ abbrev pub main_site : Procedure → Site
 main_site q = record {
   is_reached = true;
   returns = truth;
-  scope = Some (record { variables = declared_in q; names = []; selected = None });
+  scope = Told (record { variables = declared_in q; names = []; selected = None });
   cells = [];
 }
 
@@ -54,7 +54,7 @@ abbrev pub routine_site : ℕ → Site
 routine_site t = record {
   is_reached = true;
   returns = of_kind (base.Derived t) 0;
-  scope = None;
+  scope = InRoutine;
   cells = Object (of_kind (base.Derived t) 0) ∷ [];
 }
 

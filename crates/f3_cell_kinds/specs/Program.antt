@@ -14,7 +14,7 @@ use Rattle.f3_meaning_whole.specs.Formed.{of_kind, kinds_of}
 use Rattle.f3_core.specs.Work as w
 use Rattle.f3_core.specs.Core as c
 use Rattle.f3_core.specs.Lower.{lowered_program}
-use Rattle.f3_cell_kinds.specs.Types.{Scope, CellType, Site, selecting, associating, selectors_on}
+use Rattle.f3_cell_kinds.specs.Types.{Scope, Around, Told, Untold, InRoutine, CellType, Site, selecting, associating, selectors_on}
 use Rattle.f3_cell_kinds.specs.Types as cell
 use Rattle.f3_cell_kinds.specs.Effect.{truth, held_kind, result_in, extents_on}
 use Rattle.f3_cell_kinds.specs.Values.{kind_or, at, stacked, reached_if, value_at, object_at, value_sites, locate_sites, work_sites}
@@ -24,13 +24,13 @@ abbrev pub variable_in : Option Declared → Kind
 variable_in None = truth
 variable_in (Some y) = y.kind
 
-abbrev pub variable_kind : Option Scope → ℕ → Kind
-variable_kind None n = truth
-variable_kind (Some s) n = variable_in (slice_get s.variables n)
+abbrev pub variable_kind : Around → ℕ → Kind
+variable_kind (Told s) n = variable_in (slice_get s.variables n)
+variable_kind o n = truth
 
 -- beneath the object of the routine of a type nothing is told
 abbrev pub in_routine : ℕ → Site
-in_routine t = record { is_reached = true; returns = of_kind (base.Derived t) 0; scope = None; cells = [] }
+in_routine t = record { is_reached = true; returns = of_kind (base.Derived t) 0; scope = InRoutine; cells = [] }
 
 module _ (p : Program) where
   -- ---- parts of statements
@@ -200,7 +200,7 @@ module _ (p : Program) where
 
   -- where a procedure looks at its caller
   abbrev pub outward : Kind → List CellType → Site
-  outward r h = record { is_reached = true; returns = r; scope = None; cells = h }
+  outward r h = record { is_reached = true; returns = r; scope = Untold; cells = h }
 
   abbrev pub last_sites : ℕ → c.Procedure → List Site
   last_sites m q = finish_sites m (at (returns_of q) (scope_of q) []) 0 q.finish

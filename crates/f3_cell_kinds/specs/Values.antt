@@ -12,7 +12,7 @@ use Rattle.f3_program.specs.declared.program.Program.{Program}
 use Rattle.f3_meaning_whole.specs.Act.{component_of}
 use Rattle.f3_meaning_whole.specs.Formed.{Given, of_kind, value_kind, object_kind, kind_of_name}
 use Rattle.f3_core.specs.Work as w
-use Rattle.f3_cell_kinds.specs.Types.{Scope, CellType, Site, arguments_on, choices_on}
+use Rattle.f3_cell_kinds.specs.Types.{Scope, Told, CellType, Site, arguments_on, choices_on}
 use Rattle.f3_cell_kinds.specs.Types as cell
 use Rattle.f3_cell_kinds.specs.Effect.{truth, held_kind, declared_kind, part_cell}
 
@@ -22,7 +22,7 @@ kind_or (Some k) = k
 
 -- in a scope of a procedure that returns with a value of a kind, with these cells
 abbrev pub at : Kind → Scope → List CellType → Site
-at r s h = record { is_reached = true; returns = r; scope = Some s; cells = h }
+at r s h = record { is_reached = true; returns = r; scope = Told s; cells = h }
 
 -- more cells on top
 abbrev pub stacked : List CellType → Site → Site
