@@ -13,3 +13,5 @@ pub mod Sorting
 pub mod Valued
 pub mod Yielding
 pub mod Scalars
+pub mod Holding
+pub mod Stepping

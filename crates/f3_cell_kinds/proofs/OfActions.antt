@@ -34,7 +34,7 @@ use Rattle.f3_cell_kinds.proofs.OfValues.{value_part, object_part}
 use Rattle.f3_cell_kinds.proofs.OfWork.{WorkFits, work_part}
 use Rattle.f3_cell_kinds.proofs.Fitting.{FinalsFit, contents_fit, discard_fits}
 
-extents_over : (n : ℕ) (xs h : List CellType) → extents_on n (xs ++ h) ≡ extents_on n xs ++ h
+pub extents_over : (n : ℕ) (xs h : List CellType) → extents_on n (xs ++ h) ≡ extents_on n xs ++ h
 extents_over zero xs h = refl
 extents_over (suc n) xs h = extents_over n (cell.Extent ∷ xs) h
 

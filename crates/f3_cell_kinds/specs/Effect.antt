@@ -60,8 +60,7 @@ fork s xs ys d zs = record { takes = xs; next = Some (way s ys); far = after d (
 
 -- to the next line where this holds, else over so many lines
 abbrev pub either : Bool → Site → List CellType → List CellType → ℕ → List CellType → Effect
-either true s xs ys d zs = on s xs ys
-either false s xs ys d zs = record { takes = xs; next = None; far = after d (way s zs) ∷ [] }
+either b s xs ys d zs = record { takes = xs; next = only b (way s ys); far = if b then [] else after d (way s zs) ∷ [] }
 
 -- no way on
 abbrev pub ends : List CellType → Effect

@@ -1,7 +1,7 @@
 //! Of which kind each cell is on the stack of an activation at each line of the code of a program, known before the run.
 #![tactic(auto)]
 
-ghost use Rattle.f3_cell_kinds.specs.Laws.{CodeHasKinds, KindsHaveSorts};
+ghost use Rattle.f3_cell_kinds.specs.Laws.{CodeHasKinds, KindsHaveSorts, StepsHold};
 
 /// The code of every program that makes sense has kinds, known before the run: at each line the cells are of these on whatever way the
 /// machine comes to it (own rule).
@@ -12,4 +12,10 @@ pub fn code_has_kinds()
 /// Without their kinds the cells of each line are of the sorts of the same code (own rule).
 pub fn kinds_have_sorts()
     ensures { KindsHaveSorts }
+{}
+
+/// Where kinds are those of a code, each step of an instruction that reads nothing from the store leads from a state whose cells hold
+/// what their types say to one whose cells do (own rule).
+pub fn steps_hold()
+    ensures { StepsHold }
 {}
