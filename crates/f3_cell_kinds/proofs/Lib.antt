@@ -13,5 +13,6 @@ pub mod Sorting
 pub mod Valued
 pub mod Yielding
 pub mod Scalars
+pub mod Reaching
 pub mod Holding
 pub mod Stepping
