@@ -15,4 +15,5 @@ pub mod Yielding
 pub mod Scalars
 pub mod Reaching
 pub mod Holding
+pub mod Piled
 pub mod Stepping

@@ -181,11 +181,11 @@ module _ (types : List Derived) where
 
   -- ---- array constructors
 
-  listed_joined : (vs : List Value) → length (listed (joined vs)) ≡ length vs
+  pub listed_joined : (vs : List Value) → length (listed (joined vs)) ≡ length vs
   listed_joined [] = refl
   listed_joined (v ∷ vs) = ap suc (listed_joined vs)
 
-  items_are : (t : Base) (gs : List formed.Given) (ps : List Passed) → AllPassed gs ps →
+  pub items_are : (t : Base) (gs : List formed.Given) (ps : List Passed) → AllPassed gs ps →
       all (λ (x : formed.Given). is_scalar x.kind && alike x.kind.of t) gs ≡ true → are_values gs ≡ true → AreElements types (of_kind t 0) (joined (given ps))
   items_are t [] [] are fits values = tt
   items_are t [] (x ∷ ps) are fits values = absurd are

@@ -1,5 +1,5 @@
 -- Each step keeps to what cells hold.
-use Rattle.std.proofs.Common.{◌≡◌, ◌∙◌, sym, ap, ℕ, zero, suc, ◌+◌, ◌-◌, ℤ, pos, Bool, true, false, ◌&&◌, ◌||◌, List, [], ◌∷◌, ◌++◌, length, drop, Option, Some, None, refl, subst, if◌then◌else◌}
+use Rattle.std.proofs.Common.{◌≡◌, ◌∙◌, sym, ap, ℕ, zero, suc, ◌+◌, ◌-◌, ◌*◌, ℤ, pos, Bool, true, false, ◌&&◌, ◌||◌, List, [], ◌∷◌, ◌++◌, length, drop, Option, Some, None, refl, subst, arith, if◌then◌else◌}
 use Rattle.std.specs.Prelude.{◌+ℤ◌, nat_eq, nat_lt, slice_get}
 use Rattle.std.proofs.lemmas.Bool.{eqb-true}
 use Rattle.f3_rules.specs.declared.source.Place.{Place}
@@ -9,37 +9,40 @@ use Rattle.f3_program.specs.declared.declarations.Constant.{Constant}
 use Rattle.f3_program.specs.declared.declarations.Constant.TheVariants as constant
 use Rattle.f3_program.specs.declared.declarations.Derived.{Derived}
 use Rattle.f3_program.specs.declared.declarations.Kind.{Kind}
+use Rattle.f3_program.specs.declared.program.Procedure.{Procedure}
 use Rattle.f3_program.specs.declared.program.Program.{Program}
-use Rattle.f3_meaning_whole.specs.Value.{Span, Value, Number, Truth, Composite, Array, Unallocated, Allocated, number_of, truth_of, is_allocated, count, conforms, shown, spans_of}
+use Rattle.f3_meaning_whole.specs.Value.{Span, Value, Number, Truth, Composite, Array, Unallocated, Allocated, joined, number_of, truth_of, is_allocated, count, conforms, shown, spans_of}
 use Rattle.f3_meaning_whole.specs.Store.{Path, get}
 use Rattle.f3_meaning_whole.specs.Reference.{Reach, One, Many, Reference, spans, is_pinned}
 use Rattle.f3_meaning_whole.specs.declared.run_error.RunError.{RunError}
 use Rattle.f3_meaning_whole.specs.declared.run_error.RunError.TheVariants.{NotAllocated, ShapesDiffer}
 use Rattle.f3_meaning_whole.specs.Ran.{Event, Ran, World, ◌>>=◌, gives, looks, prints_bytes}
 use Rattle.f3_meaning_whole.specs.Arithmetic.{apply, change_of, converted, constant_value}
-use Rattle.f3_meaning_whole.specs.Act.{Setting, Here, begins, claim, claim_for, set, clear, leave, passed_at}
+use Rattle.f3_meaning_whole.specs.Act.{Setting, Here, Passed, given, enter, begins, claim, claim_for, set, clear, leave, passed_at}
 use Rattle.f3_meaning_whole.specs.Act as meaning
 use Rattle.f3_meaning_whole.specs.Eval.{result, built, asked}
-use Rattle.f3_meaning_whole.specs.Exec.{Flow, Onward, Cycled, Left, Returned, unless_zero, print_value, vacant, status_number, take_over}
-use Rattle.f3_meaning_whole.specs.Formed.{of_kind, takes}
+use Rattle.f3_meaning_whole.specs.Exec.{dummies, declared_in, held_by, associates, Flow, Onward, Cycled, Left, Returned, unless_zero, print_value, vacant, status_number, take_over}
+use Rattle.f3_meaning_whole.specs.Formed.{Given, all, of_kind, takes, constructed, fits_dummy, all_given, referenced, kinds_of}
 use Rattle.f3_core.specs.Exec.{allocate, is_held}
 use Rattle.f3_code.specs.declared.instruction.Instruction.{Instruction}
 use Rattle.f3_code.specs.declared.instruction.Instruction.TheVariants as i
 use Rattle.f3_code.specs.State as state
-use Rattle.f3_code.specs.State.{Line, placed, Code, Cell, To, Frame, State, Next}
+use Rattle.f3_code.specs.State.{Line, placed, Entry, Code, Cell, To, Frame, State, Next}
 use Rattle.f3_meaning_whole.specs.Formed.{only}
-use Rattle.f3_code.specs.Machine.{act, step, does_line, checked, tested, no_calls, performs, on_datum, on_object, returned, outward, passed_in, routine_at, departs, branches, next_turn_at, next_element, next_object, next_argument, skips_failed, on_to}
-use Rattle.f3_cell_kinds.specs.Types.{Scope, Around, Told, Untold, InRoutine, CellType, Site, selecting}
+use Rattle.f3_code.specs.Machine.{begun, called_at, act, step, does_line, checked, tested, no_calls, performs, on_datum, on_object, returned, outward, passed_in, routine_at, departs, branches, next_turn_at, next_element, next_object, next_argument, skips_failed, on_to}
+use Rattle.f3_cell_kinds.specs.Types.{Scope, Around, Told, Untold, InRoutine, CellType, Site, selecting, associating}
 use Rattle.f3_cell_kinds.specs.Types as cell
-use Rattle.f3_cell_kinds.specs.Effect.{Way, Far, way, after, either, In, is_word, constant_kind, extents_on}
-use Rattle.f3_cell_kinds.specs.Kinds.{arrived, Leads, IsNext, AreFar, RoutinesBegin, routine_site, AreKinds}
+use Rattle.f3_cell_kinds.specs.Effect.{Way, Far, way, after, either, In, is_word, constant_kind, are_values, extents_on}
+use Rattle.f3_cell_kinds.specs.Kinds.{arrived, Leads, IsNext, AreFar, first_site, ProceduresBegin, RoutinesBegin, routine_site, AreKinds}
 use Rattle.f3_cell_kinds.specs.Kinds as kinds
 use Rattle.f3_cell_kinds.specs.Holds.{Reaches, Refers, AllRefer, IsOf, Knows, Is, InScope, Stand, FramesHold, Fits}
 use Rattle.f3_cell_kinds.specs.Reading.{is_reading}
-use Rattle.f3_cell_kinds.proofs.Asked.{and_is, not_is}
+use Rattle.f3_cell_kinds.proofs.Asked.{some_same, found_is, only_is, and_is, not_is}
 use Rattle.f3_cell_kinds.proofs.OfActions.{extents_over}
 use Rattle.f3_cell_kinds.proofs.Yielding.{Yields, gives_yields, fails_yields, looks_yields, any_yields, bind_yields, if_yields}
 use Rattle.f3_cell_kinds.proofs.Scalars.{apply_yields, change_yields, plain_is, result_yields, built_yields, asked_yields, size_yields, convert_yields, rank_is, alike_is}
+use Rattle.f3_cell_kinds.proofs.Reaching.{AllPassed, dummies_refer, associates_refer, refer_append, listed_joined, items_are}
+use Rattle.f3_cell_kinds.proofs.Piled.{at_arguments, at_selectors}
 use Rattle.f3_cell_kinds.proofs.Holding.{Has, elsewhere, returns_end, fit, FitsNext, Keeps, stays_so, goes_so, performing, if_keeps, took, on_top, at_datum, at_object, at_bound, at_bounds, at_status, at_turns, at_elements, at_objects, at_level, at_outside, at_going, at_any, at_extents}
 
 in_is : (o : Around) (f : Scope → Type 0) → In o f → (c : Scope) × (o ≡ Told c) × f c
@@ -88,6 +91,51 @@ far_last : (sites : ℕ → Site) (pc : ℕ) (rest : List CellType) (b : Bool) (
     sites (pc + 1 + y.over) ≡ arrived (sites pc) y.to rest
 far_last sites pc rest true x y h = h.1.0
 far_last sites pc rest false x y h = h.0
+
+-- where a procedure begins
+record EntryAt (sites : ℕ → Site) (es : List Entry) (f : ℕ) (q : Procedure) : Type 0 where
+  entry : Entry
+  at : slice_get es f ≡ Some entry
+  begins : sites entry.at ≡ first_site q
+  variables : entry.variables ≡ declared_in q
+  dummies : entry.dummies ≡ q.dummies.items
+
+entry_at : (sites : ℕ → Site) (qs : List Procedure) (es : List Entry) (f : ℕ) (q : Procedure) → ProceduresBegin sites qs es → slice_get qs f ≡ Some q → EntryAt sites es f q
+entry_at sites [] es f q begin e = cc
+entry_at sites (x ∷ qs) [] f q begin e = absurd begin
+entry_at sites (x ∷ qs) (y ∷ es) zero q begin e =
+    let same : x ≡ q = cc in
+    record {
+      entry = y;
+      at = refl;
+      begins = subst (λ z. sites y.at ≡ first_site z) same begin.0;
+      variables = subst (λ z. y.variables ≡ declared_in z) same begin.1;
+      dummies = subst (λ (z : Procedure). y.dummies ≡ z.dummies.items) same begin.2;
+    }
+entry_at sites (x ∷ qs) (y ∷ es) (suc f) q begin e =
+    let r = entry_at sites qs es f q begin.3 e in
+    record { entry = r.entry; at = r.at; begins = r.begins; variables = r.variables; dummies = r.dummies }
+
+-- the dummies of a procedure that is called
+called_refer : (p : Program) (types : List Derived) (f : ℕ) (gs : List Given) (ps : List Passed) (q : Procedure) (k : Kind) (level unit : ℕ) → slice_get p.procedures.items f ≡ Some q →
+    referenced p [] [] f gs ≡ Some k → AllPassed types gs ps → AllRefer (kinds_of q.dummies.items) (dummies 0 q.dummies.items ps level unit)
+called_refer p types f gs ps q k level unit at_f is are =
+    let v = found_is (slice_get p.procedures.items f) _ k is in
+    let same : v.0 ≡ q = some_same (sym v.1 ∙ at_f) in
+    let a = and_is _ _ (only_is _ _ k v.2).0 in
+    let fits = subst (λ (z : Procedure). all (fits_dummy z.dummies.items) gs ≡ true) same a.0 in
+    let each = subst (λ (z : Procedure). all_given 0 z.dummies.items gs ≡ true) same a.1 in
+    dummies_refer types q.dummies.items q.dummies.items 0 gs ps level unit are fits
+    (λ n d e. let there : 0 + n ≡ n = omega arith in ap (slice_get q.dummies.items) there ∙ e) each
+
+-- an array of scalars
+constructed_is : (types : List Derived) (gs : List Given) (ps : List Passed) (k : Kind) → constructed gs ≡ Some k → are_values gs ≡ true → AllPassed types gs ps →
+    IsOf types k (Array (record { lower = pos 1; extent = length (given ps) } ∷ []) (joined (given ps)))
+constructed_is types [] ps k e values are = cc
+constructed_is types (g ∷ gs) ps k e values are =
+    let a = only_is _ (of_kind g.kind.of 1) k e in
+    subst (λ (z : Kind). IsOf types z (Array (record { lower = pos 1; extent = length (given ps) } ∷ []) (joined (given ps)))) a.1
+    (refl, refl, refl, listed_joined types (given ps) ∙ (let n = length (given ps) in let m : n ≡ n * 1 = omega arith in m), items_are types g.kind.of (g ∷ gs) ps are a.0 values)
 
 module _ (limit : ℕ) (g : Setting) (p : Program) (code : Code) (sites : ℕ → Site) (are : AreKinds p sites code) (s : State) (fits : Fits p.types.items sites s) (l : Line) where
   abbrev types : List Derived
@@ -166,6 +214,17 @@ module _ (limit : ℕ) (g : Setting) (p : Program) (code : Code) (sites : ℕ �
     names = s.here.names;
     lent = s.here.lent;
     selected = x;
+  }
+
+  abbrev associating_here : List Reference → Here
+  associating_here rs = record {
+    place = s.here.place;
+    unit = s.here.unit;
+    level = s.here.level;
+    variables = s.here.variables;
+    names = s.here.names ++ rs;
+    lent = rs ++ s.here.lent;
+    selected = s.here.selected;
   }
 
   -- what statements may name there
@@ -419,6 +478,33 @@ module _ (limit : ℕ) (g : Setting) (p : Program) (code : Code) (sites : ℕ �
         frames = fits.frames;
       })
       by_place (x ∷ st) q h c = absurd c.by
+  act_holds (i.Array n) e (gs, k, many, is, values, b) = at_arguments types sites K o r fits.end gs n s.stack many (had b.before) (λ ps st are q.
+      performing types sites (built (Array (record { lower = pos 1; extent = length (given ps) } ∷ []) (joined (given ps))) here) s.world
+      (built_yields types (IsOf types k) (Array (record { lower = pos 1; extent = length (given ps) } ∷ []) (joined (given ps))) here (constructed_is types gs ps k is values are)) (λ y f w. there b.next (top f q)))
+  act_holds (i.Call f n) e (gs, q, k, many, at_f, is, b) = at_arguments types sites K o r fits.end gs n s.stack many (had b.before) (λ ps st passed c.
+      if_keeps types sites (nat_lt (length s.frames) limit) (λ t. by_entry ps st passed c (entry_at sites p.procedures.items code.procedures f q are.procedures at_f)) (λ t. stays_so types sites))
+    where
+      by_entry : (ps : List Passed) (st : List Cell) → AllPassed types gs ps → Cells b.rest st → EntryAt sites code.procedures f q → Kept (called_at (slice_get code.procedures f) s st here ps)
+      by_entry ps st are c x = subst (λ o. Kept (called_at o s st here ps)) (sym x.at) (does (begun ps x.entry.initial here) (λ level w.
+          fit types sites x.begins (x.variables, subst (λ ds. AllRefer (kinds_of q.dummies.items) (dummies 0 ds ps level here.unit)) (sym x.dummies)
+          (called_refer p types f gs ps q k level here.unit at_f is are), tt) (record { by = refl })
+          (b.rest, fits.end, ap (λ (z : Site). z.is_reached) b.next, ap (λ (z : Site). z.cells) b.next,
+          subst (λ (z : Site). InScope types K z.scope) (sym b.next) fits.scope,
+          subst (λ (z : Site). Stand types sites K z.scope z.returns b.rest st fits.end) (sym b.next) c.by, fits.frames)))
+  act_holds (i.Associate n) e b =
+      let c = in_is o _ b in
+      let ks = c.2.0 in
+      let lead = c.2.2 in
+      let known = known_at c.0 c.1 in
+      at_selectors types sites K o r fits.end ks n s.stack c.2.1 (had lead.before) (λ found st are q.
+      does (looks (λ store. length store.levels) >>= λ level. enter (held_by found) >>= λ done. gives level) (λ level w.
+      let rs = associates found level 0 here.unit in
+      let refs = associates_refer types ks found level 0 here.unit are in
+      let inner = associating_here rs in
+      let known' : Knows types inner (associating ks c.0) = (known.0, refer_append types c.0.names ks s.here.names rs known.1 refs, known.2) in
+      fit types sites {here = inner} lead.next known'
+      (on_top types sites (Knows types inner) (Told (associating ks c.0)) r fits.end known (on_top types sites (Knows types inner) (Told (associating ks c.0)) r fits.end refs
+      (out_of (Told (associating ks c.0)) c.0 c.1 q))) fits.frames))
   act_holds i.Finish e b = stays_so types sites
   act_holds x e b = cc
 

@@ -1,4 +1,4 @@
--- Instructions that get a value or an object out of the store, or that enter an activation or an ASSOCIATE.
+-- Instructions that get a value or an object out of the store.
 use Rattle.std.specs.Prelude.{Bool, true, false}
 use Rattle.f3_code.specs.declared.instruction.Instruction.{Instruction}
 use Rattle.f3_code.specs.declared.instruction.Instruction.TheVariants as i
@@ -12,11 +12,8 @@ is_reading (i.ComponentOf k) = true
 is_reading i.Contents = true
 is_reading (i.Select is_opened k) = true
 is_reading (i.SelectOf is_opened n k) = true
-is_reading (i.Array k) = true
 is_reading (i.Structure t k) = true
-is_reading (i.Call f k) = true
 is_reading (i.ResultOf x) = true
 is_reading (i.WorkComponent k) = true
 is_reading i.OpenContents = true
-is_reading (i.Associate k) = true
 is_reading x = false
