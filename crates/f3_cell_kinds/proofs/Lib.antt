@@ -16,4 +16,5 @@ pub mod Scalars
 pub mod Reaching
 pub mod Holding
 pub mod Piled
+pub mod Parting
 pub mod Stepping

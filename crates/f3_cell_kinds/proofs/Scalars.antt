@@ -45,22 +45,22 @@ one_fits false n = ap (λ (m : ℕ). fits base.Long (neg_ℤ (pos m))) (one_powe
 
 -- ---- what kinds exclude
 
-no_truth : (t : Base) → is_number t ≡ true → same_type t base.Logical ≡ true → ⊥
+pub no_truth : (t : Base) → is_number t ≡ true → same_type t base.Logical ≡ true → ⊥
 no_truth base.Integer e f = cc
 no_truth base.Long e f = cc
 no_truth base.Logical e f = cc
 no_truth (base.Derived t) e f = cc
 
-no_derived : (types : List Derived) (t : Base) (y : Derived) → is_number t ≡ true → derived_of types t ≡ Some y → ⊥
+pub no_derived : (types : List Derived) (t : Base) (y : Derived) → is_number t ≡ true → derived_of types t ≡ Some y → ⊥
 no_derived types base.Integer y e f = cc
 no_derived types base.Long y e f = cc
 no_derived types base.Logical y e f = cc
 no_derived types (base.Derived t) y e f = cc
 
-no_rank : (n : ℕ) → nat_eq n 0 ≡ true → nat_lt 0 n ≡ true → ⊥
+pub no_rank : (n : ℕ) → nat_eq n 0 ≡ true → nat_lt 0 n ≡ true → ⊥
 no_rank n e f = let same : n ≡ 0 = eqb-true n 0 e in let more : 0 < n = ltb-true 0 n f in absurd (omega arith)
 
-no_both : (b : Bool) → b ≡ true → b ≡ false → ⊥
+pub no_both : (b : Bool) → b ≡ true → b ≡ false → ⊥
 no_both b e f = cc
 
 held_of : (k : Kind) → is_scalar k ≡ true → k.is_allocatable ≡ false
@@ -132,11 +132,11 @@ module _ (types : List Derived) where
 
   -- ---- results and bounds
 
-  same_count : (ss : List Span) → count (from_one ss) ≡ count ss
+  pub same_count : (ss : List Span) → count (from_one ss) ≡ count ss
   same_count [] = refl
   same_count (s ∷ ss) = ap (λ n. s.extent * n) (same_count ss)
 
-  same_length : (ss : List Span) → length (from_one ss) ≡ length ss
+  pub same_length : (ss : List Span) → length (from_one ss) ≡ length ss
   same_length [] = refl
   same_length (s ∷ ss) = ap suc (same_length ss)
 

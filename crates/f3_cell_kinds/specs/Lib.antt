@@ -6,4 +6,5 @@ pub mod Program
 pub mod Sense
 pub mod Holds
 pub mod Reading
+pub mod Stands
 pub mod Laws
