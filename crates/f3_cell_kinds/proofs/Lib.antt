@@ -17,4 +17,8 @@ pub mod Reaching
 pub mod Holding
 pub mod Piled
 pub mod Parting
+pub mod Standing
+pub mod Reading
+pub mod Starting
 pub mod Stepping
+pub mod ReadingSteps

@@ -102,10 +102,10 @@ module _ (types : List Derived) where
   )
 
   -- its type
-  component_base : (of : Base) (n : ℕ) (c : m.Component) → component_of types of n ≡ Some c → component_type types of n ≡ c.declared.kind.of
+  pub component_base : (of : Base) (n : ℕ) (c : m.Component) → component_of types of n ≡ Some c → component_type types of n ≡ c.declared.kind.of
   component_base of n c e = ap base_of e
 
-  part_by : (b : Bool) (k : Kind) (c : Kind) (j : Kind) (of : Base) (reach : Reach) → of ≡ c.of → (b ≡ true → Reaches c reach) → (b ≡ false → Reaches (of_kind c.of k.rank) reach) →
+  pub part_by : (b : Bool) (k : Kind) (c : Kind) (j : Kind) (of : Base) (reach : Reach) → of ≡ c.of → (b ≡ true → Reaches c reach) → (b ≡ false → Reaches (of_kind c.of k.rank) reach) →
       (if b then Some c else only (is_scalar c) (of_kind c.of k.rank)) ≡ Some j → (of ≡ j.of) × Reaches j reach
   part_by true k c j of reach same h f e = subst (λ (z : Kind). (of ≡ z.of) × Reaches z reach) (some_same e) (same, h refl)
   part_by false k c j of reach same h f e = subst (λ (z : Kind). (of ≡ z.of) × Reaches z reach) (only_is _ _ j e).1 (same, f refl)

@@ -44,150 +44,59 @@ use Rattle.f3_cell_kinds.proofs.Scalars.{apply_yields, change_yields, plain_is, 
 use Rattle.f3_cell_kinds.proofs.Reaching.{AllPassed, dummies_refer, associates_refer, refer_append, listed_joined, items_are}
 use Rattle.f3_cell_kinds.proofs.Piled.{at_arguments, at_selectors}
 use Rattle.f3_cell_kinds.proofs.Holding.{Has, elsewhere, returns_end, fit, FitsNext, Keeps, stays_so, goes_so, performing, if_keeps, took, on_top, at_datum, at_object, at_bound, at_bounds, at_status, at_turns, at_elements, at_objects, at_level, at_outside, at_going, at_any, at_extents}
-
-in_is : (o : Around) (f : Scope → Type 0) → In o f → (c : Scope) × (o ≡ Told c) × f c
-in_is (Told c) f h = (c, refl, h)
-in_is Untold f h = absurd h
-in_is InRoutine f h = absurd h
-
-not_routine : (o : Around) (c : Scope) → o ≡ Told c → o ≡ InRoutine → ⊥
-not_routine o c e f = cc
-
--- the rank of what is reached
-spans_rank : (k : Kind) (reach : Reach) → k.is_allocatable ≡ false → Reaches k reach → length (spans reach) ≡ k.rank
-spans_rank k One e h = sym (eqb-true k.rank 0 (subst (λ (b : Bool). (b || nat_eq k.rank 0) ≡ true) e h))
-spans_rank k (Many ss ps) e h = h.2
-
-same_shown : (ss : List Span) → length (shown ss) ≡ length ss
-same_shown [] = refl
-same_shown (s ∷ ss) = ap suc (same_shown ss)
-
--- only an array has another shape
-array_rank : (types : List Derived) (k : Kind) (ss : List Span) (v : Value) → IsOf types k v → conforms ss v ≡ false → nat_lt 0 k.rank ≡ true
-array_rank types k ss (Array ts vs) h e = h.1
-array_rank types k ss (Number z) h e = cc
-array_rank types k ss (Truth b) h e = cc
-array_rank types k ss (Composite vs) h e = cc
-array_rank types k ss Unallocated h e = cc
-array_rank types k ss (Allocated v) h e = cc
-
-constant_is : (types : List Derived) (c : Constant) → is_word c ≡ true → IsOf types (constant_kind c) (constant_value c)
-constant_is types (constant.Number z) e = (refl, e)
-constant_is types (constant.Truth b) e = refl
-
-takes_held : (k j : Kind) → takes k j ≡ true → j.is_allocatable ≡ false
-takes_held k j e = not_is _ (and_is _ _ (and_is _ _ e).1).0
-
-only_next : (sites : ℕ → Site) (pc : ℕ) (rest : List CellType) (b : Bool) (w : Way) → b ≡ true → IsNext sites pc rest (only b w) → sites (pc + 1) ≡ arrived (sites pc) w rest
-only_next sites pc rest true w e h = h
-only_next sites pc rest false w e h = cc
-
-far_first : (sites : ℕ → Site) (pc : ℕ) (rest : List CellType) (b : Bool) (x y : Far) → b ≡ true → AreFar sites pc rest ((if b then x ∷ [] else []) ++ y ∷ []) →
-    sites (pc + 1 + x.over) ≡ arrived (sites pc) x.to rest
-far_first sites pc rest true x y e h = h.0
-far_first sites pc rest false x y e h = cc
-
-far_last : (sites : ℕ → Site) (pc : ℕ) (rest : List CellType) (b : Bool) (x y : Far) → AreFar sites pc rest ((if b then x ∷ [] else []) ++ y ∷ []) →
-    sites (pc + 1 + y.over) ≡ arrived (sites pc) y.to rest
-far_last sites pc rest true x y h = h.1.0
-far_last sites pc rest false x y h = h.0
-
--- where a procedure begins
-record EntryAt (sites : ℕ → Site) (es : List Entry) (f : ℕ) (q : Procedure) : Type 0 where
-  entry : Entry
-  at : slice_get es f ≡ Some entry
-  begins : sites entry.at ≡ first_site q
-  variables : entry.variables ≡ declared_in q
-  dummies : entry.dummies ≡ q.dummies.items
-
-entry_at : (sites : ℕ → Site) (qs : List Procedure) (es : List Entry) (f : ℕ) (q : Procedure) → ProceduresBegin sites qs es → slice_get qs f ≡ Some q → EntryAt sites es f q
-entry_at sites [] es f q begin e = cc
-entry_at sites (x ∷ qs) [] f q begin e = absurd begin
-entry_at sites (x ∷ qs) (y ∷ es) zero q begin e =
-    let same : x ≡ q = cc in
-    record {
-      entry = y;
-      at = refl;
-      begins = subst (λ z. sites y.at ≡ first_site z) same begin.0;
-      variables = subst (λ z. y.variables ≡ declared_in z) same begin.1;
-      dummies = subst (λ (z : Procedure). y.dummies ≡ z.dummies.items) same begin.2;
-    }
-entry_at sites (x ∷ qs) (y ∷ es) (suc f) q begin e =
-    let r = entry_at sites qs es f q begin.3 e in
-    record { entry = r.entry; at = r.at; begins = r.begins; variables = r.variables; dummies = r.dummies }
-
--- the dummies of a procedure that is called
-called_refer : (p : Program) (types : List Derived) (f : ℕ) (gs : List Given) (ps : List Passed) (q : Procedure) (k : Kind) (level unit : ℕ) → slice_get p.procedures.items f ≡ Some q →
-    referenced p [] [] f gs ≡ Some k → AllPassed types gs ps → AllRefer (kinds_of q.dummies.items) (dummies 0 q.dummies.items ps level unit)
-called_refer p types f gs ps q k level unit at_f is are =
-    let v = found_is (slice_get p.procedures.items f) _ k is in
-    let same : v.0 ≡ q = some_same (sym v.1 ∙ at_f) in
-    let a = and_is _ _ (only_is _ _ k v.2).0 in
-    let fits = subst (λ (z : Procedure). all (fits_dummy z.dummies.items) gs ≡ true) same a.0 in
-    let each = subst (λ (z : Procedure). all_given 0 z.dummies.items gs ≡ true) same a.1 in
-    dummies_refer types q.dummies.items q.dummies.items 0 gs ps level unit are fits
-    (λ n d e. let there : 0 + n ≡ n = omega arith in ap (slice_get q.dummies.items) there ∙ e) each
-
--- an array of scalars
-constructed_is : (types : List Derived) (gs : List Given) (ps : List Passed) (k : Kind) → constructed gs ≡ Some k → are_values gs ≡ true → AllPassed types gs ps →
-    IsOf types k (Array (record { lower = pos 1; extent = length (given ps) } ∷ []) (joined (given ps)))
-constructed_is types [] ps k e values are = cc
-constructed_is types (g ∷ gs) ps k e values are =
-    let a = only_is _ (of_kind g.kind.of 1) k e in
-    subst (λ (z : Kind). IsOf types z (Array (record { lower = pos 1; extent = length (given ps) } ∷ []) (joined (given ps)))) a.1
-    (refl, refl, refl, listed_joined types (given ps) ∙ (let n = length (given ps) in let m : n ≡ n * 1 = omega arith in m), items_are types g.kind.of (g ∷ gs) ps are a.0 values)
+use Rattle.f3_cell_kinds.proofs.Standing.{in_is, not_routine, spans_rank, same_shown, array_rank, constant_is, takes_held, only_next, far_first, far_last, EntryAt, entry_at, called_refer, constructed_is}
 
 module _ (limit : ℕ) (g : Setting) (p : Program) (code : Code) (sites : ℕ → Site) (are : AreKinds p sites code) (s : State) (fits : Fits p.types.items sites s) (l : Line) where
-  abbrev types : List Derived
+  abbrev pub types : List Derived
   types = p.types.items
 
-  abbrev here : Here
+  abbrev pub here : Here
   here = placed l.place s.here
 
-  abbrev K : Scope → Type 0
+  abbrev pub K : Scope → Type 0
   K = Knows types s.here
 
-  abbrev o : Around
+  abbrev pub o : Around
   o = (sites s.pc).scope
 
-  abbrev r : Kind
+  abbrev pub r : Kind
   r = (sites s.pc).returns
 
-  abbrev Cells : List CellType → List Cell → Type 0
+  abbrev pub Cells : List CellType → List Cell → Type 0
   Cells xs stack = Has types sites K o r fits.end xs stack
 
-  abbrev Kept : Next → Type 0
+  abbrev pub Kept : Next → Type 0
   Kept n = Keeps types sites n
 
-  had : {xs : List CellType} → (sites s.pc).cells ≡ xs → Cells xs s.stack
+  pub had : {xs : List CellType} → (sites s.pc).cells ≡ xs → Cells xs s.stack
   had e = took types sites K o r fits.end s.stack e fits.stack
 
-  top : {c : Cell} {x : CellType} {xs : List CellType} {stack : List Cell} → Is types x c → Cells xs stack → Cells (x ∷ xs) (c ∷ stack)
+  pub top : {c : Cell} {x : CellType} {xs : List CellType} {stack : List Cell} → Is types x c → Cells xs stack → Cells (x ∷ xs) (c ∷ stack)
   top e h = on_top types sites K o r fits.end e h
 
   -- on with the same scope
-  there : {pc : ℕ} {xs : List CellType} {stack : List Cell} {w : World} → sites pc ≡ record { is_reached = true; returns = r; scope = o; cells = xs } → Cells xs stack →
+  pub there : {pc : ℕ} {xs : List CellType} {stack : List Cell} {w : World} → sites pc ≡ record { is_reached = true; returns = r; scope = o; cells = xs } → Cells xs stack →
       Fits types sites (record { pc = pc; stack = stack; here = s.here; frames = s.frames; world = w })
   there e h = fit types sites e fits.scope h fits.frames
 
-  goes : {out : List Event} {pc : ℕ} {xs : List CellType} {stack : List Cell} {w : World} → sites pc ≡ record { is_reached = true; returns = r; scope = o; cells = xs } → Cells xs stack →
+  pub goes : {out : List Event} {pc : ℕ} {xs : List CellType} {stack : List Cell} {w : World} → sites pc ≡ record { is_reached = true; returns = r; scope = o; cells = xs } → Cells xs stack →
       Kept (state.Goes out (record { pc = pc; stack = stack; here = s.here; frames = s.frames; world = w }))
   goes e h = goes_so types sites (there e h)
 
   -- whatever a part of a run gives
-  does : {A : Type 0} (x : Ran A) {f : A → World → State} → ((y : A) (w : World) → Fits types sites (f y w)) → Kept (performs x s.world f)
+  pub does : {A : Type 0} (x : Ran A) {f : A → World → State} → ((y : A) (w : World) → Fits types sites (f y w)) → Kept (performs x s.world f)
   does x h = performing types sites x s.world (any_yields x) (λ y t w. h y w)
 
-  datum : {k : Kind} {rest : List CellType} {f : Value → List Cell → Next} (stack : List Cell) → Cells (cell.Datum k ∷ rest) stack →
+  pub datum : {k : Kind} {rest : List CellType} {f : Value → List Cell → Next} (stack : List Cell) → Cells (cell.Datum k ∷ rest) stack →
       ((v : Value) (st : List Cell) → IsOf types k v → Cells rest st → Kept (f v st)) → Kept (on_datum stack f)
   datum stack h f = at_datum types sites K o r fits.end stack h f
 
-  object : {k : Kind} {rest : List CellType} {f : Reference → List Cell → Next} (stack : List Cell) → Cells (cell.Object k ∷ rest) stack →
+  pub object : {k : Kind} {rest : List CellType} {f : Reference → List Cell → Next} (stack : List Cell) → Cells (cell.Object k ∷ rest) stack →
       ((q : Reference) (st : List Cell) → Refers k q → Cells rest st → Kept (f q st)) → Kept (on_object stack f)
   object stack h f = at_object types sites K o r fits.end stack h f
 
   -- the same, where a statement goes on with more or less lent
-  goes_by : {out : List Event} {pc : ℕ} {xs : List CellType} {stack : List Cell} {w : World} (place : Place) (lent : List Reference) →
+  pub goes_by : {out : List Event} {pc : ℕ} {xs : List CellType} {stack : List Cell} {w : World} (place : Place) (lent : List Reference) →
       sites pc ≡ record { is_reached = true; returns = r; scope = o; cells = xs } → Cells xs stack → Kept (state.Goes out (record {
         pc = pc;
         stack = stack;
@@ -205,7 +114,7 @@ module _ (limit : ℕ) (g : Setting) (p : Program) (code : Code) (sites : ℕ �
       }))
   goes_by place lent e h = goes_so types sites (fit types sites e fits.scope h fits.frames)
 
-  abbrev in_case : Value → Here
+  abbrev pub in_case : Value → Here
   in_case x = record {
     place = s.here.place;
     unit = s.here.unit;
@@ -216,7 +125,7 @@ module _ (limit : ℕ) (g : Setting) (p : Program) (code : Code) (sites : ℕ �
     selected = x;
   }
 
-  abbrev associating_here : List Reference → Here
+  abbrev pub associating_here : List Reference → Here
   associating_here rs = record {
     place = s.here.place;
     unit = s.here.unit;
@@ -228,17 +137,17 @@ module _ (limit : ℕ) (g : Setting) (p : Program) (code : Code) (sites : ℕ �
   }
 
   -- what statements may name there
-  known_at : (c : Scope) → o ≡ Told c → K c
+  pub known_at : (c : Scope) → o ≡ Told c → K c
   known_at c e = subst (λ o. InScope types K o) e fits.scope
 
   -- where a procedure goes on elsewhere
-  out_of : {Known' : Scope → Type 0} {xs : List CellType} {stack : List Cell} (o' : Around) (c : Scope) → o ≡ Told c → Cells xs stack → Has types sites Known' o' r fits.end xs stack
+  pub out_of : {Known' : Scope → Type 0} {xs : List CellType} {stack : List Cell} (o' : Around) (c : Scope) → o ≡ Told c → Cells xs stack → Has types sites Known' o' r fits.end xs stack
   out_of {Known' = Known'} {xs = xs} {stack = stack} o' c e h = elsewhere types sites {Known' = Known'} o' xs stack (not_routine o c e) h
 
-  at_caller : (o : Around) → o ≡ Untold → o ≡ InRoutine → ⊥
+  pub at_caller : (o : Around) → o ≡ Untold → o ≡ InRoutine → ⊥
   at_caller o e f = cc
 
-  act_holds : (x : Instruction) → is_reading x ≡ false → kinds.Goes p sites s.pc l x → Kept (act limit g code x l.value here s)
+  pub act_holds : (x : Instruction) → is_reading x ≡ false → kinds.Goes p sites s.pc l x → Kept (act limit g code x l.value here s)
   act_holds (i.Push c) e (fit, b) = goes b.next (top (constant_is types c fit) (had b.before))
   act_holds i.Plain e (k, b) = datum s.stack (had b.before) (λ x st h q. goes b.next (top (plain_is types k x h) q))
   act_holds (i.Unary c t) e (k, fit, b) = datum s.stack (had b.before) (λ x st h q.

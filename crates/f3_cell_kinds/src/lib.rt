@@ -1,7 +1,7 @@
 //! Of which kind each cell is on the stack of an activation at each line of the code of a program, known before the run.
 #![tactic(auto)]
 
-ghost use Rattle.f3_cell_kinds.specs.Laws.{CodeHasKinds, KindsHaveSorts, StepsHold};
+ghost use Rattle.f3_cell_kinds.specs.Laws.{CodeHasKinds, KindsHaveSorts, ReadingStepsHold, StartFits, StepsHold};
 
 /// The code of every program that makes sense has kinds, known before the run: at each line the cells are of these on whatever way the
 /// machine comes to it (own rule).
@@ -18,4 +18,15 @@ pub fn kinds_have_sorts()
 /// what their types say to one whose cells do (own rule).
 pub fn steps_hold()
     ensures { StepsHold }
+{}
+
+/// And so does each step of an instruction that reads from the store, but for those that pick elements or build structures, where the
+/// objects on the stack and the variables stand in the store as values of their kinds (own rule).
+pub fn reading_steps_hold()
+    ensures { ReadingStepsHold }
+{}
+
+/// The state in which a program that makes sense begins has cells that hold what their types say (own rule).
+pub fn start_fits()
+    ensures { StartFits }
 {}
