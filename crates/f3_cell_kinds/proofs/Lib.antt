@@ -17,6 +17,7 @@ pub mod Reaching
 pub mod Holding
 pub mod Piled
 pub mod Parting
+pub mod Picking
 pub mod Standing
 pub mod Reading
 pub mod Starting

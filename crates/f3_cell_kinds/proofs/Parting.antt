@@ -53,7 +53,7 @@ no_logical types base.Long y e f = cc
 no_logical types base.Logical y e f = cc
 no_logical types (base.Derived t) y e f = cc
 
-mapped_length : {A B : Type 0} (f : A → B) (xs : List A) → length (map f xs) ≡ length xs
+pub mapped_length : {A B : Type 0} (f : A → B) (xs : List A) → length (map f xs) ≡ length xs
 mapped_length f [] = refl
 mapped_length f (x ∷ xs) = ap suc (mapped_length f xs)
 

@@ -35,7 +35,7 @@ any_end Beyond = tt
 pub any_yields : {A : Type 0} (r : Ran A) → Yields (λ x. Unit {0}) r
 any_yields r = record { by = λ w. any_end (r.from w).end }
 
-followed : {A B : Type 0} (Q : A → Type 0) (P : B → Type 0) (f : A → Ran B) → ((x : A) → Q x → Yields P (f x)) → (out : List Event) (end : End A) → IsGiven Q end →
+pub followed : {A B : Type 0} (Q : A → Type 0) (P : B → Type 0) (f : A → Ran B) → ((x : A) → Q x → Yields P (f x)) → (out : List Event) (end : End A) → IsGiven Q end →
     IsGiven P (go_on out end f).end
 followed Q P f k out (Gives x u) h = (k x h).by u
 followed Q P f k out (Fails error place) h = tt
