@@ -316,6 +316,7 @@ module _ (p : Program) (sites : ℕ → Site) (r : Kind) (s : Scope) where
           bs,
           k,
           triplets_count xs,
+          held,
           part,
           f.1,
           subst (λ (z : Kind). Leads sites pc (on (sites pc) (choices_on bs (part_cell j z ∷ cell.Object j ∷ [])) (cell.Object k ∷ []))) same b,

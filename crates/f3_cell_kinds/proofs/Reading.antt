@@ -1,6 +1,7 @@
 -- Steps that read from the store, where objects stand.
-use Rattle.std.proofs.Common.{◌≡◌, ◌∙◌, sym, ap, ℕ, zero, suc, ◌+◌, Bool, true, false, List, [], ◌∷◌, Option, Some, None, refl, subst, if◌then◌else◌}
-use Rattle.std.specs.Prelude.{nat_eq, slice_get, slice_index_or}
+use Rattle.std.proofs.Common.{◌≡◌, ◌∙◌, sym, ap, ℕ, zero, suc, ◌+◌, Bool, true, false, List, [], ◌∷◌, length, Option, Some, None, refl, subst, if◌then◌else◌}
+use Rattle.std.specs.Prelude.{nat_eq, nat_lt, slice_get, slice_index_or}
+use Rattle.std.proofs.lemmas.Bool.{eqb-true}
 use Rattle.f3_rules.specs.declared.source.Place.{Place}
 use Rattle.f3_program.specs.declared.declarations.Component as m
 use Rattle.f3_program.specs.declared.declarations.Declared.{Declared}
@@ -15,20 +16,21 @@ use Rattle.f3_meaning_whole.specs.Store.{Store, Root, Static, Local, Path, Conte
 use Rattle.f3_meaning_whole.specs.Reference.{Reach, One, Many, Reference, Maker, held_at, is_pinned, reach_of}
 use Rattle.f3_meaning_whole.specs.declared.run_error.RunError.TheVariants.{NotAllocated, InUse}
 use Rattle.f3_meaning_whole.specs.Ran.{World, End, Gives, Fails, Stops, Beyond, Ran, ◌>>=◌, looks, gives, fails}
-use Rattle.f3_meaning_whole.specs.Act.{Setting, Here, claim_for, named, to_root, whole, type_of, static_type, component, component_of, component_type, component_reach, contents, contents_by, opened, read}
-use Rattle.f3_meaning_whole.specs.Formed.{of_kind, found, kind_of_name}
+use Rattle.f3_meaning_whole.specs.Act.{Setting, Here, Chosen, claim_for, named, to_root, whole, type_of, static_type, component, component_of, component_type, component_reach, contents, contents_by, opened, read}
+use Rattle.f3_meaning_whole.specs.Formed.{of_kind, found, kind_of_name, sectioned, count_ranges}
 use Rattle.f3_core.specs.Exec.{result_at}
 use Rattle.f3_code.specs.State as state
 use Rattle.f3_code.specs.State.{State, Next}
-use Rattle.f3_code.specs.Machine.{performs, ends_so, opens}
+use Rattle.f3_code.specs.Machine.{performs, ends_so, opens, selects}
 use Rattle.f3_cell_kinds.specs.Types.{Scope}
 use Rattle.f3_cell_kinds.specs.Types as cell
 use Rattle.f3_cell_kinds.specs.Effect.{held_kind, result_in, part_kind, part_cell}
 use Rattle.f3_cell_kinds.specs.Holds.{Reaches, Refers, AllRefer, IsOf, Knows, Is, Fits}
 use Rattle.f3_cell_kinds.specs.Stands.{root_of}
-use Rattle.f3_cell_kinds.proofs.Asked.{some_same, found_is}
-use Rattle.f3_cell_kinds.proofs.Yielding.{IsGiven, Yields, gives_yields, fails_yields, any_yields, bind_yields, if_yields}
+use Rattle.f3_cell_kinds.proofs.Asked.{some_same, found_is, only_is, and_is, truth_same}
+use Rattle.f3_cell_kinds.proofs.Yielding.{IsGiven, followed, Yields, gives_yields, fails_yields, any_yields, bind_yields, if_yields}
 use Rattle.f3_cell_kinds.proofs.Reaching.{reach_is}
+use Rattle.f3_cell_kinds.proofs.Picking.{AllChosen, picks_yields}
 use Rattle.f3_cell_kinds.proofs.Parting.{component_reaches, component_base, part_by}
 use Rattle.f3_cell_kinds.proofs.Holding.{FitsNext, Keeps}
 
@@ -58,6 +60,10 @@ performing_at types sites {A = A} {P = P} r w {f = f} given h = record { by = by
     by_end out (Fails error place) is = tt
     by_end out (Stops code) is = tt
     by_end out Beyond is = tt
+
+give_then : {A B : Type 0} {Q : A → Type 0} {P : B → Type 0} {m : Ran A} {f : A → Ran B} (w : World) → GivesAt Q m w → ((x : A) → Q x → Yields P (f x)) → GivesAt P (m >>= f) w
+unfolding ◌>>=◌
+give_then {Q = Q} {P = P} {m = m} {f = f} w h k = record { by = followed Q P f k (m.from w).out (m.from w).end h.by }
 
 module _ (types : List Derived) where
   pub read_given : (k : Kind) (r : Reference) (here : Here) (w : World) → IsOf types k (held_at w.store r.path r.reach) → GivesAt (IsOf types k) (read r here) w
@@ -139,3 +145,20 @@ module _ (types : List Derived) where
 
   pub part_kind_is : (k c j : Kind) (q : Reference) → part_kind k c ≡ Some j → IsPart k c q → Refers j q
   part_kind_is k c j q e h = part_by types (nat_eq k.rank 0) k c j q.of q.reach h.0 h.1 h.2 e
+
+  -- ---- elements
+
+  selects_by : (is_opened : Bool) (k : Kind) (bs : List Bool) (cs : List Chosen) (r : Reference) (here : Here) (w : World) → is_opened ≡ k.is_allocatable → length bs ≡ k.rank →
+      nat_lt 0 k.rank ≡ true → AllChosen bs cs → Refers k r → IsOf types k (held_at w.store r.path r.reach) →
+      GivesAt (Refers (of_kind k.of (count_ranges bs))) (selects is_opened cs r here) w
+  selects_by true k bs cs r here w held rank some are h is = give_then w (contents_given k r here w h is)
+      (λ q f. picks_yields (held_kind k) q bs cs here refl rank some are f.0 q.reach f.1)
+  selects_by false k bs cs r here w held rank some are h is = give_then {Q = Refers k} w (yields_given w (gives_yields r h))
+      (λ q f. picks_yields k q bs cs here (sym held) rank some are f.0 q.reach f.1)
+
+  pub selects_given : (p : Program) (is_opened : Bool) (k j : Kind) (bs : List Bool) (cs : List Chosen) (r : Reference) (here : Here) (w : World) →
+      sectioned p [] [] is_opened (Some bs) k ≡ Some j → AllChosen bs cs → Refers k r → IsOf types k (held_at w.store r.path r.reach) → GivesAt (Refers j) (selects is_opened cs r here) w
+  selects_given p is_opened k j bs cs r here w e are h is =
+      let a = only_is _ _ j e in let b = and_is _ _ a.0 in let c = and_is _ _ b.1 in
+      subst (λ (z : Kind). GivesAt (Refers z) (selects is_opened cs r here) w) a.1
+      (selects_by is_opened k bs cs r here w (truth_same _ _ b.0) (eqb-true _ _ c.0) c.1 are h is)

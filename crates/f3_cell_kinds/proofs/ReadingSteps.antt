@@ -1,31 +1,50 @@
 -- Each step that reads from the store keeps to what cells hold, where objects stand.
-use Rattle.std.proofs.Common.{◌≡◌, ◌∙◌, sym, ap, ℕ, ◌+◌, Bool, true, false, List, [], ◌∷◌, ◌++◌, Option, Some, None, refl, subst}
+use Rattle.std.proofs.Common.{◌≡◌, ◌∙◌, sym, ap, ℕ, zero, suc, ◌+◌, Bool, true, false, ◌||◌, List, [], ◌∷◌, ◌++◌, length, Option, Some, None, refl, subst, arith, if◌then◌else◌}
 use Rattle.std.specs.Prelude.{nat_eq, slice_get}
 use Rattle.std.proofs.lemmas.Bool.{eq-eqb, eqb-true}
 use Rattle.f3_program.specs.declared.declarations.Kind.{Kind}
 use Rattle.f3_program.specs.declared.program.Program.{Program}
-use Rattle.f3_meaning_whole.specs.Reference.{Selected, Language, Reference, held_at}
-use Rattle.f3_meaning_whole.specs.Ran.{Event, World, looks}
-use Rattle.f3_meaning_whole.specs.Act.{Setting, Here, named, component, contents, read}
+use Rattle.f3_meaning_whole.specs.Reference.{Selected, Language, Reach, One, Many, Reference, held_at}
+use Rattle.f3_meaning_whole.specs.Ran.{Event, World, Ran, looks}
+use Rattle.f3_meaning_whole.specs.Act.{Setting, Here, Chosen, named, component, component_of, contents, read, picks_in_each}
+use Rattle.f3_meaning_whole.specs.Eval.{by_reach, spans_of_component}
+use Rattle.f3_meaning_whole.specs.Formed.{of_kind, sectioned, element_of_each}
 use Rattle.f3_core.specs.Exec.{result_at}
 use Rattle.f3_code.specs.declared.instruction.Instruction.{Instruction}
 use Rattle.f3_code.specs.declared.instruction.Instruction.TheVariants as i
 use Rattle.f3_code.specs.State as state
 use Rattle.f3_code.specs.State.{Line, placed, Code, Cell, State, Next}
-use Rattle.f3_code.specs.Machine.{act, step, does_line, on_object, opens}
-use Rattle.f3_cell_kinds.specs.Types.{Scope, Around, Told, CellType, Site}
+use Rattle.f3_code.specs.Machine.{act, step, does_line, on_object, on_many, choice_of, performs, selects, opens}
+use Rattle.f3_code.specs.Machine as machine
+use Rattle.f3_cell_kinds.specs.Types.{Scope, Around, Told, CellType, Site, choices_on}
 use Rattle.f3_cell_kinds.specs.Types as cell
-use Rattle.f3_cell_kinds.specs.Effect.{held_kind}
+use Rattle.f3_cell_kinds.specs.Effect.{part_cell}
 use Rattle.f3_cell_kinds.specs.Kinds.{AreKinds}
 use Rattle.f3_cell_kinds.specs.Kinds as kinds
-use Rattle.f3_cell_kinds.specs.Holds.{Refers, IsOf, Is, InScope, Fits}
-use Rattle.f3_cell_kinds.specs.Stands.{CellsStand, VariablesStand, Stands, is_picking}
-use Rattle.f3_cell_kinds.proofs.Asked.{and_is, not_is}
+use Rattle.f3_cell_kinds.specs.Holds.{Reaches, Refers, IsOf, Is, InScope, Fits}
+use Rattle.f3_cell_kinds.specs.Stands.{CellsStand, VariablesStand, Stands, is_building}
+use Rattle.f3_cell_kinds.proofs.Asked.{only_is, and_is, not_is}
+use Rattle.f3_cell_kinds.proofs.Scalars.{no_rank, no_both}
+use Rattle.f3_cell_kinds.proofs.OfValues.{choices_over}
+use Rattle.f3_cell_kinds.proofs.Picking.{AllChosen, each_yields}
 use Rattle.f3_cell_kinds.proofs.Holding.{Has, Keeps, stays_so, on_top, fit}
 use Rattle.f3_cell_kinds.proofs.Standing.{in_is}
 use Rattle.f3_cell_kinds.proofs.Stepping as stepping
 use Rattle.f3_cell_kinds.proofs.Stepping.{act_holds}
-use Rattle.f3_cell_kinds.proofs.Reading.{performing_at, read_given, contents_given, opens_given, named_given, result_given, IsPart, component_given, part_cell_is, part_kind_is}
+use Rattle.f3_cell_kinds.proofs.Reading.{GivesAt, yields_given, selects_given, performing_at, read_given, contents_given, opens_given, named_given, result_given, IsPart, component_given, part_cell_is, part_kind_is}
+
+append_none : {A : Type 0} (xs : List A) → xs ++ [] ≡ xs
+append_none [] = refl
+append_none (x ∷ xs) = ap (λ l. x ∷ l) (append_none xs)
+
+reach_one : {A : Type 0} {P : A → Type 0} (k : Kind) (reach : Reach) (x y : Ran A) (w : World) → Reaches k reach → nat_eq k.rank 0 ≡ true → GivesAt P x w → GivesAt P (by_reach reach x y) w
+reach_one k One x y w h e f = f
+reach_one k (Many ss ps) x y w h e f = absurd (no_rank k.rank e h.1)
+
+reach_many : {A : Type 0} {P : A → Type 0} (k : Kind) (reach : Reach) (x y : Ran A) (w : World) → k.is_allocatable ≡ false → Reaches k reach → nat_eq k.rank 0 ≡ false → GivesAt P y w →
+    GivesAt P (by_reach reach x y) w
+reach_many k One x y w held h e f = absurd (no_both (nat_eq k.rank 0) (ap (λ (b : Bool). b || nat_eq k.rank 0) (sym held) ∙ h) e)
+reach_many k (Many ss ps) x y w held h e f = f
 
 module _ (limit : ℕ) (g : Setting) (p : Program) (code : Code) (sites : ℕ → Site) (are : AreKinds p sites code) (types_same : g.program.types.items ≡ p.types.items)
     (statics_same : g.program.statics.items ≡ p.statics.items) (s : State) (fits : Fits p.types.items sites s) (stands : Stands p sites s) (l : Line) where
@@ -59,10 +78,57 @@ module _ (limit : ℕ) (g : Setting) (p : Program) (code : Code) (sites : ℕ �
       by_stack (state.Object q ∷ st) c d = h q st c.by.0 d.0 (record { by = c.by.1 })
       by_stack (x ∷ st) c d = stays_so p.types.items sites
 
+  -- the same, farther beneath
+  beneath : {k : Kind} {rest : List CellType} {f : Reference → List Cell → Next} (stack : List Cell) → Cells (cell.Object k ∷ rest) stack →
+      CellsStand p s.here s.world.store (cell.Object k ∷ rest) stack →
+      ((q : Reference) (st : List Cell) → Refers k q → IsOf p.types.items k (held_at s.world.store q.path q.reach) → Cells rest st → Kept (f q st)) → Kept (on_object stack f)
+  beneath [] c d h = absurd c.by
+  beneath (state.Object q ∷ st) c d h = h q st c.by.0 d.0 (record { by = c.by.1 })
+  beneath (x ∷ st) c d h = stays_so p.types.items sites
+
+  any_object : {k : Kind} {rest : List CellType} {f : Reference → List Cell → Next} (stack : List Cell) → Cells (cell.Object k ∷ rest) stack →
+      ((q : Reference) (st : List Cell) → Refers k q → Cells rest st → Kept (f q st)) → Kept (on_object stack f)
+  any_object [] c h = absurd c.by
+  any_object (state.Object q ∷ st) c h = h q st c.by.0 (record { by = c.by.1 })
+  any_object (x ∷ st) c h = stays_so p.types.items sites
+
+  each_object : {rank : ℕ} {k : Kind} {rest : List CellType} {f : Reference → List Cell → Next} (stack : List Cell) → Cells (cell.Each rank k ∷ rest) stack →
+      ((q : Reference) (st : List Cell) → Refers (of_kind k.of rank) q → Cells rest st → Kept (f q st)) → Kept (on_object stack f)
+  each_object [] c h = absurd c.by
+  each_object (state.Object q ∷ st) c h = h q st c.by.0 (record { by = c.by.1 })
+  each_object (x ∷ st) c h = stays_so p.types.items sites
+
+  -- subscripts, and what stands beneath them
+  choices_from : (f : List Chosen → List Cell → Next) (bs : List Bool) (h : List CellType) (j : ℕ) (xs : List Chosen) (stack : List Cell) → Cells (choices_on bs h) stack →
+      CellsStand p s.here s.world.store (choices_on bs h) stack →
+      ((cs : List Chosen) (st : List Cell) → AllChosen bs cs → Cells h st → CellsStand p s.here s.world.store h st → Kept (on_many choice_of j (cs ++ xs) st f)) →
+      Kept (on_many choice_of (length bs + j) xs stack f)
+  choices_from f [] h j xs stack c d k =
+      let e : j ≡ 0 + j = omega arith in
+      subst (λ n. Kept (on_many choice_of n xs stack f)) e (k [] stack tt c d)
+  choices_from f (b ∷ bs) h j xs stack c d k =
+      let e : length bs + suc j ≡ suc (length bs) + j = omega arith in
+      subst (λ n. Kept (on_many choice_of n xs stack f)) e
+      (choices_from f bs (cell.Choice b ∷ h) (suc j) xs stack c d (λ cs st are c d. one cs st are c d))
+    where
+      one : (cs : List Chosen) (st : List Cell) → AllChosen bs cs → Cells (cell.Choice b ∷ h) st → CellsStand p s.here s.world.store (cell.Choice b ∷ h) st →
+          Kept (on_many choice_of (suc j) (cs ++ xs) st f)
+      one cs [] are c d = absurd c.by
+      one cs (state.Choice x ∷ st) are c d = k (x ∷ cs) st (c.by.0, are) (record { by = c.by.1 }) d.1
+      one cs (y ∷ st) are c d = stays_so p.types.items sites
+
+  at_choices : {f : List Chosen → List Cell → Next} {h : List CellType} (bs : List Bool) (n : ℕ) → length bs ≡ n → (sites s.pc).cells ≡ choices_on bs h →
+      ((cs : List Chosen) (st : List Cell) → AllChosen bs cs → Cells h st → CellsStand p s.here s.world.store h st → Kept (f cs st)) → Kept (on_many choice_of n [] s.stack f)
+  at_choices {f = f} {h = h} bs n many e k =
+      let m : length bs + 0 ≡ n = omega (arith, many) in
+      subst (λ n. Kept (on_many choice_of n [] s.stack f)) m
+      (choices_from f bs h 0 [] s.stack (had e) (subst (λ xs. CellsStand p s.here s.world.store xs s.stack) e stands.cells)
+      (λ cs st are c d. subst (λ l. Kept (f l st)) (sym (append_none cs)) (k cs st are c d)))
+
   variables_at : (c : Scope) → (sites s.pc).scope ≡ Told c → VariablesStand p s.here s.world.store c
   variables_at c e = subst (λ o. InScope p.types.items (VariablesStand p s.here s.world.store) o) e stands.variables
 
-  act_reads : (x : Instruction) → is_picking x ≡ false → kinds.Goes p sites s.pc l x → Kept (act limit g code x l.value here s)
+  act_reads : (x : Instruction) → is_building x ≡ false → kinds.Goes p sites s.pc l x → Kept (act limit g code x l.value here s)
   act_reads i.Load e (k, held, b) = standing b.before (λ q st h is c.
       performing_at p.types.items sites (read q here) s.world (read_given p.types.items k q here s.world is) (λ v f w. there b.next (top f c)))
   act_reads (i.Refer x) e b =
@@ -91,14 +157,33 @@ module _ (limit : ℕ) (g : Setting) (p : Program) (code : Code) (sites : ℕ �
       performing_at p.types.items sites (looks (result_at x s.here.level)) s.world
       (result_given p.types.items p c.0 x s.here (sites s.pc).returns s.world c.2.0 (λ n t f e. variables_at c.0 c.1 n (sites s.pc).returns t f e))
       (λ y f w. there lead.next (top f (had lead.before)))
-  act_reads (i.Select is_opened n) e b = cc
-  act_reads (i.SelectOf is_opened m n) e b = cc
+  act_reads (i.Select is_opened n) e (k, bs, j, many, part, b) = at_choices bs n many (b.before ∙ sym (choices_over bs (cell.Object k ∷ []) b.rest)) (λ cs st are c d.
+      beneath st c d (λ q st' h is c'. performing_at p.types.items sites (selects is_opened cs q here) s.world
+      (selects_given p.types.items p is_opened k j bs cs q here s.world part are h is) (λ y f w. there b.next (top f c'))))
+  act_reads (i.SelectOf is_opened m n) e (k, c, bs, j, many, held, at_m, part, b) =
+      at_choices bs n many (b.before ∙ sym (choices_over bs (part_cell k c.declared.kind ∷ cell.Object k ∷ []) b.rest)) (λ cs st are d stand.
+      by_rank (nat_eq k.rank 0) refl cs st are d stand part)
+    where
+      by_rank : (t : Bool) → nat_eq k.rank 0 ≡ t → (cs : List Chosen) (st : List Cell) → AllChosen bs cs →
+          Cells ((if t then cell.Object c.declared.kind else cell.Each k.rank c.declared.kind) ∷ cell.Object k ∷ b.rest) st →
+          CellsStand p s.here s.world.store ((if t then cell.Object c.declared.kind else cell.Each k.rank c.declared.kind) ∷ cell.Object k ∷ b.rest) st →
+          (if t then sectioned p [] [] is_opened (Some bs) c.declared.kind else element_of_each p [] [] is_opened (Some bs) k c.declared.kind) ≡ Some j →
+          Kept (on_object st (λ q st. on_object st (λ r st. performs (by_reach r.reach (selects is_opened cs q here)
+          (picks_in_each (spans_of_component (component_of g.program.types.items r.of m)) q cs here)) s.world (λ q. machine.on s (state.Object q ∷ st)))))
+      by_rank true one cs st are d stand part = beneath st d stand (λ q st1 h is d1. any_object st1 d1 (λ r st2 h2 d2.
+          performing_at p.types.items sites _ s.world (reach_one k r.reach _ _ s.world h2.1 one (selects_given p.types.items p is_opened c.declared.kind j bs cs q here s.world part are h is))
+          (λ y f w. there b.next (top f d2))))
+      by_rank false one cs st are d stand part = each_object st d (λ q st1 h d1. any_object st1 d1 (λ r st2 h2 d2.
+          performing_at p.types.items sites _ s.world (reach_many k r.reach _ _ s.world held h2.1 one
+          (subst (λ (z : Kind). GivesAt (Refers z) (picks_in_each (spans_of_component (component_of g.program.types.items r.of m)) q cs here) s.world) (only_is _ _ j part).1
+          (yields_given s.world (each_yields (of_kind c.declared.kind.of k.rank) q _ cs here h))))
+          (λ y f w. there b.next (top f d2))))
   act_reads (i.Structure t n) e b = cc
   act_reads x e b = act_holds limit g p code sites are s fits l x refl b
 
 module _ (limit : ℕ) (g : Setting) (p : Program) (code : Code) (sites : ℕ → Site) (are : AreKinds p sites code) (types_same : g.program.types.items ≡ p.types.items)
     (statics_same : g.program.statics.items ≡ p.statics.items) where
-  does_holds : (s : State) (o : Option Line) (l : Line) → slice_get code.lines s.pc ≡ o → o ≡ Some l → is_picking l.act ≡ false → Fits p.types.items sites s → Stands p sites s →
+  does_holds : (s : State) (o : Option Line) (l : Line) → slice_get code.lines s.pc ≡ o → o ≡ Some l → is_building l.act ≡ false → Fits p.types.items sites s → Stands p sites s →
       Keeps p.types.items sites (does_line limit g code o s)
   does_holds s None l at_pc e f fits stands = cc
   does_holds s (Some x) l at_pc e f fits stands =
@@ -106,7 +191,7 @@ module _ (limit : ℕ) (g : Setting) (p : Program) (code : Code) (sites : ℕ �
       subst (λ (y : Line). Keeps p.types.items sites (does_line limit g code (Some y) s)) (sym same)
       (act_reads limit g p code sites are types_same statics_same s fits stands l l.act f (are.lines s.pc l (at_pc ∙ e) fits.is_reached))
 
-  pub reading_steps_hold : (s t : State) (l : Line) (out : List Event) → slice_get code.lines s.pc ≡ Some l → is_picking l.act ≡ false → Fits p.types.items sites s → Stands p sites s →
+  pub reading_steps_hold : (s t : State) (l : Line) (out : List Event) → slice_get code.lines s.pc ≡ Some l → is_building l.act ≡ false → Fits p.types.items sites s → Stands p sites s →
       step limit g code s ≡ state.Goes out t → Fits p.types.items sites t
   reading_steps_hold s t l out at_pc f fits stands e =
       (subst (λ n. Keeps p.types.items sites n) e (does_holds s (slice_get code.lines s.pc) l refl at_pc f fits stands)).by

@@ -198,7 +198,7 @@ module _ (p : Program) (s : Site) (v : Value) where
   Does (i.Select is_opened n) by = (k : Kind) × (bs : List Bool) × (j : Kind) × (length bs ≡ n) × (sectioned p [] [] is_opened (Some bs) k ≡ Some j)
       × by (on s (choices_on bs (Object k ∷ [])) (Object j ∷ []))
   Does (i.SelectOf is_opened m n) by = (k : Kind) × (c : Component) × (bs : List Bool) × (j : Kind) × (length bs ≡ n)
-      × (component_of p.types.items k.of m ≡ Some c) × (picked_kind p is_opened bs k c.declared.kind ≡ Some j)
+      × (k.is_allocatable ≡ false) × (component_of p.types.items k.of m ≡ Some c) × (picked_kind p is_opened bs k c.declared.kind ≡ Some j)
       × by (on s (choices_on bs (part_cell k c.declared.kind ∷ Object k ∷ [])) (Object j ∷ []))
   Does i.Subscript by = (k : Kind) × (is_whole_number k ≡ true) × by (on s (Datum k ∷ []) (Choice false ∷ []))
   Does i.Limit by = (k : Kind) × (is_whole_number k ≡ true) × by (on s (Datum k ∷ []) (Bound ∷ []))

@@ -43,9 +43,7 @@ pub record Stands (p : Program) (sites : ℕ → Site) (s : State) : Type 0 wher
   pub cells : CellsStand p s.here s.world.store (sites s.pc).cells s.stack
   pub variables : InScope p.types.items (VariablesStand p s.here s.world.store) (sites s.pc).scope
 
--- of these the law of steps where objects stand does not speak yet
-abbrev pub is_picking : Instruction → Bool
-is_picking (i.Select is_opened k) = true
-is_picking (i.SelectOf is_opened n k) = true
-is_picking (i.Structure t k) = true
-is_picking x = false
+-- of structure constructors the law of steps where objects stand does not speak yet
+abbrev pub is_building : Instruction → Bool
+is_building (i.Structure t k) = true
+is_building x = false

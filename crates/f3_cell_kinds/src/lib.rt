@@ -20,8 +20,8 @@ pub fn steps_hold()
     ensures { StepsHold }
 {}
 
-/// And so does each step of an instruction that reads from the store, but for those that pick elements or build structures, where the
-/// objects on the stack and the variables stand in the store as values of their kinds (own rule).
+/// And so does each step of an instruction that reads from the store, but for structure constructors, where the objects on
+/// the stack and the variables stand in the store as values of their kinds (own rule).
 pub fn reading_steps_hold()
     ensures { ReadingStepsHold }
 {}
