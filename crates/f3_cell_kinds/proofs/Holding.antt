@@ -1,6 +1,5 @@
 -- What instructions do keeps to what cells hold: the parts.
-use Rattle.std.proofs.Common.{◌≡◌, ◌∙◌, refl, ap, ℕ, zero, suc, ℤ, Bool, true, false, List, [], ◌∷◌, ◌++◌, Option, Some, None, sym, subst, if◌then◌else◌}
-use Rattle.f3_rules.specs.declared.source.Place.{Place}
+use Rattle.std.proofs.Common.{◌≡◌, refl, ap, ℕ, zero, suc, ℤ, Bool, true, false, List, [], ◌∷◌, Option, sym, subst, if◌then◌else◌}
 use Rattle.f3_program.specs.declared.declarations.Derived.{Derived}
 use Rattle.f3_program.specs.declared.declarations.Base.{Base}
 use Rattle.f3_program.specs.declared.declarations.Kind.{Kind}
@@ -13,11 +12,10 @@ use Rattle.f3_meaning_whole.specs.Act.{Here}
 use Rattle.f3_meaning_whole.specs.Exec.{Flow}
 use Rattle.f3_code.specs.State as state
 use Rattle.f3_code.specs.State.{Cell, To, Frame, State, Next, Goes, Stays}
-use Rattle.f3_code.specs.Machine.{ends_so, performs, on_datum, on_object, on_bound, on_bounds, on_status, on_turns, on_elements, on_objects, on_to, on_level, on_outside, on_going, on_any, on_some, on_many, extent_of}
+use Rattle.f3_code.specs.Machine.{ends_so, performs, on_datum, on_object, on_bound, on_bounds, on_status, on_turns, on_elements, on_objects, on_level, on_outside, on_going, on_any, on_many, extent_of}
 use Rattle.f3_cell_kinds.specs.Types.{Scope, Around, Told, Untold, InRoutine, CellType, Site}
 use Rattle.f3_cell_kinds.specs.Types as cell
-use Rattle.f3_cell_kinds.specs.Effect.{Way, extents_on}
-use Rattle.f3_cell_kinds.specs.Kinds.{arrived}
+use Rattle.f3_cell_kinds.specs.Effect.{extents_on}
 use Rattle.f3_cell_kinds.specs.Holds.{Refers, AllRefer, IsOf, Knows, Is, InScope, Stand, FramesHold, Fits}
 use Rattle.f3_cell_kinds.proofs.Yielding.{IsGiven, Yields}
 

@@ -71,7 +71,9 @@ module _ (p : Program) (sites : ℕ → Site) (finals : FinalsFit p) (m : ℕ) (
 
   leaves : (o : Option Place) (by : Way) (d : ℕ) (s c : Scope) (h : List CellType) (pc : ℕ) → sites pc ≡ at r c (cell.Outside s ∷ h) → sites (pc + 1 + d) ≡ at r s (cell.Going ∷ h) →
       IsAt p sites pc (line o (i.Leave by d))
-  leaves o by d s c h pc is to = λ t. in_scope (sites pc).scope c _ (ap (λ (y : Site). y.scope) is) (s, record {
+  leaves o by d s c h pc is to = λ t. in_scope (sites pc).scope c _ (ap (λ (y : Site). y.scope) is) (
+    s,
+    record {
       rest = h;
       before = ap (λ (y : Site). y.cells) is;
       next = tt;

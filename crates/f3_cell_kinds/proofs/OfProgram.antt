@@ -109,7 +109,12 @@ module _ (p : Program) (sites : ℕ → Site) (finals : FinalsFit p) (m : ℕ) w
       (work_part p sites m None x (stacked (cell.Objects ks ∷ []) h) k (λ live. discard_fits p k k)) (discard_part ds (suc n) h)
 
   return_part : (r : Kind) → Part p sites Any (line None i.Return ∷ []) (outward p r (cell.Objects [] ∷ cell.Datum r ∷ []) ∷ []) (outward p r (cell.Objects [] ∷ cell.Datum r ∷ []))
-  return_part r = before_end p sites (line None i.Return) (λ pc is out live. (ap (λ (z : Site). z.scope) is, [], record { rest = []; before = subst (λ (z : Site). z.cells ≡ cell.Objects [] ∷ cell.Datum z.returns ∷ []) (sym is) refl;
+  return_part r = before_end p sites (line None i.Return) (λ pc is out live. (
+    ap (λ (z : Site). z.scope) is,
+    [],
+    record {
+      rest = [];
+      before = subst (λ (z : Site). z.cells ≡ cell.Objects [] ∷ cell.Datum z.returns ∷ []) (sym is) refl;
       next = tt;
       far = tt;
     },

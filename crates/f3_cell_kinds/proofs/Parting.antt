@@ -1,25 +1,20 @@
 -- Parts of values, and the references to them.
-use Rattle.std.proofs.Common.{◌≡◌, ◌∙◌, sym, ap, ℕ, zero, suc, ◌*◌, Bool, true, false, ◌||◌, List, [], ◌∷◌, ◌++◌, map, length, Option, Some, None, refl, subst, if◌then◌else◌}
-use Rattle.std.specs.Prelude.{nat_eq, nat_lt, slice_get, slice_index_or}
-use Rattle.std.proofs.lemmas.Bool.{eqb-true, eq-eqb, ltb-true}
-use Rattle.f3_rules.specs.declared.source.Place.{Place}
+use Rattle.std.proofs.Common.{◌≡◌, ◌∙◌, sym, ap, ℕ, zero, suc, Bool, true, false, ◌||◌, List, [], ◌∷◌, ◌++◌, map, length, Option, Some, None, refl, subst, if◌then◌else◌}
+use Rattle.std.specs.Prelude.{nat_eq, slice_get}
 use Rattle.f3_program.specs.declared.declarations.Base.{Base}
 use Rattle.f3_program.specs.declared.declarations.Base.TheVariants as base
 use Rattle.f3_program.specs.declared.declarations.Component as m
 use Rattle.f3_program.specs.declared.declarations.Derived.{Derived}
 use Rattle.f3_program.specs.declared.declarations.Kind.{Kind}
-use Rattle.f3_meaning_whole.specs.Value.{Span, Value, Number, Truth, Composite, Array, Unallocated, Allocated, Values, none, more, count, from_one}
+use Rattle.f3_meaning_whole.specs.Value.{Value, Number, Truth, Composite, Array, Unallocated, Allocated, Values, none, more}
 use Rattle.f3_meaning_whole.specs.Store.{Store, Step, Component, Element, Contents, Path, part, part_at, get, within}
-use Rattle.f3_meaning_whole.specs.Reference.{Reach, One, Many, Reference, Maker, reach_of, held_at}
-use Rattle.f3_meaning_whole.specs.Ran.{World, End, Gives, Ran, ◌>>=◌, looks, gives, fails}
-use Rattle.f3_meaning_whole.specs.Act.{Setting, Here, component_in, component_of, component_type, derived_of, base_of, component_reach, component_path, contents, contents_by, opened}
+use Rattle.f3_meaning_whole.specs.Reference.{Reach, One, Many, held_at}
+use Rattle.f3_meaning_whole.specs.Act.{component_in, component_of, component_type, derived_of, base_of, component_reach}
 use Rattle.f3_meaning_whole.specs.Permitted.{same_type}
-use Rattle.f3_meaning_whole.specs.Formed.{of_kind, is_scalar, is_number, only}
-use Rattle.f3_cell_kinds.specs.Effect.{held_kind, part_kind, part_cell}
-use Rattle.f3_cell_kinds.specs.Holds.{Reaches, Refers, IsOf, AreComponents, Is}
+use Rattle.f3_meaning_whole.specs.Formed.{of_kind, is_scalar, only}
+use Rattle.f3_cell_kinds.specs.Holds.{Reaches, IsOf, AreComponents}
 use Rattle.f3_cell_kinds.proofs.Asked.{some_same, only_is, and_is}
 use Rattle.f3_cell_kinds.proofs.Scalars.{same_length, same_count, no_derived, no_rank, no_both}
-use Rattle.f3_cell_kinds.proofs.Yielding.{IsGiven, Yields}
 use Rattle.f3_cell_kinds.proofs.Reaching.{reach_is}
 
 -- ---- parts, one behind another

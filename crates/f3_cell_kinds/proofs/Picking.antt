@@ -1,17 +1,14 @@
 -- Elements that are picked from arrays.
-use Rattle.std.proofs.Common.{◌≡◌, ◌∙◌, sym, ap, ℕ, zero, suc, ◌+◌, ◌*◌, ◌<◌, ◌≤◌, ℤ, pos, negsuc, Bool, true, false, ◌&&◌, ◌||◌, not, List, [], ◌∷◌, ◌++◌, map, length, Option, Some, None, refl, subst, arith, T, if◌then◌else◌, length-append}
-use Rattle.std.specs.Prelude.{nat_eq, nat_lt, slice_get, ◌-ℤ◌, ◌+ℤ◌, ◌<ℤ◌, ◌≤ℤ◌, int_le, int_lt, nat_abs, flat_map}
-use Rattle.std.proofs.lemmas.Bool.{eqb-true, eq-eqb, lt-ltb}
+use Rattle.std.proofs.Common.{◌≡◌, ◌∙◌, sym, ap, ℕ, zero, suc, ◌+◌, ◌*◌, ◌<◌, ◌≤◌, ℤ, pos, negsuc, Bool, true, false, ◌||◌, List, [], ◌∷◌, ◌++◌, map, length, Option, Some, refl, subst, arith, T, length-append}
+use Rattle.std.specs.Prelude.{nat_eq, nat_lt, slice_get, ◌-ℤ◌, ◌<ℤ◌, ◌≤ℤ◌, int_le, int_lt, nat_abs, flat_map}
+use Rattle.std.proofs.lemmas.Bool.{lt-ltb}
 use Rattle.std.proofs.lemmas.Int.{ints}
 use Rattle.std.proofs.Math.Nat.{mul-le-mul_left}
-use Rattle.f3_program.specs.declared.program.Program.{Program}
-use Rattle.f3_program.specs.declared.declarations.Derived.{Derived}
 use Rattle.f3_program.specs.declared.declarations.Kind.{Kind}
 use Rattle.f3_meaning_whole.specs.Value.{Span, count}
 use Rattle.f3_meaning_whole.specs.Store.{Path}
 use Rattle.f3_meaning_whole.specs.Reference.{Reach, One, Many, Reference}
-use Rattle.f3_meaning_whole.specs.Ran.{Ran, ◌>>=◌, gives, fails}
-use Rattle.f3_meaning_whole.specs.Act.{Here, Chosen, At, Range, end_of, subscripts_in, is_inside, some_zero_step, all_inside, places_in, spans_in, places, added, elements_at, first_of, moved, picked, picks, in_each, picks_in_each}
+use Rattle.f3_meaning_whole.specs.Act.{Here, Chosen, At, Range, end_of, subscripts_in, is_inside, some_zero_step, all_inside, places_in, spans_in, added, elements_at, first_of, picked, picks, in_each, picks_in_each}
 use Rattle.f3_meaning_whole.specs.Formed.{of_kind, count_ranges}
 use Rattle.f3_cell_kinds.specs.Holds.{Reaches, Refers, IsChoice}
 use Rattle.f3_cell_kinds.proofs.Asked.{and_is}

@@ -1,5 +1,5 @@
 -- What arguments, dummies and associate names refer to.
-use Rattle.std.proofs.Common.{◌≡◌, ◌∙◌, sym, ap, ℕ, zero, suc, ◌+◌, ◌*◌, ℤ, pos, Bool, true, false, ◌&&◌, ◌||◌, List, [], ◌∷◌, ◌++◌, map, length, Option, Some, None, refl, subst, if◌then◌else◌, arith}
+use Rattle.std.proofs.Common.{◌≡◌, ◌∙◌, sym, ap, ℕ, suc, ◌+◌, ◌*◌, ℤ, Bool, true, false, ◌&&◌, ◌||◌, List, [], ◌∷◌, ◌++◌, length, Some, refl, subst, if◌then◌else◌, arith}
 use Rattle.std.specs.Prelude.{nat_eq, nat_lt, slice_get}
 use Rattle.std.proofs.lemmas.Bool.{eqb-true, eq-eqb}
 use Rattle.f3_program.specs.declared.declarations.Base.{Base}
@@ -8,16 +8,16 @@ use Rattle.f3_program.specs.declared.declarations.Derived.{Derived}
 use Rattle.f3_program.specs.declared.declarations.Kind.{Kind}
 use Rattle.f3_program.specs.declared.program.Dummy.{Dummy}
 use Rattle.f3_meaning_whole.specs.Value.{Span, Value, Number, Truth, Composite, Array, Unallocated, Allocated, Values, none, more, listed, joined, count, shown}
-use Rattle.f3_meaning_whole.specs.Store.{Path, Local}
-use Rattle.f3_meaning_whole.specs.Reference.{Reach, One, Many, Reference, Read, elements_from, reach_of}
-use Rattle.f3_meaning_whole.specs.Act.{Passed, Given, Lent, to_root, whole, given}
-use Rattle.f3_meaning_whole.specs.Exec.{argument_at, based, based_reach, bound, dummies, shown_reach, associated, Association, Holds, Means, associates}
+use Rattle.f3_meaning_whole.specs.Store.{Path}
+use Rattle.f3_meaning_whole.specs.Reference.{Reach, One, Many, Reference, elements_from, reach_of}
+use Rattle.f3_meaning_whole.specs.Act.{Passed, Given, Lent, given}
+use Rattle.f3_meaning_whole.specs.Exec.{argument_at, based, based_reach, dummies, shown_reach, Association, Holds, Means, associates}
 use Rattle.f3_meaning_whole.specs.Formed.{all, some, alike, of_kind, is_scalar, dummy_takes, fits_dummy, given_for, all_given, constructed, kinds_of}
 use Rattle.f3_meaning_whole.specs.Permitted.{same_type}
 use Rattle.f3_meaning_whole.specs.Formed as formed
 use Rattle.f3_cell_kinds.specs.Effect.{are_values}
 use Rattle.f3_cell_kinds.specs.Holds.{Reaches, Refers, AllRefer, IsOf, AreElements, IsPassed, IsSelector}
-use Rattle.f3_cell_kinds.proofs.Asked.{some_same, and_is, not_is, some_is, only_is, base_same, truth_same}
+use Rattle.f3_cell_kinds.proofs.Asked.{some_same, and_is, not_is, some_is, base_same, truth_same}
 use Rattle.f3_cell_kinds.proofs.Scalars.{alike_is}
 
 alike_swap : (t u : Base) → alike t u ≡ true → alike u t ≡ true
@@ -140,11 +140,13 @@ module _ (types : List Derived) where
   takes_of ds d k [] e fits = tt
   takes_of ds d k (g ∷ gs) e fits =
       let a = and_is _ _ fits in
-      let v = some_is (slice_get ds g.number) (λ (x : Dummy). dummy_takes x g) a.0 in
-      (λ same.
-      let at : slice_get ds g.number ≡ Some d = ap (slice_get ds) (eqb-true g.number k same) ∙ e in
-      let is : v.0 ≡ d = some_same (sym v.1 ∙ at) in
-      subst (λ (x : Dummy). dummy_takes x g ≡ true) is v.2, takes_of ds d k gs e a.1)
+      let v = some_is (slice_get ds g.number) (λ (x : Dummy). dummy_takes x g) a.0 in (
+        λ same.
+            let at : slice_get ds g.number ≡ Some d = ap (slice_get ds) (eqb-true g.number k same) ∙ e in
+            let is : v.0 ≡ d = some_same (sym v.1 ∙ at) in
+            subst (λ (x : Dummy). dummy_takes x g ≡ true) is v.2,
+        takes_of ds d k gs e a.1,
+      )
 
   pub dummies_refer : (all_ds ds : List Dummy) (k : ℕ) (gs : List formed.Given) (ps : List Passed) (level unit : ℕ) → AllPassed gs ps → all (fits_dummy all_ds) gs ≡ true →
       ((n : ℕ) (d : Dummy) → slice_get ds n ≡ Some d → slice_get all_ds (k + n) ≡ Some d) → all_given k ds gs ≡ true →
@@ -154,10 +156,11 @@ module _ (types : List Derived) where
       let a = and_is _ _ each in
       let here : k + 0 ≡ k = omega arith in
       let at : slice_get all_ds k ≡ Some d = ap (slice_get all_ds) (sym here) ∙ f 0 d refl in
-      let r = argument_refers d k gs ps level 0 unit are (takes_of all_ds d k gs at fits) a.0 in
-      ((r.0, based_reaches d.kind d.lowers.items _ r.1),
-      dummies_refer all_ds ds (suc k) gs ps level unit are fits
-      (λ n y e. let there : suc k + n ≡ k + suc n = omega arith in ap (slice_get all_ds) there ∙ f (suc n) y e) a.1)
+      let r = argument_refers d k gs ps level 0 unit are (takes_of all_ds d k gs at fits) a.0 in (
+        (r.0, based_reaches d.kind d.lowers.items _ r.1),
+        dummies_refer all_ds ds (suc k) gs ps level unit are fits
+            (λ n y e. let there : suc k + n ≡ k + suc n = omega arith in ap (slice_get all_ds) there ∙ f (suc n) y e) a.1,
+      )
 
   -- ---- associate names
 

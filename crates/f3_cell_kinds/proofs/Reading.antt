@@ -1,23 +1,20 @@
 -- Steps that read from the store, where objects stand.
-use Rattle.std.proofs.Common.{◌≡◌, ◌∙◌, sym, ap, ℕ, zero, suc, ◌+◌, Bool, true, false, List, [], ◌∷◌, length, Option, Some, None, refl, subst, if◌then◌else◌}
+use Rattle.std.proofs.Common.{◌≡◌, ◌∙◌, sym, ap, ℕ, zero, suc, Bool, true, false, List, [], ◌∷◌, length, Option, Some, None, refl, subst, if◌then◌else◌}
 use Rattle.std.specs.Prelude.{nat_eq, nat_lt, slice_get, slice_index_or}
 use Rattle.std.proofs.lemmas.Bool.{eqb-true}
-use Rattle.f3_rules.specs.declared.source.Place.{Place}
 use Rattle.f3_program.specs.declared.declarations.Component as m
-use Rattle.f3_program.specs.declared.declarations.Declared.{Declared}
 use Rattle.f3_program.specs.declared.declarations.Derived.{Derived}
 use Rattle.f3_program.specs.declared.declarations.Kind.{Kind}
 use Rattle.f3_program.specs.declared.expression.Name.{Name}
 use Rattle.f3_program.specs.declared.expression.Name.TheVariants as name
 use Rattle.f3_program.specs.declared.program.Program.{Program}
-use Rattle.f3_program.specs.declared.program.Static as x
 use Rattle.f3_meaning_whole.specs.Value.{Value, Truth, Unallocated, Allocated, Number, Composite, Array}
-use Rattle.f3_meaning_whole.specs.Store.{Store, Root, Static, Local, Path, Contents, within, get}
-use Rattle.f3_meaning_whole.specs.Reference.{Reach, One, Many, Reference, Maker, held_at, is_pinned, reach_of}
-use Rattle.f3_meaning_whole.specs.declared.run_error.RunError.TheVariants.{NotAllocated, InUse}
-use Rattle.f3_meaning_whole.specs.Ran.{World, End, Gives, Fails, Stops, Beyond, Ran, ◌>>=◌, looks, gives, fails}
-use Rattle.f3_meaning_whole.specs.Act.{Setting, Here, Chosen, claim_for, named, to_root, whole, type_of, static_type, component, component_of, component_type, component_reach, contents, contents_by, opened, read}
-use Rattle.f3_meaning_whole.specs.Formed.{of_kind, found, kind_of_name, sectioned, count_ranges}
+use Rattle.f3_meaning_whole.specs.Store.{Store, Root, Static, Local, Contents, within, get}
+use Rattle.f3_meaning_whole.specs.Reference.{Reach, One, Many, Reference, Maker, held_at, is_pinned}
+use Rattle.f3_meaning_whole.specs.declared.run_error.RunError.TheVariants.{InUse}
+use Rattle.f3_meaning_whole.specs.Ran.{World, End, Gives, Fails, Stops, Beyond, Ran, ◌>>=◌, looks}
+use Rattle.f3_meaning_whole.specs.Act.{Setting, Here, Chosen, claim_for, named, whole, type_of, static_type, component, component_of, component_type, contents, contents_by, opened, read}
+use Rattle.f3_meaning_whole.specs.Formed.{of_kind, kind_of_name, sectioned, count_ranges}
 use Rattle.f3_core.specs.Exec.{result_at}
 use Rattle.f3_code.specs.State as state
 use Rattle.f3_code.specs.State.{State, Next}
@@ -28,7 +25,7 @@ use Rattle.f3_cell_kinds.specs.Effect.{held_kind, result_in, part_kind, part_cel
 use Rattle.f3_cell_kinds.specs.Holds.{Reaches, Refers, AllRefer, IsOf, Knows, Is, Fits}
 use Rattle.f3_cell_kinds.specs.Stands.{root_of}
 use Rattle.f3_cell_kinds.proofs.Asked.{some_same, found_is, only_is, and_is, truth_same}
-use Rattle.f3_cell_kinds.proofs.Yielding.{IsGiven, followed, Yields, gives_yields, fails_yields, any_yields, bind_yields, if_yields}
+use Rattle.f3_cell_kinds.proofs.Yielding.{IsGiven, followed, Yields, gives_yields, fails_yields, any_yields, bind_yields}
 use Rattle.f3_cell_kinds.proofs.Reaching.{reach_is}
 use Rattle.f3_cell_kinds.proofs.Picking.{AllChosen, picks_yields}
 use Rattle.f3_cell_kinds.proofs.Parting.{component_reaches, component_base, part_by}

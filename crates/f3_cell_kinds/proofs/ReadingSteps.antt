@@ -1,7 +1,6 @@
 -- Each step that reads from the store keeps to what cells hold, where objects stand.
-use Rattle.std.proofs.Common.{◌≡◌, ◌∙◌, sym, ap, ℕ, zero, suc, ◌+◌, Bool, true, false, ◌||◌, List, [], ◌∷◌, ◌++◌, length, Option, Some, None, refl, subst, arith, if◌then◌else◌}
+use Rattle.std.proofs.Common.{◌≡◌, ◌∙◌, sym, ap, ℕ, suc, ◌+◌, Bool, true, false, ◌||◌, List, [], ◌∷◌, ◌++◌, length, Option, Some, None, refl, subst, arith, if◌then◌else◌}
 use Rattle.std.specs.Prelude.{nat_eq, slice_get}
-use Rattle.std.proofs.lemmas.Bool.{eq-eqb, eqb-true}
 use Rattle.f3_program.specs.declared.declarations.Kind.{Kind}
 use Rattle.f3_program.specs.declared.program.Program.{Program}
 use Rattle.f3_meaning_whole.specs.Reference.{Selected, Language, Reach, One, Many, Reference, held_at}
@@ -27,11 +26,11 @@ use Rattle.f3_cell_kinds.proofs.Asked.{only_is, and_is, not_is}
 use Rattle.f3_cell_kinds.proofs.Scalars.{no_rank, no_both}
 use Rattle.f3_cell_kinds.proofs.OfValues.{choices_over}
 use Rattle.f3_cell_kinds.proofs.Picking.{AllChosen, each_yields}
-use Rattle.f3_cell_kinds.proofs.Holding.{Has, Keeps, stays_so, on_top, fit}
+use Rattle.f3_cell_kinds.proofs.Holding.{Keeps, stays_so}
 use Rattle.f3_cell_kinds.proofs.Standing.{in_is}
 use Rattle.f3_cell_kinds.proofs.Stepping as stepping
 use Rattle.f3_cell_kinds.proofs.Stepping.{act_holds}
-use Rattle.f3_cell_kinds.proofs.Reading.{GivesAt, yields_given, selects_given, performing_at, read_given, contents_given, opens_given, named_given, result_given, IsPart, component_given, part_cell_is, part_kind_is}
+use Rattle.f3_cell_kinds.proofs.Reading.{GivesAt, yields_given, selects_given, performing_at, read_given, contents_given, opens_given, named_given, result_given, component_given, part_cell_is, part_kind_is}
 
 append_none : {A : Type 0} (xs : List A) → xs ++ [] ≡ xs
 append_none [] = refl

@@ -1,5 +1,5 @@
 -- Values of kinds.
-use Rattle.std.proofs.Common.{◌≡◌, ◌∙◌, sym, ap, ℕ, zero, suc, ◌*◌, ◌^◌, ◌<◌, ◌≤◌, ℤ, pos, negsuc, neg_ℤ, Bool, true, false, ◌&&◌, ◌||◌, not, List, [], ◌∷◌, map, length, Option, Some, None, refl, subst, if◌then◌else◌, arith}
+use Rattle.std.proofs.Common.{◌≡◌, ◌∙◌, sym, ap, ℕ, zero, suc, ◌*◌, ◌^◌, ◌<◌, ℤ, pos, negsuc, neg_ℤ, Bool, true, false, ◌&&◌, ◌||◌, List, [], ◌∷◌, length, Some, refl, subst, if◌then◌else◌, arith}
 use Rattle.std.specs.Prelude.{nat_eq, nat_lt, int_lt, int_le}
 use Rattle.std.proofs.Math.Nat.{pow-zero, pow-suc}
 use Rattle.std.proofs.lemmas.Bool.{ltb-true, lt-ltb, eqb-true}
@@ -13,13 +13,13 @@ use Rattle.f3_program.specs.declared.expression.BinaryOperator.TheVariants as o
 use Rattle.f3_program.specs.declared.expression.Query.{Query}
 use Rattle.f3_program.specs.declared.expression.UnaryOperator.{UnaryOperator}
 use Rattle.f3_program.specs.declared.expression.UnaryOperator.TheVariants as u
-use Rattle.f3_meaning_whole.specs.Value.{Span, Value, Number, Truth, Composite, Array, Unallocated, Allocated, Values, none, more, listed, count, from_one, plain, spans_of, number_of}
-use Rattle.f3_meaning_whole.specs.Arithmetic.{is_even, fits_below, fits, value_fits, converted, divided, power, apply, change_of, is_zero}
+use Rattle.f3_meaning_whole.specs.Value.{Span, Value, Number, Truth, Composite, Array, Unallocated, Allocated, Values, none, more, count, from_one, plain, spans_of, number_of}
+use Rattle.f3_meaning_whole.specs.Arithmetic.{is_even, fits, value_fits, converted, divided, power, apply, change_of, is_zero}
 use Rattle.f3_meaning_whole.specs.Act.{Here, derived_of, claim_for}
 use Rattle.f3_meaning_whole.specs.Eval.{result, built, asked}
 use Rattle.f3_meaning_whole.specs.Permitted.{same_type}
-use Rattle.f3_meaning_whole.specs.Formed.{alike, is_number, of_kind, is_scalar, is_whole_number, is_condition}
-use Rattle.f3_cell_kinds.specs.Effect.{held_kind, is_of, is_on_numbers, is_of_numbers, is_comparison, unary_fits, binary_fits}
+use Rattle.f3_meaning_whole.specs.Formed.{alike, is_number, of_kind, is_scalar, is_whole_number}
+use Rattle.f3_cell_kinds.specs.Effect.{held_kind, unary_fits, binary_fits}
 use Rattle.f3_cell_kinds.specs.Holds.{IsOf, AreElements}
 use Rattle.f3_cell_kinds.proofs.Asked.{and_is, not_is, base_same, kind_same}
 use Rattle.f3_cell_kinds.proofs.Yielding.{Yields, gives_yields, fails_yields, any_yields, bind_yields, if_yields}

@@ -1,5 +1,5 @@
 -- The value of an expression is not allocatable.
-use Rattle.std.proofs.Common.{◌≡◌, ◌∙◌, sym, ap, ℕ, Bool, false, List, [], ◌∷◌, Option, Some, None, refl}
+use Rattle.std.proofs.Common.{◌≡◌, ◌∙◌, sym, ap, ℕ, false, List, [], ◌∷◌, Option, Some, None, refl}
 use Rattle.std.specs.Prelude.{slice_get}
 use Rattle.f3_program.specs.declared.declarations.Constant.TheVariants as constant
 use Rattle.f3_program.specs.declared.declarations.Declared.{Declared}

@@ -1,12 +1,11 @@
 -- Objects that stand in the store as values of their kinds.
-use Rattle.std.specs.Prelude.{⊤, ◌≡◌, ℕ, Bool, true, false, List, [], ◌∷◌, Option, Some, None}
-use Rattle.f3_program.specs.declared.declarations.Derived.{Derived}
+use Rattle.std.specs.Prelude.{⊤, ◌≡◌, ℕ, Bool, true, false, List, ◌∷◌, Option, Some, None}
 use Rattle.f3_program.specs.declared.declarations.Kind.{Kind}
 use Rattle.f3_program.specs.declared.expression.Name.{Name}
 use Rattle.f3_program.specs.declared.expression.Name.TheVariants as name
 use Rattle.f3_program.specs.declared.program.Program.{Program}
 use Rattle.f3_meaning_whole.specs.Store.{Store, Root, Static, Local, get}
-use Rattle.f3_meaning_whole.specs.Reference.{Reference, held_at}
+use Rattle.f3_meaning_whole.specs.Reference.{held_at}
 use Rattle.f3_meaning_whole.specs.Act.{Here, whole}
 use Rattle.f3_meaning_whole.specs.Formed.{kind_of_name}
 use Rattle.f3_code.specs.declared.instruction.Instruction.{Instruction}
