@@ -21,5 +21,6 @@ pub mod Picking
 pub mod Standing
 pub mod Reading
 pub mod Starting
+pub mod Entering
 pub mod Stepping
 pub mod ReadingSteps

@@ -28,7 +28,7 @@ use Rattle.f3_cell_kinds.proofs.OfValues.{choices_over}
 use Rattle.f3_cell_kinds.proofs.Picking.{AllChosen, each_yields}
 use Rattle.f3_cell_kinds.proofs.Holding.{Keeps, stays_so}
 use Rattle.f3_cell_kinds.proofs.Standing.{in_is}
-use Rattle.f3_cell_kinds.proofs.Stepping as stepping
+use Rattle.f3_cell_kinds.proofs.Entering as entering
 use Rattle.f3_cell_kinds.proofs.Stepping.{act_holds}
 use Rattle.f3_cell_kinds.proofs.Reading.{GivesAt, yields_given, selects_given, performing_at, read_given, contents_given, opens_given, named_given, result_given, component_given, part_cell_is, part_kind_is}
 
@@ -51,21 +51,21 @@ module _ (limit : ℕ) (g : Setting) (p : Program) (code : Code) (sites : ℕ �
   here = placed l.place s.here
 
   abbrev Cells : List CellType → List Cell → Type 0
-  Cells xs stack = stepping.Cells limit g p code sites are s fits l xs stack
+  Cells xs stack = entering.Cells limit g p code sites are s fits l xs stack
 
   abbrev Kept : Next → Type 0
   Kept n = Keeps p.types.items sites n
 
   had : {xs : List CellType} → (sites s.pc).cells ≡ xs → Cells xs s.stack
-  had e = stepping.had limit g p code sites are s fits l e
+  had e = entering.had limit g p code sites are s fits l e
 
   top : {c : Cell} {x : CellType} {xs : List CellType} {stack : List Cell} → Is p.types.items x c → Cells xs stack → Cells (x ∷ xs) (c ∷ stack)
-  top e h = stepping.top limit g p code sites are s fits l e h
+  top e h = entering.top limit g p code sites are s fits l e h
 
   there : {pc : ℕ} {xs : List CellType} {stack : List Cell} {w : World} →
       sites pc ≡ record { is_reached = true; returns = (sites s.pc).returns; scope = (sites s.pc).scope; cells = xs } → Cells xs stack →
       Fits p.types.items sites (record { pc = pc; stack = stack; here = s.here; frames = s.frames; world = w })
-  there e h = stepping.there limit g p code sites are s fits l e h
+  there e h = entering.there limit g p code sites are s fits l e h
 
   -- an object on top that stands in the store
   standing : {k : Kind} {rest : List CellType} {f : Reference → List Cell → Next} → (sites s.pc).cells ≡ cell.Object k ∷ rest →
@@ -134,7 +134,7 @@ module _ (limit : ℕ) (g : Setting) (p : Program) (code : Code) (sites : ℕ �
       let c = in_is (sites s.pc).scope _ b in
       let lead = c.2.2 in
       performing_at p.types.items sites (named g x here) s.world
-      (named_given p.types.items g p c.0 x here c.2.0 s.world statics_same (stepping.known_at limit g p code sites are s fits l c.0 c.1) c.2.1
+      (named_given p.types.items g p c.0 x here c.2.0 s.world statics_same (entering.known_at limit g p code sites are s fits l c.0 c.1) c.2.1
       (λ t e. variables_at c.0 c.1 x c.2.0 t c.2.1 e)) (λ q h w. there lead.next (top h (had lead.before)))
   act_reads (i.Component n) e (k, c, j, held, at_n, part, b) = standing b.before (λ q st h is d.
       performing_at p.types.items sites (component g n (Selected here.unit) q) s.world (component_given p.types.items g k c n (Selected here.unit) q s.world types_same held at_n h is)

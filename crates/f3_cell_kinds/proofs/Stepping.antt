@@ -38,59 +38,57 @@ use Rattle.f3_cell_kinds.proofs.Scalars.{apply_yields, change_yields, plain_is, 
 use Rattle.f3_cell_kinds.proofs.Reaching.{AllPassed, associates_refer, refer_append}
 use Rattle.f3_cell_kinds.proofs.Piled.{at_arguments, at_selectors}
 use Rattle.f3_cell_kinds.proofs.Holding.{Has, elsewhere, returns_end, fit, Keeps, stays_so, goes_so, performing, if_keeps, took, on_top, at_datum, at_object, at_bound, at_bounds, at_status, at_turns, at_elements, at_objects, at_level, at_outside, at_going, at_any, at_extents}
+use Rattle.f3_cell_kinds.proofs.Entering as entering
 use Rattle.f3_cell_kinds.proofs.Standing.{in_is, not_routine, spans_rank, same_shown, array_rank, constant_is, takes_held, only_next, far_first, far_last, EntryAt, entry_at, called_refer, constructed_is}
 
 module _ (limit : ℕ) (g : Setting) (p : Program) (code : Code) (sites : ℕ → Site) (are : AreKinds p sites code) (s : State) (fits : Fits p.types.items sites s) (l : Line) where
-  abbrev pub types : List Derived
+  abbrev types : List Derived
   types = p.types.items
 
-  abbrev pub here : Here
+  abbrev here : Here
   here = placed l.place s.here
 
-  abbrev pub K : Scope → Type 0
+  abbrev K : Scope → Type 0
   K = Knows types s.here
 
-  abbrev pub o : Around
+  abbrev o : Around
   o = (sites s.pc).scope
 
-  abbrev pub r : Kind
+  abbrev r : Kind
   r = (sites s.pc).returns
 
-  abbrev pub Cells : List CellType → List Cell → Type 0
+  abbrev Cells : List CellType → List Cell → Type 0
   Cells xs stack = Has types sites K o r fits.end xs stack
 
-  abbrev pub Kept : Next → Type 0
+  abbrev Kept : Next → Type 0
   Kept n = Keeps types sites n
 
-  pub had : {xs : List CellType} → (sites s.pc).cells ≡ xs → Cells xs s.stack
-  had e = took types sites K o r fits.end s.stack e fits.stack
+  had : {xs : List CellType} → (sites s.pc).cells ≡ xs → Cells xs s.stack
+  had e = entering.had limit g p code sites are s fits l e
 
-  pub top : {c : Cell} {x : CellType} {xs : List CellType} {stack : List Cell} → Is types x c → Cells xs stack → Cells (x ∷ xs) (c ∷ stack)
-  top e h = on_top types sites K o r fits.end e h
+  top : {c : Cell} {x : CellType} {xs : List CellType} {stack : List Cell} → Is types x c → Cells xs stack → Cells (x ∷ xs) (c ∷ stack)
+  top e h = entering.top limit g p code sites are s fits l e h
 
-  -- on with the same scope
-  pub there : {pc : ℕ} {xs : List CellType} {stack : List Cell} {w : World} → sites pc ≡ record { is_reached = true; returns = r; scope = o; cells = xs } → Cells xs stack →
+  there : {pc : ℕ} {xs : List CellType} {stack : List Cell} {w : World} → sites pc ≡ record { is_reached = true; returns = r; scope = o; cells = xs } → Cells xs stack →
       Fits types sites (record { pc = pc; stack = stack; here = s.here; frames = s.frames; world = w })
-  there e h = fit types sites e fits.scope h fits.frames
+  there e h = entering.there limit g p code sites are s fits l e h
 
-  pub goes : {out : List Event} {pc : ℕ} {xs : List CellType} {stack : List Cell} {w : World} → sites pc ≡ record { is_reached = true; returns = r; scope = o; cells = xs } → Cells xs stack →
+  goes : {out : List Event} {pc : ℕ} {xs : List CellType} {stack : List Cell} {w : World} → sites pc ≡ record { is_reached = true; returns = r; scope = o; cells = xs } → Cells xs stack →
       Kept (state.Goes out (record { pc = pc; stack = stack; here = s.here; frames = s.frames; world = w }))
-  goes e h = goes_so types sites (there e h)
+  goes e h = entering.goes limit g p code sites are s fits l e h
 
-  -- whatever a part of a run gives
-  pub does : {A : Type 0} (x : Ran A) {f : A → World → State} → ((y : A) (w : World) → Fits types sites (f y w)) → Kept (performs x s.world f)
-  does x h = performing types sites x s.world (any_yields x) (λ y t w. h y w)
+  does : {A : Type 0} (x : Ran A) {f : A → World → State} → ((y : A) (w : World) → Fits types sites (f y w)) → Kept (performs x s.world f)
+  does x h = entering.does limit g p code sites are s fits l x h
 
-  pub datum : {k : Kind} {rest : List CellType} {f : Value → List Cell → Next} (stack : List Cell) → Cells (cell.Datum k ∷ rest) stack →
+  datum : {k : Kind} {rest : List CellType} {f : Value → List Cell → Next} (stack : List Cell) → Cells (cell.Datum k ∷ rest) stack →
       ((v : Value) (st : List Cell) → IsOf types k v → Cells rest st → Kept (f v st)) → Kept (on_datum stack f)
-  datum stack h f = at_datum types sites K o r fits.end stack h f
+  datum stack h f = entering.datum limit g p code sites are s fits l stack h f
 
-  pub object : {k : Kind} {rest : List CellType} {f : Reference → List Cell → Next} (stack : List Cell) → Cells (cell.Object k ∷ rest) stack →
+  object : {k : Kind} {rest : List CellType} {f : Reference → List Cell → Next} (stack : List Cell) → Cells (cell.Object k ∷ rest) stack →
       ((q : Reference) (st : List Cell) → Refers k q → Cells rest st → Kept (f q st)) → Kept (on_object stack f)
-  object stack h f = at_object types sites K o r fits.end stack h f
+  object stack h f = entering.object limit g p code sites are s fits l stack h f
 
-  -- the same, where a statement goes on with more or less lent
-  pub goes_by : {out : List Event} {pc : ℕ} {xs : List CellType} {stack : List Cell} {w : World} (place : Place) (lent : List Reference) →
+  goes_by : {out : List Event} {pc : ℕ} {xs : List CellType} {stack : List Cell} {w : World} (place : Place) (lent : List Reference) →
       sites pc ≡ record { is_reached = true; returns = r; scope = o; cells = xs } → Cells xs stack → Kept (state.Goes out (record {
         pc = pc;
         stack = stack;
@@ -106,40 +104,10 @@ module _ (limit : ℕ) (g : Setting) (p : Program) (code : Code) (sites : ℕ �
         frames = s.frames;
         world = w;
       }))
-  goes_by place lent e h = goes_so types sites (fit types sites e fits.scope h fits.frames)
+  goes_by place lent e h = entering.goes_by limit g p code sites are s fits l place lent e h
 
-  abbrev pub in_case : Value → Here
-  in_case x = record {
-    place = s.here.place;
-    unit = s.here.unit;
-    level = s.here.level;
-    variables = s.here.variables;
-    names = s.here.names;
-    lent = s.here.lent;
-    selected = x;
-  }
-
-  abbrev pub associating_here : List Reference → Here
-  associating_here rs = record {
-    place = s.here.place;
-    unit = s.here.unit;
-    level = s.here.level;
-    variables = s.here.variables;
-    names = s.here.names ++ rs;
-    lent = rs ++ s.here.lent;
-    selected = s.here.selected;
-  }
-
-  -- what statements may name there
-  pub known_at : (c : Scope) → o ≡ Told c → K c
-  known_at c e = subst (λ o. InScope types K o) e fits.scope
-
-  -- where a procedure goes on elsewhere
-  pub out_of : {Known' : Scope → Type 0} {xs : List CellType} {stack : List Cell} (o' : Around) (c : Scope) → o ≡ Told c → Cells xs stack → Has types sites Known' o' r fits.end xs stack
-  out_of {Known' = Known'} {xs = xs} {stack = stack} o' c e h = elsewhere types sites {Known' = Known'} o' xs stack (not_routine o c e) h
-
-  pub at_caller : (o : Around) → o ≡ Untold → o ≡ InRoutine → ⊥
-  at_caller o e f = cc
+  known_at : (c : Scope) → o ≡ Told c → K c
+  known_at c e = entering.known_at limit g p code sites are s fits l c e
 
   pub act_holds : (x : Instruction) → is_reading x ≡ false → kinds.Goes p sites s.pc l x → Kept (act limit g code x l.value here s)
   act_holds (i.Push c) e (fit, b) = goes b.next (top (constant_is types c fit) (had b.before))
@@ -228,19 +196,8 @@ module _ (limit : ℕ) (g : Setting) (p : Program) (code : Code) (sites : ℕ �
   act_holds (i.Meets x) e b =
       let c = in_is o _ b in
       goes c.2.3.next (top refl (had c.2.3.before))
-  act_holds i.Selecting e b =
-      let c = in_is o _ b in
-      let lead = c.2.2 in
-      let known = known_at c.0 c.1 in
-      datum s.stack (had lead.before) (λ x st h q.
-      goes_so types sites (fit types sites {here = in_case x} lead.next (known.0, known.1, h)
-      (on_top types sites (Knows types (in_case x)) (Told (selecting c.2.0 c.0)) r fits.end known (out_of (Told (selecting c.2.0 c.0)) c.0 c.1 q)) fits.frames))
-  act_holds (i.Leave by d) e b =
-      let c = in_is o _ b in
-      let lead = c.2.1 in
-      at_outside types sites K o r fits.end s.stack (had lead.before) (λ outer st known q.
-      goes_so types sites (fit types sites {here = outer} lead.far.0 known
-      (on_top types sites (Knows types outer) (Told c.2.0) r fits.end tt (out_of (Told c.2.0) c.0 c.1 q)) fits.frames))
+  act_holds i.Selecting e b = entering.selecting_holds limit g p code sites are s fits l b
+  act_holds (i.Leave by d) e b = entering.leave_holds limit g p code sites are s fits l by d b
   act_holds (i.Depart cycle exit) e b = at_going types sites K o r fits.end s.stack (had b.before) (λ flow st q. by_flow flow st q)
     where
       by_flow : (flow : Flow) (st : List Cell) → Cells b.rest st → Kept (departs flow cycle exit s st)
@@ -299,35 +256,14 @@ module _ (limit : ℕ) (g : Setting) (p : Program) (code : Code) (sites : ℕ �
   act_holds i.Dummies e b =
       let c = in_is o _ b in
       goes c.2.next (top (known_at c.0 c.1).1 (had c.2.before))
-  act_holds i.Outward e b =
-      let c = in_is o _ b in
-      by_frames c.0 c.1 c.2.before c.2.next s.frames fits.frames
-    where
-      by_frames : (c : Scope) → o ≡ Told c → {rest : List CellType} → (sites s.pc).cells ≡ rest →
-          sites (s.pc + 1) ≡ record { is_reached = true; returns = r; scope = Untold; cells = cell.Objects c.names ∷ rest } →
-          (frames : List Frame) → FramesHold types sites fits.end s.frames → Kept (outward frames s)
-      by_frames c is before next [] h = stays_so types sites
-      by_frames c is before next (f ∷ fs) h = goes_so types sites (fit types sites {here = f.caller} next tt
-          (on_top types sites (Knows types f.caller) Untold r fits.end (known_at c is).1 (out_of Untold c is (had before))) h)
+  act_holds i.Outward e b = entering.outward_holds limit g p code sites are s fits l b
   act_holds (i.NextArgument n d) e (k, ks, b) = at_objects types sites K o r fits.end s.stack (had b.before)
       (λ rs st h q. by_objects rs (is_held (passed_at n (passed_in s.frames))) st h q)
     where
       by_objects : (rs : List Reference) (held : Bool) (st : List Cell) → AllRefer (k ∷ ks) rs → Cells b.rest st → Kept (next_argument rs held d s st)
       by_objects [] held st h q = absurd h
       by_objects (x ∷ rs) held st h q = if_keeps types sites held (λ t. goes b.next (top h.0 (top h.1 q))) (λ t. goes b.far.0 (top h.1 q))
-  act_holds i.Return e (untold, ks, b) = at_objects types sites K o r fits.end s.stack (had b.before) (λ rs st h q. datum st q (λ x st' f q'.
-      let same = returns_end types sites b.rest st' (at_caller o untold) q' in
-      by_frames s.frames fits.frames x (subst (λ (k : Kind). IsOf types k x) same f)))
-    where
-      by_frames : (frames : List Frame) → FramesHold types sites fits.end frames → (x : Value) → IsOf types fits.end x → Kept (returned frames s x)
-      by_frames [] h x f = stays_so types sites
-      by_frames (y ∷ ys) h x f = does (leave y.level) (λ done w. record {
-        is_reached = h.2;
-        scope = h.4;
-        end = h.1;
-        stack = subst (λ cs. Stand types sites (Knows types y.here) (sites y.pc).scope (sites y.pc).returns cs (state.Datum x ∷ y.stack) h.1) (sym h.3) (f, h.5);
-        frames = h.6;
-      })
+  act_holds i.Return e b = entering.return_holds limit g p code sites are s fits l b
   act_holds (i.GoBack d) e b = goes_so types sites (record {
     is_reached = ap (λ (z : Site). z.is_reached) b ∙ fits.is_reached;
     scope = subst (λ (z : Site). InScope types K z.scope) (sym b) fits.scope;
@@ -335,90 +271,16 @@ module _ (limit : ℕ) (g : Setting) (p : Program) (code : Code) (sites : ℕ �
     stack = subst (λ (z : Site). Stand types sites K z.scope z.returns z.cells s.stack fits.end) (sym b) fits.stack;
     frames = fits.frames;
   })
-  act_holds (i.Routine t) e b = object s.stack (had b.before) (λ q st h c. by_routines code.routines are.routines q st h c)
-    where
-      by_routines : (pcs : List ℕ) → RoutinesBegin sites pcs → (q : Reference) (st : List Cell) → Refers (of_kind (base.Derived t) 0) q → Cells b.rest st →
-          Kept (routine_at pcs t (λ pc. state.Goes [] (record { pc = pc; stack = state.Object q ∷ To (s.pc + 1) s.here.place ∷ st; here = here; frames = s.frames; world = s.world }))
-          (state.Goes [] (record { pc = s.pc + 1; stack = s.stack; here = s.here; frames = s.frames; world = s.world })))
-      by_routines [] begin q st h c = goes b.next (had b.before)
-      by_routines (pc ∷ pcs) begin q st h c = if_keeps types sites (nat_eq t (length pcs))
-          (λ e. goes_so types sites (fit types sites {o = InRoutine} {here = here} begin.0 tt (within q st h c (length pcs) (eqb-true t (length pcs) e)) fits.frames))
-          (λ e. by_routines pcs begin.1 q st h c)
-        where
-          within : (q : Reference) (st : List Cell) → Refers (of_kind (base.Derived t) 0) q → Cells b.rest st → (u : ℕ) → t ≡ u →
-              Has types sites (Knows types here) InRoutine (of_kind (base.Derived u) 0) fits.end (cell.Object (of_kind (base.Derived u) 0) ∷ [])
-              (state.Object q ∷ To (s.pc + 1) s.here.place ∷ st)
-          within q st h c u same =
-              let back = s.pc + 1 in
-              record {
-                by = (
-                  subst (λ n. Refers (of_kind (base.Derived n) 0) q) same h,
-                  (
-                    refl,
-                    b.rest,
-                    ap (λ (z : Site). z.is_reached) b.next,
-                    ap (λ (z : Site). z.cells) b.next ∙ ap (λ n. cell.Object (of_kind (base.Derived n) 0) ∷ b.rest) same,
-                    subst (λ (z : Site). InScope types K z.scope) (sym b.next) fits.scope,
-                    subst (λ (z : Site). Stand types sites K z.scope z.returns b.rest st fits.end) (sym b.next) c.by,
-                  ),
-                );
-              }
-  act_holds i.Back e b = object s.stack (had b) (λ q st h c. by_place st q h c)
-    where
-      by_place : (st : List Cell) (q : Reference) → Refers r q → Cells [] st → Kept (on_to st (λ pc place st. state.Goes [] (record {
-        pc = pc;
-        stack = state.Object q ∷ st;
-        here = meaning.at place s.here;
-        frames = s.frames;
-        world = s.world;
-      })))
-      by_place [] q h c = stays_so types sites
-      by_place (To pc place ∷ st) q h c = goes_so types sites (record {
-        is_reached = c.by.2;
-        scope = c.by.4;
-        end = fits.end;
-        stack = subst (λ cs. Stand types sites K (sites pc).scope (sites pc).returns cs (state.Object q ∷ st) fits.end) (sym c.by.3) (h, c.by.5);
-        frames = fits.frames;
-      })
-      by_place (x ∷ st) q h c = absurd c.by
+  act_holds (i.Routine t) e b = entering.routine_holds limit g p code sites are s fits l t b
+  act_holds i.Back e b = entering.back_holds limit g p code sites are s fits l b
   act_holds (i.Array n) e (gs, k, many, is, values, b) = at_arguments types sites K o r fits.end gs n s.stack many (had b.before) (λ ps st are q.
       performing types sites (built (Array (record { lower = pos 1; extent = length (given ps) } ∷ []) (joined (given ps))) here) s.world
       (built_yields types (IsOf types k) (Array (record { lower = pos 1; extent = length (given ps) } ∷ []) (joined (given ps))) here (constructed_is types gs ps k is values are)) (λ y f w. there b.next (top f q)))
-  act_holds (i.Call f n) e (gs, q, k, many, at_f, is, b) = at_arguments types sites K o r fits.end gs n s.stack many (had b.before) (λ ps st passed c.
-      if_keeps types sites (nat_lt (length s.frames) limit) (λ t. by_entry ps st passed c (entry_at sites p.procedures.items code.procedures f q are.procedures at_f)) (λ t. stays_so types sites))
-    where
-      by_entry : (ps : List Passed) (st : List Cell) → AllPassed types gs ps → Cells b.rest st → EntryAt sites code.procedures f q → Kept (called_at (slice_get code.procedures f) s st here ps)
-      by_entry ps st are c x = subst (λ o. Kept (called_at o s st here ps)) (sym x.at) (does (begun ps x.entry.initial here) (λ level w.
-          fit types sites x.begins (
-            x.variables,
-            subst (λ ds. AllRefer (kinds_of q.dummies.items) (dummies 0 ds ps level here.unit)) (sym x.dummies)
-                (called_refer p types f gs ps q k level here.unit at_f is are),
-            tt,
-          ) (record { by = refl }) (
-            b.rest,
-            fits.end,
-            ap (λ (z : Site). z.is_reached) b.next,
-            ap (λ (z : Site). z.cells) b.next,
-            subst (λ (z : Site). InScope types K z.scope) (sym b.next) fits.scope,
-            subst (λ (z : Site). Stand types sites K z.scope z.returns b.rest st fits.end) (sym b.next) c.by,
-            fits.frames,
-          )))
-  act_holds (i.Associate n) e b =
-      let c = in_is o _ b in
-      let ks = c.2.0 in
-      let lead = c.2.2 in
-      let known = known_at c.0 c.1 in
-      at_selectors types sites K o r fits.end ks n s.stack c.2.1 (had lead.before) (λ found st are q.
-      does (looks (λ store. length store.levels) >>= λ level. enter (held_by found) >>= λ done. gives level) (λ level w.
-      let rs = associates found level 0 here.unit in
-      let refs = associates_refer types ks found level 0 here.unit are in
-      let inner = associating_here rs in
-      let known' : Knows types inner (associating ks c.0) = (known.0, refer_append types c.0.names ks s.here.names rs known.1 refs, known.2) in
-      fit types sites {here = inner} lead.next known'
-      (on_top types sites (Knows types inner) (Told (associating ks c.0)) r fits.end known (on_top types sites (Knows types inner) (Told (associating ks c.0)) r fits.end refs
-      (out_of (Told (associating ks c.0)) c.0 c.1 q))) fits.frames))
+  act_holds (i.Call f n) e b = entering.call_holds limit g p code sites are s fits l f n b
+  act_holds (i.Associate n) e b = entering.associate_holds limit g p code sites are s fits l n b
   act_holds i.Finish e b = stays_so types sites
   act_holds x e b = cc
+
 
 module _ (limit : ℕ) (g : Setting) (p : Program) (code : Code) (sites : ℕ → Site) (are : AreKinds p sites code) where
   does_holds : (s : State) (o : Option Line) (l : Line) → slice_get code.lines s.pc ≡ o → o ≡ Some l → is_reading l.act ≡ false → Fits p.types.items sites s →
