@@ -1,5 +1,6 @@
 pub mod Parts
 pub mod Asked
+pub mod Given
 pub mod OfValues
 pub mod Steps
 pub mod OfWork

@@ -25,67 +25,9 @@ use Rattle.f3_cell_kinds.specs.Values.{kind_or, at, kind_of_part, kind_of_proced
 use Rattle.f3_cell_kinds.specs.Sense.{value_fits, argument_fits, arguments_fit, object_fits, selection_fits, subscripts_fit, subscript_fits}
 use Rattle.f3_cell_kinds.proofs.Asked.{some_same, found_is, found_kind, found_at, some_at, only_is, unless_is, and_is, not_is, some_kind, kind_is, itself}
 use Rattle.f3_cell_kinds.proofs.Parts.{in_scope, Part, Onto, nothing, seq, Falls, plain, first, last, onto_same}
-
--- ---- many on top
-
-pub arguments_over : (gs : List Given) (xs h : List CellType) → arguments_on gs (xs ++ h) ≡ arguments_on gs xs ++ h
-arguments_over [] xs h = refl
-arguments_over (g ∷ gs) xs h = arguments_over gs (cell.Argument g ∷ xs) h
-
-pub choices_over : (bs : List Bool) (xs h : List CellType) → choices_on bs (xs ++ h) ≡ choices_on bs xs ++ h
-choices_over [] xs h = refl
-choices_over (b ∷ bs) xs h = choices_over bs (cell.Choice b ∷ xs) h
-
-triplets_count : {m : _} (xs : l.Row_of-Subscript m) → length (triplets xs) ≡ subscript_count xs
-triplets_count l.end_of-Subscript = refl
-triplets_count (l.more_of-Subscript x rest) = ap suc (triplets_count rest)
-
-result_held : (o : Option Declared) → result_kind o ≡ held_kind (declared_kind o)
-result_held None = refl
-result_held (Some y) = refl
+use Rattle.f3_cell_kinds.proofs.Given.{arguments_over, choices_over, triplets_count, result_held, arguments_count, argument_is, arguments_are, subscript_is, subscripts_are, picked, contents_of}
 
 module _ (p : Program) (sites : ℕ → Site) (r : Kind) (s : Scope) where
-  arguments_count : {m : _} (xs : e.Row_of-Argument m) → length (arguments_at p r s xs) ≡ argument_count xs
-  arguments_count e.end_of-Argument = refl
-  arguments_count (e.more_of-Argument x rest) = ap suc (arguments_count rest)
-
-  argument_is : (x : a.Argument) (g : Given) → argument p s.variables s.names x ≡ Some g → g ≡ argument_at p r s x
-  argument_is (a.Value' k q x) g e = let f = found_kind (value_kind p s.variables s.names x) _ g e in sym (some_same f.1)
-  argument_is (a.Variable' k q x) g e = let f = found_kind (object_kind p s.variables s.names x) _ g e in sym (some_same f.1)
-
-  arguments_are : {m : _} (xs : e.Row_of-Argument m) (gs : List Given) → given_all (arguments p s.variables s.names xs) ≡ Some gs → gs ≡ arguments_at p r s xs
-  arguments_are e.end_of-Argument gs e = sym (some_same e)
-  arguments_are (e.more_of-Argument x rest) gs e =
-      let f = found_is (argument p s.variables s.names x) _ gs e in
-      let k = found_is (given_all (arguments p s.variables s.names rest)) _ gs f.2 in
-      let same : f.0 ∷ k.0 ≡ gs = some_same k.2 in
-      sym same ∙ ap (λ y. y ∷ k.0) (argument_is x f.0 f.1) ∙ ap (λ ys. argument_at p r s x ∷ ys) (arguments_are rest k.0 k.1)
-
-  subscript_is : (x : u.Subscript) (b : Bool) → subscript p s.variables s.names x ≡ Some b → b ≡ is_triplet x
-  subscript_is (u.At' q x) b e = sym (only_is _ false b e).1
-  subscript_is (u.Range' b q x c q' y t z) b' e = sym (only_is _ true b' e).1
-
-  subscripts_are : {m : _} (xs : l.Row_of-Subscript m) (bs : List Bool) → given_all (subscripts p s.variables s.names xs) ≡ Some bs → bs ≡ triplets xs
-  subscripts_are l.end_of-Subscript bs e = sym (some_same e)
-  subscripts_are (l.more_of-Subscript x rest) bs e =
-      let f = found_is (subscript p s.variables s.names x) _ bs e in
-      let k = found_is (given_all (subscripts p s.variables s.names rest)) _ bs f.2 in
-      let same : f.0 ∷ k.0 ≡ bs = some_same k.2 in
-      sym same ∙ ap (λ y. y ∷ k.0) (subscript_is x f.0 f.1) ∙ ap (λ ys. is_triplet x ∷ ys) (subscripts_are rest k.0 k.1)
-
-  -- elements, by an object or by each element of an array
-  picked : (b is_opened : Bool) (o : Option (List Bool)) (bs : List Bool) (k j y : Kind) → ((z : List Bool) → o ≡ Some z → z ≡ bs) →
-      (if b then sectioned p s.variables s.names is_opened o j else element_of_each p s.variables s.names is_opened o k j) ≡ Some y →
-      (o ≡ Some bs) × ((if b then sectioned p [] [] is_opened (Some bs) j else element_of_each p [] [] is_opened (Some bs) k j) ≡ Some y)
-  picked true is_opened o bs k j y one e = found_at o bs _ y one e
-  picked false is_opened o bs k j y one e = found_at o bs _ y one e
-
-  -- the contents of a component are those of a component of one object
-  contents_of : (b : Bool) (k j y : Kind) → (if b then taken p s.variables s.names l.Contents j else taken_of_each p s.variables s.names l.Contents k j) ≡ Some y →
-      ((if b then Some j else only (is_scalar j) (of_kind j.of k.rank)) ≡ Some j) × (j.is_allocatable ≡ true) × (held_kind j ≡ y)
-  contents_of true k j y e = let f = only_is j.is_allocatable _ y e in (refl, f.0, f.1)
-  contents_of false k j y e = cc
-
   from_same : {l : Line} {m : Site} (h h' : List CellType) → h ≡ h' → Falls p sites l (at r s h) m → Falls p sites l (at r s h') m
   from_same {l = l} {m = m} h h' e f = subst (λ x. Falls p sites l (at r s x) m) e f
 
@@ -148,25 +90,25 @@ module _ (p : Program) (sites : ℕ → Site) (r : Kind) (s : Scope) where
     value_part (e.Array' n xs) o h k is fit =
         let all = given_all (arguments p s.variables s.names xs) in
         let gs = arguments_at p r s xs in
-        let f = found_at all gs _ k (arguments_are xs) is in
+        let f = found_at all gs _ k (arguments_are p r s xs) is in
         let w = and_is _ _ fit in
-        let v = some_at all gs _ (arguments_are xs) w.0 in
+        let v = some_at all gs _ (arguments_are p r s xs) w.0 in
         seq p sites (arguments_part xs o h gs f.0 w.1) (last p sites (from_same _ _ (sym (arguments_over gs [] h))
         (plain p sites (line o (i.Array (argument_count xs))) (at r s h) (arguments_on gs []) (cell.Datum k ∷ [])
-        (λ pc live c b. (gs, k, arguments_count xs, f.1, v, b)))))
+        (λ pc live c b. (gs, k, arguments_count p r s xs, f.1, v, b)))))
     value_part (e.Structure' t n xs) o h k is fit =
         let all = given_all (arguments p s.variables s.names xs) in
         let gs = arguments_at p r s xs in
-        let f = found_at all gs _ k (arguments_are xs) is in
+        let f = found_at all gs _ k (arguments_are p r s xs) is in
         let w = and_is _ _ fit in
-        let v = some_at all gs _ (arguments_are xs) w.0 in
+        let v = some_at all gs _ (arguments_are p r s xs) w.0 in
         seq p sites (arguments_part xs o h gs f.0 w.1) (last p sites (from_same _ _ (sym (arguments_over gs [] h))
         (plain p sites (line o (i.Structure t (argument_count xs))) (at r s h) (arguments_on gs []) (cell.Datum k ∷ [])
-        (λ pc live c b. (gs, k, arguments_count xs, f.1, v, b)))))
+        (λ pc live c b. (gs, k, arguments_count p r s xs, f.1, v, b)))))
     value_part (e.Call' t n xs) o h k is fit =
         let all = given_all (arguments p s.variables s.names xs) in
         let gs = arguments_at p r s xs in
-        let f = found_at all gs _ k (arguments_are xs) is in
+        let f = found_at all gs _ k (arguments_are p r s xs) is in
         let v = found_is _ _ k f.1 in
         let g = only_is _ _ k v.2 in
         let j = returned p t in
@@ -178,7 +120,7 @@ module _ (p : Program) (sites : ℕ → Site) (r : Kind) (s : Scope) where
           gs,
           v.0,
           k,
-          arguments_count xs,
+          arguments_count p r s xs,
           v.1,
           f.1,
           subst (λ (y : Kind). Leads sites pc (on (sites pc) (arguments_on gs []) (cell.Datum y ∷ []))) same b,
@@ -192,14 +134,14 @@ module _ (p : Program) (sites : ℕ → Site) (r : Kind) (s : Scope) where
         (last p sites (plain p sites (line o i.IsAllocated) (at r s h) (cell.Object j ∷ []) (cell.Datum truth ∷ []) (λ pc live c b. (j, g.0, b)))))
     value_part (e.Size' q x) o h k is fit =
         let g = argument_at p r s x in
-        let f = found_at (argument p s.variables s.names x) g _ k (argument_is x) is in
+        let f = found_at (argument p s.variables s.names x) g _ k (argument_is p r s x) is in
         let w = only_is _ _ k f.1 in
         let v = and_is _ _ w.0 in
         datum_same _ _ w.1 (seq p sites (bounds_part x o h f.0 (not_is _ v.0) fit)
         (last p sites (plain p sites (line o i.Size) (at r s h) (cell.Bounds g.kind.rank ∷ []) (cell.Datum number ∷ []) (λ pc live c b. (g.kind.rank, b)))))
     value_part (e.Bound' n q x q' y) o h k is fit =
         let g = argument_at p r s x in
-        let f = found_at (argument p s.variables s.names x) g _ k (argument_is x) is in
+        let f = found_at (argument p s.variables s.names x) g _ k (argument_is p r s x) is in
         let f' = found_kind (value_kind p s.variables s.names y) _ k f.1 in
         let j = value_at p r s y in
         let w = only_is _ _ k f'.1 in
@@ -271,7 +213,7 @@ module _ (p : Program) (sites : ℕ → Site) (r : Kind) (s : Scope) where
     select_part (l.Elements' is_opened n xs) o h j k is fit =
         let all = given_all (subscripts p s.variables s.names xs) in
         let bs = triplets xs in
-        let f = found_at all bs _ k (subscripts_are xs) is in
+        let f = found_at all bs _ k (subscripts_are p r s xs) is in
         seq p sites (chosen_part xs o (cell.Object j ∷ h) bs f.0 fit) (last p sites (from_same _ _ (sym (choices_over bs (cell.Object j ∷ []) h))
         (plain p sites (line o (i.Select is_opened (subscript_count xs))) (at r s h) (choices_on bs (cell.Object j ∷ [])) (cell.Object k ∷ [])
         (λ pc live c b. (j, bs, k, triplets_count xs, f.1, b)))))
@@ -286,7 +228,7 @@ module _ (p : Program) (sites : ℕ → Site) (r : Kind) (s : Scope) where
     select_of_part l.Contents o n h j m k held part is fit =
         let y = component_at p j n in
         let same : y ≡ m.declared.kind = ap kind_of_part part in
-        let f = contents_of (nat_eq j.rank 0) j m.declared.kind k is in
+        let f = contents_of p r s (nat_eq j.rank 0) j m.declared.kind k is in
         let one : part_kind j m.declared.kind ≡ Some y =
         f.0 ∙ ap (λ (z : Kind). Some z) (sym same) in
         let held' : y.is_allocatable ≡ true = ap (λ (z : Kind). z.is_allocatable) same ∙ f.1 in
@@ -298,7 +240,7 @@ module _ (p : Program) (sites : ℕ → Site) (r : Kind) (s : Scope) where
         let bs = triplets xs in
         let y = component_at p j n in
         let same : y ≡ m.declared.kind = ap kind_of_part part in
-        let f = picked (nat_eq j.rank 0) is_opened all bs j m.declared.kind k (subscripts_are xs) is in
+        let f = picked p r s (nat_eq j.rank 0) is_opened all bs j m.declared.kind k (subscripts_are p r s xs) is in
         first p sites (plain p sites (line o (i.ComponentOf n)) (at r s h) (cell.Object j ∷ []) (part_cell j y ∷ cell.Object j ∷ [])
         (λ pc live c b. (
           j,

@@ -10,7 +10,7 @@ use Rattle.f3_code.specs.State.{Cell, Next}
 use Rattle.f3_code.specs.Machine.{on_many, argument_of, selector_of}
 use Rattle.f3_cell_kinds.specs.Types.{Scope, Around, CellType, Site, arguments_on, selectors_on}
 use Rattle.f3_cell_kinds.specs.Types as cell
-use Rattle.f3_cell_kinds.proofs.OfValues.{arguments_over}
+use Rattle.f3_cell_kinds.proofs.Given.{arguments_over}
 use Rattle.f3_cell_kinds.proofs.OfActions.{selectors_over}
 use Rattle.f3_cell_kinds.proofs.Reaching.{AllPassed, AllSelected}
 use Rattle.f3_cell_kinds.proofs.Holding.{Has, Keeps, stays_so}

@@ -24,7 +24,7 @@ use Rattle.f3_cell_kinds.specs.Holds.{Reaches, Refers, IsOf, Is, InScope, Fits}
 use Rattle.f3_cell_kinds.specs.Stands.{CellsStand, VariablesStand, Stands, is_building}
 use Rattle.f3_cell_kinds.proofs.Asked.{only_is, and_is, not_is}
 use Rattle.f3_cell_kinds.proofs.Scalars.{no_rank, no_both}
-use Rattle.f3_cell_kinds.proofs.OfValues.{choices_over}
+use Rattle.f3_cell_kinds.proofs.Given.{choices_over}
 use Rattle.f3_cell_kinds.proofs.Picking.{AllChosen, each_yields}
 use Rattle.f3_cell_kinds.proofs.Holding.{Keeps, stays_so}
 use Rattle.f3_cell_kinds.proofs.Standing.{in_is}
