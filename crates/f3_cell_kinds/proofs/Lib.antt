@@ -21,6 +21,7 @@ pub mod Parting
 pub mod Picking
 pub mod Standing
 pub mod Reading
+pub mod Initials
 pub mod Starting
 pub mod Entering
 pub mod Stepping

@@ -1,7 +1,11 @@
 -- What IsWellFormed leaves open of a program that makes sense.
-use Rattle.std.specs.Prelude.{◌≡◌, Bool, true, not, ◌&&◌, ℕ, [], ◌∷◌, map, Option, None, Some, slice_get}
+use Rattle.std.specs.Prelude.{◌≡◌, Bool, true, not, ◌&&◌, ◌||◌, nat_eq, nat_lt, ℕ, List, [], ◌∷◌, map, length, Option, None, Some, slice_get}
 use Rattle.f3_program.specs.declared.declarations.Base.{Base}
 use Rattle.f3_program.specs.declared.declarations.Base.TheVariants as base
+use Rattle.f3_program.specs.declared.declarations.Component.{Component}
+use Rattle.f3_program.specs.declared.declarations.Constant.{Constant}
+use Rattle.f3_program.specs.declared.declarations.Constant.TheVariants as constant
+use Rattle.f3_program.specs.declared.declarations.Declared.{Declared}
 use Rattle.f3_program.specs.declared.declarations.Derived.{Derived}
 use Rattle.f3_program.specs.declared.declarations.Final.{Final}
 use Rattle.f3_program.specs.declared.declarations.Kind.{Kind}
@@ -19,8 +23,12 @@ use Rattle.f3_program.specs.declared.statement.Selector.TheVariants as selector
 use Rattle.f3_program.specs.declared.statement.Statement as s
 use Rattle.f3_program.specs.declared.program.Procedure.{Procedure}
 use Rattle.f3_program.specs.declared.program.Program.{Program}
+use Rattle.f3_program.specs.declared.program.Static as x
+use Rattle.f3_meaning_whole.specs.Value.{count}
+use Rattle.f3_meaning_whole.specs.Shape.{spans_declared}
+use Rattle.f3_meaning_whole.specs.Permitted.{same_type}
 use Rattle.f3_meaning_whole.specs.Exec.{declared_in}
-use Rattle.f3_meaning_whole.specs.Formed.{all, some, given_all, of_kind, value_kind, arguments, referenced, selected, or_none, kinds_of}
+use Rattle.f3_meaning_whole.specs.Formed.{is_number, all, some, given_all, of_kind, value_kind, arguments, referenced, selected, or_none, kinds_of}
 use Rattle.f3_cell_kinds.specs.Types.{Scope, selecting, associating}
 use Rattle.f3_cell_kinds.specs.Effect.{is_word, unary_fits, binary_fits, are_values, are_for, range_fits}
 use Rattle.f3_cell_kinds.specs.Values.{kind_or}
@@ -123,9 +131,22 @@ module _ (p : Program) where
   abbrev pub final_fits : Base → Final → Bool
   final_fits of f = some (referenced p [] [] f.procedure (record { number = 0; kind = of_kind of f.rank; is_variable = true } ∷ [])) (λ k. true)
 
+-- a constant is of a type
+abbrev pub constant_fits : Base → Constant → Bool
+constant_fits of (constant.Number z) = is_number of && is_word (constant.Number z)
+constant_fits of (constant.Truth b) = same_type of base.Logical
+
+-- what is declared is initialized with constants of its type: one for all elements, or one for each (5.1, 4.5.3.4)
+abbrev pub initial_fits : Declared → Bool
+initial_fits d = all (constant_fits d.kind.of) d.initial.items && (nat_lt (length d.initial.items) 2
+    || nat_eq (length d.initial.items) (count (spans_declared d.dimensions.items)))
+
 -- Beside IsWellFormed a program that makes sense has this.
 pub record MakesSense (p : Program) : Type 0 where
   pub finals : (t : ℕ) (y : Derived) → slice_get p.types.items t ≡ Some y → all (final_fits p (base.Derived t)) y.finals.items ≡ true
+  pub components : (t : ℕ) (y : Derived) → slice_get p.types.items t ≡ Some y → all (λ (c : Component). initial_fits c.declared) y.components.items ≡ true
+  pub statics : all (λ (y : x.Static). initial_fits y.declared) p.statics.items ≡ true
+  pub variables : all (λ (q : Procedure). all initial_fits (declared_in q)) (p.main ∷ p.procedures.items) ≡ true
   -- the main program has no dummies
   pub main : p.main.dummies.items ≡ []
   pub statements : all (procedure_fits p) (p.main ∷ p.procedures.items) ≡ true

@@ -1,7 +1,7 @@
 //! Of which kind each cell is on the stack of an activation at each line of the code of a program, known before the run.
 #![tactic(auto)]
 
-ghost use Rattle.f3_cell_kinds.specs.Laws.{CodeHasKinds, KindsHaveSorts, ReadingStepsHold, StartFits, StepsHold};
+ghost use Rattle.f3_cell_kinds.specs.Laws.{CodeHasKinds, InitialsFit, KindsHaveSorts, ReadingStepsHold, StartFits, StepsHold};
 
 /// The code of every program that makes sense has kinds, known before the run: at each line the cells are of these on whatever way the
 /// machine comes to it (own rule).
@@ -29,4 +29,10 @@ pub fn reading_steps_hold()
 /// The state in which a program that makes sense begins has cells that hold what their types say (own rule).
 pub fn start_fits()
     ensures { StartFits }
+{}
+
+/// Of each type the initial value is one of it, and each variable of a program that makes sense begins with a value of its kind
+/// (ISO/IEC 1539-1:2004, 4.5.3.4, 5.1; own rule).
+pub fn initials_fit()
+    ensures { InitialsFit }
 {}
