@@ -26,3 +26,4 @@ pub mod Starting
 pub mod Entering
 pub mod Stepping
 pub mod ReadingSteps
+pub mod Running

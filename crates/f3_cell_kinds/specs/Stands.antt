@@ -1,5 +1,5 @@
 -- Objects that stand in the store as values of their kinds.
-use Rattle.std.specs.Prelude.{⊤, ◌≡◌, ℕ, Bool, true, false, List, ◌∷◌, Option, Some, None}
+use Rattle.std.specs.Prelude.{⊤, ◌≡◌, ℕ, Bool, true, false, List, ◌∷◌, Option, Some, None, slice_get}
 use Rattle.f3_program.specs.declared.declarations.Kind.{Kind}
 use Rattle.f3_program.specs.declared.expression.Name.{Name}
 use Rattle.f3_program.specs.declared.expression.Name.TheVariants as name
@@ -10,7 +10,7 @@ use Rattle.f3_meaning_whole.specs.Act.{Here, whole}
 use Rattle.f3_meaning_whole.specs.Formed.{kind_of_name}
 use Rattle.f3_code.specs.declared.instruction.Instruction.{Instruction}
 use Rattle.f3_code.specs.declared.instruction.Instruction.TheVariants as i
-use Rattle.f3_code.specs.State.{Cell, State}
+use Rattle.f3_code.specs.State.{Line, Code, Cell, State}
 use Rattle.f3_code.specs.State as state
 use Rattle.f3_cell_kinds.specs.Types.{Scope, CellType, Site}
 use Rattle.f3_cell_kinds.specs.Types as cell
@@ -46,3 +46,8 @@ pub record Stands (p : Program) (sites : ℕ → Site) (s : State) : Type 0 wher
 abbrev pub is_building : Instruction → Bool
 is_building (i.Structure t k) = true
 is_building x = false
+
+-- where objects stand, and the next instruction is no structure constructor
+pub record IsSteady (p : Program) (sites : ℕ → Site) (code : Code) (s : State) : Type 0 where
+  pub stands : Stands p sites s
+  pub builds : (l : Line) → slice_get code.lines s.pc ≡ Some l → is_building l.act ≡ false

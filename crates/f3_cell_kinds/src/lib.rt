@@ -1,7 +1,7 @@
 //! Of which kind each cell is on the stack of an activation at each line of the code of a program, known before the run.
 #![tactic(auto)]
 
-ghost use Rattle.f3_cell_kinds.specs.Laws.{CodeHasKinds, InitialsFit, KindsHaveSorts, ReadingStepsHold, StartFits, StepsHold};
+ghost use Rattle.f3_cell_kinds.specs.Laws.{CodeHasKinds, InitialsFit, KindsHaveSorts, ReadingStepsHold, RunsHold, StartFits, StepsHold};
 
 /// The code of every program that makes sense has kinds, known before the run: at each line the cells are of these on whatever way the
 /// machine comes to it (own rule).
@@ -35,4 +35,10 @@ pub fn start_fits()
 /// (ISO/IEC 1539-1:2004, 4.5.3.4, 5.1; own rule).
 pub fn initials_fit()
     ensures { InitialsFit }
+{}
+
+/// In each state of each run of a program that makes sense cells hold what their types say, as long as objects have stood in the store
+/// before and no structure constructor has been at work (own rule).
+pub fn runs_hold()
+    ensures { RunsHold }
 {}

@@ -1,0 +1,67 @@
+-- The states of runs have cells that hold what their types say, as long as objects stand.
+use Rattle.std.proofs.Common.{◌≡◌, ◌∙◌, ap, ℕ, zero, suc, ◌<◌, Bool, true, List, [], Option, Some, None, refl, sym, subst, arith}
+use Rattle.std.specs.Prelude.{slice_get}
+use Rattle.f3_program.specs.declared.program.Program.{Program}
+use Rattle.f3_meaning_whole.specs.Ran.{Event, World, End, Gives, Fails, Stops, Beyond, ◌>>=◌}
+use Rattle.f3_meaning_whole.specs.Act.{Setting, claim, enter}
+use Rattle.f3_meaning_whole.specs.Formed.{IsWellFormed}
+use Rattle.f3_core.specs.Lower.{lowered_program}
+use Rattle.f3_core.specs.Run.{core_setting, core_here, core_world}
+use Rattle.f3_code.specs.State as state
+use Rattle.f3_code.specs.State.{Line, Code, State, Next, Goes}
+use Rattle.f3_code.specs.Machine.{ends_so, step, does_line}
+use Rattle.f3_code.specs.Run.{start}
+use Rattle.f3_code.specs.Code.{program_code}
+use Rattle.f3_heights.specs.Room.{state_next, state_run, state_after}
+use Rattle.f3_cell_kinds.specs.Types.{Site}
+use Rattle.f3_cell_kinds.specs.Kinds.{AreKinds}
+use Rattle.f3_cell_kinds.specs.Holds.{Fits}
+use Rattle.f3_cell_kinds.specs.Sense.{MakesSense}
+use Rattle.f3_cell_kinds.specs.Stands.{IsSteady}
+use Rattle.f3_cell_kinds.specs.Laws.{site_at}
+use Rattle.f3_cell_kinds.proofs.OfProgram.{code_has_kinds}
+use Rattle.f3_cell_kinds.proofs.Starting.{start_fits}
+use Rattle.f3_cell_kinds.proofs.ReadingSteps.{reading_steps_hold}
+
+module _ (limit : ℕ) (g : Setting) (p : Program) (code : Code) (sites : ℕ → Site) (are : AreKinds p sites code) (types_same : g.program.types.items ≡ p.types.items)
+    (statics_same : g.program.statics.items ≡ p.statics.items) where
+  line_is : (s t : State) (out : List Event) (o : Option Line) → slice_get code.lines s.pc ≡ o → does_line limit g code o s ≡ Goes out t → (l : Line) × (slice_get code.lines s.pc ≡ Some l)
+  line_is s t out None at_pc e = cc
+  line_is s t out (Some l) at_pc e = (l, at_pc)
+
+  one_step : (s t : State) (out : List Event) → IsSteady p sites code s → Fits p.types.items sites s → step limit g code s ≡ Goes out t → Fits p.types.items sites t
+  one_step s t out steady h e =
+      let l = line_is s t out (slice_get code.lines s.pc) refl e in
+      reading_steps_hold limit g p code sites are types_same statics_same s t l.0 out l.1 (steady.builds l.0 l.1) h steady.stands e
+
+  run_fits : (k : ℕ) (s t : State) → ((j : ℕ) (u : State) → j < k → state_run limit g code j s ≡ Some u → IsSteady p sites code u) → Fits p.types.items sites s →
+      state_run limit g code k s ≡ Some t → Fits p.types.items sites t
+  run_fits zero s t steady h e = let same : s ≡ t = cc in subst (λ u. Fits p.types.items sites u) same h
+  run_fits (suc k) s t steady h e = by_next (step limit g code s) refl e (λ u more h e. run_fits k u t more h e)
+    where
+      by_next : (x : Next) → step limit g code s ≡ x → state_next x (state_run limit g code k) ≡ Some t →
+          ((u : State) → ((j : ℕ) (v : State) → j < k → state_run limit g code j u ≡ Some v → IsSteady p sites code v) → Fits p.types.items sites u →
+          state_run limit g code k u ≡ Some t → Fits p.types.items sites t) → Fits p.types.items sites t
+      by_next (Goes out u) is e go = go u
+          (λ j v less f. steady (suc j) v (omega (arith, less)) (ap (λ x. state_next x (state_run limit g code j)) is ∙ f))
+          (one_step s u out (steady 0 s (omega arith) refl) h is) e
+      by_next (state.Stays out halt) is e go = cc
+
+pub runs_hold : (limit : ℕ) (p : Program) → IsWellFormed p → MakesSense p → (answers : ℕ → Bool) (k : ℕ) (s : State) →
+    ((j : ℕ) (t : State) → j < k → state_after limit (lowered_program p) (program_code (lowered_program p)) answers j ≡ Some t →
+    IsSteady p (site_at p) (program_code (lowered_program p)) t) →
+    state_after limit (lowered_program p) (program_code (lowered_program p)) answers k ≡ Some s → Fits p.types.items (site_at p) s
+runs_hold limit p formed sense answers k s steady e =
+    let q = lowered_program p in
+    let r = (claim (core_here q) >>= λ done. enter q.main.initial).from (core_world q answers) in by_end r.out r.end steady e
+  where
+    by_end : {A : Type 0} (out : List Event) (end : End A) →
+        ((j : ℕ) (t : State) → j < k → state_next (ends_so out end (λ done w. start (lowered_program p) w))
+        (state_run limit (core_setting (lowered_program p)) (program_code (lowered_program p)) j) ≡ Some t → IsSteady p (site_at p) (program_code (lowered_program p)) t) →
+        state_next (ends_so out end (λ done w. start (lowered_program p) w)) (state_run limit (core_setting (lowered_program p)) (program_code (lowered_program p)) k) ≡ Some s →
+        Fits p.types.items (site_at p) s
+    by_end out (Gives x w) steady e = run_fits limit (core_setting (lowered_program p)) p (program_code (lowered_program p)) (site_at p) (code_has_kinds p formed sense).1 refl refl
+        k (start (lowered_program p) w) s steady (start_fits p formed sense w) e
+    by_end out (Fails error place) steady e = cc
+    by_end out (Stops code) steady e = cc
+    by_end out Beyond steady e = cc
