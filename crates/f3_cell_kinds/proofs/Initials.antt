@@ -28,7 +28,7 @@ use Rattle.f3_cell_kinds.specs.Holds.{IsOf, AreComponents, AreElements}
 use Rattle.f3_cell_kinds.proofs.Asked.{and_is, or_is, kind_same}
 use Rattle.f3_cell_kinds.proofs.Reaching.{listed_joined}
 
-spans_count : (ds : List Dimension) → length (spans_declared ds) ≡ length ds
+pub spans_count : (ds : List Dimension) → length (spans_declared ds) ≡ length ds
 spans_count [] = refl
 spans_count (d ∷ ds) = ap suc (spans_count ds)
 
@@ -49,7 +49,7 @@ module _ (types : List Derived) where
   constant_is of (constant.Number z) e = let a = and_is _ _ e in (a.0, a.1)
   constant_is of (constant.Truth b) e = e
 
-  repeated : (k : Kind) (n : ℕ) (v : Value) → IsOf types k v → AreElements types k (joined (replicate n v))
+  pub repeated : (k : Kind) (n : ℕ) (v : Value) → IsOf types k v → AreElements types k (joined (replicate n v))
   repeated k zero v h = tt
   repeated k (suc n) v h = (h, repeated k n v h)
 

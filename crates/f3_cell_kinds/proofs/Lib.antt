@@ -27,3 +27,5 @@ pub mod Entering
 pub mod Stepping
 pub mod ReadingSteps
 pub mod Running
+pub mod Calm
+pub mod Building

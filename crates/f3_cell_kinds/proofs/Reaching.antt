@@ -75,11 +75,11 @@ module _ (types : List Derived) where
   based_reaches k ls One h = h
   based_reaches k ls (Many ss ps) h = (h.0, h.1, based_length ls ss ∙ h.2, h.3 ∙ sym (based_count ls ss))
 
-  shown_length : (ss : List Span) → length (shown ss) ≡ length ss
+  pub shown_length : (ss : List Span) → length (shown ss) ≡ length ss
   shown_length [] = refl
   shown_length (s ∷ ss) = ap suc (shown_length ss)
 
-  shown_count : (ss : List Span) → count (shown ss) ≡ count ss
+  pub shown_count : (ss : List Span) → count (shown ss) ≡ count ss
   shown_count [] = refl
   shown_count (s ∷ ss) = ap (λ n. s.extent * n) (shown_count ss)
 
