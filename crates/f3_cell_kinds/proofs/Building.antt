@@ -24,7 +24,7 @@ use Rattle.f3_cell_kinds.proofs.Asked.{and_is, or_is, not_is, kind_same}
 use Rattle.f3_cell_kinds.proofs.Scalars.{no_rank, no_both, rank_is, alike_is}
 use Rattle.f3_cell_kinds.proofs.Calm.{Calm, gives_calm, fails_calm, looks_calm, bind_calm, if_calm, claim_for_calm}
 use Rattle.f3_cell_kinds.proofs.Reaching.{AllPassed, shown_length, shown_count, listed_joined}
-use Rattle.f3_cell_kinds.proofs.Initials.{repeated, spans_count}
+use Rattle.f3_cell_kinds.proofs.Initials.{spans_count, PartsFit}
 
 joined_listed : (vs : Values) → joined (listed vs) ≡ vs
 joined_listed none = refl
@@ -195,17 +195,12 @@ module _ (types : List Derived) where
 
   -- ---- structures
 
-  abbrev pub PartsFit : List Component → Parts → Type 0
-  PartsFit [] nothing = Unit {0}
-  PartsFit (c ∷ cs) (and x s rest) = (x ≡ c) × IsOf types c.declared.kind (initial_declared c.declared (initial_of s)) × PartsFit cs rest
-  PartsFit cs parts = ⊥
-
   abbrev pub TakesFrom : ℕ → List Component → List formed.Given → Type 0
   TakesFrom n [] gs = Unit {0}
   TakesFrom n (c ∷ cs) gs = TakesAll c.declared n gs × TakesFrom (suc n) cs gs
 
   pub structure_calm : (store : Store) (m n : ℕ) (cs : List Component) (parts : Parts) (gs : List formed.Given) (ps : List Passed) (here : Here) →
-      all (λ (c : Component). is_declared m c.declared) cs ≡ true → PartsFit cs parts → AllPassed types gs ps → AllStand store gs ps → TakesFrom n cs gs →
+      all (λ (c : Component). is_declared m c.declared) cs ≡ true → PartsFit types cs parts → AllPassed types gs ps → AllStand store gs ps → TakesFrom n cs gs →
       Calm (AreComponents types cs) store (structure parts n ps here)
   structure_calm store m n [] nothing gs ps here declared parts are stand fit = gives_calm none tt
   structure_calm store m n [] (and x s rest) gs ps here declared parts are stand fit = absurd parts

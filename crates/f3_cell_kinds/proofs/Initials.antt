@@ -19,13 +19,14 @@ use Rattle.f3_program.specs.declared.program.Static.{Static}
 use Rattle.f3_meaning_whole.specs.Value.{Span, Value, Unallocated, Values, none, more, listed, joined, count}
 use Rattle.f3_meaning_whole.specs.Arithmetic.{constant_value}
 use Rattle.f3_meaning_whole.specs.Shape.{Shape, Whole, Record, Parts, nothing, and, shape_in, parts_in, shapes_from, shapes_of, spans_declared, initialized, arranged, initial_declared, initial_of, initial_parts}
+use Rattle.f3_meaning_whole.specs.Act.{components_of}
 use Rattle.f3_meaning_whole.specs.Exec.{declared_in, initial_value}
 use Rattle.f3_meaning_whole.specs.Formed.{all, of_kind, is_before, is_declared, is_final, are_types, are_declared, is_procedure, IsWellFormed}
 use Rattle.f3_meaning_whole.specs.Run.{setting_of}
 use Rattle.f3_core.specs.Lower.{initial}
 use Rattle.f3_cell_kinds.specs.Sense.{constant_fits, initial_fits, MakesSense}
 use Rattle.f3_cell_kinds.specs.Holds.{IsOf, AreComponents, AreElements}
-use Rattle.f3_cell_kinds.proofs.Asked.{and_is, or_is, kind_same}
+use Rattle.f3_cell_kinds.proofs.Asked.{some_same, and_is, or_is, kind_same}
 use Rattle.f3_cell_kinds.proofs.Reaching.{listed_joined}
 
 pub spans_count : (ds : List Dimension) → length (spans_declared ds) ≡ length ds
@@ -43,6 +44,21 @@ index_front : (xs ys : List Shape) (u : ℕ) (d : Shape) → u < length xs → s
 index_front [] ys u d h = absurd (omega arith)
 index_front (x ∷ xs) ys zero d h = refl
 index_front (x ∷ xs) ys (suc u) d h = index_front xs ys u d (omega arith)
+
+-- of each of a list and of one more
+each_more : (P : ℕ → Shape → Type 0) (xs : List Shape) (x : Shape) → ((u : ℕ) → u < length xs → P u (slice_index_or xs u Whole)) → P (length xs) x → (u : ℕ) →
+    u < length (xs ++ x ∷ []) → P u (slice_index_or (xs ++ x ∷ []) u Whole)
+each_more P xs x f h u less = by_place (nat_lt u (length xs)) refl
+  where
+    other : nat_lt u (length xs) ≡ false → length xs ≡ u
+    other e = let g = ltb-false u (length xs) e in let m = length-append xs (x ∷ []) in omega (arith, g, less, m)
+
+    by_place : (b : Bool) → nat_lt u (length xs) ≡ b → P u (slice_index_or (xs ++ x ∷ []) u Whole)
+    by_place true e =
+        let g : u < length xs = ltb-true u (length xs) e in
+        subst (λ y. P u y) (sym (index_front xs (x ∷ []) u Whole g)) (f u g)
+    by_place false e = subst (λ v. P v (slice_index_or (xs ++ x ∷ []) v Whole)) (other e)
+        (subst (λ y. P (length xs) y) (sym (get_or-append_seam xs x [] Whole)) h)
 
 module _ (types : List Derived) where
   constant_is : (of : Base) (c : Constant) → constant_fits of c ≡ true → IsOf types (of_kind of 0) (constant_value c)
@@ -100,9 +116,16 @@ module _ (types : List Derived) where
 
   -- ---- types
 
+  -- components, and trees of their types
+  abbrev pub PartsFit : List Component → Parts → Type 0
+  PartsFit [] nothing = Unit {0}
+  PartsFit (c ∷ cs) (and x s rest) = (x ≡ c) × IsOf types c.declared.kind (initial_declared c.declared (initial_of s)) × PartsFit cs rest
+  PartsFit cs parts = ⊥
+
   -- these are trees of the first types
-  record Fit (shapes : List Shape) : Type 0 where
-    by : (u : ℕ) → u < length shapes → IsOf types (of_kind (base.Derived u) 0) (initial_of (slice_index_or shapes u Whole))
+  pub record Fit (shapes : List Shape) : Type 0 where
+    pub trees : (u : ℕ) (y : Derived) → u < length shapes → slice_get types u ≡ Some y → PartsFit y.components.items (components_of (slice_index_or shapes u Whole))
+    pub by : (u : ℕ) → u < length shapes → IsOf types (of_kind (base.Derived u) 0) (initial_of (slice_index_or shapes u Whole))
 
   type_is : (shapes : List Shape) (n : ℕ) (of : Base) → Fit shapes → n ≡ length shapes → is_before n of ≡ true → IsOf types (of_kind of 0) (initial_of (shape_in shapes of))
   type_is shapes n base.Integer fit e f = (refl, refl)
@@ -117,27 +140,25 @@ module _ (types : List Derived) where
       let a = and_is _ _ declared in let b = and_is _ _ initials in
       (declared_is n c.declared _ a.0 b.0 (type_is shapes n c.declared.kind.of fit e (and_is _ _ a.0).0), parts_are shapes n cs fit e a.1 b.1)
 
+  parts_fit : (shapes : List Shape) (n : ℕ) (cs : List Component) → Fit shapes → n ≡ length shapes → all (λ (c : Component). is_declared n c.declared) cs ≡ true →
+      all (λ (c : Component). initial_fits c.declared) cs ≡ true → PartsFit cs (parts_in shapes cs)
+  parts_fit shapes n [] fit e declared initials = tt
+  parts_fit shapes n (c ∷ cs) fit e declared initials =
+      let a = and_is _ _ declared in let b = and_is _ _ initials in
+      (refl, declared_is n c.declared _ a.0 b.0 (type_is shapes n c.declared.kind.of fit e (and_is _ _ a.0).0), parts_fit shapes n cs fit e a.1 b.1)
+
   one_more : (shapes : List Shape) (t : Derived) → Fit shapes → slice_get types (length shapes) ≡ Some t →
-      AreComponents types t.components.items (initial_parts (parts_in shapes t.components.items)) →
+      AreComponents types t.components.items (initial_parts (parts_in shapes t.components.items)) → PartsFit t.components.items (parts_in shapes t.components.items) →
       Fit (shapes ++ Record (length shapes) (parts_in shapes t.components.items) ∷ [])
-  one_more shapes t fit found are = record { by = λ u h. by_place u (nat_lt u (length shapes)) refl h }
+  one_more shapes t fit found are parts = record {
+    trees = λ u y h e. each_more (λ u x. (y : Derived) → slice_get types u ≡ Some y → PartsFit y.components.items (components_of x)) shapes new
+        (λ v h y e. fit.trees v y h e) (λ y e. let same : t ≡ y = some_same (sym found ∙ e) in
+        subst (λ (z : Derived). PartsFit z.components.items (parts_in shapes t.components.items)) same parts) u h y e;
+    by = λ u h. each_more (λ u x. IsOf types (of_kind (base.Derived u) 0) (initial_of x)) shapes new (λ v h. fit.by v h) (refl, t, found, are) u h;
+  }
     where
       new : Shape
       new = Record (length shapes) (parts_in shapes t.components.items)
-
-      by_place : (u : ℕ) (b : Bool) → nat_lt u (length shapes) ≡ b → u < length (shapes ++ Record (length shapes) (parts_in shapes t.components.items) ∷ []) →
-          IsOf types (of_kind (base.Derived u) 0) (initial_of (slice_index_or (shapes ++ Record (length shapes) (parts_in shapes t.components.items) ∷ []) u Whole))
-      by_place u true e h =
-          let f : u < length shapes = ltb-true u (length shapes) e in
-          subst (λ x. IsOf types (of_kind (base.Derived u) 0) (initial_of x)) (sym (index_front shapes _ u Whole f)) (fit.by u f)
-      by_place u false e h =
-          let m = length-append shapes (Record (length shapes) (parts_in shapes t.components.items) ∷ []) in
-          let same : length shapes ≡ u = other u e (omega (arith, m)) in
-          subst (λ v. IsOf types (of_kind (base.Derived v) 0) (initial_of (slice_index_or (shapes ++ Record (length shapes) (parts_in shapes t.components.items) ∷ []) v Whole))) same
-          (subst (λ x. IsOf types (of_kind (base.Derived (length shapes)) 0) (initial_of x)) (sym (get_or-append_seam shapes _ [] Whole)) (refl, t, found, are))
-        where
-          other : (u : ℕ) → nat_lt u (length shapes) ≡ false → u < length shapes + 1 → length shapes ≡ u
-          other u e h = let f = ltb-false u (length shapes) e in omega (arith, f, h)
 
   all_types : (p : Program) (shapes : List Shape) (n : ℕ) (ts : List Derived) → Fit shapes → n ≡ length shapes → are_types p n ts ≡ true →
       ((k : ℕ) (t : Derived) → slice_get ts k ≡ Some t → (slice_get types (n + k) ≡ Some t) × (all (λ (c : Component). initial_fits c.declared) t.components.items ≡ true)) →
@@ -150,7 +171,7 @@ module _ (types : List Derived) where
       let found : slice_get types (length shapes) ≡ Some t = ap (slice_get types) (sym at) ∙ here.0 in
       let x = Record (length shapes) (parts_in shapes t.components.items) in
       let m = length-append shapes (x ∷ []) in
-      let r = all_types p (shapes ++ x ∷ []) (suc n) ts (one_more shapes t fit found (parts_are shapes n t.components.items fit e a.0 here.1)) (omega (arith, e, m)) b.1
+      let r = all_types p (shapes ++ x ∷ []) (suc n) ts (one_more shapes t fit found (parts_are shapes n t.components.items fit e a.0 here.1) (parts_fit shapes n t.components.items fit e a.0 here.1)) (omega (arith, e, m)) b.1
       (λ k y g. let there : suc n + k ≡ n + suc k = omega arith in let q = f (suc k) y g in (ap (slice_get types) there ∙ q.0, q.1)) in
       (r.0, omega (arith, r.1, m))
 
@@ -175,13 +196,40 @@ module _ (p : Program) (formed : IsWellFormed p) (sense : MakesSense p) where
       let b = and_is _ _ a.1 in let c = and_is _ _ b.1 in
       record { types = a.0; statics = b.0; variables = c.0 }
 
-  pub initial_is : (of : Base) → is_before (length p.types.items) of ≡ true → IsOf p.types.items (of_kind of 0) (initial (setting_of p) of)
-  initial_is of e =
-      let start : Fit p.types.items [] = record { by = λ u h. absurd (omega (arith, h)) } in
+  -- the trees of all types
+  shapes_fit : Fit p.types.items (shapes_of p.types.items) × (length (shapes_of p.types.items) ≡ length p.types.items)
+  shapes_fit =
+      let start : Fit p.types.items [] = record { trees = λ u y h e. absurd (omega (arith, h)); by = λ u h. absurd (omega (arith, h)) } in
       let r = all_types p.types.items p [] 0 p.types.items start refl formed_parts.types
       (λ k t f. let same : k ≡ 0 + k = omega arith in (ap (slice_get p.types.items) (sym same) ∙ f, sense.components k t f)) in
-      let many : length (shapes_of p.types.items) ≡ length p.types.items = r.1 ∙ (let m : 0 + length p.types.items ≡ length p.types.items = omega arith in m) in
-      type_is p.types.items (shapes_of p.types.items) (length p.types.items) of r.0 (sym many) e
+      (r.0, r.1 ∙ (let m : 0 + length p.types.items ≡ length p.types.items = omega arith in m))
+
+  get_less : (xs : List Derived) (n : ℕ) (y : Derived) → slice_get xs n ≡ Some y → n < length xs
+  get_less [] n y e = cc
+  get_less (x ∷ xs) zero y e = omega arith
+  get_less (x ∷ xs) (suc n) y e = let h = get_less xs n y e in omega (arith, h)
+
+  -- the tree of a type has its components
+  pub tree_is : (t : ℕ) (y : Derived) → slice_get p.types.items t ≡ Some y → PartsFit p.types.items y.components.items (components_of (slice_index_or (shapes_of p.types.items) t Whole))
+  tree_is t y e = shapes_fit.0.trees t y (let h = get_less p.types.items t y e in let m = shapes_fit.1 in omega (arith, h, m)) e
+
+  types_from : (k : ℕ) (ts : List Derived) (t : ℕ) (y : Derived) → are_types p k ts ≡ true → slice_get ts t ≡ Some y →
+      all (λ (c : Component). is_declared (k + t) c.declared) y.components.items ≡ true
+  types_from k [] t y e f = cc
+  types_from k (x ∷ ts) zero y e f =
+      let same : x ≡ y = some_same f in let at : k ≡ k + 0 = omega arith in
+      subst (λ (z : Derived). all (λ (c : Component). is_declared (k + 0) c.declared) z.components.items ≡ true) same
+      (subst (λ n. all (λ (c : Component). is_declared n c.declared) x.components.items ≡ true) at (and_is _ _ e).0)
+  types_from k (x ∷ ts) (suc t) y e f =
+      let at : suc k + t ≡ k + suc t = omega arith in
+      subst (λ n. all (λ (c : Component). is_declared n c.declared) y.components.items ≡ true) at (types_from (suc k) ts t y (and_is _ _ (and_is _ _ e).1).1 f)
+
+  pub components_declared : (t : ℕ) (y : Derived) → slice_get p.types.items t ≡ Some y → all (λ (c : Component). is_declared (0 + t) c.declared) y.components.items ≡ true
+  components_declared t y e = types_from 0 p.types.items t y formed_parts.types e
+
+  pub initial_is : (of : Base) → is_before (length p.types.items) of ≡ true → IsOf p.types.items (of_kind of 0) (initial (setting_of p) of)
+  initial_is of e =
+      type_is p.types.items (shapes_of p.types.items) (length p.types.items) of shapes_fit.0 (sym shapes_fit.1) e
 
   value_is : (d : Declared) → is_declared (length p.types.items) d ≡ true → initial_fits d ≡ true → IsOf p.types.items d.kind (initial_value (setting_of p) d)
   value_is d e fit = declared_is p.types.items (length p.types.items) d _ e fit (initial_is d.kind.of (and_is _ _ e).0)
