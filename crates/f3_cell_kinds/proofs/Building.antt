@@ -11,15 +11,16 @@ use Rattle.f3_program.specs.declared.declarations.Derived.{Derived}
 use Rattle.f3_program.specs.declared.declarations.Kind.{Kind}
 use Rattle.f3_meaning_whole.specs.Value.{Span, Value, Number, Truth, Composite, Array, Unallocated, Allocated, Values, none, more, listed, joined, count, same_extents, conforms, spread, shown}
 use Rattle.f3_meaning_whole.specs.Store.{Store, get}
-use Rattle.f3_meaning_whole.specs.Reference.{Reference}
+use Rattle.f3_meaning_whole.specs.Reference.{Reach, One, Many, Reference, held_at}
 use Rattle.f3_meaning_whole.specs.Ran.{Ran, ◌>>=◌, gives, fails, looks}
 use Rattle.f3_meaning_whole.specs.Arithmetic.{converted, value_fits}
 use Rattle.f3_meaning_whole.specs.Shape.{Shape, Parts, nothing, and, spans_declared, initial_of, initial_declared}
 use Rattle.f3_meaning_whole.specs.Act.{Here, Passed, Given, Lent, claim_for, passed_at, laid_out, fitted, fitted_contents, fitted_argument, structure}
-use Rattle.f3_meaning_whole.specs.Formed.{all, some, alike, of_kind, takes, component_takes, is_before, is_declared}
+use Rattle.f3_meaning_whole.specs.Formed.{all, some, alike, of_kind, takes, component_takes, fits_component, at_most_once, is_before, is_declared}
 use Rattle.f3_meaning_whole.specs.Formed as formed
-use Rattle.f3_cell_kinds.specs.Effect.{held_kind}
-use Rattle.f3_cell_kinds.specs.Holds.{IsOf, AreComponents, AreElements, IsPassed}
+use Rattle.f3_cell_kinds.specs.Effect.{held_kind, is_whole_for}
+use Rattle.f3_cell_kinds.specs.Holds.{Reaches, IsOf, AreComponents, AreElements, IsPassed}
+use Rattle.f3_cell_kinds.specs.Stands.{PassedStands}
 use Rattle.f3_cell_kinds.proofs.Asked.{and_is, or_is, not_is, kind_same}
 use Rattle.f3_cell_kinds.proofs.Scalars.{no_rank, no_both, rank_is, alike_is}
 use Rattle.f3_cell_kinds.proofs.Calm.{Calm, gives_calm, fails_calm, looks_calm, bind_calm, if_calm, claim_for_calm}
@@ -132,13 +133,8 @@ module _ (types : List Derived) where
 
   -- ---- arguments
 
-  -- a variable that is passed stands in the store
-  abbrev pub PassedStands : Store → formed.Given → Passed → Type 0
-  PassedStands store g (Given n v) = Unit {0}
-  PassedStands store g (Lent n r) = IsOf types g.kind (get store r.path)
-
   abbrev pub AllStand : Store → List formed.Given → List Passed → Type 0
-  AllStand store (g ∷ gs) (x ∷ xs) = PassedStands store g x × AllStand store gs xs
+  AllStand store (g ∷ gs) (x ∷ xs) = PassedStands types store g x × AllStand store gs xs
   AllStand store gs xs = Unit {0}
 
   -- a component of a number takes each argument of the number
@@ -176,6 +172,14 @@ module _ (types : List Derived) where
   some_by store true d init x o here h k = h refl
   some_by store false d init x o here h k = k refl
 
+  -- an allocatable stands at its path
+  whole_stands : (store : Store) (k : Kind) (r : Reference) → k.is_allocatable ≡ true → Reaches k r.reach → IsOf types k (held_at store r.path r.reach) → IsOf types k (get store r.path)
+  whole_stands store k r held h is = by r.reach h is
+    where
+      by : (reach : Reach) → Reaches k reach → IsOf types k (held_at store r.path reach) → IsOf types k (get store r.path)
+      by One h is = is
+      by (Many ss ps) h is = absurd (no_both k.is_allocatable held h.0)
+
   -- what a component begins with, or the argument of its number
   argument_calm : (store : Store) (m n : ℕ) (d : Declared) (init : Value) (gs : List formed.Given) (ps : List Passed) (here : Here) → is_declared m d ≡ true → IsOf types d.kind init →
       AllPassed types gs ps → AllStand store gs ps → TakesAll d n gs → Calm (IsOf types d.kind) store (fitted_argument d init (passed_at n ps) here)
@@ -189,7 +193,7 @@ module _ (types : List Derived) where
   argument_calm store m n d init (g ∷ gs) (Lent k r ∷ ps) here declared begin are stand fit =
       some_by store (nat_eq k n) d init (Lent k r) (passed_at n ps) here
       (λ e. let f = fit.0 (ap (λ j. nat_eq j n) are.0.1 ∙ e) in let w = f.1 are.0.0 in
-      bind_calm {Q = IsOf types g.kind} (looks_calm (λ store. get store r.path) stand.0)
+      bind_calm {Q = IsOf types g.kind} (looks_calm (λ store. get store r.path) (whole_stands store g.kind r w.0 are.0.2.1 stand.0))
       (λ v h. whole_by store d.kind.is_allocatable m d g v here refl w.1 declared f.0 w.0 h))
       (λ e. argument_calm store m n d init gs ps here declared begin are.1 stand.1 fit.1)
 
@@ -212,3 +216,32 @@ module _ (types : List Derived) where
       (argument_calm store m n c.declared (initial_declared c.declared (initial_of s)) gs ps here a.0 parts.1 are stand fit.0))
       (λ v h. bind_calm (claim_for_calm v here) (λ done t.
       bind_calm (structure_calm store m (suc n) cs rest gs ps here a.1 parts.2 are stand fit.1) (λ vs f. gives_calm (more v vs) (h, f))))
+
+  -- ---- what a structure constructor is given
+
+  takes_all : (all_cs : List Component) (n : ℕ) (c : Component) (gs qs : List formed.Given) → slice_get all_cs n ≡ Some c → all (λ g. fits_component all_cs g && at_most_once qs g) gs ≡ true →
+      all (is_whole_for all_cs) gs ≡ true → TakesAll c.declared n gs
+  takes_all all_cs n c [] qs e fits whole = tt
+  takes_all all_cs n c (g ∷ gs) qs e fits whole =
+      let a = and_is _ _ fits in let b = and_is _ _ whole in
+      (λ same.
+      let at : slice_get all_cs g.number ≡ Some c = ap (slice_get all_cs) (eqb-true g.number n same) ∙ e in
+      let f = (and_is _ _ a.0).0 in
+      let fit : component_takes c.declared.kind g ≡ true = subst (λ (o : Option Component). some o (λ y. component_takes y.declared.kind g) ≡ true) at f in
+      let w : (not g.is_variable || (g.kind.is_allocatable && some (Some c) (λ y. y.declared.kind.is_allocatable))) ≡ true =
+      subst (λ (o : Option Component). (not g.is_variable || (g.kind.is_allocatable && some o (λ y. y.declared.kind.is_allocatable))) ≡ true) at b.0 in
+      (fit, λ v. and_is g.kind.is_allocatable c.declared.kind.is_allocatable (or_is _ _ w (ap not v))),
+      takes_all all_cs n c gs qs e a.1 b.1)
+
+  takes_from : (all_cs cs : List Component) (n : ℕ) (gs : List formed.Given) → ((k : ℕ) (c : Component) → slice_get cs k ≡ Some c → slice_get all_cs (n + k) ≡ Some c) →
+      all (λ g. fits_component all_cs g && at_most_once gs g) gs ≡ true → all (is_whole_for all_cs) gs ≡ true → TakesFrom n cs gs
+  takes_from all_cs [] n gs f fits whole = tt
+  takes_from all_cs (c ∷ cs) n gs f fits whole =
+      let here : n ≡ n + 0 = omega arith in
+      (takes_all all_cs n c gs gs (ap (slice_get all_cs) here ∙ f 0 c refl) fits whole,
+      takes_from all_cs cs (suc n) gs (λ k y e. let there : suc n + k ≡ n + suc k = omega arith in ap (slice_get all_cs) there ∙ f (suc k) y e) fits whole)
+
+  pub structure_takes : (y : Derived) (gs : List formed.Given) → all (λ g. fits_component y.components.items g && at_most_once gs g) gs ≡ true →
+      all (is_whole_for y.components.items) gs ≡ true → TakesFrom 0 y.components.items gs
+  structure_takes y gs fits whole = takes_from y.components.items y.components.items 0 gs
+      (λ k c e. let same : 0 + k ≡ k = omega arith in ap (slice_get y.components.items) same ∙ e) fits whole

@@ -26,6 +26,7 @@ use Rattle.f3_cell_kinds.specs.Holds.{Reaches, Refers, AllRefer, IsOf, Knows, Is
 use Rattle.f3_cell_kinds.specs.Stands.{root_of}
 use Rattle.f3_cell_kinds.proofs.Asked.{some_same, found_is, only_is, and_is, truth_same}
 use Rattle.f3_cell_kinds.proofs.Yielding.{IsGiven, followed, Yields, gives_yields, fails_yields, any_yields, bind_yields}
+use Rattle.f3_cell_kinds.proofs.Calm.{IsCalm, Calm}
 use Rattle.f3_cell_kinds.proofs.Reaching.{reach_is}
 use Rattle.f3_cell_kinds.proofs.Picking.{AllChosen, picks_yields}
 use Rattle.f3_cell_kinds.proofs.Parting.{component_reaches, component_base, part_by}
@@ -47,6 +48,15 @@ look_then Q f k w h g = record { by = (g (f w.store) h).by w }
 
 pub yields_given : {A : Type 0} {P : A → Type 0} {r : Ran A} (w : World) → Yields P r → GivesAt P r w
 yields_given w h = record { by = h.by w }
+
+given_end : {A : Type 0} (P : A → Type 0) (store : Store) (end : End A) → IsCalm P store end → IsGiven P end
+given_end P store (Gives x w) h = h.0
+given_end P store (Fails error place) h = tt
+given_end P store (Stops code) h = tt
+given_end P store Beyond h = tt
+
+pub calm_given : {A : Type 0} {P : A → Type 0} {r : Ran A} (w : World) → Calm P w.store r → GivesAt P r w
+calm_given {P = P} {r = r} w h = record { by = given_end P w.store (r.from w).end (h.by w refl) }
 
 pub performing_at : (types : List Derived) (sites : ℕ → _) {A : Type 0} {P : A → Type 0} (r : Ran A) (w : World) {f : A → World → State} → GivesAt P r w →
     ((x : A) → P x → (w : World) → Fits types sites (f x w)) → Keeps types sites (performs r w f)

@@ -4,6 +4,7 @@ use Rattle.std.specs.Prelude.{slice_get}
 use Rattle.f3_program.specs.declared.program.Program.{Program}
 use Rattle.f3_meaning_whole.specs.Ran.{Event, World, End, Gives, Fails, Stops, Beyond, ◌>>=◌}
 use Rattle.f3_meaning_whole.specs.Act.{Setting, claim, enter}
+use Rattle.f3_meaning_whole.specs.Shape.{shapes_of}
 use Rattle.f3_meaning_whole.specs.Formed.{IsWellFormed}
 use Rattle.f3_core.specs.Lower.{lowered_program}
 use Rattle.f3_core.specs.Run.{core_setting, core_here, core_world}
@@ -17,30 +18,24 @@ use Rattle.f3_cell_kinds.specs.Types.{Site}
 use Rattle.f3_cell_kinds.specs.Kinds.{AreKinds}
 use Rattle.f3_cell_kinds.specs.Holds.{Fits}
 use Rattle.f3_cell_kinds.specs.Sense.{MakesSense}
-use Rattle.f3_cell_kinds.specs.Stands.{IsSteady}
+use Rattle.f3_cell_kinds.specs.Stands.{Stands}
 use Rattle.f3_cell_kinds.specs.Laws.{site_at}
 use Rattle.f3_cell_kinds.proofs.OfProgram.{code_has_kinds}
 use Rattle.f3_cell_kinds.proofs.Starting.{start_fits}
-use Rattle.f3_cell_kinds.proofs.ReadingSteps.{reading_steps_hold}
+use Rattle.f3_cell_kinds.proofs.ReadingSteps.{standing_steps_hold}
 
-module _ (limit : ℕ) (g : Setting) (p : Program) (code : Code) (sites : ℕ → Site) (are : AreKinds p sites code) (types_same : g.program.types.items ≡ p.types.items)
-    (statics_same : g.program.statics.items ≡ p.statics.items) where
-  line_is : (s t : State) (out : List Event) (o : Option Line) → slice_get code.lines s.pc ≡ o → does_line limit g code o s ≡ Goes out t → (l : Line) × (slice_get code.lines s.pc ≡ Some l)
-  line_is s t out None at_pc e = cc
-  line_is s t out (Some l) at_pc e = (l, at_pc)
+module _ (limit : ℕ) (g : Setting) (p : Program) (code : Code) (sites : ℕ → Site) (are : AreKinds p sites code) (formed : IsWellFormed p) (sense : MakesSense p)
+    (types_same : g.program.types.items ≡ p.types.items) (statics_same : g.program.statics.items ≡ p.statics.items) (shapes_same : g.shapes ≡ shapes_of p.types.items) where
+  one_step : (s t : State) (out : List Event) → Stands p sites s → Fits p.types.items sites s → step limit g code s ≡ Goes out t → Fits p.types.items sites t
+  one_step s t out stands h e = standing_steps_hold limit g p code sites are formed sense types_same statics_same shapes_same s t out h stands e
 
-  one_step : (s t : State) (out : List Event) → IsSteady p sites code s → Fits p.types.items sites s → step limit g code s ≡ Goes out t → Fits p.types.items sites t
-  one_step s t out steady h e =
-      let l = line_is s t out (slice_get code.lines s.pc) refl e in
-      reading_steps_hold limit g p code sites are types_same statics_same s t l.0 out l.1 (steady.builds l.0 l.1) h steady.stands e
-
-  run_fits : (k : ℕ) (s t : State) → ((j : ℕ) (u : State) → j < k → state_run limit g code j s ≡ Some u → IsSteady p sites code u) → Fits p.types.items sites s →
+  run_fits : (k : ℕ) (s t : State) → ((j : ℕ) (u : State) → j < k → state_run limit g code j s ≡ Some u → Stands p sites u) → Fits p.types.items sites s →
       state_run limit g code k s ≡ Some t → Fits p.types.items sites t
   run_fits zero s t steady h e = let same : s ≡ t = cc in subst (λ u. Fits p.types.items sites u) same h
   run_fits (suc k) s t steady h e = by_next (step limit g code s) refl e (λ u more h e. run_fits k u t more h e)
     where
       by_next : (x : Next) → step limit g code s ≡ x → state_next x (state_run limit g code k) ≡ Some t →
-          ((u : State) → ((j : ℕ) (v : State) → j < k → state_run limit g code j u ≡ Some v → IsSteady p sites code v) → Fits p.types.items sites u →
+          ((u : State) → ((j : ℕ) (v : State) → j < k → state_run limit g code j u ≡ Some v → Stands p sites v) → Fits p.types.items sites u →
           state_run limit g code k u ≡ Some t → Fits p.types.items sites t) → Fits p.types.items sites t
       by_next (Goes out u) is e go = go u
           (λ j v less f. steady (suc j) v (omega (arith, less)) (ap (λ x. state_next x (state_run limit g code j)) is ∙ f))
@@ -49,7 +44,7 @@ module _ (limit : ℕ) (g : Setting) (p : Program) (code : Code) (sites : ℕ �
 
 pub runs_hold : (limit : ℕ) (p : Program) → IsWellFormed p → MakesSense p → (answers : ℕ → Bool) (k : ℕ) (s : State) →
     ((j : ℕ) (t : State) → j < k → state_after limit (lowered_program p) (program_code (lowered_program p)) answers j ≡ Some t →
-    IsSteady p (site_at p) (program_code (lowered_program p)) t) →
+    Stands p (site_at p) t) →
     state_after limit (lowered_program p) (program_code (lowered_program p)) answers k ≡ Some s → Fits p.types.items (site_at p) s
 runs_hold limit p formed sense answers k s steady e =
     let q = lowered_program p in
@@ -57,10 +52,10 @@ runs_hold limit p formed sense answers k s steady e =
   where
     by_end : {A : Type 0} (out : List Event) (end : End A) →
         ((j : ℕ) (t : State) → j < k → state_next (ends_so out end (λ done w. start (lowered_program p) w))
-        (state_run limit (core_setting (lowered_program p)) (program_code (lowered_program p)) j) ≡ Some t → IsSteady p (site_at p) (program_code (lowered_program p)) t) →
+        (state_run limit (core_setting (lowered_program p)) (program_code (lowered_program p)) j) ≡ Some t → Stands p (site_at p) t) →
         state_next (ends_so out end (λ done w. start (lowered_program p) w)) (state_run limit (core_setting (lowered_program p)) (program_code (lowered_program p)) k) ≡ Some s →
         Fits p.types.items (site_at p) s
-    by_end out (Gives x w) steady e = run_fits limit (core_setting (lowered_program p)) p (program_code (lowered_program p)) (site_at p) (code_has_kinds p formed sense).1 refl refl
+    by_end out (Gives x w) steady e = run_fits limit (core_setting (lowered_program p)) p (program_code (lowered_program p)) (site_at p) (code_has_kinds p formed sense).1 formed sense refl refl refl
         k (start (lowered_program p) w) s steady (start_fits p formed sense w) e
     by_end out (Fails error place) steady e = cc
     by_end out (Stops code) steady e = cc

@@ -1,7 +1,7 @@
 //! Of which kind each cell is on the stack of an activation at each line of the code of a program, known before the run.
 #![tactic(auto)]
 
-ghost use Rattle.f3_cell_kinds.specs.Laws.{CodeHasKinds, InitialsFit, KindsHaveSorts, ReadingStepsHold, RunsHold, StartFits, StepsHold};
+ghost use Rattle.f3_cell_kinds.specs.Laws.{CodeHasKinds, InitialsFit, KindsHaveSorts, StandingStepsHold, RunsHold, StartFits, StepsHold};
 
 /// The code of every program that makes sense has kinds, known before the run: at each line the cells are of these on whatever way the
 /// machine comes to it (own rule).
@@ -20,10 +20,10 @@ pub fn steps_hold()
     ensures { StepsHold }
 {}
 
-/// And so does each step of an instruction that reads from the store, but for structure constructors, where the objects on
-/// the stack and the variables stand in the store as values of their kinds (own rule).
-pub fn reading_steps_hold()
-    ensures { ReadingStepsHold }
+/// And so does each step, of whatever instruction, in a program that makes sense, where the objects on the stack and the variables stand
+/// in the store as values of their kinds (own rule).
+pub fn standing_steps_hold()
+    ensures { StandingStepsHold }
 {}
 
 /// The state in which a program that makes sense begins has cells that hold what their types say (own rule).
@@ -38,7 +38,7 @@ pub fn initials_fit()
 {}
 
 /// In each state of each run of a program that makes sense cells hold what their types say, as long as objects have stood in the store
-/// before and no structure constructor has been at work (own rule).
+/// before (own rule).
 pub fn runs_hold()
     ensures { RunsHold }
 {}
