@@ -1,8 +1,7 @@
 -- Structures are of their types.
-use Rattle.std.proofs.Common.{◌≡◌, ◌∙◌, sym, ap, ℕ, zero, suc, ◌+◌, ◌*◌, Bool, true, false, ◌&&◌, ◌||◌, not, List, [], ◌∷◌, map, length, Option, Some, None, refl, subst, if◌then◌else◌, arith}
-use Rattle.std.specs.Prelude.{nat_eq, nat_lt, slice_get, replicate}
+use Rattle.std.proofs.Common.{◌≡◌, ◌∙◌, sym, ap, ℕ, zero, suc, ◌+◌, ◌*◌, Bool, true, false, ◌&&◌, ◌||◌, not, List, [], ◌∷◌, length, Option, Some, refl, subst, if◌then◌else◌, arith}
+use Rattle.std.specs.Prelude.{nat_eq, nat_lt, slice_get}
 use Rattle.std.proofs.lemmas.Bool.{eqb-true, lt-ltb}
-use Rattle.std.proofs.lemmas.List.{length-replicate}
 use Rattle.f3_rules.specs.declared.source.Place.{Place}
 use Rattle.f3_program.specs.declared.declarations.Base.{Base}
 use Rattle.f3_program.specs.declared.declarations.Component.{Component}
@@ -12,19 +11,18 @@ use Rattle.f3_program.specs.declared.declarations.Kind.{Kind}
 use Rattle.f3_meaning_whole.specs.Value.{Span, Value, Number, Truth, Composite, Array, Unallocated, Allocated, Values, none, more, listed, joined, count, same_extents, conforms, spread, shown}
 use Rattle.f3_meaning_whole.specs.Store.{Store, get}
 use Rattle.f3_meaning_whole.specs.Reference.{Reach, One, Many, Reference, held_at}
-use Rattle.f3_meaning_whole.specs.Ran.{Ran, ◌>>=◌, gives, fails, looks}
 use Rattle.f3_meaning_whole.specs.Arithmetic.{converted, value_fits}
-use Rattle.f3_meaning_whole.specs.Shape.{Shape, Parts, nothing, and, spans_declared, initial_of, initial_declared}
-use Rattle.f3_meaning_whole.specs.Act.{Here, Passed, Given, Lent, claim_for, passed_at, laid_out, fitted, fitted_contents, fitted_argument, structure}
+use Rattle.f3_meaning_whole.specs.Shape.{Parts, nothing, and, spans_declared, initial_of, initial_declared}
+use Rattle.f3_meaning_whole.specs.Act.{Here, Passed, Given, Lent, passed_at, laid_out, fitted, fitted_contents, fitted_argument, structure}
 use Rattle.f3_meaning_whole.specs.Formed.{all, some, alike, of_kind, takes, component_takes, fits_component, at_most_once, is_before, is_declared}
 use Rattle.f3_meaning_whole.specs.Formed as formed
 use Rattle.f3_cell_kinds.specs.Effect.{held_kind, is_whole_for}
-use Rattle.f3_cell_kinds.specs.Holds.{Reaches, IsOf, AreComponents, AreElements, IsPassed}
+use Rattle.f3_cell_kinds.specs.Holds.{Reaches, IsOf, AreComponents, AreElements}
 use Rattle.f3_cell_kinds.specs.Stands.{PassedStands}
 use Rattle.f3_cell_kinds.proofs.Asked.{and_is, or_is, not_is, kind_same}
 use Rattle.f3_cell_kinds.proofs.Scalars.{no_rank, no_both, rank_is, alike_is}
 use Rattle.f3_cell_kinds.proofs.Calm.{Calm, gives_calm, fails_calm, looks_calm, bind_calm, if_calm, claim_for_calm}
-use Rattle.f3_cell_kinds.proofs.Reaching.{AllPassed, shown_length, shown_count, listed_joined}
+use Rattle.f3_cell_kinds.proofs.Reaching.{AllPassed, shown_length, shown_count}
 use Rattle.f3_cell_kinds.proofs.Initials.{spans_count, PartsFit}
 
 joined_listed : (vs : Values) → joined (listed vs) ≡ vs
@@ -97,8 +95,10 @@ module _ (types : List Derived) where
   fitted_calm {store = store} n d k v here declared same held whole part h =
       let is = alike_is types d.kind.of k v same held h in
       if_calm d.kind.is_allocatable
-      (λ e. bind_calm (converted_calm d.kind.of v here.place) (λ x f. gives_calm _ (e,
-      subst (λ y. IsOf types (held_kind d.kind) y) (sym f) (subst (λ m. IsOf types (of_kind d.kind.of m) v) (sym (whole e)) is))))
+      (λ e. bind_calm (converted_calm d.kind.of v here.place) (λ x f. gives_calm _ (
+        e,
+        subst (λ y. IsOf types (held_kind d.kind) y) (sym f) (subst (λ m. IsOf types (of_kind d.kind.of m) v) (sym (whole e)) is),
+      )))
       (λ e. if_calm (conforms (spans_declared d.dimensions.items) v)
       (λ c. bind_calm (converted_calm d.kind.of v here.place) (λ x f. gives_calm _
       (subst (λ y. IsOf types d.kind (laid_out d.kind.rank (spans_declared d.dimensions.items) y)) (sym f)
@@ -223,23 +223,25 @@ module _ (types : List Derived) where
       all (is_whole_for all_cs) gs ≡ true → TakesAll c.declared n gs
   takes_all all_cs n c [] qs e fits whole = tt
   takes_all all_cs n c (g ∷ gs) qs e fits whole =
-      let a = and_is _ _ fits in let b = and_is _ _ whole in
-      (λ same.
-      let at : slice_get all_cs g.number ≡ Some c = ap (slice_get all_cs) (eqb-true g.number n same) ∙ e in
-      let f = (and_is _ _ a.0).0 in
-      let fit : component_takes c.declared.kind g ≡ true = subst (λ (o : Option Component). some o (λ y. component_takes y.declared.kind g) ≡ true) at f in
-      let w : (not g.is_variable || (g.kind.is_allocatable && some (Some c) (λ y. y.declared.kind.is_allocatable))) ≡ true =
-      subst (λ (o : Option Component). (not g.is_variable || (g.kind.is_allocatable && some o (λ y. y.declared.kind.is_allocatable))) ≡ true) at b.0 in
-      (fit, λ v. and_is g.kind.is_allocatable c.declared.kind.is_allocatable (or_is _ _ w (ap not v))),
-      takes_all all_cs n c gs qs e a.1 b.1)
+      let a = and_is _ _ fits in let b = and_is _ _ whole in (
+        λ same.
+            let at : slice_get all_cs g.number ≡ Some c = ap (slice_get all_cs) (eqb-true g.number n same) ∙ e in
+            let f = (and_is _ _ a.0).0 in
+            let fit : component_takes c.declared.kind g ≡ true = subst (λ (o : Option Component). some o (λ y. component_takes y.declared.kind g) ≡ true) at f in
+            let w : (not g.is_variable || (g.kind.is_allocatable && some (Some c) (λ y. y.declared.kind.is_allocatable))) ≡ true =
+            subst (λ (o : Option Component). (not g.is_variable || (g.kind.is_allocatable && some o (λ y. y.declared.kind.is_allocatable))) ≡ true) at b.0 in
+            (fit, λ v. and_is g.kind.is_allocatable c.declared.kind.is_allocatable (or_is _ _ w (ap not v))),
+        takes_all all_cs n c gs qs e a.1 b.1,
+      )
 
   takes_from : (all_cs cs : List Component) (n : ℕ) (gs : List formed.Given) → ((k : ℕ) (c : Component) → slice_get cs k ≡ Some c → slice_get all_cs (n + k) ≡ Some c) →
       all (λ g. fits_component all_cs g && at_most_once gs g) gs ≡ true → all (is_whole_for all_cs) gs ≡ true → TakesFrom n cs gs
   takes_from all_cs [] n gs f fits whole = tt
   takes_from all_cs (c ∷ cs) n gs f fits whole =
-      let here : n ≡ n + 0 = omega arith in
-      (takes_all all_cs n c gs gs (ap (slice_get all_cs) here ∙ f 0 c refl) fits whole,
-      takes_from all_cs cs (suc n) gs (λ k y e. let there : suc n + k ≡ n + suc k = omega arith in ap (slice_get all_cs) there ∙ f (suc k) y e) fits whole)
+      let here : n ≡ n + 0 = omega arith in (
+        takes_all all_cs n c gs gs (ap (slice_get all_cs) here ∙ f 0 c refl) fits whole,
+        takes_from all_cs cs (suc n) gs (λ k y e. let there : suc n + k ≡ n + suc k = omega arith in ap (slice_get all_cs) there ∙ f (suc k) y e) fits whole,
+      )
 
   pub structure_takes : (y : Derived) (gs : List formed.Given) → all (λ g. fits_component y.components.items g && at_most_once gs g) gs ≡ true →
       all (is_whole_for y.components.items) gs ≡ true → TakesFrom 0 y.components.items gs

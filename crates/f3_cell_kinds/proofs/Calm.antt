@@ -1,11 +1,11 @@
 -- Parts of runs that leave the store as it is, and what they give.
-use Rattle.std.proofs.Common.{◌≡◌, ◌∙◌, refl, ℕ, Bool, true, false, List, subst, if◌then◌else◌}
+use Rattle.std.proofs.Common.{◌≡◌, refl, Bool, true, false, List, subst, if◌then◌else◌}
 use Rattle.f3_rules.specs.declared.source.Place.{Place}
 use Rattle.f3_meaning_whole.specs.Value.{Value}
 use Rattle.f3_meaning_whole.specs.Store.{Store}
 use Rattle.f3_meaning_whole.specs.declared.run_error.RunError.{RunError}
 use Rattle.f3_meaning_whole.specs.Ran.{Event, World, End, Gives, Fails, Stops, Beyond, Ran, go_on, ◌>>=◌, gives, fails, looks, asks}
-use Rattle.f3_meaning_whole.specs.Act.{Here, claim, claim_for, needs_storage}
+use Rattle.f3_meaning_whole.specs.Act.{Here, claim_for, needs_storage}
 
 abbrev pub IsCalm : {A : Type 0} → (A → Type 0) → Store → End A → Type 0
 IsCalm P store (Gives x w) = P x × (w.store ≡ store)

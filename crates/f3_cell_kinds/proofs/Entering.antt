@@ -1,45 +1,34 @@
 -- Steps that enter or leave activations and constructs keep to what cells hold.
-use Rattle.std.proofs.Common.{◌≡◌, ◌∙◌, sym, ap, ℕ, zero, suc, ◌+◌, ℤ, pos, Bool, true, false, List, [], ◌∷◌, ◌++◌, length, drop, Option, Some, None, refl, subst}
-use Rattle.std.specs.Prelude.{◌+ℤ◌, nat_eq, nat_lt, slice_get}
+use Rattle.std.proofs.Common.{◌≡◌, ◌∙◌, sym, ap, ℕ, ◌+◌, true, List, [], ◌∷◌, ◌++◌, length, refl, subst}
+use Rattle.std.specs.Prelude.{nat_eq, nat_lt, slice_get}
 use Rattle.std.proofs.lemmas.Bool.{eqb-true}
 use Rattle.f3_rules.specs.declared.source.Place.{Place}
 use Rattle.f3_program.specs.declared.declarations.Base.TheVariants as base
 use Rattle.f3_program.specs.declared.declarations.Derived.{Derived}
 use Rattle.f3_program.specs.declared.declarations.Kind.{Kind}
 use Rattle.f3_program.specs.declared.program.Program.{Program}
-use Rattle.f3_meaning_whole.specs.Value.{Value, Number, Truth, Array, Unallocated, Allocated, joined, number_of, truth_of, is_allocated, count, conforms, spans_of}
-use Rattle.f3_meaning_whole.specs.Store.{Path, get}
-use Rattle.f3_meaning_whole.specs.Reference.{Reference, spans, is_pinned}
-use Rattle.f3_meaning_whole.specs.declared.run_error.RunError.{RunError}
-use Rattle.f3_meaning_whole.specs.declared.run_error.RunError.TheVariants.{NotAllocated, ShapesDiffer}
-use Rattle.f3_meaning_whole.specs.Ran.{Event, Ran, World, ◌>>=◌, gives, looks, prints_bytes}
-use Rattle.f3_meaning_whole.specs.Arithmetic.{apply, change_of, converted}
+use Rattle.f3_meaning_whole.specs.Value.{Value}
+use Rattle.f3_meaning_whole.specs.Reference.{Reference}
+use Rattle.f3_meaning_whole.specs.Ran.{Event, Ran, World, ◌>>=◌, gives, looks}
 use Rattle.f3_meaning_whole.specs.Act.{Setting, Here, Passed, given, enter, begins, claim, claim_for, set, clear, leave, passed_at}
 use Rattle.f3_meaning_whole.specs.Act as meaning
-use Rattle.f3_meaning_whole.specs.Eval.{result, built, asked}
-use Rattle.f3_meaning_whole.specs.Exec.{dummies, held_by, associates, Flow, Onward, Cycled, Left, Returned, unless_zero, print_value, vacant, status_number, take_over}
+use Rattle.f3_meaning_whole.specs.Exec.{dummies, held_by, associates}
 use Rattle.f3_meaning_whole.specs.Formed.{of_kind, kinds_of}
-use Rattle.f3_core.specs.Exec.{allocate, is_held}
-use Rattle.f3_code.specs.declared.instruction.Instruction.{Instruction}
 use Rattle.f3_code.specs.declared.instruction.Instruction.TheVariants as i
 use Rattle.f3_code.specs.declared.instruction.Way.{Way}
 use Rattle.f3_code.specs.State as state
 use Rattle.f3_code.specs.State.{Line, placed, Entry, Code, Cell, To, Frame, State, Next}
-use Rattle.f3_code.specs.Machine.{begun, called_at, act, step, does_line, checked, tested, no_calls, performs, on_datum, on_object, returned, outward, passed_in, routine_at, departs, branches, next_turn_at, next_element, next_object, next_argument, skips_failed, on_to}
+use Rattle.f3_code.specs.Machine.{begun, called_at, act, performs, on_datum, on_object, returned, outward, routine_at, on_to}
 use Rattle.f3_cell_kinds.specs.Types.{Scope, Around, Told, Untold, InRoutine, CellType, Site, selecting, associating}
 use Rattle.f3_cell_kinds.specs.Types as cell
-use Rattle.f3_cell_kinds.specs.Effect.{either}
 use Rattle.f3_cell_kinds.specs.Kinds.{arrived, Leads, IsNext, AreFar, first_site, ProceduresBegin, RoutinesBegin, routine_site, AreKinds}
 use Rattle.f3_cell_kinds.specs.Kinds as kinds
 use Rattle.f3_cell_kinds.specs.Holds.{Refers, AllRefer, IsOf, Knows, Is, InScope, Stand, FramesHold, Fits}
-use Rattle.f3_cell_kinds.specs.Reading.{is_reading}
-use Rattle.f3_cell_kinds.proofs.OfActions.{extents_over}
-use Rattle.f3_cell_kinds.proofs.Yielding.{gives_yields, fails_yields, looks_yields, any_yields, bind_yields, if_yields}
-use Rattle.f3_cell_kinds.proofs.Scalars.{apply_yields, change_yields, plain_is, result_yields, built_yields, asked_yields, size_yields, convert_yields, rank_is, alike_is}
+use Rattle.f3_cell_kinds.proofs.Yielding.{any_yields}
 use Rattle.f3_cell_kinds.proofs.Reaching.{AllPassed, associates_refer, refer_append}
 use Rattle.f3_cell_kinds.proofs.Piled.{at_arguments, at_selectors}
-use Rattle.f3_cell_kinds.proofs.Holding.{Has, elsewhere, returns_end, fit, Keeps, stays_so, goes_so, performing, if_keeps, took, on_top, at_datum, at_object, at_bound, at_bounds, at_status, at_turns, at_elements, at_objects, at_level, at_outside, at_going, at_any, at_extents}
-use Rattle.f3_cell_kinds.proofs.Standing.{in_is, not_routine, spans_rank, same_shown, array_rank, constant_is, takes_held, only_next, far_first, far_last, EntryAt, entry_at, called_refer, constructed_is}
+use Rattle.f3_cell_kinds.proofs.Holding.{Has, elsewhere, returns_end, fit, Keeps, stays_so, goes_so, performing, if_keeps, took, on_top, at_datum, at_object, at_objects, at_outside}
+use Rattle.f3_cell_kinds.proofs.Standing.{in_is, not_routine, EntryAt, entry_at, called_refer}
 
 module _ (limit : ℕ) (g : Setting) (p : Program) (code : Code) (sites : ℕ → Site) (are : AreKinds p sites code) (s : State) (fits : Fits p.types.items sites s) (l : Line) where
   abbrev pub types : List Derived

@@ -1,30 +1,19 @@
 -- Arguments and subscripts that are given, by their kinds.
-use Rattle.std.proofs.Common.{◌≡◌, ℕ, suc, Bool, true, false, List, [], ◌∷◌, ◌++◌, length, Option, Some, None, refl, sym, ap, ◌∙◌, subst, if◌then◌else◌}
-use Rattle.std.specs.Prelude.{nat_eq}
-use Rattle.f3_rules.specs.declared.source.Place.{Place}
-use Rattle.f3_program.specs.declared.declarations.Component.{Component}
-use Rattle.f3_program.specs.declared.declarations.Constant.TheVariants as constant
+use Rattle.std.proofs.Common.{◌≡◌, suc, Bool, true, false, List, [], ◌∷◌, ◌++◌, length, Option, Some, None, refl, sym, ap, ◌∙◌, if◌then◌else◌}
 use Rattle.f3_program.specs.declared.declarations.Declared.{Declared}
 use Rattle.f3_program.specs.declared.declarations.Kind.{Kind}
 use Rattle.f3_program.specs.declared.expression.Argument as a
-use Rattle.f3_program.specs.declared.expression.Designator as d
 use Rattle.f3_program.specs.declared.expression.Expression as e
 use Rattle.f3_program.specs.declared.expression.Selection as l
 use Rattle.f3_program.specs.declared.expression.Subscript as u
 use Rattle.f3_program.specs.declared.program.Program.{Program}
-use Rattle.f3_meaning_whole.specs.Act.{component_of}
-use Rattle.f3_meaning_whole.specs.Formed.{Given, given_all, is_whole_number, result_kind, value_kind, object_kind, kind_of_name, argument, arguments, taken, taken_of_each, subscript, subscripts, sectioned, element_of_each, only, is_scalar, of_kind}
-use Rattle.f3_code.specs.declared.instruction.Instruction.TheVariants as i
-use Rattle.f3_code.specs.State.{Line, line}
-use Rattle.f3_code.specs.Code.{argument_count, subscript_count, value_code, bounds_code, argument_code, arguments_code, locate_code, select_code, select_of_code, chosen_code, subscript_code}
+use Rattle.f3_meaning_whole.specs.Formed.{Given, given_all, result_kind, value_kind, object_kind, argument, arguments, taken, taken_of_each, subscript, subscripts, sectioned, element_of_each, only, is_scalar, of_kind}
+use Rattle.f3_code.specs.Code.{argument_count, subscript_count}
 use Rattle.f3_cell_kinds.specs.Types.{Scope, CellType, Site, arguments_on, choices_on}
 use Rattle.f3_cell_kinds.specs.Types as cell
-use Rattle.f3_cell_kinds.specs.Effect.{on, truth, number, held_kind, declared_kind, part_kind, part_cell}
-use Rattle.f3_cell_kinds.specs.Kinds.{Leads}
-use Rattle.f3_cell_kinds.specs.Values.{kind_or, at, kind_of_part, kind_of_procedure, returned, component_at, is_triplet, triplets, value_at, object_at, argument_at, arguments_at, value_sites, bounds_sites, argument_sites, arguments_sites, locate_sites, select_sites, select_of_sites, chosen_sites, subscript_sites}
-use Rattle.f3_cell_kinds.specs.Sense.{value_fits, argument_fits, arguments_fit, object_fits, selection_fits, subscripts_fit, subscript_fits}
-use Rattle.f3_cell_kinds.proofs.Asked.{some_same, found_is, found_kind, found_at, some_at, only_is, unless_is, and_is, not_is, some_kind, kind_is, itself}
-use Rattle.f3_cell_kinds.proofs.Parts.{in_scope, Part, Onto, nothing, seq, Falls, plain, first, last, onto_same}
+use Rattle.f3_cell_kinds.specs.Effect.{held_kind, declared_kind}
+use Rattle.f3_cell_kinds.specs.Values.{is_triplet, triplets, argument_at, arguments_at}
+use Rattle.f3_cell_kinds.proofs.Asked.{some_same, found_is, found_kind, found_at, only_is}
 
 -- ---- many on top
 

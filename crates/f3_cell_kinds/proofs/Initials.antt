@@ -1,6 +1,6 @@
 -- Initial values are of their kinds.
-use Rattle.std.proofs.Common.{◌≡◌, ◌∙◌, sym, ap, ℕ, zero, suc, ◌+◌, ◌<◌, Bool, true, false, ◌&&◌, ◌||◌, List, [], ◌∷◌, ◌++◌, map, length, Option, Some, None, refl, subst, arith, inl, inr, if◌then◌else◌, length-append}
-use Rattle.std.specs.Prelude.{nat_eq, nat_lt, slice_get, slice_index_or, replicate, pos}
+use Rattle.std.proofs.Common.{◌≡◌, ◌∙◌, sym, ap, ℕ, zero, suc, ◌+◌, ◌<◌, Bool, true, false, ◌&&◌, ◌||◌, List, [], ◌∷◌, ◌++◌, map, length, Some, refl, subst, arith, if◌then◌else◌, length-append}
+use Rattle.std.specs.Prelude.{nat_eq, nat_lt, slice_get, slice_index_or, replicate}
 use Rattle.std.proofs.lemmas.Bool.{eqb-true, ltb-true, ltb-false, lt-ltb}
 use Rattle.std.proofs.lemmas.List.{length-replicate}
 use Rattle.std.proofs.Math.Seq.{get_or-append_seam}
@@ -16,12 +16,12 @@ use Rattle.f3_program.specs.declared.declarations.Kind.{Kind}
 use Rattle.f3_program.specs.declared.program.Procedure.{Procedure}
 use Rattle.f3_program.specs.declared.program.Program.{Program}
 use Rattle.f3_program.specs.declared.program.Static.{Static}
-use Rattle.f3_meaning_whole.specs.Value.{Span, Value, Unallocated, Values, none, more, listed, joined, count}
+use Rattle.f3_meaning_whole.specs.Value.{Span, Value, Unallocated, listed, joined, count}
 use Rattle.f3_meaning_whole.specs.Arithmetic.{constant_value}
 use Rattle.f3_meaning_whole.specs.Shape.{Shape, Whole, Record, Parts, nothing, and, shape_in, parts_in, shapes_from, shapes_of, spans_declared, initialized, arranged, initial_declared, initial_of, initial_parts}
 use Rattle.f3_meaning_whole.specs.Act.{components_of}
 use Rattle.f3_meaning_whole.specs.Exec.{declared_in, initial_value}
-use Rattle.f3_meaning_whole.specs.Formed.{all, of_kind, is_before, is_declared, is_final, are_types, are_declared, is_procedure, IsWellFormed}
+use Rattle.f3_meaning_whole.specs.Formed.{all, of_kind, is_before, is_declared, are_types, are_declared, is_procedure, IsWellFormed}
 use Rattle.f3_meaning_whole.specs.Run.{setting_of}
 use Rattle.f3_core.specs.Lower.{initial}
 use Rattle.f3_cell_kinds.specs.Sense.{constant_fits, initial_fits, MakesSense}

@@ -1,8 +1,7 @@
 -- The states of runs have cells that hold what their types say, as long as objects stand.
-use Rattle.std.proofs.Common.{◌≡◌, ◌∙◌, ap, ℕ, zero, suc, ◌<◌, Bool, true, List, [], Option, Some, None, refl, sym, subst, arith}
-use Rattle.std.specs.Prelude.{slice_get}
+use Rattle.std.proofs.Common.{◌≡◌, ◌∙◌, ap, ℕ, zero, suc, ◌<◌, Bool, List, Some, refl, subst, arith}
 use Rattle.f3_program.specs.declared.program.Program.{Program}
-use Rattle.f3_meaning_whole.specs.Ran.{Event, World, End, Gives, Fails, Stops, Beyond, ◌>>=◌}
+use Rattle.f3_meaning_whole.specs.Ran.{Event, End, Gives, Fails, Stops, Beyond, ◌>>=◌}
 use Rattle.f3_meaning_whole.specs.Act.{Setting, claim, enter}
 use Rattle.f3_meaning_whole.specs.Shape.{shapes_of}
 use Rattle.f3_meaning_whole.specs.Formed.{IsWellFormed}
@@ -10,7 +9,7 @@ use Rattle.f3_core.specs.Lower.{lowered_program}
 use Rattle.f3_core.specs.Run.{core_setting, core_here, core_world}
 use Rattle.f3_code.specs.State as state
 use Rattle.f3_code.specs.State.{Line, Code, State, Next, Goes}
-use Rattle.f3_code.specs.Machine.{ends_so, step, does_line}
+use Rattle.f3_code.specs.Machine.{ends_so, step}
 use Rattle.f3_code.specs.Run.{start}
 use Rattle.f3_code.specs.Code.{program_code}
 use Rattle.f3_heights.specs.Room.{state_next, state_run, state_after}

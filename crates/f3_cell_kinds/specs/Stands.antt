@@ -1,5 +1,5 @@
 -- Objects that stand in the store as values of their kinds.
-use Rattle.std.specs.Prelude.{⊤, ◌≡◌, ℕ, Bool, true, false, List, ◌∷◌, Option, Some, None, slice_get}
+use Rattle.std.specs.Prelude.{⊤, ◌≡◌, ℕ, List, ◌∷◌, Option, Some, None}
 use Rattle.f3_program.specs.declared.declarations.Derived.{Derived}
 use Rattle.f3_program.specs.declared.declarations.Kind.{Kind}
 use Rattle.f3_program.specs.declared.expression.Name.{Name}
