@@ -21,7 +21,7 @@ use Rattle.f3_meaning_whole.specs.Arithmetic.{constant_value}
 use Rattle.f3_meaning_whole.specs.Shape.{Shape, Whole, Record, Parts, nothing, and, shape_in, parts_in, shapes_from, shapes_of, spans_declared, initialized, arranged, initial_declared, initial_of, initial_parts}
 use Rattle.f3_meaning_whole.specs.Act.{components_of}
 use Rattle.f3_meaning_whole.specs.Exec.{declared_in, initial_value}
-use Rattle.f3_meaning_whole.specs.Formed.{all, of_kind, is_before, is_declared, are_types, are_declared, is_procedure, IsWellFormed}
+use Rattle.f3_meaning_whole.specs.Formed.{all, of_kind, is_before, is_declared, is_final, are_types, are_declared, is_procedure, IsWellFormed}
 use Rattle.f3_meaning_whole.specs.Run.{setting_of}
 use Rattle.f3_core.specs.Lower.{initial}
 use Rattle.f3_cell_kinds.specs.Sense.{constant_fits, initial_fits, MakesSense}
@@ -165,7 +165,8 @@ module _ (types : List Derived) where
       Fit (shapes_from shapes ts) × (length (shapes_from shapes ts) ≡ length shapes + length ts)
   all_types p shapes n [] fit e are f = (fit, (let m : length shapes ≡ length shapes + 0 = omega arith in m))
   all_types p shapes n (t ∷ ts) fit e are f =
-      let a = and_is _ _ are in let b = and_is _ _ a.1 in
+      let a = and_is (all (λ (c : Component). is_declared n c.declared) t.components.items) (all (is_final p) t.finals.items && are_types p (suc n) ts) are in
+      let b = and_is (all (is_final p) t.finals.items) (are_types p (suc n) ts) a.1 in
       let here = f 0 t refl in
       let at : n + 0 ≡ length shapes = omega (arith, e) in
       let found : slice_get types (length shapes) ≡ Some t = ap (slice_get types) (sym at) ∙ here.0 in

@@ -202,7 +202,7 @@ module _ (p : Program) (sites : ℕ → Site) (finals : FinalsFit p) (m : ℕ) w
       length (procedures_sites p m (map (lowered_procedure (setting_of p)) qs)) ≡ length (procedures_code m (map (lowered_procedure (setting_of p)) qs))
   procedures_same [] formed fit = refl
   procedures_same (q ∷ qs) formed fit =
-      let a = and_is _ _ formed in let f = and_is _ _ fit in
+      let a = and_is (is_procedure p q) (all (is_procedure p) qs) formed in let f = and_is (procedure_fits p q) (all (procedure_fits p) qs) fit in
       let x = lowered_procedure (setting_of p) q in let xs = map (lowered_procedure (setting_of p)) qs in
       omega (
         arith,

@@ -153,7 +153,7 @@ module _ (types : List Derived) where
       AllRefer (kinds_of ds) (dummies k ds ps level unit)
   dummies_refer all_ds [] k gs ps level unit are fits f each = tt
   dummies_refer all_ds (d ∷ ds) k gs ps level unit are fits f each =
-      let a = and_is _ _ each in
+      let a = and_is (nat_eq (given_for k gs) 1) (all_given (suc k) ds gs) each in
       let here : k + 0 ≡ k = omega arith in
       let at : slice_get all_ds k ≡ Some d = ap (slice_get all_ds) (sym here) ∙ f 0 d refl in
       let r = argument_refers d k gs ps level 0 unit are (takes_of all_ds d k gs at fits) a.0 in (

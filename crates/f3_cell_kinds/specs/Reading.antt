@@ -3,7 +3,7 @@ use Rattle.std.specs.Prelude.{Bool, true, false}
 use Rattle.f3_code.specs.declared.instruction.Instruction.{Instruction}
 use Rattle.f3_code.specs.declared.instruction.Instruction.TheVariants as i
 
--- of these the law of steps does not speak yet
+-- of these only the law of steps where objects stand speaks
 abbrev pub is_reading : Instruction → Bool
 is_reading i.Load = true
 is_reading (i.Refer x) = true
