@@ -29,3 +29,4 @@ pub mod ReadingSteps
 pub mod Running
 pub mod Calm
 pub mod Building
+pub mod Changing

@@ -38,7 +38,7 @@ mutual
 
 -- ---- components
 
-component_found : (o : Option Derived) (n : ℕ) (c : m.Component) → component_in o n ≡ Some c → (y : Derived) × (o ≡ Some y) × (slice_get y.components.items n ≡ Some c)
+pub component_found : (o : Option Derived) (n : ℕ) (c : m.Component) → component_in o n ≡ Some c → (y : Derived) × (o ≡ Some y) × (slice_get y.components.items n ≡ Some c)
 component_found None n c e = cc
 component_found (Some y) n c e = (y, refl, e)
 

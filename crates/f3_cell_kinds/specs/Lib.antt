@@ -7,4 +7,5 @@ pub mod Sense
 pub mod Holds
 pub mod Reading
 pub mod Stands
+pub mod Ways
 pub mod Laws

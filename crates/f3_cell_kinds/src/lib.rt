@@ -1,7 +1,7 @@
 //! Of which kind each cell is on the stack of an activation at each line of the code of a program, known before the run.
 #![tactic(auto)]
 
-ghost use Rattle.f3_cell_kinds.specs.Laws.{CodeHasKinds, InitialsFit, KindsHaveSorts, StandingStepsHold, RunsHold, StartFits, StepsHold};
+ghost use Rattle.f3_cell_kinds.specs.Laws.{ChangesHold, CodeHasKinds, InitialsFit, KindsHaveSorts, PartsHold, RunsHold, StandingStepsHold, StartFits, StepsHold};
 
 /// The code of every program that makes sense has kinds, known before the run: at each line the cells are of these on whatever way the
 /// machine comes to it (own rule).
@@ -41,4 +41,14 @@ pub fn initials_fit()
 /// before (own rule).
 pub fn runs_hold()
     ensures { RunsHold }
+{}
+
+/// A part of a value is of the kind to which its way leads by the declarations, where it is there at all (own rule).
+pub fn parts_hold()
+    ensures { PartsHold }
+{}
+
+/// A value in which such a part is another one of its kind is of the same kind as before (own rule).
+pub fn changes_hold()
+    ensures { ChangesHold }
 {}
