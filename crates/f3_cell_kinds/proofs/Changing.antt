@@ -4,7 +4,7 @@ use Rattle.std.specs.Prelude.{nat_lt, slice_get}
 use Rattle.f3_program.specs.declared.declarations.Component as m
 use Rattle.f3_program.specs.declared.declarations.Derived.{Derived}
 use Rattle.f3_program.specs.declared.declarations.Kind.{Kind}
-use Rattle.f3_meaning_whole.specs.Value.{Value, Number, Truth, Composite, Array, Unallocated, Allocated, Values, none, more, listed}
+use Rattle.f3_meaning_whole.specs.Value.{Value, Composite, Array, Unallocated, Allocated, Values, none, more, listed}
 use Rattle.f3_meaning_whole.specs.Store.{Step, Component, Element, Contents, part, part_at, with_part, with_part_at}
 use Rattle.f3_meaning_whole.specs.Act.{component_of, derived_of}
 use Rattle.f3_meaning_whole.specs.Formed.{found, of_kind, is_scalar}
