@@ -1,0 +1,35 @@
+//! Laws on programs that break no rule: what the rules on types know of them and what their elaborated programs say are of the same kinds.
+#![tactic(auto)]
+
+ghost use Rattle.f3_kind_laws.specs.Laws.{FunctionsHaveDummies, ResultsAreOwn, SubroutinesHaveDummies, TypesAreCounted, TypesHaveComponents};
+ghost use Rattle.f3_kind_laws.specs.Laws.{TypesStandBehind};
+ghost use Rattle.f3_kind_laws.specs.Laws.{UnitsAreOrdered, VariablesAreOfKinds};
+
+/// Each unit is among those that are checked, and the number of a declared type is below their count (ISO/IEC 1539-1:2004, 11.2.1).
+pub fn types_are_counted()
+    ensures units { UnitsAreOrdered }
+    ensures types { TypesAreCounted }
+{}
+
+/// A type stands behind those of its components (4.5.3): behind those of its own module that are defined above it, and of the modules used.
+pub fn types_stand_behind()
+    ensures { TypesStandBehind }
+{}
+
+/// Each type has components of the kinds that the rules know (4.5).
+pub fn types_have_components()
+    ensures { TypesHaveComponents }
+{}
+
+/// Each procedure has dummies of these kinds, a function a result of the kind of its own, and this is no dummy (12.4.1, 12.5.2.1).
+pub fn procedures_have_dummies()
+    ensures subroutines { SubroutinesHaveDummies }
+    ensures functions { FunctionsHaveDummies }
+    ensures results { ResultsAreOwn }
+{}
+
+/// A variable that a name means where a body begins is of the kind that its declaration says: it lives for the whole run, is one of the
+/// activation, or is a dummy (5.1, 12.3.1, 12.5.2.1).
+pub fn variables_are_of_kinds()
+    ensures { VariablesAreOfKinds }
+{}
