@@ -6,3 +6,8 @@ pub mod Mains
 pub mod Members
 pub mod Bodies
 pub mod Behind
+pub mod Typed
+pub mod Values
+pub mod Constants
+pub mod Given
+pub mod Whole

@@ -13,7 +13,7 @@ use Rattle.f3_program.specs.declared.program.Program.{Program}
 use Rattle.f3_kinds.specs.declared.things.Component.{Component}
 use Rattle.f3_kinds.specs.declared.things.Dummy.{Dummy}
 use Rattle.f3_kinds.specs.declared.types.Object.{Object}
-use Rattle.f3_kinds.specs.Things.{derived, subroutine, function}
+use Rattle.f3_kinds.specs.Things.{constant, derived, subroutine, function}
 use Rattle.f3_meaning_whole.specs.Exec.{declared_in}
 use Rattle.f3_meaning_whole.specs.Formed.{of_kind, result_kind, kinds_of, kind_of_name}
 use Rattle.f3_meaning_whole.specs.Permitted.{Each}
@@ -26,12 +26,13 @@ use Rattle.f3_elaboration.specs.Numbers.{Inner, Definition, definitions, number_
 use Rattle.f3_elaboration.specs.Program.{elaborated}
 use Rattle.f3_elaboration.specs.Units.{surroundings}
 use Rattle.f3_lawful_laws.specs.Entities.{units_of, whole_of}
-use Rattle.f3_formed_laws.specs.Agreement.{kind_of, HasComponents, HasDummies}
-use Rattle.f3_formed_laws.specs.Entities.{HasOwnResult, StandsBehind}
+use Rattle.f3_formed_laws.specs.Agreement.{kind_of, IsConstant, HasComponents, HasDummies}
+use Rattle.f3_formed_laws.specs.Entities.{HasOwnResult, KindsAgree, StandsBehind}
 use Rattle.f3_agreement_laws.specs.Unbroken.{HasOuterTypes, IsUnbroken}
 use Rattle.f3_entity_laws.specs.Things.{Home, of_unit, of_member, IsHome}
 use Rattle.f3_variable_laws.specs.Bodies.{node_of, surroundings_in}
 use Rattle.f3_variable_laws.specs.Laws.{IsElaborated, OfVariables}
+use Rattle.f3_kind_laws.specs.Written.{AreInitialsWritten}
 
 -- ---- units and types
 
@@ -80,7 +81,14 @@ abbrev pub ResultsAreOwn : Type 0
 ResultsAreOwn = (t : Tree) (look : ℕ → ℕ → Lookup) (order : List ℕ) → IsUnbroken t look order
     → (u : Numbered) (m : Member) → IsHome (units_of t) (of_member u m) → HasOwnResult m
 
--- ---- variables
+-- ---- constants and variables
+
+-- where initializers are such as a source may spell, a named constant is a scalar with a value of its type
+abbrev pub ConstantsAreOfTypes : Type 0
+ConstantsAreOfTypes = (t : Tree) (look : ℕ → ℕ → Lookup) (order : List ℕ) (p : Program) → AreInitialsWritten t → IsUnbroken t look order
+    → program_view p ≡ elaborated t look order → (unit scope : ℕ) (inner : Inner) (e : ℕ) (o : Object)
+    → (context (whole_of t look order) unit scope).nature e ≡ Some (constant o)
+    → IsConstant (surroundings (whole_of t look order) unit scope inner) e o
 
 -- the kinds of the dummies of a procedure; a unit itself has none
 abbrev pub dummies_in : Home → Procedure → List Kind
@@ -93,3 +101,10 @@ VariablesAreOfKinds = (p : Program) (t : Tree) (look : ℕ → ℕ → Lookup) (
     → (h : Home) → IsHome (units_of t) h → (q : Procedure) → procedure_view q ≡ node_of (whole_of t look order) h
     → let s : Surroundings = surroundings_in (whole_of t look order) h in
     OfVariables s (λ e o. kind_of_name p (declared_in q) (dummies_in h q) (s.object e) ≡ Some (kind_of s o))
+
+-- ---- the whole
+
+-- so the rules and the elaborated program are of the same kinds
+abbrev pub KindsDoAgree : Type 0
+KindsDoAgree = (p : Program) (t : Tree) (look : ℕ → ℕ → Lookup) (order : List ℕ) → AreInitialsWritten t → IsUnbroken t look order
+    → IsElaborated p t look order → KindsAgree p t look order

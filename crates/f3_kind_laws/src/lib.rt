@@ -1,7 +1,7 @@
 //! Laws on programs that break no rule: what the rules on types know of them and what their elaborated programs say are of the same kinds.
 #![tactic(auto)]
 
-ghost use Rattle.f3_kind_laws.specs.Laws.{FunctionsHaveDummies, ResultsAreOwn, SubroutinesHaveDummies, TypesAreCounted, TypesHaveComponents};
+ghost use Rattle.f3_kind_laws.specs.Laws.{ConstantsAreOfTypes, FunctionsHaveDummies, KindsDoAgree, ResultsAreOwn, SubroutinesHaveDummies, TypesAreCounted, TypesHaveComponents};
 ghost use Rattle.f3_kind_laws.specs.Laws.{TypesStandBehind};
 ghost use Rattle.f3_kind_laws.specs.Laws.{UnitsAreOrdered, VariablesAreOfKinds};
 
@@ -32,4 +32,15 @@ pub fn procedures_have_dummies()
 /// activation, or is a dummy (5.1, 12.3.1, 12.5.2.1).
 pub fn variables_are_of_kinds()
     ensures { VariablesAreOfKinds }
+{}
+
+/// A named constant is a scalar with a value of its type (5.1.2.10, 7.1.7).
+pub fn constants_are_of_types()
+    ensures { ConstantsAreOfTypes }
+{}
+
+/// Where no rule of phases 3 to 7 is broken, and initializers are such as a source may spell, the rules on types and the elaborated program
+/// are of the same kinds, wherever a body begins.
+pub fn kinds_do_agree()
+    ensures { KindsDoAgree }
 {}
