@@ -1,7 +1,6 @@
 -- A type stands behind those of its components.
-use Rattle.std.proofs.Common.{◌≡◌, ℕ, zero, suc, ◌+◌, ◌<◌, ◌≤◌, ◌⊎◌, inl, inr, Bool, true, false, not, ◌||◌, nat_lt, List, [], ◌∷◌, ◌++◌, length, map, Option, None, Some, refl, sym, ap, ◌∙◌, arith}
+use Rattle.std.proofs.Common.{◌≡◌, ℕ, zero, suc, ◌+◌, ◌<◌, ◌≤◌, ◌⊎◌, inl, inr, true, not, ◌||◌, nat_lt, List, [], ◌∷◌, length, map, Option, None, Some, refl, sym, ap, ◌∙◌, arith}
 use Rattle.std.specs.Prelude.{◌==◌, slice_get}
-use Rattle.std.specs.List.{flat_map}
 use Rattle.std.proofs.lemmas.Bool.{cases_order}
 use Rattle.std.proofs.lemmas.Bool.Decides.{leb_tells}
 use Rattle.std.proofs.lemmas.List.{length-map}
@@ -10,37 +9,31 @@ use mathlib.Core.Path.{subst}
 use Rattle.f3_access.specs.declared.table.Lookup.{Lookup}
 use Rattle.f3_access.specs.declared.table.Lookup.TheVariants.{One, Nothing, Several}
 use Rattle.f3_access.specs.Access.{first_entity}
-use Rattle.f3_graph.specs.Order.{IsOrderOf}
 use Rattle.f3_graph.specs.Units.{node_of, nodes_of}
 use Rattle.f3_nodes.proofs.Members.{Has}
-use Rattle.f3_rules.specs.declared.breaks.Break.{Break}
 use Rattle.f3_scopes.specs.declared.outline.EntityKind.{EntityKind}
 use Rattle.f3_scopes.specs.declared.outline.EntityKind.TheVariants as entity
-use Rattle.f3_scopes.specs.Outlines.{Scope}
 use Rattle.f3_scopes.specs.Scopes.{declared_in, own, scope_of_unit, scopes_of, unit_scopes}
 use Rattle.f3_tree.specs.declared.declaration.TypeSpecifier.{TypeSpecifier}
 use Rattle.f3_tree.specs.declared.declaration.TypeSpecifier.TheVariants as specifier
-use Rattle.f3_tree.specs.declared.expression.Name.{Name}
 use Rattle.f3_tree.specs.Declarations.{EntityTree, DeclarationTree, TypeTree, SpecificationTree, declares, accesses, protects, saves, defines}
-use Rattle.f3_tree.specs.Tree.{Tree, UnitTree}
-use Rattle.f3_kinds.specs.declared.types.DataType.{DataType}
+use Rattle.f3_tree.specs.Tree.{Tree}
 use Rattle.f3_kinds.specs.declared.types.DataType.TheVariants.{Integer, Logical, Derived}
 use Rattle.f3_kinds.specs.Rows.{at_name}
 use Rattle.f3_rules.specs.declared.rule.Rule.TheVariants.{T3}
 use Rattle.f3_kinds.specs.Things.{map_or}
 use Rattle.f3_type_rules.specs.declared.definition.Holder.{Holder}
-use Rattle.f3_type_rules.specs.Declarations.{type_rows, component_rows, entity_next, specifier_rows, specification_rows, specification_next, type_definition_rows, unit_spot, unit_rows, unit_next, within_unit, behind_part, member_rows, member_next}
-use Rattle.f3_type_rules.specs.Members.{Member, Numbered, numbered, units_from}
+use Rattle.f3_type_rules.specs.Declarations.{type_rows, component_rows, entity_next, specifier_rows, specification_rows, specification_next, type_definition_rows, unit_spot, unit_rows, unit_next, within_unit}
+use Rattle.f3_type_rules.specs.Members.{Member, Numbered, numbered}
 use Rattle.f3_type_rules.specs.Names.{type_if, type_named, type_of}
 use Rattle.f3_type_rules.specs.Program.{nothing_known, program_breaks, units_in}
-use Rattle.f3_type_rules.specs.Scene.{holders_from, names_of, Scene}
 use Rattle.f3_type_rules.specs.Walks.{after, along, Known, Spot}
 use Rattle.f3_elaboration.specs.Declarations.{Whole}
 use Rattle.f3_elaboration.specs.Numbers.{Definition, along_part, types_in, definitions, number_in}
 use Rattle.f3_lawful_laws.specs.Entities.{units_of, whole_of}
 use Rattle.f3_lawful_laws.proofs.Ascending.{Ascends, at_least}
-use Rattle.f3_lawful_laws.proofs.Facts.{no, nothing, same, first, second, holds, negated_back, otherwise}
-use Rattle.f3_lawful_laws.proofs.Opening.{each_at, from_mapped, mapped_at}
+use Rattle.f3_lawful_laws.proofs.Facts.{no, nothing, same, first, second, holds, otherwise}
+use Rattle.f3_lawful_laws.proofs.Opening.{each_at, mapped_at}
 use Rattle.f3_lawful_laws.proofs.Positions.{eq_self}
 use Rattle.f3_order_laws.proofs.Orders.{Needs, stands}
 use Rattle.f3_order_laws.proofs.Places.{start, first_more, first_grows, numbered_at, numbered_of}
@@ -48,10 +41,10 @@ use Rattle.f3_order_laws.proofs.Resolved.{resolved}
 use Rattle.f3_order_laws.proofs.Seen as seen
 use Rattle.f3_order_laws.proofs.Walking.{Standing}
 use Rattle.f3_formed_laws.specs.Entities.{IsBelow}
-use Rattle.f3_entity_laws.specs.Things.{of_unit, Thing, type, things_of, IsAmong}
+use Rattle.f3_entity_laws.specs.Things.{of_unit, type, things_of, IsAmong}
 use Rattle.f3_entity_laws.specs.Laws.{definition_at}
 use Rattle.f3_entity_laws.proofs.Entities.{holders_of, stand}
-use Rattle.f3_entity_laws.proofs.Found.{ordered_unit, unit_once, unit_ordered}
+use Rattle.f3_entity_laws.proofs.Found.{ordered_unit, unit_once}
 use Rattle.f3_entity_laws.proofs.Lists.{split_at, before, before_more, flat_at, flat_block, there}
 use Rattle.f3_entity_laws.proofs.Names.{thing_types, type_things}
 use Rattle.f3_entity_laws.proofs.Spans.{definitions_span, spans_ascend, type_entity}
@@ -59,7 +52,7 @@ use Rattle.f3_agreement_laws.specs.Unbroken.{IsUnbroken}
 use Rattle.f3_agreement_laws.proofs.Free.{along_none, nil_of, none_at}
 use Rattle.f3_agreement_laws.proofs.Types.{at_places}
 use Rattle.f3_kind_laws.specs.Laws.{TypesStandBehind}
-use Rattle.f3_kind_laws.proofs.Types.{declared_type, IsTypeOf}
+use Rattle.f3_kind_laws.proofs.Types.{declared_type}
 
 -- ---- lists
 
@@ -298,6 +291,6 @@ behind t look order free k d at =
     let own = type_things t f.1 d (ordered_unit t order free.ordered f.0 f.1 f.3) (f.2, f.4) in
     let unit_is : d.unit ≡ f.1 = ap (λ (z : Definition). z.unit) own.0 in
     each_at (IsBelow w k (d.unit).scope) (d.tree).components (λ i x there e typed.
-        subst (λ n. number_in (w.numbers).types e < n) (sym f.5)
-        (component_below t look order free f.0 f.1 f.2 d f.3 f.4 x (i, there) e
-        (ap (λ (z : Numbered). type_of (w.scene).names z.scope x.specifier) (sym unit_is) ∙ typed)))
+    subst (λ n. number_in (w.numbers).types e < n) (sym f.5)
+    (component_below t look order free f.0 f.1 f.2 d f.3 f.4 x (i, there) e
+    (ap (λ (z : Numbered). type_of (w.scene).names z.scope x.specifier) (sym unit_is) ∙ typed)))

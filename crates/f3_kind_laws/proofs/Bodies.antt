@@ -1,21 +1,15 @@
 -- In each body the variables are of their kinds.
-use Rattle.std.proofs.Common.{◌≡◌, refl, subst, ℕ, List, [], Some}
+use Rattle.std.proofs.Common.{◌≡◌, refl, subst, ℕ, List, []}
 use Rattle.f3_tree.specs.declared.program.UnitKind.{UnitKind}
 use Rattle.f3_tree.specs.declared.program.UnitKind.TheVariants as unit
 use Rattle.f3_tree.specs.Tree.{UnitTree, Tree}
 use Rattle.f3_nodes.proofs.Members.{Has, at_has, has_mapped}
 use Rattle.f3_access.specs.declared.table.Lookup.{Lookup}
-use Rattle.f3_access.specs.declared.table.Lookup.TheVariants.{One}
-use Rattle.f3_program.specs.declared.program.Procedure.{Procedure}
 use Rattle.f3_program.specs.declared.program.Program.{Program}
-use Rattle.f3_kinds.specs.declared.types.Object.{Object}
-use Rattle.f3_kinds.specs.Things.{look_here, variable}
 use Rattle.f3_type_rules.specs.Members.{Member, Numbered}
 use Rattle.f3_phase_laws.specs.Numbers.{units_of}
 use Rattle.f3_phase_laws.proofs.Numbers.{units}
-use Rattle.f3_elaboration.specs.DeclaredViews.{procedure_view}
-use Rattle.f3_entity_laws.specs.Things.{Home, of_unit, of_member, IsHome}
-use Rattle.f3_lawful_laws.specs.Entities.{whole_of}
+use Rattle.f3_entity_laws.specs.Things.{of_unit, of_member, IsHome}
 use Rattle.f3_variable_laws.specs.Laws.{IsElaborated}
 use Rattle.f3_variable_laws.proofs.Lists.{each_of}
 use Rattle.f3_variable_laws.proofs.Owned.{unit_is}

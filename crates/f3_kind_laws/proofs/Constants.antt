@@ -1,24 +1,20 @@
 -- What is known behind all specification parts of the values of named constants: each is of the type of its constant, and none is missing.
-use Rattle.std.proofs.Common.{◌≡◌, ℕ, zero, suc, ◌+◌, ◌⊎◌, inl, inr, Bool, true, false, cond, not, nat_eq, List, [], ◌∷◌, ◌++◌, length, map, Option, None, Some, refl, sym, ap, ◌∙◌, arith}
-use Rattle.std.specs.Prelude.{⊤, slice_get}
+use Rattle.std.proofs.Common.{◌≡◌, ℕ, zero, suc, ◌+◌, ◌⊎◌, inl, inr, Bool, true, false, cond, nat_eq, List, [], ◌∷◌, length, Option, None, Some, refl, sym, ap, ◌∙◌}
+use Rattle.std.specs.Prelude.{slice_get}
 use Rattle.std.specs.List.{flat_map}
 use Rattle.std.specs.Map.{lookup}
 use mathlib.Core.Path.{subst}
 use Rattle.f3_rules.specs.declared.breaks.Break.{Break}
 use Rattle.f3_nodes.proofs.Members.{Has, has_left, has_right, has_parts}
 use Rattle.f3_scopes.specs.Scopes.{declared_in}
-use Rattle.f3_tree.specs.Declarations as t
 use Rattle.f3_tree.specs.Declarations.{EntityTree, DeclarationTree, SpecificationTree, declares, accesses, protects, saves, defines}
-use Rattle.f3_kinds.specs.declared.types.Object.{Object}
 use Rattle.f3_kinds.specs.declared.types.Scalar.{Scalar}
-use Rattle.f3_type_rules.specs.Attributes.{has}
-use Rattle.f3_type_rules.specs.Declarations.{constant_value, declaration_rows, entity_rows, entity_next, specifier_rows, specification_rows, specification_next, with_entry}
+use Rattle.f3_type_rules.specs.Declarations.{constant_value, entity_rows, entity_next, specifier_rows, specification_rows, specification_next, with_entry}
 use Rattle.f3_type_rules.specs.Members.{Member}
-use Rattle.f3_type_rules.specs.Names.{Declared, attributes_of, object_of}
+use Rattle.f3_type_rules.specs.Names.{attributes_of}
 use Rattle.f3_type_rules.specs.Shapes.{dimension_rows}
 use Rattle.f3_type_rules.specs.Walks.{after, along, context, Known, Spot}
 use Rattle.f3_elaboration.specs.Numbers.{Variable, along_part, declared_from, names_in}
-use Rattle.f3_lawful_laws.specs.Blocks.{IsStepWritten}
 use Rattle.f3_lawful_laws.proofs.Facts.{no, nothing, same, first, second}
 use Rattle.f3_lawful_laws.proofs.Positions.{eq_same, eq_self}
 use Rattle.f3_kind_laws.proofs.Behind.{moves}
@@ -112,7 +108,7 @@ module _ (P : ℕ → Scalar → Type 0) where
     part_right k (x ∷ ss) make all =
         part_right (specification_next s k x) ss
         (λ v h.
-            make v (has_right (names_in u scope k.next x) _ v (subst (λ e. Has (along_part (names_in u scope) e ss) v) (moves s k x) h)))
+        make v (has_right (names_in u scope k.next x) _ v (subst (λ e. Has (along_part (names_in u scope) e ss) v) (moves s k x) h)))
         (one_right k x (λ v h. make v (has_left (names_in u scope k.next x) _ v h)) all)
 
 module _ (s : Spot) where

@@ -1,8 +1,7 @@
 -- In a program that breaks no rule the named constants have values of their types.
-use Rattle.std.proofs.Common.{◌≡◌, ℕ, ◌<◌, Bool, true, false, not, nat_eq, List, [], ◌∷◌, Option, None, Some, refl, sym, ap, ◌∙◌, arith}
+use Rattle.std.proofs.Common.{◌≡◌, ℕ, Bool, true, false, List, [], Option, None, Some, refl, sym, ap, ◌∙◌, arith}
 use Rattle.std.specs.Prelude.{slice_get}
 use Rattle.std.specs.List.{list_any}
-use Rattle.std.specs.Map.{lookup}
 use mathlib.Core.Path.{subst}
 use Rattle.f3_access.specs.declared.table.Lookup.{Lookup}
 use Rattle.f3_nodes.proofs.Members.{Has, at_has, has_mapped}
@@ -12,8 +11,8 @@ use Rattle.f3_scopes.specs.Scopes.{kind_of}
 use Rattle.f3_tree.specs.declared.expression.IntegerKind.TheVariants.{Four, Eight}
 use Rattle.f3_tree.specs.declared.program.ProcedureKind.{ProcedureKind}
 use Rattle.f3_tree.specs.declared.program.ProcedureKind.TheVariants.{Subroutine, Function}
-use Rattle.f3_tree.specs.Declarations.{parameter, EntityTree, SpecificationTree, declares}
-use Rattle.f3_tree.specs.Tree.{ProcedureTree, UnitTree, Tree}
+use Rattle.f3_tree.specs.Declarations.{parameter, EntityTree, declares}
+use Rattle.f3_tree.specs.Tree.{ProcedureTree, Tree}
 use Rattle.f3_program.specs.declared.program.Program.{Program}
 use Rattle.f3_kinds.specs.declared.types.DataType.{DataType}
 use Rattle.f3_kinds.specs.declared.types.DataType.TheVariants.{Integer, Logical, Derived}
@@ -26,22 +25,22 @@ use Rattle.f3_meaning_whole.specs.Formed.{alike}
 use Rattle.f3_meaning_whole.specs.Permitted.{Each}
 use Rattle.f3_phase_laws.proofs.Numbers.{units}
 use Rattle.f3_type_rules.specs.Attributes.{has}
-use Rattle.f3_type_rules.specs.Declarations.{constant_value, header_rows, spot_of, within_member, member_rows, member_next, unit_spot, within_unit, behind_part, unit_rows, unit_next}
+use Rattle.f3_type_rules.specs.Declarations.{header_rows, spot_of, within_member, member_rows, member_next, unit_spot, within_unit, behind_part, unit_rows, unit_next}
 use Rattle.f3_type_rules.specs.Members.{Member, Numbered}
 use Rattle.f3_type_rules.specs.Names.{Names, Declared, attributes_of, dimensions, is_allocatable, object_of, shape_of, type_of}
 use Rattle.f3_type_rules.specs.Natures.{object_nature, kind_nature}
 use Rattle.f3_type_rules.specs.Program.{nothing_known, program_breaks, units_in}
-use Rattle.f3_type_rules.specs.Scene.{names_of, Scene}
-use Rattle.f3_type_rules.specs.Walks.{after, along, context, Known, Spot}
+use Rattle.f3_type_rules.specs.Scene.{names_of}
+use Rattle.f3_type_rules.specs.Walks.{after, context, Known, Spot}
 use Rattle.f3_elaboration.specs.Context.{Surroundings, base}
 use Rattle.f3_elaboration.specs.Declarations.{constant_of, Whole}
 use Rattle.f3_elaboration.specs.DeclaredViews.{program_view}
-use Rattle.f3_elaboration.specs.Numbers.{Inner, Variable, is_variable}
+use Rattle.f3_elaboration.specs.Numbers.{Inner, Variable}
 use Rattle.f3_elaboration.specs.Program.{elaborated}
 use Rattle.f3_elaboration.specs.Units.{surroundings}
 use Rattle.f3_lawful_laws.specs.Blocks.{IsStepWritten}
 use Rattle.f3_lawful_laws.specs.Entities.{units_of, whole_of}
-use Rattle.f3_lawful_laws.proofs.Facts.{no, nothing, same, first, second, negated}
+use Rattle.f3_lawful_laws.proofs.Facts.{no, same, first, second, negated}
 use Rattle.f3_formed_laws.specs.Agreement.{constant_type, IsConstant}
 use Rattle.f3_entity_laws.specs.Things.{Home, of_unit, of_member, unit_in, number_of, specifications_of, Thing, name, type, procedure, result, associate, things_of, nature_of, IsAmong, IsHome, IsOf}
 use Rattle.f3_entity_laws.specs.Laws.{names_at, variable_at}
@@ -53,7 +52,7 @@ use Rattle.f3_agreement_laws.specs.Unbroken.{IsUnbroken}
 use Rattle.f3_agreement_laws.proofs.Declared.{each_get}
 use Rattle.f3_agreement_laws.proofs.Free.{nil_of}
 use Rattle.f3_variable_laws.proofs.Lists.{among_of, each_of}
-use Rattle.f3_variable_laws.proofs.Natures.{natures, is_variable_nature, name_known}
+use Rattle.f3_variable_laws.proofs.Natures.{is_variable_nature, name_known}
 use Rattle.f3_variable_laws.proofs.Owned.{unit_is}
 use Rattle.f3_kind_laws.specs.Laws.{ConstantsAreOfTypes}
 use Rattle.f3_kind_laws.specs.Written.{IsSpecificationWritten, IsUnitWritten, AreInitialsWritten}
@@ -94,7 +93,6 @@ record IsConstantOf (names : Names) (us : List Numbered) (g : Thing) (o : Object
   is : g ≡ name home declared
   object : object_of names (number_of home) declared ≡ o
   among : IsOf us (name home declared)
-
 
 object_is : (k : EntityKind) (x o : Object) → constant o ≡ object_nature k x → x ≡ o
 object_is entity.Constant x o is = sym (ap (object_or x) is)
@@ -176,7 +174,7 @@ module _ (t : Tree) (look : ℕ → ℕ → Lookup) (order : List ℕ) (p : Prog
   unit_right u home k all =
       after_right IsRight (member_next w.scene u.scope) u.members
       (λ i m at j right.
-          part_right IsRight (spot_of w.scene u.scope m) u.scope m.scope (within_member m j) ((m.tree).part).specifications (member_makes u m (home, (i, at))) right)
+      part_right IsRight (spot_of w.scene u.scope m) u.scope m.scope (within_member m j) ((m.tree).part).specifications (member_makes u m (home, (i, at))) right)
       (behind_part w.scene u k)
       (part_right IsRight (unit_spot w.scene u) u.scope u.scope (within_unit u k) ((u.tree).part).specifications (unit_makes u home) all)
 

@@ -1,5 +1,5 @@
 -- The kinds of the names that are visible where the body of a unit itself begins.
-use Rattle.std.proofs.Common.{◌≡◌, refl, sym, ap, subst, ◌∙◌, inl, inr, ℕ, ◌⊎◌, Bool, true, false, not, ◌&&◌, List, [], ◌++◌, map, position, nat_eq, Option, None, Some, slice_get}
+use Rattle.std.proofs.Common.{◌≡◌, refl, ap, subst, ◌∙◌, inl, inr, ℕ, ◌⊎◌, Bool, true, false, not, ◌&&◌, List, [], ◌++◌, map, position, nat_eq, Option, None, Some, slice_get}
 use Rattle.f3_tree.specs.declared.program.UnitKind.{UnitKind}
 use Rattle.f3_tree.specs.declared.program.UnitKind.TheVariants as unit
 use Rattle.f3_tree.specs.Tree.{Tree}
@@ -21,7 +21,6 @@ use Rattle.f3_meaning_whole.specs.Formed.{kind_of_name}
 use Rattle.f3_type_rules.specs.Members.{Numbered}
 use Rattle.f3_phase_laws.specs.Numbers.{units_of}
 use Rattle.f3_order_laws.proofs.Resolved.{resolved}
-use Rattle.f3_elaboration.specs.Nodes.{ProcedureNode}
 use Rattle.f3_elaboration.specs.Numbers.{Variable, is_saved, is_static_in, is_variable, kind_of, main_locals, name_by, number_in, unit_names}
 use Rattle.f3_elaboration.specs.Declarations.{Whole, variable as variable_node}
 use Rattle.f3_elaboration.specs.DeclaredViews.{declared_view, procedure_view, program_view}

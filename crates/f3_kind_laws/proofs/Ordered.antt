@@ -1,5 +1,4 @@
 -- Each unit is among those that are checked.
-use Rattle.f3_type_rules.specs.Members.{Numbered}
 use Rattle.f3_type_rules.specs.Program.{units_in}
 use Rattle.f3_lawful_laws.specs.Entities.{units_of}
 use Rattle.f3_lawful_laws.proofs.Opening.{each_at}

@@ -1,13 +1,11 @@
 -- The procedures of the program have dummies and results of the kinds that the rules know.
-use Rattle.std.proofs.Common.{◌≡◌, ℕ, suc, ◌+◌, ◌<◌, Bool, true, false, List, [], ◌∷◌, length, map, nat_eq, option_to_list, Option, None, Some, Contains, refl, sym, ap, ◌∙◌, arith}
+use Rattle.std.proofs.Common.{◌≡◌, ℕ, suc, ◌+◌, ◌<◌, Bool, true, false, List, [], ◌∷◌, length, map, nat_eq, option_to_list, Option, None, Some, refl, sym, ap, ◌∙◌, arith}
 use Rattle.std.specs.Prelude.{slice_get}
 use Rattle.std.specs.List.{list_any}
 use Rattle.std.specs.Option.{option_map}
 use Rattle.std.proofs.lemmas.Option.{slice_get_within}
-use mathlib.Core.Path.{subst}
 use Rattle.f3_access.specs.declared.table.Lookup.{Lookup}
 use Rattle.f3_access.specs.Access.{first_entity}
-use Rattle.f3_rules.specs.declared.breaks.Break.{Break}
 use Rattle.f3_rules.specs.declared.rule.Rule.TheVariants.{N3}
 use Rattle.f3_scope_rules.specs.ScopeBreaks.{at, header_names, DeclaredTwice, BreaksOf}
 use Rattle.f3_scopes.specs.declared.outline.EntityKind.{EntityKind}
@@ -41,14 +39,13 @@ use Rattle.f3_elaboration.specs.Units as units
 use Rattle.f3_elaboration.specs.Units.{declaration_of, plain, surroundings}
 use Rattle.f3_lawful_laws.specs.Entities.{units_of, whole_of}
 use Rattle.f3_lawful_laws.proofs.Ascending.{units_ascend}
-use Rattle.f3_lawful_laws.proofs.Facts.{no, nothing, same}
+use Rattle.f3_lawful_laws.proofs.Facts.{nothing, same}
 use Rattle.f3_lawful_laws.proofs.Numbered.{IsProcedure}
 use Rattle.f3_lawful_laws.proofs.Numbering.{numbered_all}
 use Rattle.f3_lawful_laws.proofs.Opening.{at_front, at_back}
 use Rattle.f3_lawful_laws.proofs.Positions.{eq_same}
 use Rattle.f3_lawful_laws.proofs.Trees.{all_lie}
 use Rattle.f3_formed_laws.specs.Agreement.{kind_of as whole_kind, HasDummies}
-use Rattle.f3_formed_laws.specs.Entities.{HasOwnResult}
 use Rattle.f3_nodes.proofs.Members.{any_of, mapped_of, has_at}
 use Rattle.f3_entity_laws.specs.Things.{of_member, number_of, Thing, name, type, procedure, result, associate, things_of, nature_of, IsHome, IsOf}
 use Rattle.f3_entity_laws.proofs.Entities.{of_program, homes}
@@ -157,12 +154,11 @@ result_node : (w : Whole) (unit : ℕ) (m : Member) (k : ProcedureKind) → IsOf
     → (n : DeclaredNode) × (units.result_of w unit m k ≡ Some n) × (n.kind ≡ node_kind w.numbers (specified_result (w.scene).names m k))
 result_node w unit m Subroutine f = absurd f
 result_node w unit m (Function (Some s) outcome) f = (plain w _, refl, refl)
-result_node w unit m (Function None outcome) f =
-    (
-      map_or (plain w undeclared) (declared w unit m.scope) (declaration_of m (name_or outcome ((m.tree).header).name)),
-      refl,
-      by (declaration_of m (name_or outcome ((m.tree).header).name)),
-    )
+result_node w unit m (Function None outcome) f = (
+  map_or (plain w undeclared) (declared w unit m.scope) (declaration_of m (name_or outcome ((m.tree).header).name)),
+  refl,
+  by (declaration_of m (name_or outcome ((m.tree).header).name)),
+)
   where
     by : (o : Option declared_name) → (map_or (plain w undeclared) (declared w unit m.scope) o).kind ≡ node_kind w.numbers (map_or undeclared (object_of (w.scene).names m.scope) o)
     by None = refl
@@ -194,8 +190,7 @@ module _ (t : Tree) (look : ℕ → ℕ → Lookup) (order : List ℕ) (p : Prog
         let number : (q.member).entity ≡ e = thing_procedures t e q.unit q.member (there ∙ ap Some q.is) in
         let nodes : map dummy_view (k.procedure).dummies.items ≡ map (units.dummy w (q.unit).scope q.member) (((q.member).tree).header).dummies =
         ap (λ (y : ProcedureNode). y.dummies) k.is in
-        let known : specified_dummies (names_of t look) q.member ≡ ds = sym (ap (dummies_or []) q.nature ∙ kind_dummies [] _ _ _ (((q.member).tree).header).kind) ∙ ds_is in
-        (
+        let known : specified_dummies (names_of t look) q.member ≡ ds = sym (ap (dummies_or []) q.nature ∙ kind_dummies [] _ _ _ (((q.member).tree).header).kind) ∙ ds_is in (
           record {
             procedure = k.procedure;
             there = ap (λ j. slice_get p.procedures.items (number_in (w.numbers).procedures j)) (sym number) ∙ k.there;
@@ -220,11 +215,10 @@ functions t look order p seen unit scope inner e pure ds o there =
     let h = procedure_is t look order p seen unit scope inner e (function pure ds o) ds refl g.0 g.2 q in
     let k : ProcedureKind = (((q.member).tree).header).kind in
     let f = kind_function k pure _ ds _ o _ q.nature in
-    let n = result_node (whole_of t look order) (q.unit).scope q.member k f.0 in
-    (
+    let n = result_node (whole_of t look order) (q.unit).scope q.member k f.0 in (
       h.0,
       seen_result ((h.0).procedure).result n.0 (h.1 ∙ n.1) ∙ ap (λ (z : Kind). of_kind z.of z.rank) n.2
-      ∙ ap (λ (z : Object). of_kind (base (surroundings (whole_of t look order) unit scope inner) z.data_type) z.rank) f.1,
+          ∙ ap (λ (z : Object). of_kind (base (surroundings (whole_of t look order) unit scope inner) z.data_type) z.rank) f.1,
     )
 
 -- ---- results

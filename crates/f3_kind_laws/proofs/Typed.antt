@@ -1,11 +1,9 @@
 -- In the specification parts of what breaks no rule each expression that is written has a type.
 use Rattle.std.proofs.Common.{◌≡◌, ℕ, Bool, true, false, List, [], ◌∷◌, map, Option, Some, None, refl, sym, ap}
-use Rattle.std.specs.Prelude.{⊤}
 use Rattle.f3_access.specs.declared.table.Lookup.{Lookup}
 use Rattle.f3_tree.specs.Expressions as e
 use Rattle.f3_tree.specs.Tree.{Tree}
 use Rattle.f3_program.specs.declared.declarations.Component as program
-use Rattle.f3_program.specs.declared.expression.Name as object
 use Rattle.f3_program.specs.declared.expression.Name.TheVariants.{Lent}
 use Rattle.f3_program.specs.declared.program.Program.{Program}
 use Rattle.f3_kinds.specs.declared.said.Has.{Has}
@@ -19,7 +17,7 @@ use Rattle.f3_meaning_whole.specs.Permitted.{Lendable, Scope, unknown}
 use Rattle.f3_type_rules.specs.Constants.{may_speak, speaks}
 use Rattle.f3_type_rules.specs.Names.{undeclared}
 use Rattle.f3_type_rules.specs.Scene.{context_in}
-use Rattle.f3_elaboration.specs.Context.{Surroundings, base}
+use Rattle.f3_elaboration.specs.Context.{Surroundings}
 use Rattle.f3_elaboration.specs.Declarations.{Whole}
 use Rattle.f3_elaboration.specs.DeclaredViews.{program_view}
 use Rattle.f3_elaboration.specs.Expressions.{expression}

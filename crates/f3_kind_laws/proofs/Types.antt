@@ -1,5 +1,5 @@
 -- The types of the program have components of the kinds that the rules know.
-use Rattle.std.proofs.Common.{◌≡◌, ℕ, ◌<◌, Bool, true, false, List, [], ◌∷◌, ◌++◌, length, map, Some, refl, sym, ap, ◌∙◌, if◌then◌else◌}
+use Rattle.std.proofs.Common.{◌≡◌, ℕ, Bool, true, false, List, [], ◌∷◌, ◌++◌, map, Some, refl, sym, ap, ◌∙◌, if◌then◌else◌}
 use Rattle.std.specs.Prelude.{⊤, slice_get}
 use Rattle.std.specs.List.{flat_map, list_any}
 use Rattle.std.proofs.lemmas.Option.{slice_get_within}
@@ -17,7 +17,6 @@ use Rattle.f3_tree.specs.declared.program.ProcedureKind.TheVariants.{Subroutine,
 use Rattle.f3_tree.specs.Declarations.{Placed, EntityTree, DeclarationTree, TypeTree}
 use Rattle.f3_tree.specs.Tree.{Tree}
 use Rattle.f3_program.specs.declared.declarations.Component as program
-use Rattle.f3_program.specs.declared.program.Program.{Program}
 use Rattle.f3_kinds.specs.declared.types.Object.{Object}
 use Rattle.f3_kinds.specs.declared.things.Component.{Component}
 use Rattle.f3_kinds.specs.declared.things.Dummy.{Dummy}
@@ -30,14 +29,13 @@ use Rattle.f3_type_rules.specs.Scene.{names_of}
 use Rattle.f3_elaboration.specs.Nodes.{ComponentNode, DerivedNode, ProgramNode}
 use Rattle.f3_elaboration.specs.Context.{Surroundings}
 use Rattle.f3_elaboration.specs.Declarations.{Whole, component as component_node, derived as derived_node}
-use Rattle.f3_elaboration.specs.DeclaredViews.{component_view, derived_view, program_view}
+use Rattle.f3_elaboration.specs.DeclaredViews.{component_view, derived_view}
 use Rattle.f3_elaboration.specs.Numbers.{Inner, Definition, number_in, definitions}
-use Rattle.f3_elaboration.specs.Program.{elaborated}
 use Rattle.f3_elaboration.specs.Units.{surroundings}
 use Rattle.f3_lawful_laws.specs.Entities.{units_of, whole_of}
 use Rattle.f3_lawful_laws.proofs.Facts.{no}
 use Rattle.f3_lawful_laws.proofs.Opening.{from_mapped, mapped_at}
-use Rattle.f3_formed_laws.specs.Agreement.{kind_of as whole_kind, AreComponents, HasComponents}
+use Rattle.f3_formed_laws.specs.Agreement.{kind_of as whole_kind, AreComponents}
 use Rattle.f3_entity_laws.specs.Things.{of_unit, of_member, number_of, Thing, name, type, procedure, result, associate, things_of, own_of, nature_of, IsAmong, IsOf}
 use Rattle.f3_entity_laws.specs.Laws.{definition_at}
 use Rattle.f3_entity_laws.proofs.Entities.{of_program, entities}

@@ -1,9 +1,7 @@
 -- A named constant whose declaration breaks no rule is a scalar with a value of its type.
-use Rattle.std.proofs.Common.{◌≡◌, ℕ, Bool, true, false, ◌&&◌, ◌||◌, not, nat_eq, List, [], ◌++◌, Option, Some, None, refl, sym, ap, ◌∙◌, if◌then◌else◌, arith}
-use Rattle.std.specs.Prelude.{ℤ}
-use Rattle.std.specs.List.{list_any, flat_map}
+use Rattle.std.proofs.Common.{◌≡◌, ℕ, Bool, true, false, ◌&&◌, ◌||◌, not, nat_eq, [], Option, Some, None, refl, sym, ap, ◌∙◌, if◌then◌else◌, arith}
+use Rattle.std.specs.List.{list_any}
 use mathlib.Core.Path.{subst}
-use Rattle.f3_rules.specs.declared.breaks.Break.{Break}
 use Rattle.f3_rules.specs.declared.rule.Rule.TheVariants.{T1, T2}
 use Rattle.f3_tree.specs.declared.expression.IntegerKind.{IntegerKind}
 use Rattle.f3_tree.specs.declared.declaration.TypeSpecifier.{TypeSpecifier}
@@ -20,7 +18,7 @@ use Rattle.f3_kinds.specs.declared.types.Scalar.TheVariants.{Number, Truth}
 use Rattle.f3_kinds.specs.Rows.{at_name, at_place}
 use Rattle.f3_kinds.specs.Things.{map_or, Context}
 use Rattle.f3_kinds.specs.Typing.{said, breaks}
-use Rattle.f3_kinds.specs.Values.{converted, fits_kind, has_value, number, value_of}
+use Rattle.f3_kinds.specs.Values.{converted, fits_kind, has_value, value_of}
 use Rattle.f3_type_rules.specs.Attributes.{any_intent, conflicts, has, is_derived, is_open}
 use Rattle.f3_type_rules.specs.Constants.{constant_rows, speaks}
 use Rattle.f3_type_rules.specs.Declarations.{constant_value, entity_rows, given_value}

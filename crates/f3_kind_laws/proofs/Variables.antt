@@ -1,5 +1,5 @@
 -- The kinds that the elaborated program has for a name.
-use Rattle.std.proofs.Common.{◌≡◌, sym, ap, ◌∙◌, ℕ, List, map, position, nat_eq, Some, slice_get}
+use Rattle.std.proofs.Common.{◌≡◌, ap, ◌∙◌, ℕ, List, map, position, nat_eq, Some, slice_get}
 use Rattle.std.specs.List.{flat_map}
 use Rattle.f3_tree.specs.declared.expression.Name as names
 use Rattle.f3_tree.specs.Tree.{Tree}
