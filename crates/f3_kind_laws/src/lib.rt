@@ -1,9 +1,8 @@
 //! Laws on programs that break no rule: what the rules on types know of them and what their elaborated programs say are of the same kinds.
 #![tactic(auto)]
 
-ghost use Rattle.f3_kind_laws.specs.Laws.{ConstantsAreOfTypes, FunctionsHaveDummies, KindsDoAgree, ResultsAreOwn, SubroutinesHaveDummies, TypesAreCounted, TypesHaveComponents};
-ghost use Rattle.f3_kind_laws.specs.Laws.{TypesStandBehind};
-ghost use Rattle.f3_kind_laws.specs.Laws.{UnitsAreOrdered, VariablesAreOfKinds};
+ghost use Rattle.f3_kind_laws.specs.Laws.{ConstantsAreOfTypes, FunctionsHaveDummies, KindsDoAgree, ResultsAreOwn, SubroutinesHaveDummies};
+ghost use Rattle.f3_kind_laws.specs.Laws.{TypesAreCounted, TypesHaveComponents, TypesStandBehind, UnitsAreOrdered, VariablesAreOfKinds};
 
 /// Each unit is among those that are checked, and the number of a declared type is below their count (ISO/IEC 1539-1:2004, 11.2.1).
 pub fn types_are_counted()
