@@ -1,1 +1,4 @@
 pub mod Running
+pub mod Parts
+pub mod Roots
+pub mod Values
