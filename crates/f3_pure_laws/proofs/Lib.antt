@@ -2,3 +2,5 @@ pub mod Running
 pub mod Parts
 pub mod Roots
 pub mod Values
+pub mod Destroying
+pub mod Statements
