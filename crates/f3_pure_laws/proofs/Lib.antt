@@ -4,3 +4,4 @@ pub mod Roots
 pub mod Values
 pub mod Destroying
 pub mod Statements
+pub mod Executing

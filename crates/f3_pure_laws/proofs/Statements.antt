@@ -67,17 +67,14 @@ module _ (p : Program) (pure : ℕ → Bool) (functions : ArePure pure p) (level
   name_mine names here f (n.Lent i) e = mine_at free names here.names f.1 i (to_root (Local 0 0) base.Integer Read 0 Unallocated) e
 
   module _ (calls : Calls) (c : CallsRun pure p level free calls) (n : ℕ) (a : ℕ) (le : level ≤ a) where
-    quiet_value : (x : e.Expression) (here : Here) → Refers p x → Quiet level free a (value (setting_of p) calls x here)
+    pub quiet_value : (x : e.Expression) (here : Here) → Refers p x → Quiet level free a (value (setting_of p) calls x here)
     quiet_value x here m = value_quiet p pure functions level free calls c a le x here m
 
-    quiet_place : (x : d.Designator) (here : Here) → RefersIn p x → Quiet level free a (locate (setting_of p) calls x here)
-    quiet_place x here m = weaken level free (λ r h. tt) (locate_runs p pure functions level free calls c a le x here m)
-
     -- a variable that may be changed
-    own_runs : (names : List Bool) (x : d.Designator) (here : Here) → Fits level free names here → RefersIn p x → Owns names x → Runs level free a a (IsMine free) (locate (setting_of p) calls x here)
+    pub own_runs : (names : List Bool) (x : d.Designator) (here : Here) → Fits level free names here → RefersIn p x → Owns names x → Runs level free a a (IsMine free) (locate (setting_of p) calls x here)
     own_runs names x here f m o = weaken level free (λ r h. h (name_mine names here f (first_name x) o)) (locate_runs p pure functions level free calls c a le x here m)
 
-    call_quiet : (names : List Bool) (x : e.Expression) (here : Here) → Fits level free names here → CallRefers p x → CallsPure p pure names x → Quiet level free a (value (setting_of p) calls x here)
+    pub call_quiet : (names : List Bool) (x : e.Expression) (here : Here) → Fits level free names here → CallRefers p x → CallsPure p pure names x → Quiet level free a (value (setting_of p) calls x here)
     call_quiet names (e.Call' i k xs) here f m o = bind_runs level free (all_passed_run p pure functions level free calls c a le names (definable_in p i) here (name_mine names here f) xs m o.1) (λ ps h. bind_runs level free (c a le here i ps o.0 h) (λ v z. bind_runs level free (result_quiet level free a v here) (λ v z. built_quiet level free a v here)))
     call_quiet names (e.Literal z) here f m o = quiet_value (e.Literal z) here m
     call_quiet names (e.Variable' q x) here f m o = quiet_value (e.Variable' q x) here m
@@ -113,7 +110,7 @@ module _ (p : Program) (pure : ℕ → Bool) (functions : ArePure pure p) (level
     renew_quiet k r (Array ss vs) v here m h = filled_or k r v here h
     renew_quiet k r Unallocated v here m h = filled_or k r v here h
 
-    assign_quiet : (k : Kind) (r : Reference) (v : Value) (here : Here) → MayEnd p pure k.of → IsMine free r → Quiet level free a (assign (setting_of p) n calls k r v here)
+    pub assign_quiet : (k : Kind) (r : Reference) (v : Value) (here : Here) → MayEnd p pure k.of → IsMine free r → Quiet level free a (assign (setting_of p) n calls k r v here)
     assign_quiet k r v here m h =
         if_runs level free k.is_allocatable (bind_runs level free (looks_quiet level free _) (λ old z. renew_quiet k r old v here m h))
         (if_runs level free (conforms (spans r.reach) v) (overwrite_quiet k r v here m h) (fails_runs level free _ here.place))
@@ -136,7 +133,7 @@ module _ (p : Program) (pure : ℕ → Bool) (functions : ArePure pure p) (level
     take_quiet from to (Array ss vs) here h i = gives_quiet level free tt
     take_quiet from to Unallocated here h i = gives_quiet level free tt
 
-    move_quiet : (k : Kind) (from to : Reference) (here : Here) → MayEnd p pure k.of → IsMine free from → IsMine free to → Quiet level free a (move_alloc (setting_of p) n calls k from to here)
+    pub move_quiet : (k : Kind) (from to : Reference) (here : Here) → MayEnd p pure k.of → IsMine free from → IsMine free to → Quiet level free a (move_alloc (setting_of p) n calls k from to here)
     move_quiet k from to here m h i =
         bind_runs level free (finish_quiet p pure level free calls c a le k m to (lending (from ∷ to ∷ []) here) i) (λ done z. bind_runs level free (looks_quiet level free _) (λ v z. take_quiet from to v (lending (from ∷ to ∷ []) here) h i))
 
@@ -144,7 +141,7 @@ module _ (p : Program) (pure : ℕ → Bool) (functions : ArePure pure p) (level
     failed_quiet None h = h
     failed_quiet (Some error) h = gives_quiet level free _
 
-    answer_quiet : (names : List Bool) (status : Option RunError) (o : Option d.Designator) (here : Here) → Fits level free names here → StatRefers p o → OwnsStat names o → Quiet level free a (answer (setting_of p) n calls status o here)
+    pub answer_quiet : (names : List Bool) (status : Option RunError) (o : Option d.Designator) (here : Here) → Fits level free names here → StatRefers p o → OwnsStat names o → Quiet level free a (answer (setting_of p) n calls status o here)
     answer_quiet names None None here f m o = gives_quiet level free tt
     answer_quiet names (Some error) None here f m o = fails_runs level free error here.place
     answer_quiet names status (Some x) here f m o = bind_runs level free (own_runs names x here f m o) (λ r h. set_runs level free r (Number (pos (status_number status))) here h.1)
@@ -153,23 +150,23 @@ module _ (p : Program) (pure : ℕ → Bool) (functions : ArePure pure p) (level
     dimensions_quiet [] here m = gives_quiet level free _
     dimensions_quiet (b ∷ bs) here m = bind_runs level free (quiet_value b.lower here m.0.0) (λ v z. bind_runs level free (quiet_value b.upper here m.0.1) (λ w z. bind_runs level free (dimensions_quiet bs here m.1) (λ ss z. gives_quiet level free _)))
 
-    allocate_all_quiet : (names : List Bool) (rs : List Request) (here : Here) → Fits level free names here → Each (RequestRefers p) rs → Each (OwnsRequest p pure names) rs → Quiet level free a (allocate_all (setting_of p) n calls rs here)
+    pub allocate_all_quiet : (names : List Bool) (rs : List Request) (here : Here) → Fits level free names here → Each (RequestRefers p) rs → Each (OwnsRequest p pure names) rs → Quiet level free a (allocate_all (setting_of p) n calls rs here)
     allocate_all_quiet names [] here f m o = gives_quiet level free _
     allocate_all_quiet names (r ∷ rs) here f m o =
         bind_runs level free (own_runs names r.object here f m.0.0 o.0) (λ h k. bind_runs level free (dimensions_quiet r.bounds.items here m.0.1) (λ ss z. bind_runs level free (allocate_quiet r.kind h ss here k) (λ status z. failed_quiet status (allocate_all_quiet names rs here f m.1 o.1))))
 
-    deallocate_all_quiet : (names : List Bool) (rs : List Request) (here : Here) → Fits level free names here → Each (RequestRefers p) rs → Each (EndsRequest p pure names) rs → Quiet level free a (deallocate_all (setting_of p) n calls rs here)
+    pub deallocate_all_quiet : (names : List Bool) (rs : List Request) (here : Here) → Fits level free names here → Each (RequestRefers p) rs → Each (EndsRequest p pure names) rs → Quiet level free a (deallocate_all (setting_of p) n calls rs here)
     deallocate_all_quiet names [] here f m o = gives_quiet level free _
     deallocate_all_quiet names (r ∷ rs) here f m o =
         bind_runs level free (own_runs names r.object here f m.0.0 o.0.0) (λ h k. bind_runs level free (deallocate_quiet r.kind h here o.0.1 k) (λ status z. failed_quiet status (deallocate_all_quiet names rs here f m.1 o.1)))
 
-    increment_quiet : (names : List Bool) (x : d.Designator) (k : Kind) (step : ℤ) (here : Here) → Fits level free names here → RefersIn p x → Owns names x → Quiet level free a (increment (setting_of p) n calls x k step here)
+    pub increment_quiet : (names : List Bool) (x : d.Designator) (k : Kind) (step : ℤ) (here : Here) → Fits level free names here → RefersIn p x → Owns names x → Quiet level free a (increment (setting_of p) n calls x k step here)
     increment_quiet names x k step here f m o =
         bind_runs level free (own_runs names x here f m o) (λ r h. bind_runs level free (looks_quiet level free _) (λ old z. bind_runs level free (converted_quiet level free a k.of _ here.place) (λ v z. set_runs level free r v here h.1)))
 
     -- ---- constructs
 
-    onward_quiet : (flow : Flow) {m : Ran Flow} → Quiet level free a m → Quiet level free a (onward flow m)
+    pub onward_quiet : (flow : Flow) {m : Ran Flow} → Quiet level free a m → Quiet level free a (onward flow m)
     onward_quiet Onward h = h
     onward_quiet Cycled h = gives_quiet level free _
     onward_quiet Left h = gives_quiet level free _
@@ -181,19 +178,19 @@ module _ (p : Program) (pure : ℕ → Bool) (functions : ArePure pure p) (level
     next_quiet Left h = gives_quiet level free _
     next_quiet (Returned place) h = gives_quiet level free _
 
-    turns_quiet : (n : ℕ) (test : Ran Bool) (body : Ran Flow) → Quiet level free a test → Quiet level free a body → Quiet level free a (turns n test body)
+    pub turns_quiet : (n : ℕ) (test : Ran Bool) (body : Ran Flow) → Quiet level free a test → Quiet level free a body → Quiet level free a (turns n test body)
     turns_quiet zero test body t b = bind_runs level free t (λ x z. if_runs level free x (beyond_runs level free) (gives_quiet level free _))
     turns_quiet (suc n) test body t b = bind_runs level free t (λ x z. if_runs level free x (bind_runs level free b (λ flow z. next_quiet flow (turns_quiet n test body t b))) (gives_quiet level free _))
 
-    counted_quiet : (n k : ℕ) (body : Ran Flow) (next : Ran ⊤) → Quiet level free a body → Quiet level free a next → Quiet level free a (counted n k body next)
+    pub counted_quiet : (n k : ℕ) (body : Ran Flow) (next : Ran ⊤) → Quiet level free a body → Quiet level free a next → Quiet level free a (counted n k body next)
     counted_quiet n zero body next b x = gives_quiet level free _
     counted_quiet zero (suc k) body next b x = beyond_runs level free
     counted_quiet (suc n) (suc k) body next b x = bind_runs level free b (λ flow z. next_quiet flow (bind_runs level free x (λ done z. counted_quiet n k body next b x)))
 
-    AsSelected : List Bool → List Selector → List Association → Type 0
+    pub AsSelected : List Bool → List Selector → List Association → Type 0
     AsSelected names xs found = (l slot u : ℕ) → level ≤ l → AreMine free (own_selectors names xs) (associates found l slot u)
 
-    selectors_run : (names : List Bool) (xs : List Selector) (here : Here) → Fits level free names here → Each (SelectorRefers p) xs → Runs level free a a (AsSelected names xs) (selectors (setting_of p) n calls xs here)
+    pub selectors_run : (names : List Bool) (xs : List Selector) (here : Here) → Fits level free names here → Each (SelectorRefers p) xs → Runs level free a a (AsSelected names xs) (selectors (setting_of p) n calls xs here)
     unfolding AsSelected
     selectors_run names [] here f m = gives_runs level free _ (λ l slot u h. tt)
     selectors_run names (selector.Variable x ∷ xs) here f m =
@@ -202,7 +199,7 @@ module _ (p : Program) (pure : ℕ → Bool) (functions : ArePure pure p) (level
         bind_runs level free (quiet_value x here m.0) (λ v z. bind_runs level free (claim_for_quiet level free a v here) (λ done z. bind_runs level free (selectors_run names xs here f m.1) (λ ps h. gives_runs level free _ (λ l slot u i. (λ e. no e, h l (suc slot) u i)))))
 
     -- in an ASSOCIATE
-    fits_more : (names : List Bool) (xs : List Selector) (here : Here) (found : List Association) (l : ℕ) → level ≤ l → Fits level free names here → AsSelected names xs found
+    pub fits_more : (names : List Bool) (xs : List Selector) (here : Here) (found : List Association) (l : ℕ) → level ≤ l → Fits level free names here → AsSelected names xs found
         → Fits level free (names ++ own_selectors names xs) (associating (associates found l 0 here.unit) here)
     unfolding AsSelected
     fits_more names xs here found l i f h = (f.0, mine-append free names (own_selectors names xs) here.names (associates found l 0 here.unit) f.1 (h l 0 here.unit i))
