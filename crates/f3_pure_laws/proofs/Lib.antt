@@ -5,3 +5,4 @@ pub mod Values
 pub mod Destroying
 pub mod Statements
 pub mod Executing
+pub mod Same
