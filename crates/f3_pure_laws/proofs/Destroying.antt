@@ -6,17 +6,17 @@ use Rattle.f3_program.specs.declared.declarations.Final.{Final}
 use Rattle.f3_program.specs.declared.declarations.Kind.{Kind}
 use Rattle.f3_program.specs.declared.program.Program.{Program}
 use Rattle.f3_meaning_whole.specs.Value.{Unallocated}
-use Rattle.f3_meaning_whole.specs.Store.{Root, Path}
+use Rattle.f3_meaning_whole.specs.Store.{Root}
 use Rattle.f3_meaning_whole.specs.Reference.{Language, One, Reference, paths, spans, is_pinned}
 use Rattle.f3_meaning_whole.specs.Ran.{Ran}
 use Rattle.f3_meaning_whole.specs.Shape.{Shape, Whole, Logical, Record, Parts, nothing, and, shape_in, shapes_of, final_for}
-use Rattle.f3_meaning_whole.specs.Act.{Here, Lent, Calls, lending, moved, contents}
+use Rattle.f3_meaning_whole.specs.Act.{Here, Lent, Calls, lending, moved}
 use Rattle.f3_meaning_whole.specs.Destroy.{final_of, deallocate_by, release_by, finish_by, finalize, destroy, destroy_parts, finish}
 use Rattle.f3_meaning_whole.specs.Run.{setting_of}
 use Rattle.f3_meaning_whole.specs.Permitted.{Each}
 use Rattle.f3_pure_laws.specs.Pure.{finals_of, HasPureFinals, HavePureFinals, MayEnd}
 use Rattle.f3_pure_laws.specs.Laws.{IsFree}
-use Rattle.f3_pure_laws.proofs.Running.{Runs, Quiet, bind_runs, gives_quiet, fails_runs, looks_quiet, if_runs, each_runs, set_runs, clear_runs}
+use Rattle.f3_pure_laws.proofs.Running.{Quiet, bind_runs, gives_quiet, fails_runs, looks_quiet, if_runs, each_runs, set_runs, clear_runs}
 use Rattle.f3_pure_laws.proofs.Roots.{IsMine, component_runs, contents_runs}
 use Rattle.f3_pure_laws.proofs.Values.{CallsRun}
 

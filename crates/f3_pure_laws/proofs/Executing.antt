@@ -1,5 +1,5 @@
 -- Statements and calls of pure procedures are quiet.
-use Rattle.std.proofs.Common.{◌≡◌, ℕ, zero, suc, ◌≤◌, Bool, true, false, List, [], ◌∷◌, ◌++◌, Option, None, Some, refl, sym, ap, ◌∙◌, if◌then◌else◌, map, length, arith}
+use Rattle.std.proofs.Common.{◌≡◌, ℕ, zero, suc, ◌≤◌, Bool, true, false, List, [], ◌∷◌, ◌++◌, Option, None, Some, refl, sym, ap, ◌∙◌, if◌then◌else◌, map, arith}
 use Rattle.std.specs.Prelude.{⊤, T, not, nat_eq, slice_get, slice_index_or}
 use mathlib.Core.Path.{subst}
 use lib.Dec.{eqb→eq}
@@ -13,20 +13,20 @@ use Rattle.f3_program.specs.declared.program.Intent.{Intent}
 use Rattle.f3_program.specs.declared.program.Intent.TheVariants as intent
 use Rattle.f3_program.specs.declared.program.Procedure.{Procedure}
 use Rattle.f3_program.specs.declared.program.Program.{Program}
-use Rattle.f3_meaning_whole.specs.Value.{Value, Unallocated, truth_of, number_of}
+use Rattle.f3_meaning_whole.specs.Value.{Unallocated, truth_of, number_of}
 use Rattle.f3_meaning_whole.specs.Store.{Root, Local, get}
 use Rattle.f3_meaning_whole.specs.Reference.{Define, Read, Reference}
-use Rattle.f3_meaning_whole.specs.Ran.{Ran, ◌>>=◌}
+use Rattle.f3_meaning_whole.specs.Ran.{◌>>=◌}
 use Rattle.f3_meaning_whole.specs.Shape.{initial_of, shape_in}
 use Rattle.f3_meaning_whole.specs.Act.{Here, Passed, Given, Lent, Calls, at, selecting, associating, leave, to_root, whole}
 use Rattle.f3_meaning_whole.specs.Destroy.{finish}
-use Rattle.f3_meaning_whole.specs.Exec.{Flow, Onward, Cycled, Left, Returned, held_by, associates, exec, block, some_meets, where_out, initialize, left_at, finish_locals, outs, called, argument_at, dummies, bound, held, variables}
+use Rattle.f3_meaning_whole.specs.Exec.{Flow, Onward, Cycled, Left, Returned, held_by, associates, exec, block, some_meets, where_out, initialize, left_at, finish_locals, outs, called, argument_at, dummies, held, variables}
 use Rattle.f3_meaning_whole.specs.Run.{setting_of, call_of, calls_of}
 use Rattle.f3_meaning_whole.specs.Permitted.{Each, is_in, dummies_in}
 use Rattle.f3_pure_laws.specs.References.{StatementRefers, BlockRefers}
-use Rattle.f3_pure_laws.specs.Pure.{definable, definable_in, own_selectors, MayEnd, MayEndOut, IsPureStatement, IsPureBlock, IsPureProcedure, IsPure}
+use Rattle.f3_pure_laws.specs.Pure.{definable, own_selectors, MayEnd, MayEndOut, IsPureStatement, IsPureBlock, IsPureProcedure, IsPure}
 use Rattle.f3_pure_laws.specs.Laws.{AreNewFree, IsPassedFree}
-use Rattle.f3_pure_laws.proofs.Running.{Runs, Quiet, bind_runs, gives_runs, gives_quiet, fails_runs, looks_runs, looks_quiet, levels_runs, if_runs, set_runs, begins_quiet, enter_runs, leave_runs}
+use Rattle.f3_pure_laws.proofs.Running.{Runs, Quiet, bind_runs, gives_quiet, fails_runs, looks_runs, looks_quiet, levels_runs, if_runs, set_runs, begins_quiet, enter_runs, leave_runs}
 use Rattle.f3_pure_laws.proofs.Parts.{converted_quiet, claim_quiet, unless_quiet}
 use Rattle.f3_pure_laws.proofs.Roots.{IsMine, root_mine, bound_mine}
 use Rattle.f3_pure_laws.proofs.Values.{CallsRun, ArePure}

@@ -1,19 +1,18 @@
 -- References to objects at free roots.
-use Rattle.std.proofs.Common.{◌≡◌, ℕ, zero, suc, Bool, true, false, ℤ, List, [], ◌∷◌, ◌++◌, map, refl, if◌then◌else◌, slice_get}
-use Rattle.std.specs.Prelude.{⊤}
+use Rattle.std.proofs.Common.{◌≡◌, ℕ, zero, suc, Bool, true, ℤ, List, [], ◌∷◌, map, if◌then◌else◌, slice_get}
 use Rattle.f3_program.specs.declared.declarations.Base.{Base}
 use Rattle.f3_meaning_whole.specs.Value.{Span, Value, Number, Truth, Composite, Array, Unallocated, Allocated, Values}
 use Rattle.f3_meaning_whole.specs.Value as v
 use Rattle.f3_meaning_whole.specs.Store.{Root, Static, Local, Store, Path, Step, Contents, Element, within, get}
 use Rattle.f3_meaning_whole.specs.Store as kept
 use Rattle.f3_meaning_whole.specs.Reference.{Right, Maker, Reach, One, Many, Reference, reach_of, elements_from, paths, paths_by}
-use Rattle.f3_meaning_whole.specs.Act.{Setting, Here, in_each, picked, picks, picks_in_each, moved, Chosen, component_path, component_reach, component, opened, contents, to_root, added, elements_at, first_of, contents_by, whole, spans_in}
+use Rattle.f3_meaning_whole.specs.Act.{Setting, Here, in_each, picked, picks, picks_in_each, Chosen, component_path, component_reach, component, opened, contents, to_root, added, elements_at, first_of, contents_by, whole, spans_in}
 use Rattle.f3_meaning_whole.specs.Ran.{gives}
 use Rattle.f3_meaning_whole.specs.Exec.{based_reach, shown_reach, associated, bound}
 use Rattle.f3_meaning_whole.specs.Permitted.{Each}
 use Rattle.f3_program.specs.declared.program.Dummy.{Dummy}
 use Rattle.f3_pure_laws.specs.Laws.{IsFree}
-use Rattle.f3_pure_laws.proofs.Running.{Runs, bind_runs, weaken, gives_runs, fails_runs, looks_runs, looks_quiet, if_runs}
+use Rattle.f3_pure_laws.proofs.Running.{Runs, bind_runs, gives_runs, fails_runs, looks_runs, looks_quiet, if_runs}
 use Rattle.f3_pure_laws.proofs.Parts.{places_quiet}
 
 module _ (free : Root → Bool) where

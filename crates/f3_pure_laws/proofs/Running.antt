@@ -1,13 +1,13 @@
 -- Parts of runs that change free roots alone, and leave as many levels as there are said to be.
-use Rattle.std.proofs.Common.{◌≡◌, ℕ, zero, suc, ◌≤◌, Bool, true, false, List, [], ◌∷◌, ◌++◌, map, refl, sym, ap, ◌∙◌, if◌then◌else◌, length, take, arith}
+use Rattle.std.proofs.Common.{◌≡◌, ℕ, zero, suc, ◌≤◌, Bool, true, false, List, [], ◌∷◌, ◌++◌, refl, sym, ap, ◌∙◌, if◌then◌else◌, length, take, arith}
 use Rattle.std.specs.Prelude.{⊤, slice_set}
 use mathlib.Core.Path.{subst}
 use Rattle.f3_rules.specs.declared.source.Place.{Place}
-use Rattle.f3_meaning_whole.specs.Value.{Value, cleared}
-use Rattle.f3_meaning_whole.specs.Store.{Root, Static, Local, Store, Path, with_root, put, put_all, get}
+use Rattle.f3_meaning_whole.specs.Value.{Value}
+use Rattle.f3_meaning_whole.specs.Store.{Root, Static, Local, Store, Path, with_root, put, put_all}
 use Rattle.f3_meaning_whole.specs.Reference.{Reference, paths}
 use Rattle.f3_meaning_whole.specs.declared.run_error.RunError.{RunError}
-use Rattle.f3_meaning_whole.specs.Ran.{Event, Printed, Changed, Began, Entered, Ended, Asked, effect, replayed, World, End, Gives, Fails, Stops, Beyond, Ran, go_on, ◌>>=◌, gives, fails, stops, beyond, looks, does, asks, each}
+use Rattle.f3_meaning_whole.specs.Ran.{Event, replayed, World, End, Gives, Fails, Stops, Beyond, Ran, go_on, ◌>>=◌, gives, fails, beyond, looks, does, asks, each}
 use Rattle.f3_meaning_whole.specs.Act.{Here, set, clear, enter, leave, begins}
 use Rattle.f3_meaning_whole.specs.Permitted.{Each}
 use Rattle.f3_meaning_whole.proofs.Keeping.{each-append, replayed-append}

@@ -1,12 +1,12 @@
 -- What quiet events leave as it was.
-use Rattle.std.proofs.Common.{◌≡◌, ℕ, zero, suc, ◌<◌, ◌≤◌, Bool, true, false, List, [], ◌∷◌, ◌++◌, refl, sym, ap, ◌∙◌, length, take, arith}
+use Rattle.std.proofs.Common.{◌≡◌, ℕ, zero, suc, ◌≤◌, Bool, true, false, List, [], ◌∷◌, ◌++◌, refl, sym, ap, ◌∙◌, length, take, arith}
 use Rattle.std.specs.Prelude.{⊤, ◌&&◌, slice_set}
 use mathlib.Core.Path.{subst}
 use Rattle.std.proofs.lemmas.Bool.{leb-true, le-leb}
 use Rattle.f3_program.specs.declared.expression.Expression.{Expression}
 use Rattle.f3_program.specs.declared.program.Program.{Program}
 use Rattle.f3_meaning_whole.specs.Value.{Value}
-use Rattle.f3_meaning_whole.specs.Store.{Root, Static, Local, Store, Path, put, put_all, with_root, get, same_root, begins_with, goes_through}
+use Rattle.f3_meaning_whole.specs.Store.{Root, Static, Local, Store, Path, put, put_all, with_root, get, same_root}
 use Rattle.f3_meaning_whole.specs.Reference.{paths}
 use Rattle.f3_meaning_whole.specs.Ran.{Event, Printed, Changed, Began, Entered, Ended, Asked, effect, replayed, World, End, Gives, Fails, Stops, Beyond, Ran}
 use Rattle.f3_meaning_whole.specs.Act.{Here, Passed}

@@ -1,7 +1,6 @@
 -- Statements of pure procedures are quiet.
-use Rattle.std.proofs.Common.{◌≡◌, ℕ, zero, suc, ◌≤◌, ℤ, pos, Bool, true, false, List, [], ◌∷◌, ◌++◌, Option, None, Some, refl, sym, if◌then◌else◌, length, arith}
+use Rattle.std.proofs.Common.{◌≡◌, ℕ, zero, suc, ◌≤◌, ℤ, pos, Bool, true, false, List, [], ◌∷◌, ◌++◌, Option, None, Some, if◌then◌else◌, length}
 use Rattle.std.specs.Prelude.{⊤, slice_index_or, nat_eq, nat_lt, ◌||◌}
-use mathlib.Core.Path.{subst}
 use Rattle.f3_program.specs.declared.declarations.Base.TheVariants as base
 use Rattle.f3_program.specs.declared.declarations.Kind.{Kind}
 use Rattle.f3_program.specs.declared.expression.Designator as d
@@ -12,26 +11,25 @@ use Rattle.f3_program.specs.declared.statement.Bounds.{Bounds}
 use Rattle.f3_program.specs.declared.statement.Request.{Request}
 use Rattle.f3_program.specs.declared.statement.Selector.{Selector}
 use Rattle.f3_program.specs.declared.statement.Selector.TheVariants as selector
-use Rattle.f3_program.specs.declared.statement.Statement as s
 use Rattle.f3_program.specs.declared.program.Program.{Program}
-use Rattle.f3_meaning_whole.specs.Value.{Span, Value, Number, Truth, Composite, Array, Unallocated, Allocated, truth_of, number_of, count, conforms, spans_of}
+use Rattle.f3_meaning_whole.specs.Value.{Span, Value, Number, Truth, Composite, Array, Unallocated, Allocated, count, conforms, spans_of}
 use Rattle.f3_meaning_whole.specs.Store.{Root, Local}
 use Rattle.f3_meaning_whole.specs.Reference.{Read, Reference, spans, is_pinned}
 use Rattle.f3_meaning_whole.specs.declared.run_error.RunError.{RunError}
 use Rattle.f3_meaning_whole.specs.declared.run_error.RunError.TheVariants.{NotAllocated}
 use Rattle.f3_meaning_whole.specs.Ran.{Ran, fails}
-use Rattle.f3_meaning_whole.specs.Act.{Here, Calls, at, lending, selecting, associating, to_root}
+use Rattle.f3_meaning_whole.specs.Act.{Here, Calls, lending, associating, to_root}
 use Rattle.f3_meaning_whole.specs.Eval.{value, locate}
-use Rattle.f3_meaning_whole.specs.Exec.{Flow, Onward, Cycled, Left, Returned, onward, next_turn, turns, counted, unless_failed, status_number, Association, Holds, Means, held_by, allocate, too_many, overwrite, fill, renew, assign, answer, dimensions, allocate_all, deallocate, deallocate_all, take_over, move_alloc, selectors, increment, some_meets, exec, block, associates, new_value}
+use Rattle.f3_meaning_whole.specs.Exec.{Flow, Onward, Cycled, Left, Returned, onward, next_turn, turns, counted, unless_failed, status_number, Association, allocate, too_many, overwrite, fill, renew, assign, answer, dimensions, allocate_all, deallocate, deallocate_all, take_over, move_alloc, selectors, increment, associates, new_value}
 use Rattle.f3_meaning_whole.specs.Run.{setting_of}
 use Rattle.f3_meaning_whole.specs.Permitted.{Each}
 use Rattle.f3_meaning_whole.proofs.Keeping.{no}
-use Rattle.f3_pure_laws.specs.References.{Refers, RefersIn, CallRefers, StatRefers, BoundsRefer, RequestRefers, SelectorRefers, StatementRefers, BlockRefers}
-use Rattle.f3_pure_laws.specs.Pure.{definable_in, first_name, is_own, Owns, own_selectors, OwnsStat, MayEnd, CallsPure, OwnsRequest, EndsRequest, IsPureStatement, IsPureBlock}
+use Rattle.f3_pure_laws.specs.References.{Refers, RefersIn, CallRefers, StatRefers, BoundsRefer, RequestRefers, SelectorRefers}
+use Rattle.f3_pure_laws.specs.Pure.{definable_in, first_name, is_own, Owns, own_selectors, OwnsStat, MayEnd, CallsPure, OwnsRequest, EndsRequest}
 use Rattle.f3_pure_laws.specs.Laws.{AreNewFree}
-use Rattle.f3_pure_laws.proofs.Running.{Runs, Quiet, bind_runs, weaken, gives_runs, gives_quiet, fails_runs, beyond_runs, looks_quiet, levels_runs, if_runs, set_runs, begins_quiet, enter_runs, leave_runs}
-use Rattle.f3_pure_laws.proofs.Parts.{converted_quiet, claim_quiet, claim_for_quiet, built_quiet, result_quiet, request_quiet, unless_quiet}
-use Rattle.f3_pure_laws.proofs.Roots.{IsMine, root_mine, contents_runs, associated_mine}
+use Rattle.f3_pure_laws.proofs.Running.{Runs, Quiet, bind_runs, weaken, gives_runs, gives_quiet, fails_runs, beyond_runs, looks_quiet, if_runs, set_runs}
+use Rattle.f3_pure_laws.proofs.Parts.{converted_quiet, claim_quiet, claim_for_quiet, built_quiet, result_quiet, request_quiet}
+use Rattle.f3_pure_laws.proofs.Roots.{IsMine, contents_runs, associated_mine}
 use Rattle.f3_pure_laws.proofs.Values.{CallsRun, ArePure, IsName, value_quiet, locate_runs, all_passed_run}
 use Rattle.f3_pure_laws.proofs.Destroying.{end_quiet, free_quiet, finish_quiet}
 

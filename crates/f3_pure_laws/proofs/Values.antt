@@ -1,7 +1,6 @@
 -- Expressions that refer to functions alone are quiet.
 use Rattle.std.proofs.Common.{◌≡◌, ℕ, zero, suc, ◌≤◌, pos, Bool, true, false, List, [], ◌∷◌, Option, None, Some, refl, sym, ap, ◌∙◌, map, length}
-use Rattle.std.specs.Prelude.{⊤, not, slice_get, slice_index_or}
-use mathlib.Core.Path.{subst}
+use Rattle.std.specs.Prelude.{not, slice_get, slice_index_or}
 use Rattle.f3_program.specs.declared.declarations.Base.TheVariants as base
 use Rattle.f3_program.specs.declared.expression.Argument as w
 use Rattle.f3_program.specs.declared.expression.Designator as d
@@ -13,7 +12,7 @@ use Rattle.f3_program.specs.declared.expression.Subscript as u
 use Rattle.f3_program.specs.declared.program.Dummy.{Dummy}
 use Rattle.f3_program.specs.declared.program.Procedure.{Procedure}
 use Rattle.f3_program.specs.declared.program.Program.{Program}
-use Rattle.f3_meaning_whole.specs.Value.{Span, Value, Array, Unallocated, joined}
+use Rattle.f3_meaning_whole.specs.Value.{Span, Array, Unallocated, joined}
 use Rattle.f3_meaning_whole.specs.Store.{Root, Static, Local, get}
 use Rattle.f3_meaning_whole.specs.Reference.{Define, Read, Selected, Reach, One, Many, Reference}
 use Rattle.f3_meaning_whole.specs.Ran.{Ran}
@@ -23,8 +22,8 @@ use Rattle.f3_meaning_whole.specs.Run.{setting_of}
 use Rattle.f3_meaning_whole.specs.Permitted.{Each, dummies_in}
 use Rattle.f3_meaning_whole.proofs.Keeping.{no}
 use Rattle.f3_pure_laws.specs.References.{is_function, Refers, ArgumentRefers, AllRefer, RefersIn, SelectionRefers, SubscriptsRefer, SubscriptRefers}
-use Rattle.f3_pure_laws.specs.Pure.{definable, definable_in, first_name, IsGiven, IsPure, OwnsPassed, OwnsAllPassed, Owns, is_own}
-use Rattle.f3_pure_laws.specs.Laws.{IsFree, IsPassedFree}
+use Rattle.f3_pure_laws.specs.Pure.{definable, definable_in, first_name, IsGiven, OwnsPassed, OwnsAllPassed, is_own}
+use Rattle.f3_pure_laws.specs.Laws.{IsPassedFree}
 use Rattle.f3_pure_laws.proofs.Running.{Runs, Quiet, bind_runs, weaken, gives_runs, gives_quiet, looks_runs, looks_quiet, if_runs}
 use Rattle.f3_pure_laws.proofs.Parts.{converted_quiet, apply_quiet, change_quiet, claim_for_quiet, built_quiet, read_quiet, result_quiet, asked_quiet, structure_quiet}
 use Rattle.f3_pure_laws.proofs.Roots.{IsMine, Follows, root_mine, component_runs, contents_runs, opened_or, picks_runs, each_runs_in}

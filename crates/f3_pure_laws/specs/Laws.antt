@@ -4,7 +4,7 @@ use Rattle.f3_program.specs.declared.expression.Expression.{Expression}
 use Rattle.f3_program.specs.declared.program.Program.{Program}
 use Rattle.f3_meaning_whole.specs.Value.{Value}
 use Rattle.f3_meaning_whole.specs.Store.{Root, Static, Local, Path, get}
-use Rattle.f3_meaning_whole.specs.Reference.{Reference, paths}
+use Rattle.f3_meaning_whole.specs.Reference.{paths}
 use Rattle.f3_meaning_whole.specs.Ran.{Event, Printed, Changed, Began, Entered, Ended, Asked, World, End, Gives, Fails, Stops, Beyond}
 use Rattle.f3_meaning_whole.specs.Act.{Here, Passed, Given, Lent}
 use Rattle.f3_meaning_whole.specs.Eval.{value}
