@@ -1,0 +1,4 @@
+pub mod Nodes
+pub mod Seen
+pub mod Walking
+pub mod Statements

@@ -1,0 +1,2 @@
+//! Laws that the expressions of elaborated programs refer to functions alone.
+#![tactic(auto)]
