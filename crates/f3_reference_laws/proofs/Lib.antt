@@ -2,3 +2,4 @@ pub mod Nodes
 pub mod Seen
 pub mod Walking
 pub mod Statements
+pub mod Whole

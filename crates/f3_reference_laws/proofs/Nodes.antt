@@ -1,6 +1,6 @@
 -- Elaborated programs, on their data, in whose expressions each reference is one to a function: as f3_pure_laws says it of the program in
 -- memory.
-use Rattle.std.specs.Prelude.{◌≡◌, ⊤, true, List, Option, None, Some, slice_get}
+use Rattle.std.specs.Prelude.{◌≡◌, ⊤, true, Option, None, Some, slice_get}
 use Rattle.f3_program.specs.declared.program.Program.{Program}
 use Rattle.f3_meaning_whole.specs.Permitted.{Each}
 use Rattle.f3_elaboration.specs.Nodes as n

@@ -1,5 +1,5 @@
 -- What is in memory refers to functions alone where its data does.
-use Rattle.std.proofs.Common.{List, [], ◌∷◌, Option, Some, None, map}
+use Rattle.std.proofs.Common.{Option, Some, None, map}
 use Rattle.std.specs.Option.{option_map}
 use mathlib.Core.Path.{subst}
 use Rattle.f3_program.specs.declared.expression.Argument as a

@@ -1,12 +1,9 @@
 -- Statements that are elaborated refer to functions alone.
-use Rattle.std.proofs.Common.{◌≡◌, ℕ, ◌+◌, Bool, true, false, List, [], ◌∷◌, Option, Some, None, map, refl, if◌then◌else◌}
-use Rattle.std.specs.Prelude.{⊤, pos, slice_get, length, nat_eq}
+use Rattle.std.proofs.Common.{◌≡◌, ℕ, ◌+◌, Bool, true, false, List, [], ◌∷◌, Option, Some, None, map}
+use Rattle.std.specs.Prelude.{pos, length, nat_eq}
 use Rattle.std.specs.Map.{lookup}
 use Rattle.std.specs.List.{flat_map}
 use Rattle.std.specs.Option.{option_map}
-use Rattle.f3_access.specs.declared.table.Lookup.{Lookup}
-use Rattle.f3_access.specs.declared.table.Lookup.TheVariants.{One, Nothing, Several}
-use Rattle.f3_tree.specs.declared.expression.Name.{Name}
 use Rattle.f3_tree.specs.Expressions as t
 use Rattle.f3_tree.specs.Statements as a
 use Rattle.f3_program.specs.declared.declarations.Kind.{Kind}
@@ -14,9 +11,8 @@ use Rattle.f3_program.specs.declared.program.Program.{Program}
 use Rattle.f3_kinds.specs.declared.said.Said.{Said}
 use Rattle.f3_kinds.specs.declared.types.Object.{Object}
 use Rattle.f3_kinds.specs.declared.things.Dummy.{Dummy}
-use Rattle.f3_kinds.specs.declared.things.Intrinsic.{Intrinsic}
 use Rattle.f3_kinds.specs.declared.things.Intrinsic.TheVariants as i
-use Rattle.f3_kinds.specs.Things.{map_or, Nature, constant, variable, derived, subroutine, function, Meaning, nothing, several, intrinsic, entity, entity_or, meaning_by, meaning_of, look_here}
+use Rattle.f3_kinds.specs.Things.{map_or, Nature, constant, variable, derived, subroutine, function, Meaning, nothing, several, intrinsic, entity, meaning_of}
 use Rattle.f3_type_rules.specs.Associates.{associated, associate_nature, constructs_of, constructs_of_branches, constructs_of_block}
 use Rattle.f3_type_rules.specs.Statements.{variable_of}
 use Rattle.f3_meaning_whole.specs.Permitted.{Each}
@@ -27,7 +23,7 @@ use Rattle.f3_elaboration.specs.Expressions as x
 use Rattle.f3_elaboration.specs.Expressions.{Given, Part, given_in, expression, parts, given, itself, or_one, number}
 use Rattle.f3_elaboration.specs.Actions.{named_by, variable as place, allocatable, move, called, unbounded, last_given, bounds, request, item, action, nothing_done, kind}
 use Rattle.f3_elaboration.specs.Statements.{selected, selector, loop, statement, block, branches, alternative, cases}
-use Rattle.f3_reference_laws.proofs.Nodes.{NodeRefers, PlaceRefers, CalledRefers, StatNodeRefers, BoundsNodeRefer, RequestNodeRefers, ItemNodeRefers, SelectorNodeRefers, DoneRefers, AllDoneRefer}
+use Rattle.f3_reference_laws.proofs.Nodes.{NodeRefers, PlaceRefers, StatNodeRefers, BoundsNodeRefer, RequestNodeRefers, ItemNodeRefers, SelectorNodeRefers, DoneRefers, AllDoneRefer}
 use Rattle.f3_reference_laws.proofs.Walking.{FunctionsAre, GivenRefers, AllGivenRefer, PartsRefer, in_refers, one_refers, itself_refers, arguments_refer, expression_refers, parts_refer, given_refer}
 
 -- an associate name is a variable

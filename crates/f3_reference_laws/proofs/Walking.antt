@@ -1,16 +1,12 @@
 -- What is elaborated refers to functions alone.
 use Rattle.std.proofs.Common.{◌≡◌, ℕ, ◌+◌, Bool, true, false, ◌&&◌, List, [], ◌∷◌, Option, Some, None, map, refl, if◌then◌else◌}
-use Rattle.std.specs.Prelude.{⊤, slice_get, length}
-use Rattle.std.specs.Option.{option_map}
+use Rattle.std.specs.Prelude.{⊤, slice_get}
 use Rattle.f3_access.specs.declared.table.Lookup.{Lookup}
 use Rattle.f3_access.specs.declared.table.Lookup.TheVariants.{One, Nothing, Several}
-use Rattle.f3_tree.specs.declared.expression.Operator.{Operator}
 use Rattle.f3_tree.specs.declared.expression.Sign.{Sign}
 use Rattle.f3_tree.specs.declared.expression.Sign.TheVariants.{Plus, Minus}
 use Rattle.f3_tree.specs.Expressions as t
-use Rattle.f3_tree.specs.Statements as a
 use Rattle.f3_program.specs.declared.declarations.Base.{Base}
-use Rattle.f3_program.specs.declared.declarations.Kind.{Kind}
 use Rattle.f3_program.specs.declared.expression.BinaryOperator.{BinaryOperator}
 use Rattle.f3_program.specs.declared.expression.BinaryOperator.TheVariants as o
 use Rattle.f3_program.specs.declared.program.Program.{Program}
@@ -20,7 +16,7 @@ use Rattle.f3_kinds.specs.declared.things.Component.{Component}
 use Rattle.f3_kinds.specs.declared.things.Dummy.{Dummy}
 use Rattle.f3_kinds.specs.declared.things.Intrinsic.{Intrinsic}
 use Rattle.f3_kinds.specs.declared.things.Intrinsic.TheVariants as i
-use Rattle.f3_kinds.specs.Things.{map_or, Nature, constant, variable, derived, subroutine, function, Context, Meaning, nothing, several, intrinsic, entity, entity_or}
+use Rattle.f3_kinds.specs.Things.{map_or, Nature, constant, variable, derived, subroutine, function, Context, nothing, intrinsic, entity, entity_or}
 use Rattle.f3_kinds.specs.Things.{meaning_by, meaning_of, look_here, component_of}
 use Rattle.f3_meaning_whole.specs.Permitted.{Each}
 use Rattle.f3_elaboration.specs.Nodes as n
