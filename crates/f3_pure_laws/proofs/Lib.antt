@@ -6,3 +6,4 @@ pub mod Destroying
 pub mod Statements
 pub mod Executing
 pub mod Same
+pub mod Ending

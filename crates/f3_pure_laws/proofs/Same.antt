@@ -10,7 +10,7 @@ use Rattle.f3_meaning_whole.specs.Store.{Root, Static, Local, Store, Path, put, 
 use Rattle.f3_meaning_whole.specs.Reference.{paths}
 use Rattle.f3_meaning_whole.specs.Ran.{Event, Printed, Changed, Began, Entered, Ended, Asked, effect, replayed, World, End, Gives, Fails, Stops, Beyond, Ran}
 use Rattle.f3_meaning_whole.specs.Act.{Here, Passed}
-use Rattle.f3_meaning_whole.specs.Eval.{value}
+use Rattle.f3_meaning_whole.specs.Eval.{value, locate}
 use Rattle.f3_meaning_whole.specs.Permitted.{Each}
 use Rattle.f3_meaning_whole.specs.Run.{setting_of, calls_of}
 use Rattle.f3_meaning_whole.specs.Laws.{Apart, Outlives, Spares, IsThere}
@@ -18,9 +18,9 @@ use Rattle.f3_meaning_whole.proofs.Frame.{same_roots, spared}
 use Rattle.f3_meaning_whole.proofs.Keeping.{no}
 use Rattle.f3_pure_laws.specs.References.{Refers}
 use Rattle.f3_pure_laws.specs.Pure.{definable_in, IsPure}
-use Rattle.f3_pure_laws.specs.Laws.{IsFree, IsQuiet, NeverStops, AreNewFree, IsPassedFree, is_new, FunctionsChangeNothing, FunctionsAreQuiet, PureCallsAreQuiet, PureCallsKeep}
-use Rattle.f3_pure_laws.proofs.Running.{Has, OnGives, Runs, Quiet}
-use Rattle.f3_pure_laws.proofs.Values.{value_quiet}
+use Rattle.f3_pure_laws.specs.Laws.{IsFree, IsQuiet, NeverStops, AreNewFree, IsPassedFree, is_new, FunctionsChangeNothing, PlacesChangeNothing, FunctionsAreQuiet, PureCallsAreQuiet, PureCallsKeep}
+use Rattle.f3_pure_laws.proofs.Running.{Has, OnGives, Runs, Quiet, weaken}
+use Rattle.f3_pure_laws.proofs.Values.{value_quiet, locate_runs}
 use Rattle.f3_pure_laws.proofs.Executing.{calls_run}
 
 -- ---- levels
@@ -131,12 +131,23 @@ pub functions_are_quiet : FunctionsAreQuiet
 functions_are_quiet p pure m depth n x r here w =
     quiet_events (length w.store.levels) (is_new (length w.store.levels)) (value (setting_of p) (calls_of depth (setting_of p) n) x here) w (quiet_expression p pure m depth n x r here (length w.store.levels)) refl
 
+unchanged : {A : Type 0} (m : Ran A) (w after : World) (x : A) → Runs (length w.store.levels) (is_new (length w.store.levels)) (length w.store.levels) (length w.store.levels) (λ y. ⊤) m
+    → (m.from w).end ≡ Gives x after → after.store ≡ w.store
+unchanged m w after x h e =
+    let level : ℕ = length w.store.levels in
+    let k = h.always w refl in
+    let g = subst (OnGives level (is_new level) level (λ y. ⊤) w.store (m.from w).out) e k.1 in
+    restored w.store after.store (subst (IsSame level w.store) (sym g.1) (replayed_same level _ w.store k.0 (omega arith))) g.2
+
 pub functions_change_nothing : FunctionsChangeNothing
 functions_change_nothing p pure m depth n x r here w after v e =
+    unchanged (value (setting_of p) (calls_of depth (setting_of p) n) x here) w after v (quiet_expression p pure m depth n x r here (length w.store.levels)) e
+
+pub places_change_nothing : PlacesChangeNothing
+places_change_nothing p pure m depth n x r here w after q e =
     let level : ℕ = length w.store.levels in
-    let k = (quiet_expression p pure m depth n x r here level).always w refl in
-    let g = subst (OnGives level (is_new level) level (λ x. ⊤) w.store ((value (setting_of p) (calls_of depth (setting_of p) n) x here).from w).out) e k.1 in
-    restored w.store after.store (subst (IsSame level w.store) (sym g.1) (replayed_same level _ w.store k.0 (omega arith))) g.2
+    unchanged (locate (setting_of p) (calls_of depth (setting_of p) n) x here) w after q
+    (weaken level (is_new level) (λ y h. tt) (locate_runs p pure m.functions level (is_new level) (calls_of depth (setting_of p) n) (calls_run p pure m level (is_new level) (new_free level) n depth) level (omega arith) x here r)) e
 
 -- ---- calls
 

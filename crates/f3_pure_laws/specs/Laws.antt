@@ -1,17 +1,18 @@
 -- What a call of a pure procedure does, and what the evaluation of an expression does not.
 use Rattle.std.specs.Prelude.{⊤, ◌≡◌, ◌≤◌, ℕ, Bool, true, false, nat_le, List, length, slice_index_or}
+use Rattle.f3_program.specs.declared.expression.Designator.{Designator}
 use Rattle.f3_program.specs.declared.expression.Expression.{Expression}
 use Rattle.f3_program.specs.declared.program.Program.{Program}
 use Rattle.f3_meaning_whole.specs.Value.{Value}
 use Rattle.f3_meaning_whole.specs.Store.{Root, Static, Local, Path, get}
-use Rattle.f3_meaning_whole.specs.Reference.{paths}
+use Rattle.f3_meaning_whole.specs.Reference.{Reference, paths}
 use Rattle.f3_meaning_whole.specs.Ran.{Event, Printed, Changed, Began, Entered, Ended, Asked, World, End, Gives, Fails, Stops, Beyond}
 use Rattle.f3_meaning_whole.specs.Act.{Here, Passed, Given, Lent}
-use Rattle.f3_meaning_whole.specs.Eval.{value}
+use Rattle.f3_meaning_whole.specs.Eval.{value, locate}
 use Rattle.f3_meaning_whole.specs.Permitted.{Each}
 use Rattle.f3_meaning_whole.specs.Laws.{IsThere}
 use Rattle.f3_meaning_whole.specs.Run.{setting_of, calls_of}
-use Rattle.f3_pure_laws.specs.References.{Refers}
+use Rattle.f3_pure_laws.specs.References.{Refers, RefersIn}
 use Rattle.f3_pure_laws.specs.Pure.{definable_in, IsPure}
 
 -- a path begins at a free root
@@ -48,12 +49,18 @@ FunctionsChangeNothing = (p : Program) (pure : ℕ → Bool) → IsPure p pure �
     → (here : Here) (w after : World) (v : Value) → ((value (setting_of p) (calls_of depth (setting_of p) n) e here).from w).end ≡ Gives v after
     → after.store ≡ w.store
 
+-- So does locating a designator, with all its subscripts.
+abbrev pub PlacesChangeNothing : Type 0
+PlacesChangeNothing = (p : Program) (pure : ℕ → Bool) → IsPure p pure → (depth n : ℕ) (x : Designator) → RefersIn p x
+    → (here : Here) (w after : World) (r : Reference) → ((locate (setting_of p) (calls_of depth (setting_of p) n) x here).from w).end ≡ Gives r after
+    → after.store ≡ w.store
+
 -- the levels that a store has are not free
 abbrev pub is_new : ℕ → Root → Bool
 is_new level (Static i) = false
 is_new level (Local l i) = nat_le level l
 
--- It prints nothing, does not stop, and all that it changes, also where it fails, is on levels that began within it.
+-- The evaluation of an expression prints nothing, does not stop, and all that it changes, also where it fails, is on levels that began within it.
 abbrev pub FunctionsAreQuiet : Type 0
 FunctionsAreQuiet = (p : Program) (pure : ℕ → Bool) → IsPure p pure → (depth n : ℕ) (e : Expression) → Refers p e
     → (here : Here) (w : World)

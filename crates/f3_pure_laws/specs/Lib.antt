@@ -1,3 +1,4 @@
 pub mod References
 pub mod Pure
 pub mod Laws
+pub mod Ending

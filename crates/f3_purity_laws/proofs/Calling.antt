@@ -1,5 +1,5 @@
 -- Blocks of pure procedures call pure procedures alone.
-use Rattle.std.proofs.Common.{◌≡◌, ℕ, ◌+◌, Bool, true, false, List, [], ◌∷◌, ◌++◌, Option, Some, None, map, refl, sym, ap, ◌∙◌, if◌then◌else◌}
+use Rattle.std.proofs.Common.{◌≡◌, ℕ, ◌+◌, Bool, true, false, List, [], ◌∷◌, Option, Some, None, map, refl, sym, ap, if◌then◌else◌}
 use Rattle.std.specs.Prelude.{⊤, length, nat_eq}
 use Rattle.std.specs.Map.{lookup}
 use Rattle.std.specs.List.{flat_map}
@@ -17,11 +17,11 @@ use Rattle.f3_kinds.specs.declared.said.Said.{Said}
 use Rattle.f3_kinds.specs.declared.things.Dummy.{Dummy}
 use Rattle.f3_kinds.specs.declared.things.Intrinsic.{Intrinsic}
 use Rattle.f3_kinds.specs.declared.things.Intrinsic.TheVariants as i
-use Rattle.f3_kinds.specs.Things.{map_or, Nature, constant, variable, derived, subroutine, function, Context, Meaning, nothing, several, intrinsic, entity, entity_or, meaning_by, meaning_of, look_here}
+use Rattle.f3_kinds.specs.Things.{map_or, Nature, constant, variable, derived, subroutine, function, Context, Meaning, nothing, intrinsic, entity, entity_or, meaning_by, meaning_of, look_here}
 use Rattle.f3_type_rules.specs.Associates.{associated, associate_nature, context_inside, site_inside, constructs_of, constructs_of_branches, constructs_of_block}
 use Rattle.f3_type_rules.specs.Bodies.{act_rows, control_rows, selector_rows, statement_breaks, block_breaks, branch_breaks, other_breaks, case_breaks}
 use Rattle.f3_type_rules.specs.Cases.{select_breaks}
-use Rattle.f3_type_rules.specs.Definitions.{Site, definition_rows, defined, impure, called_impure, act_definitions, in_loop}
+use Rattle.f3_type_rules.specs.Definitions.{Site, definition_rows, defined, impure, called_impure, in_loop}
 use Rattle.f3_type_rules.specs.Statements.{act_breaks, condition_breaks}
 use Rattle.f3_elaboration.specs.Nodes as n
 use Rattle.f3_elaboration.specs.Nodes.{ExpressionNode, StatementNode, StatementNodes}
