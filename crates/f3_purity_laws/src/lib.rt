@@ -1,10 +1,17 @@
 //! Laws that what breaks no rule is pure where the rules ask for it.
 #![tactic(auto)]
 
+ghost use Rattle.f3_purity_laws.specs.Guarded.{GuardedBlocks};
 ghost use Rattle.f3_purity_laws.specs.Laws.{BlocksCallPure};
 
 /// A block of a pure procedure that breaks no rule calls pure procedures alone, and neither prints nor stops, once elaborated, where what
 /// the rules take for pure subroutines are pure procedures of the program (ISO/IEC 1539-1:2004, 12.6, rule D6).
 pub fn blocks_call_pure()
     ensures { BlocksCallPure }
+{}
+
+/// A block that breaks no rule breaks none where, in a pure procedure, each variable that another scope declares counts as protected:
+/// what D5 forbids is then forbidden by D1.
+pub fn guarded_blocks()
+    ensures { GuardedBlocks }
 {}
