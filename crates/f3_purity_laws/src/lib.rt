@@ -3,6 +3,7 @@
 
 ghost use Rattle.f3_purity_laws.specs.Guarded.{GuardedBlocks};
 ghost use Rattle.f3_purity_laws.specs.Laws.{BlocksCallPure};
+ghost use Rattle.f3_purity_laws.specs.Owning.{LawfulChangesOwn};
 
 /// A block of a pure procedure that breaks no rule calls pure procedures alone, and neither prints nor stops, once elaborated, where what
 /// the rules take for pure subroutines are pure procedures of the program (ISO/IEC 1539-1:2004, 12.6, rule D6).
@@ -14,4 +15,9 @@ pub fn blocks_call_pure()
 /// what D5 forbids is then forbidden by D1.
 pub fn guarded_blocks()
     ensures { GuardedBlocks }
+{}
+
+/// Where no variable that lives for the whole run may be defined, a lawful statement changes what its procedure owns alone.
+pub fn lawful_changes_own()
+    ensures { LawfulChangesOwn }
 {}
