@@ -1,6 +1,6 @@
 -- Where no static variable may be defined, statements change what their procedures own.
 use Rattle.std.proofs.Common.{◌≡◌, ℕ, zero, suc, Bool, true, false, not, ◌||◌, List, [], ◌∷◌, ◌++◌, Option, Some, None, map, refl, sym, ap, ◌∙◌}
-use Rattle.std.specs.Prelude.{⊤, slice_get, slice_index_or}
+use Rattle.std.specs.Prelude.{slice_get, slice_index_or}
 use mathlib.Core.Path.{subst}
 use Rattle.f3_program.specs.declared.expression.Argument as a
 use Rattle.f3_program.specs.declared.expression.Designator as d
@@ -16,7 +16,7 @@ use Rattle.f3_program.specs.declared.program.Program.{Program}
 use Rattle.f3_meaning_whole.specs.Permitted.{Each, Lendable, Scope, unknown, lendable, names_in, dummies_in, name_of, designated, MayPassAll, MayDefine, MayStat, MayRequest, MayExec, MayBlock, names_by, naming}
 use Rattle.f3_meaning_whole.proofs.Keeping.{no}
 use Rattle.f3_pure_laws.specs.Pure.{definable, definable_in, first_name, is_own, Owns, own_selectors, OwnsStat, OwnsAllPassed, OwnsRequest}
-use Rattle.f3_purity_laws.specs.Owning.{OwnsCall, ChangesOwn, AllChangeOwn, may_defines, AreBarred, LawfulChangesOwn}
+use Rattle.f3_purity_laws.specs.Owning.{ChangesOwn, AllChangeOwn, may_defines, AreBarred, LawfulChangesOwn}
 
 name_in : (ls : List Lendable) (i : ℕ) → slice_index_or (may_defines ls) i false ≡ (slice_index_or ls i unknown).may_define
 name_in [] i = refl
@@ -28,7 +28,7 @@ dummy_in [] i = refl
 dummy_in (x ∷ xs) zero = refl
 dummy_in (x ∷ xs) (suc i) = dummy_in xs i
 
-more_names : (xs ys : List Lendable) → may_defines (xs ++ ys) ≡ may_defines xs ++ may_defines ys
+pub more_names : (xs ys : List Lendable) → may_defines (xs ++ ys) ≡ may_defines xs ++ may_defines ys
 more_names [] ys = refl
 more_names (x ∷ xs) ys = ap (λ l. x.may_define ∷ l) (more_names xs ys)
 
@@ -46,18 +46,18 @@ module _ (p : Program) (pure : ℕ → Bool) where
   own_place scope h (d.Name y how) = own_name scope h y
   own_place scope h (d.Component' q x k how) = own_place scope h x
 
-  owned : (scope : Scope) → AreBarred p scope.unit → (x : d.Designator) → MayDefine p scope x → Owns (may_defines scope.names) x
+  pub owned : (scope : Scope) → AreBarred p scope.unit → (x : d.Designator) → MayDefine p scope x → Owns (may_defines scope.names) x
   owned scope h x m = sym (own_place scope h x) ∙ m.1
 
-  stat_owned : (scope : Scope) → AreBarred p scope.unit → (o : Option d.Designator) → MayStat p scope o → OwnsStat (may_defines scope.names) o
+  pub stat_owned : (scope : Scope) → AreBarred p scope.unit → (o : Option d.Designator) → MayStat p scope o → OwnsStat (may_defines scope.names) o
   stat_owned scope h None m = tt
   stat_owned scope h (Some x) m = owned scope h x m
 
-  requests_owned : (scope : Scope) → AreBarred p scope.unit → (rs : List Request) → Each (MayRequest p scope) rs → Each (OwnsRequest p pure (may_defines scope.names)) rs
+  pub requests_owned : (scope : Scope) → AreBarred p scope.unit → (rs : List Request) → Each (MayRequest p scope) rs → Each (OwnsRequest p pure (may_defines scope.names)) rs
   requests_owned scope h [] m = tt
   requests_owned scope h (r ∷ rs) m = (owned scope h r.object m.0.0.0, requests_owned scope h rs m.1)
 
-  passed_owned : (scope : Scope) → AreBarred p scope.unit → (f : ℕ) → {k : _} (xs : e.Row_of-Argument k) → MayPassAll p scope (names_in p f) xs → OwnsAllPassed p pure (may_defines scope.names) (definable_in p f) xs
+  pub passed_owned : (scope : Scope) → AreBarred p scope.unit → (f : ℕ) → {k : _} (xs : e.Row_of-Argument k) → MayPassAll p scope (names_in p f) xs → OwnsAllPassed p pure (may_defines scope.names) (definable_in p f) xs
   passed_owned scope h f e.end_of-Argument m = tt
   passed_owned scope h f (e.more_of-Argument (a.Value' k q x) rest) m = (tt, passed_owned scope h f rest m.1)
   passed_owned scope h f (e.more_of-Argument (a.Variable' k q x) rest) m = (
@@ -65,7 +65,7 @@ module _ (p : Program) (pure : ℕ → Bool) where
     passed_owned scope h f rest m.1,
   )
 
-  selectors_owned : (scope : Scope) → AreBarred p scope.unit → (xs : List Selector) → may_defines (names_by p scope xs) ≡ own_selectors (may_defines scope.names) xs
+  pub selectors_owned : (scope : Scope) → AreBarred p scope.unit → (xs : List Selector) → may_defines (names_by p scope xs) ≡ own_selectors (may_defines scope.names) xs
   selectors_owned scope h [] = refl
   selectors_owned scope h (selector.Variable x ∷ xs) =
       ap (λ b. b ∷ may_defines (names_by p scope xs)) (own_place scope h x) ∙ ap (λ l. is_own (may_defines scope.names) (first_name x) ∷ l) (selectors_owned scope h xs)

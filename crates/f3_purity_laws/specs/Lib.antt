@@ -2,3 +2,4 @@ pub mod Calls
 pub mod Laws
 pub mod Guarded
 pub mod Owning
+pub mod Composed

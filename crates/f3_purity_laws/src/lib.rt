@@ -1,6 +1,7 @@
 //! Laws that what breaks no rule is pure where the rules ask for it.
 #![tactic(auto)]
 
+ghost use Rattle.f3_purity_laws.specs.Composed.{LawfulIsPure};
 ghost use Rattle.f3_purity_laws.specs.Guarded.{GuardedBlocks};
 ghost use Rattle.f3_purity_laws.specs.Laws.{BlocksCallPure};
 ghost use Rattle.f3_purity_laws.specs.Owning.{LawfulChangesOwn};
@@ -20,4 +21,10 @@ pub fn guarded_blocks()
 /// Where no variable that lives for the whole run may be defined, a lawful statement changes what its procedure owns alone.
 pub fn lawful_changes_own()
     ensures { LawfulChangesOwn }
+{}
+
+/// There a lawful statement is one of a pure procedure where it calls pure procedures alone and what it may define is of types without
+/// impure final subroutines (rules D5, D6 and T12).
+pub fn lawful_is_pure()
+    ensures { LawfulIsPure }
 {}
