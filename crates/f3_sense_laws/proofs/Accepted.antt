@@ -1,5 +1,5 @@
 -- What is accepted breaks no rule, so its elaborated program makes sense.
-use Rattle.std.proofs.Common.{◌≡◌, ℕ, List, inl, Contains}
+use Rattle.std.proofs.Common.{◌≡◌, ℕ, List, inl}
 use Rattle.f3_rules.specs.declared.breaks.Break.{Break}
 use Rattle.f3_rules.specs.declared.source.Source.{Source}
 use Rattle.f3_tree.specs.Tree.{Tree}
