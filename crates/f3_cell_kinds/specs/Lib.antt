@@ -1,0 +1,11 @@
+pub mod Types
+pub mod Effect
+pub mod Kinds
+pub mod Values
+pub mod Program
+pub mod Sense
+pub mod Holds
+pub mod Reading
+pub mod Stands
+pub mod Ways
+pub mod Laws

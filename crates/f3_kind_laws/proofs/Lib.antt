@@ -1,0 +1,13 @@
+pub mod Ordered
+pub mod Types
+pub mod Procedures
+pub mod Variables
+pub mod Mains
+pub mod Members
+pub mod Bodies
+pub mod Behind
+pub mod Typed
+pub mod Values
+pub mod Constants
+pub mod Given
+pub mod Whole

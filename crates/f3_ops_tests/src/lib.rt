@@ -1,0 +1,5 @@
+//! The ops that are found in small programs.
+#![tactic(auto)]
+
+#[cfg(test)]
+mod tests;

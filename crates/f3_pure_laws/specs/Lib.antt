@@ -1,0 +1,4 @@
+pub mod References
+pub mod Pure
+pub mod Laws
+pub mod Ending

@@ -1,0 +1,4 @@
+pub mod Calling
+pub mod Guarded
+pub mod Owning
+pub mod Composed

@@ -1,0 +1,5 @@
+pub mod Calls
+pub mod Laws
+pub mod Guarded
+pub mod Owning
+pub mod Composed

@@ -1,0 +1,5 @@
+pub mod Nodes
+pub mod Seen
+pub mod Walking
+pub mod Statements
+pub mod Whole
