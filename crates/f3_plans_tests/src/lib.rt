@@ -1,0 +1,7 @@
+//! Plans of small programs.
+#![tactic(auto)]
+
+#[cfg(test)]
+mod showing;
+#[cfg(test)]
+mod tests;

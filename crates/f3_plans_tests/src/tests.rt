@@ -1,0 +1,175 @@
+//! Plans of small programs, whose code is emitted for them.
+
+use crate::showing::listed;
+use f3_frames::layouts::Layouts;
+use f3_gen_program::program::emit_program;
+use f3_plans::plan::plan;
+use f3_program::declarations::{Base, Constant, Declared, Kind};
+use f3_program::expression::{BinaryOperator, Designator, Expression, Name, Selection};
+use f3_program::program::{Procedure, Program};
+use f3_program::statement::{Item, Range, Statement};
+use f3_rules::source::Place;
+use std::alloc::{AllocError, Global};
+use std::test::Fail;
+
+/// Where all of the program stands.
+const HERE: Place = Place {
+    file: 1,
+    line: 1,
+    column: 1,
+};
+
+/// What an integer of kind 4 is.
+const INTEGER: Kind = Kind {
+    of: Base::Integer,
+    rank: 0,
+    is_allocatable: false,
+};
+
+/// The variable of a number.
+fn variable(number: usize) -> Designator {
+    Designator::Name(Name::Local(number), Selection::Whole)
+}
+
+/// What it holds.
+fn held(alloc: Global, number: usize) -> Result<Expression, AllocError> {
+    Ok(Expression::Variable(Box::new(alloc, variable(number))?))
+}
+
+/// A number.
+fn literal(number: i64) -> Expression {
+    Expression::Literal(Constant::Number(number))
+}
+
+/// An operator.
+fn operate(
+    alloc: Global,
+    operator: BinaryOperator,
+    x: Expression,
+    y: Expression,
+) -> Result<Expression, AllocError> {
+    let left = Box::new(alloc, x)?;
+    let right = Box::new(alloc, y)?;
+    Ok(Expression::Binary(operator, Base::Integer, left, right))
+}
+
+/// A statement at its place.
+fn at(alloc: Global, statement: Statement) -> Result<Statement, AllocError> {
+    Ok(Statement::At(HERE, true, Box::new(alloc, statement)?))
+}
+
+/// An assignment.
+fn assign(alloc: Global, number: usize, value: Expression) -> Result<Statement, AllocError> {
+    at(alloc, Statement::Assign(variable(number), INTEGER, value))
+}
+
+/// One statement after another.
+fn block(alloc: Global, first: Statement, then: Statement) -> Result<Statement, AllocError> {
+    let mut all = Vec::new(alloc);
+    all.push(first)?;
+    all.push(then)?;
+    Ok(Statement::Block(all))
+}
+
+/// A DO from 1 to 10.
+fn count(alloc: Global, number: usize, body: Statement) -> Result<Statement, AllocError> {
+    let body = Box::new(alloc, body)?;
+    let x = variable(number);
+    at(
+        alloc,
+        Statement::Count(x, INTEGER, literal(1), literal(10), literal(1), body),
+    )
+}
+
+/// A PRINT of a variable.
+fn print(alloc: Global, number: usize) -> Result<Statement, AllocError> {
+    let mut items = Vec::new(alloc);
+    items.push(Item::Value(held(alloc, number)?))?;
+    at(alloc, Statement::Print(items))
+}
+
+/// A program with three integers and this body.
+fn of(alloc: Global, body: Statement) -> Result<Program, AllocError> {
+    let mut locals = Vec::new(alloc);
+    for _each in 0..3 {
+        locals.push(Declared {
+            kind: INTEGER,
+            dimensions: Vec::new(alloc),
+            initial: Vec::new(alloc),
+        })?;
+    }
+    Ok(Program {
+        types: Vec::new(alloc),
+        statics: Vec::new(alloc),
+        procedures: Vec::new(alloc),
+        main: Procedure {
+            unit: 0,
+            dummies: Vec::new(alloc),
+            locals,
+            result: None,
+            body,
+            end: HERE,
+        },
+        start: HERE,
+    })
+}
+
+/// The acts of its plan.
+fn acts(alloc: Global, program: &Program) -> Result<String, AllocError> {
+    let emission = emit_program(alloc, program)?;
+    let Some(layouts) = Layouts::new(alloc, program)? else {
+        return String::from_str(alloc, "no layouts\n");
+    };
+    match plan(alloc, program, &layouts, &emission)? {
+        Some(plan) => listed(alloc, &plan.code.acts),
+        None => String::from_str(alloc, "no plan\n"),
+    }
+}
+
+/// A sum of products in two loops.
+fn loops(alloc: Global) -> Result<Program, AllocError> {
+    let product = operate(alloc, BinaryOperator::Multiply, held(alloc, 0)?, held(alloc, 1)?)?;
+    let sum = operate(alloc, BinaryOperator::Add, held(alloc, 2)?, product)?;
+    let inner = count(alloc, 1, assign(alloc, 2, sum)?)?;
+    let outer = count(alloc, 0, inner)?;
+    let body = block(alloc, assign(alloc, 2, literal(0))?, outer)?;
+    let all = block(alloc, body, print(alloc, 2)?)?;
+    of(alloc, all)
+}
+
+/// An IF and a SELECT CASE in a DO.
+fn choices(alloc: Global) -> Result<Program, AllocError> {
+    let rest = operate(alloc, BinaryOperator::Mod, held(alloc, 0)?, literal(2))?;
+    let test = operate(alloc, BinaryOperator::Equal, rest, literal(0))?;
+    let then = Box::new(alloc, assign(alloc, 1, literal(7))?)?;
+    let nothing = Box::new(alloc, Statement::Block(Vec::new(alloc)))?;
+    let first = at(alloc, Statement::If(test, then, nothing))?;
+    let mut ranges = Vec::new(alloc);
+    ranges.push(Range::One(Constant::Number(3)))?;
+    let third = Box::new(alloc, assign(alloc, 2, literal(1))?)?;
+    let other = Box::new(alloc, assign(alloc, 2, literal(2))?)?;
+    let cases = Box::new(alloc, Statement::Case(ranges, third, other))?;
+    let second = at(alloc, Statement::Select(held(alloc, 0)?, cases))?;
+    let body = block(alloc, first, second)?;
+    of(alloc, count(alloc, 0, body)?)
+}
+
+#[test]
+fn sum_in_two_loops(rt: HostRuntime) -> Result<(), Fail> {
+    let program = loops(rt.alloc())?;
+    let text = acts(rt.alloc(), &program)?;
+    drop(program);
+    let expected = "fixed 2 0 | 5\nfixed 3 1 | 0\nfixed 4 10 | 0\nfixed 5 1 | 0\ncount 0 3 3 4 5 | 10\nnext 3 15 | 1\nfixed 5 1 | 0\nfixed 6 10 | 0\nfixed 7 1 | 0\ncount 1 5 5 6 7 | 10\nnext 5 14 | 1\nmultiply 7 0 1 | 0\nadd 2 2 7 | 12\nagain 1 5 11 | 4\nagain 0 3 6 | 5\nprint 2 | 5\nbyte 10 | 1\nfinish | 2\n";
+    assert_eq!(rt; text.as_str(), expected);
+    Ok(())
+}
+
+#[test]
+fn choices_in_a_loop(rt: HostRuntime) -> Result<(), Fail> {
+    let program = choices(rt.alloc())?;
+    let text = acts(rt.alloc(), &program)?;
+    drop(program);
+    let expected = "fixed 3 1 | 0\nfixed 4 10 | 0\nfixed 5 1 | 0\ncount 0 3 3 4 5 | 10\nnext 3 17 | 1\nmod fixed 5 0 2 | 0\nif differs 5 0 9 | 8\nfixed 1 7 | 5\njump 9 | 1\ncopy small 5 0 | 4\nif equal 5 3 12 | 2\njump 14 | 1\nfixed 2 1 | 5\njump 15 | 1\nfixed 2 2 | 5\njump 16 | 2\nagain 0 3 5 | 4\nfinish | 3\n";
+    assert_eq!(rt; text.as_str(), expected);
+    Ok(())
+}
