@@ -3,7 +3,7 @@
 use crate::showing::listed;
 use f3_frames::layouts::Layouts;
 use f3_gen_program::program::emit_program;
-use f3_plans::plan::plan;
+use f3_plans::planning::plan;
 use f3_program::declarations::{Base, Constant, Declared, Kind};
 use f3_program::expression::{BinaryOperator, Designator, Expression, Name, Selection};
 use f3_program::program::{Procedure, Program};
@@ -120,7 +120,7 @@ fn acts(alloc: Global, program: &Program) -> Result<String, AllocError> {
     let Some(layouts) = Layouts::new(alloc, program)? else {
         return String::from_str(alloc, "no layouts\n");
     };
-    match plan(alloc, program, &layouts, &emission)? {
+    match plan(alloc, &layouts, &emission)? {
         Some(plan) => listed(alloc, &plan.code.acts),
         None => String::from_str(alloc, "no plan\n"),
     }
