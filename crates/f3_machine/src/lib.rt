@@ -2,7 +2,9 @@
 #![tactic(auto)]
 
 pub mod machine;
+mod planning;
 pub mod printing;
+mod registers;
 pub mod start;
 mod step;
 mod table;
