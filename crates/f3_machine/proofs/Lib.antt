@@ -2,4 +2,5 @@ pub mod Course
 pub mod Stepping
 pub mod Silent
 pub mod Beginning
+pub mod Planned
 pub mod Printed
