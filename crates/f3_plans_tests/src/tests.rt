@@ -7,7 +7,7 @@ use f3_plans::planning::plan;
 use f3_program::declarations::{Base, Constant, Declared, Kind};
 use f3_program::expression::{BinaryOperator, Designator, Expression, Name, Selection};
 use f3_program::program::{Procedure, Program};
-use f3_program::statement::{Item, Range, Statement};
+use f3_program::statement::{Item, Statement};
 use f3_rules::source::Place;
 use std::alloc::{AllocError, Global};
 use std::test::Fail;
@@ -137,20 +137,13 @@ fn loops(alloc: Global) -> Result<Program, AllocError> {
     of(alloc, all)
 }
 
-/// An IF and a SELECT CASE in a DO.
+/// An IF in a DO.
 fn choices(alloc: Global) -> Result<Program, AllocError> {
     let rest = operate(alloc, BinaryOperator::Mod, held(alloc, 0)?, literal(2))?;
     let test = operate(alloc, BinaryOperator::Equal, rest, literal(0))?;
     let then = Box::new(alloc, assign(alloc, 1, literal(7))?)?;
     let nothing = Box::new(alloc, Statement::Block(Vec::new(alloc)))?;
-    let first = at(alloc, Statement::If(test, then, nothing))?;
-    let mut ranges = Vec::new(alloc);
-    ranges.push(Range::One(Constant::Number(3)))?;
-    let third = Box::new(alloc, assign(alloc, 2, literal(1))?)?;
-    let other = Box::new(alloc, assign(alloc, 2, literal(2))?)?;
-    let cases = Box::new(alloc, Statement::Case(ranges, third, other))?;
-    let second = at(alloc, Statement::Select(held(alloc, 0)?, cases))?;
-    let body = block(alloc, first, second)?;
+    let body = at(alloc, Statement::If(test, then, nothing))?;
     of(alloc, count(alloc, 0, body)?)
 }
 
@@ -169,7 +162,7 @@ fn choices_in_a_loop(rt: HostRuntime) -> Result<(), Fail> {
     let program = choices(rt.alloc())?;
     let text = acts(rt.alloc(), &program)?;
     drop(program);
-    let expected = "fixed 3 1 | 0\nfixed 4 10 | 0\nfixed 5 1 | 0\ncount 0 3 3 4 5 | 10\nnext 3 17 | 1\nmod fixed 5 0 2 | 0\nif differs 5 0 9 | 8\nfixed 1 7 | 5\njump 9 | 1\ncopy small 5 0 | 4\nif equal 5 3 12 | 2\njump 14 | 1\nfixed 2 1 | 5\njump 15 | 1\nfixed 2 2 | 5\njump 16 | 2\nagain 0 3 5 | 4\nfinish | 3\n";
+    let expected = "fixed 3 1 | 0\nfixed 4 10 | 0\nfixed 5 1 | 0\ncount 0 3 3 4 5 | 10\nnext 3 10 | 1\nmod fixed 5 0 2 | 0\nif differs 5 0 9 | 8\nfixed 1 7 | 5\njump 9 | 1\nagain 0 3 5 | 4\nfinish | 3\n";
     assert_eq!(rt; text.as_str(), expected);
     Ok(())
 }
