@@ -7,7 +7,7 @@ use f3_plans::planning::plan;
 use f3_program::declarations::{Base, Constant, Declared, Kind};
 use f3_program::expression::{BinaryOperator, Designator, Expression, Name, Selection};
 use f3_program::program::{Procedure, Program};
-use f3_program::statement::{Item, Range, Statement};
+use f3_program::statement::{Item, Statement};
 use f3_rules::source::Place;
 use std::alloc::{AllocError, Global};
 use std::test::Fail;
@@ -142,23 +142,6 @@ fn loops(alloc: Global) -> Result<Program, AllocError> {
     of(alloc, all)
 }
 
-/// An IF and a SELECT CASE in a DO.
-fn choices(alloc: Global) -> Result<Program, AllocError> {
-    let rest = operate(alloc, BinaryOperator::Mod, held(alloc, 0)?, literal(2))?;
-    let test = operate(alloc, BinaryOperator::Equal, rest, literal(0))?;
-    let then = Box::new(alloc, assign(alloc, 1, literal(7))?)?;
-    let nothing = Box::new(alloc, Statement::Block(Vec::new(alloc)))?;
-    let first = at(alloc, Statement::If(test, then, nothing))?;
-    let mut ranges = Vec::new(alloc);
-    ranges.push(Range::One(Constant::Number(3)))?;
-    let third = Box::new(alloc, assign(alloc, 2, literal(1))?)?;
-    let other = Box::new(alloc, assign(alloc, 2, literal(2))?)?;
-    let cases = Box::new(alloc, Statement::Case(ranges, third, other))?;
-    let second = at(alloc, Statement::Select(held(alloc, 0)?, cases))?;
-    let body = block(alloc, first, second)?;
-    of(alloc, count(alloc, 0, body)?)
-}
-
 #[test]
 fn sum_in_two_loops(rt: HostRuntime) -> Result<(), Fail> {
     let program = loops(rt.alloc())?;
@@ -166,17 +149,6 @@ fn sum_in_two_loops(rt: HostRuntime) -> Result<(), Fail> {
     drop(program);
     let expected =
         "fixed 2 0 | 5\nfixed 3 1 | 0\nfixed 4 10 | 0\nfixed 5 1 | 0\ncount 0 3 3 4 5 | 10\nnext 3 15 | 1\nfixed 5 1 | 0\nfixed 6 10 | 0\nfixed 7 1 | 0\ncount 1 5 5 6 7 | 10\nnext 5 14 | 1\nmultiply 7 0 1 | 0\nadd 2 2 7 | 12\nagain 1 5 11 | 4\nagain 0 3 6 | 5\nprint 2 | 5\nbyte 10 | 1\nfinish | 2\n";
-    assert_eq!(rt; text.as_str(), expected);
-    Ok(())
-}
-
-#[test]
-fn choices_in_a_loop(rt: HostRuntime) -> Result<(), Fail> {
-    let program = choices(rt.alloc())?;
-    let text = acts(rt.alloc(), &program)?;
-    drop(program);
-    let expected =
-        "fixed 3 1 | 0\nfixed 4 10 | 0\nfixed 5 1 | 0\ncount 0 3 3 4 5 | 10\nnext 3 17 | 1\nmod fixed 5 0 2 | 0\nif differs 5 0 9 | 8\nfixed 1 7 | 5\njump 9 | 1\nleave\nleave\njump 14 | 1\nfixed 2 1 | 5\njump 15 | 1\nfixed 2 2 | 5\njump 16 | 2\nagain 0 3 5 | 4\nfinish | 3\n";
     assert_eq!(rt; text.as_str(), expected);
     Ok(())
 }
