@@ -22,6 +22,7 @@ fn computing(alloc: Global, act: Act) -> Result<String, AllocError> {
 pub(crate) fn shown(alloc: Global, act: Act) -> Result<String, AllocError> {
     match act {
         Act::SetElement(k, x, y, n) => format!(in alloc; "set {k} {x} {y} | {n}"),
+        Act::Fill(k, x, n) => format!(in alloc; "fill {k} {x} | {n}"),
         Act::Jump(to, n) => format!(in alloc; "jump {to} | {n}"),
         Act::JumpUnless(x, to, n) => format!(in alloc; "unless {x} {to} | {n}"),
         Act::JumpIfDiffersFixed(x, z, to, n) => {

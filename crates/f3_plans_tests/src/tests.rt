@@ -4,7 +4,7 @@ use crate::showing::listed;
 use f3_frames::layouts::Layouts;
 use f3_gen_program::program::emit_program;
 use f3_plans::planning::plan;
-use f3_program::declarations::{Base, Constant, Declared, Kind};
+use f3_program::declarations::{Base, Constant, Declared, Dimension, Kind};
 use f3_program::expression::{BinaryOperator, Designator, Expression, Name, Selection};
 use f3_program::program::{Procedure, Program};
 use f3_program::statement::{Item, Statement};
@@ -23,6 +23,13 @@ const HERE: Place = Place {
 const INTEGER: Kind = Kind {
     of: Base::Integer,
     rank: 0,
+    is_allocatable: false,
+};
+
+/// What a row of them is.
+const ROW: Kind = Kind {
+    of: Base::Integer,
+    rank: 1,
     is_allocatable: false,
 };
 
@@ -88,15 +95,34 @@ fn print(alloc: Global, number: usize) -> Result<Statement, AllocError> {
     at(alloc, Statement::Print(items))
 }
 
-/// A program with three integers and this body.
-fn of(alloc: Global, body: Statement) -> Result<Program, AllocError> {
+/// What an integer is declared as.
+fn integer(alloc: Global) -> Declared {
+    Declared {
+        kind: INTEGER,
+        dimensions: Vec::new(alloc),
+        initial: Vec::new(alloc),
+    }
+}
+
+/// What a row of so many integers is.
+fn row(alloc: Global, extent: u64) -> Result<Declared, AllocError> {
+    let mut dimensions = Vec::new(alloc);
+    dimensions.push(Dimension { lower: 1, extent })?;
+    Ok(Declared {
+        kind: ROW,
+        dimensions,
+        initial: Vec::new(alloc),
+    })
+}
+
+/// A program with three integers, so many rows of five, and this body.
+fn of(alloc: Global, rows: usize, body: Statement) -> Result<Program, AllocError> {
     let mut locals = Vec::new(alloc);
     for _each in 0..3 {
-        locals.push(Declared {
-            kind: INTEGER,
-            dimensions: Vec::new(alloc),
-            initial: Vec::new(alloc),
-        })?;
+        locals.push(integer(alloc))?;
+    }
+    for _each in 0..rows {
+        locals.push(row(alloc, 5)?)?;
     }
     Ok(Program {
         types: Vec::new(alloc),
@@ -139,7 +165,7 @@ fn loops(alloc: Global) -> Result<Program, AllocError> {
     let outer = count(alloc, 0, inner)?;
     let body = block(alloc, assign(alloc, 2, literal(0))?, outer)?;
     let all = block(alloc, body, print(alloc, 2)?)?;
-    of(alloc, all)
+    of(alloc, 0, all)
 }
 
 #[test]
@@ -149,6 +175,23 @@ fn sum_in_two_loops(rt: HostRuntime) -> Result<(), Fail> {
     drop(program);
     let expected =
         "fixed 2 0 | 5\nfixed 3 1 | 0\nfixed 4 10 | 0\nfixed 5 1 | 0\ncount 0 3 3 4 5 | 10\nnext 3 15 | 1\nfixed 5 1 | 0\nfixed 6 10 | 0\nfixed 7 1 | 0\ncount 1 5 5 6 7 | 10\nnext 5 14 | 1\nmultiply 7 0 1 | 0\nadd 2 2 7 | 12\nagain 1 5 11 | 4\nagain 0 3 6 | 5\nprint 2 | 5\nbyte 10 | 1\nfinish | 2\n";
+    assert_eq!(rt; text.as_str(), expected);
+    Ok(())
+}
+
+/// A number for each element of a row.
+fn fills(alloc: Global) -> Result<Program, AllocError> {
+    let row = at(alloc, Statement::Assign(variable(3), ROW, literal(7)))?;
+    let all = block(alloc, row, print(alloc, 2)?)?;
+    of(alloc, 1, all)
+}
+
+#[test]
+fn scalar_for_a_row(rt: HostRuntime) -> Result<(), Fail> {
+    let program = fills(rt.alloc())?;
+    let text = acts(rt.alloc(), &program)?;
+    drop(program);
+    let expected = "fixed 8 7 | 0\nfill 0 8 | 5\nprint 2 | 4\nbyte 10 | 1\nfinish | 2\n";
     assert_eq!(rt; text.as_str(), expected);
     Ok(())
 }
