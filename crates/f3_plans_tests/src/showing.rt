@@ -27,6 +27,9 @@ pub(crate) fn shown(alloc: Global, act: Act) -> Result<String, AllocError> {
         Act::JumpIfDiffersFixed(x, z, to, n) => {
             format!(in alloc; "if differs {x} {z} {to} | {n}")
         }
+        Act::JumpIfAtLeastFixed(x, z, to, n) => {
+            format!(in alloc; "if at least {x} {z} {to} | {n}")
+        }
         Act::JumpIfEqualFixed(x, z, to, n) => format!(in alloc; "if equal {x} {z} {to} | {n}"),
         Act::JumpIfAtMost(x, y, to, n) => format!(in alloc; "if at most {x} {y} {to} | {n}"),
         Act::Count(v, t, x, y, z, n) => format!(in alloc; "count {v} {t} {x} {y} {z} | {n}"),

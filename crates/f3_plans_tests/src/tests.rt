@@ -7,7 +7,7 @@ use f3_plans::planning::plan;
 use f3_program::declarations::{Base, Constant, Declared, Kind};
 use f3_program::expression::{BinaryOperator, Designator, Expression, Name, Selection};
 use f3_program::program::{Procedure, Program};
-use f3_program::statement::{Item, Statement};
+use f3_program::statement::{Item, Range, Statement};
 use f3_rules::source::Place;
 use std::alloc::{AllocError, Global};
 use std::test::Fail;
@@ -81,6 +81,18 @@ fn count(alloc: Global, number: usize, body: Statement) -> Result<Statement, All
     )
 }
 
+/// A case of a SELECT CASE that has these ranges, and what is done else.
+fn case(
+    alloc: Global,
+    ranges: &[Range],
+    body: Statement,
+    others: Statement,
+) -> Result<Statement, AllocError> {
+    let ranges = Vec::from_slice(alloc, ranges)?;
+    let body = Box::new(alloc, body)?;
+    Ok(Statement::Case(ranges, body, Box::new(alloc, others)?))
+}
+
 /// A PRINT of a variable.
 fn print(alloc: Global, number: usize) -> Result<Statement, AllocError> {
     let mut items = Vec::new(alloc);
@@ -149,6 +161,46 @@ fn sum_in_two_loops(rt: HostRuntime) -> Result<(), Fail> {
     drop(program);
     let expected =
         "fixed 2 0 | 5\nfixed 3 1 | 0\nfixed 4 10 | 0\nfixed 5 1 | 0\ncount 0 3 3 4 5 | 10\nnext 3 15 | 1\nfixed 5 1 | 0\nfixed 6 10 | 0\nfixed 7 1 | 0\ncount 1 5 5 6 7 | 10\nnext 5 14 | 1\nmultiply 7 0 1 | 0\nadd 2 2 7 | 12\nagain 1 5 11 | 4\nagain 0 3 6 | 5\nprint 2 | 5\nbyte 10 | 1\nfinish | 2\n";
+    assert_eq!(rt; text.as_str(), expected);
+    Ok(())
+}
+
+/// A value of a variable by an operator and another value.
+fn updated(
+    alloc: Global,
+    operator: BinaryOperator,
+    value: Expression,
+) -> Result<Statement, AllocError> {
+    let new = operate(alloc, operator, held(alloc, 2)?, value)?;
+    assign(alloc, 2, new)
+}
+
+/// A SELECT CASE in a loop, of two values, of a range and of the others.
+fn cases(alloc: Global) -> Result<Program, AllocError> {
+    let values = [
+        Range::One(Constant::Number(1)),
+        Range::One(Constant::Number(3)),
+    ];
+    let others = updated(alloc, BinaryOperator::Add, held(alloc, 0)?)?;
+    let doubled = updated(alloc, BinaryOperator::Multiply, held(alloc, 0)?)?;
+    let from = case(alloc, &[Range::From(2)], doubled, others)?;
+    let more = updated(alloc, BinaryOperator::Add, literal(1))?;
+    let first = case(alloc, &values, more, from)?;
+    let rest = operate(alloc, BinaryOperator::Mod, held(alloc, 0)?, literal(4))?;
+    let select = at(alloc, Statement::Select(rest, Box::new(alloc, first)?))?;
+    let turns = count(alloc, 0, select)?;
+    let body = block(alloc, assign(alloc, 2, literal(0))?, turns)?;
+    let all = block(alloc, body, print(alloc, 2)?)?;
+    of(alloc, all)
+}
+
+#[test]
+fn cases_in_a_loop(rt: HostRuntime) -> Result<(), Fail> {
+    let program = cases(rt.alloc())?;
+    let text = acts(rt.alloc(), &program)?;
+    drop(program);
+    let expected =
+        "fixed 2 0 | 5\nfixed 3 1 | 0\nfixed 4 10 | 0\nfixed 5 1 | 0\ncount 0 3 3 4 5 | 10\nnext 3 19 | 1\nmod fixed 5 0 4 | 6\nif equal 5 1 10 | 2\nif equal 5 3 10 | 2\njump 12 | 1\nadd fixed 2 2 1 | 8\njump 17 | 1\nif at least 5 2 14 | 2\njump 16 | 1\nmultiply 2 2 0 | 9\njump 17 | 1\nadd 2 2 0 | 9\njump 18 | 2\nagain 0 3 6 | 4\nprint 2 | 5\nbyte 10 | 1\nfinish | 2\n";
     assert_eq!(rt; text.as_str(), expected);
     Ok(())
 }
