@@ -233,8 +233,10 @@ fn given(arguments: &[Passed]) -> usize {
         .count()
 }
 
-/// Copies of the values that are held.
-pub(crate) fn held(alloc: Global, arguments: &[Passed]) -> Result<Vec<Value>, AllocError>
+/// Copies of the values that are held for a call (ISO/IEC 1539-1:2004, 12.4.1.2).
+///
+/// `AllocError` where the host has no memory for them.
+pub fn held(alloc: Global, arguments: &[Passed]) -> Result<Vec<Value>, AllocError>
     ensures { IfOk result (λ vs. values_of vs.items ≡ held (map passed_of arguments.now)) }
 {
     let mut values = Vec::with_capacity(alloc, given(arguments))?;

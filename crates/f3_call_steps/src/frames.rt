@@ -18,8 +18,10 @@ use f3_rules::source::Place;
 use std::alloc::{AllocError, Global};
 use std::mem::replace;
 
-/// Within a procedure of a number that is called with these arguments, whose held values stand on a level.
-fn activation(
+/// Within a procedure of a number that is called with these arguments, whose held values stand on a level (ISO/IEC 1539-1:2004, 12.4).
+///
+/// `AllocError` where the host has no memory for it.
+pub fn activation(
     alloc: Global,
     outer: &Here,
     number: usize,

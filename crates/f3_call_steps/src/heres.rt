@@ -30,7 +30,9 @@ fn lending(alloc: Global, lent: &Lent, objects: &[Reference]) -> Result<Lent, Al
 }
 
 /// Within a procedure of a number, on a level, with these objects of its dummies, which are lent (12.4).
-pub(crate) fn within_procedure(
+///
+/// `AllocError` where the host has no memory for it.
+pub fn within_procedure(
     alloc: Global,
     outer: &Here,
     place: Place,

@@ -2,9 +2,9 @@
 #![tactic(auto)]
 
 pub mod activations;
-mod arguments;
+pub mod arguments;
 pub mod associates;
 pub mod calls;
-mod frames;
-mod heres;
+pub mod frames;
+pub mod heres;
 pub mod returns;

@@ -14,6 +14,7 @@ fn computing(alloc: Global, act: Act) -> Result<String, AllocError> {
         Act::Multiply(d, x, y, n) => format!(in alloc; "multiply {d} {x} {y} | {n}"),
         Act::AddFixed(d, x, z, n) => format!(in alloc; "add fixed {d} {x} {z} | {n}"),
         Act::ModFixed(d, x, z, n) => format!(in alloc; "mod fixed {d} {x} {z} | {n}"),
+        Act::Binary(d, x, y, k, n) => format!(in alloc; "binary {d} {x} {y} {k} | {n}"),
         _ => format!(in alloc; "other"),
     }
 }
@@ -22,10 +23,15 @@ fn computing(alloc: Global, act: Act) -> Result<String, AllocError> {
 pub(crate) fn shown(alloc: Global, act: Act) -> Result<String, AllocError> {
     match act {
         Act::SetElement(k, x, y, n) => format!(in alloc; "set {k} {x} {y} | {n}"),
+        Act::Fill(k, x, n) => format!(in alloc; "fill {k} {x} | {n}"),
         Act::Jump(to, n) => format!(in alloc; "jump {to} | {n}"),
+        Act::JumpIf(x, to, n) => format!(in alloc; "if {x} {to} | {n}"),
         Act::JumpUnless(x, to, n) => format!(in alloc; "unless {x} {to} | {n}"),
         Act::JumpIfDiffersFixed(x, z, to, n) => {
             format!(in alloc; "if differs {x} {z} {to} | {n}")
+        }
+        Act::JumpIfAtLeastFixed(x, z, to, n) => {
+            format!(in alloc; "if at least {x} {z} {to} | {n}")
         }
         Act::JumpIfEqualFixed(x, z, to, n) => format!(in alloc; "if equal {x} {z} {to} | {n}"),
         Act::JumpIfAtMost(x, y, to, n) => format!(in alloc; "if at most {x} {y} {to} | {n}"),

@@ -4,10 +4,10 @@ use crate::showing::listed;
 use f3_frames::layouts::Layouts;
 use f3_gen_program::program::emit_program;
 use f3_plans::planning::plan;
-use f3_program::declarations::{Base, Constant, Declared, Kind};
+use f3_program::declarations::{Base, Constant, Declared, Dimension, Kind};
 use f3_program::expression::{BinaryOperator, Designator, Expression, Name, Selection};
 use f3_program::program::{Procedure, Program};
-use f3_program::statement::{Item, Statement};
+use f3_program::statement::{Item, Range, Statement};
 use f3_rules::source::Place;
 use std::alloc::{AllocError, Global};
 use std::test::Fail;
@@ -23,6 +23,13 @@ const HERE: Place = Place {
 const INTEGER: Kind = Kind {
     of: Base::Integer,
     rank: 0,
+    is_allocatable: false,
+};
+
+/// What a row of them is.
+const ROW: Kind = Kind {
+    of: Base::Integer,
+    rank: 1,
     is_allocatable: false,
 };
 
@@ -81,6 +88,18 @@ fn count(alloc: Global, number: usize, body: Statement) -> Result<Statement, All
     )
 }
 
+/// A case of a SELECT CASE that has these ranges, and what is done else.
+fn case(
+    alloc: Global,
+    ranges: &[Range],
+    body: Statement,
+    others: Statement,
+) -> Result<Statement, AllocError> {
+    let ranges = Vec::from_slice(alloc, ranges)?;
+    let body = Box::new(alloc, body)?;
+    Ok(Statement::Case(ranges, body, Box::new(alloc, others)?))
+}
+
 /// A PRINT of a variable.
 fn print(alloc: Global, number: usize) -> Result<Statement, AllocError> {
     let mut items = Vec::new(alloc);
@@ -88,15 +107,34 @@ fn print(alloc: Global, number: usize) -> Result<Statement, AllocError> {
     at(alloc, Statement::Print(items))
 }
 
-/// A program with three integers and this body.
-fn of(alloc: Global, body: Statement) -> Result<Program, AllocError> {
+/// What an integer is declared as.
+fn integer(alloc: Global) -> Declared {
+    Declared {
+        kind: INTEGER,
+        dimensions: Vec::new(alloc),
+        initial: Vec::new(alloc),
+    }
+}
+
+/// What a row of so many integers is.
+fn row(alloc: Global, extent: u64) -> Result<Declared, AllocError> {
+    let mut dimensions = Vec::new(alloc);
+    dimensions.push(Dimension { lower: 1, extent })?;
+    Ok(Declared {
+        kind: ROW,
+        dimensions,
+        initial: Vec::new(alloc),
+    })
+}
+
+/// A program with three integers, so many rows of five, and this body.
+fn of(alloc: Global, rows: usize, body: Statement) -> Result<Program, AllocError> {
     let mut locals = Vec::new(alloc);
     for _each in 0..3 {
-        locals.push(Declared {
-            kind: INTEGER,
-            dimensions: Vec::new(alloc),
-            initial: Vec::new(alloc),
-        })?;
+        locals.push(integer(alloc))?;
+    }
+    for _each in 0..rows {
+        locals.push(row(alloc, 5)?)?;
     }
     Ok(Program {
         types: Vec::new(alloc),
@@ -139,7 +177,7 @@ fn loops(alloc: Global) -> Result<Program, AllocError> {
     let outer = count(alloc, 0, inner)?;
     let body = block(alloc, assign(alloc, 2, literal(0))?, outer)?;
     let all = block(alloc, body, print(alloc, 2)?)?;
-    of(alloc, all)
+    of(alloc, 0, all)
 }
 
 #[test]
@@ -149,6 +187,87 @@ fn sum_in_two_loops(rt: HostRuntime) -> Result<(), Fail> {
     drop(program);
     let expected =
         "fixed 2 0 | 5\nfixed 3 1 | 0\nfixed 4 10 | 0\nfixed 5 1 | 0\ncount 0 3 3 4 5 | 10\nnext 3 15 | 1\nfixed 5 1 | 0\nfixed 6 10 | 0\nfixed 7 1 | 0\ncount 1 5 5 6 7 | 10\nnext 5 14 | 1\nmultiply 7 0 1 | 0\nadd 2 2 7 | 12\nagain 1 5 11 | 4\nagain 0 3 6 | 5\nprint 2 | 5\nbyte 10 | 1\nfinish | 2\n";
+    assert_eq!(rt; text.as_str(), expected);
+    Ok(())
+}
+
+/// A number for each element of a row.
+fn fills(alloc: Global) -> Result<Program, AllocError> {
+    let row = at(alloc, Statement::Assign(variable(3), ROW, literal(7)))?;
+    let all = block(alloc, row, print(alloc, 2)?)?;
+    of(alloc, 1, all)
+}
+
+#[test]
+fn scalar_for_a_row(rt: HostRuntime) -> Result<(), Fail> {
+    let program = fills(rt.alloc())?;
+    let text = acts(rt.alloc(), &program)?;
+    drop(program);
+    let expected = "fixed 8 7 | 0\nfill 0 8 | 5\nprint 2 | 4\nbyte 10 | 1\nfinish | 2\n";
+    assert_eq!(rt; text.as_str(), expected);
+    Ok(())
+}
+
+/// A value of a variable by an operator and another value.
+fn updated(
+    alloc: Global,
+    operator: BinaryOperator,
+    value: Expression,
+) -> Result<Statement, AllocError> {
+    let new = operate(alloc, operator, held(alloc, 2)?, value)?;
+    assign(alloc, 2, new)
+}
+
+/// A program that prints a sum to which a SELECT CASE in a loop adds.
+fn selecting(alloc: Global, value: Expression, cases: Statement) -> Result<Program, AllocError> {
+    let select = at(alloc, Statement::Select(value, Box::new(alloc, cases)?))?;
+    let turns = count(alloc, 0, select)?;
+    let body = block(alloc, assign(alloc, 2, literal(0))?, turns)?;
+    let all = block(alloc, body, print(alloc, 2)?)?;
+    of(alloc, 0, all)
+}
+
+/// A SELECT CASE in a loop, of two values, of a range and of the others.
+fn cases(alloc: Global) -> Result<Program, AllocError> {
+    let values = [
+        Range::One(Constant::Number(1)),
+        Range::One(Constant::Number(3)),
+    ];
+    let others = updated(alloc, BinaryOperator::Add, held(alloc, 0)?)?;
+    let doubled = updated(alloc, BinaryOperator::Multiply, held(alloc, 0)?)?;
+    let from = case(alloc, &[Range::From(2)], doubled, others)?;
+    let more = updated(alloc, BinaryOperator::Add, literal(1))?;
+    let first = case(alloc, &values, more, from)?;
+    let rest = operate(alloc, BinaryOperator::Mod, held(alloc, 0)?, literal(4))?;
+    selecting(alloc, rest, first)
+}
+
+/// A SELECT CASE in a loop, of a range with two limits.
+fn limits(alloc: Global) -> Result<Program, AllocError> {
+    let more = updated(alloc, BinaryOperator::Add, literal(1))?;
+    let none = Statement::Block(Vec::new(alloc));
+    let only = case(alloc, &[Range::Between(3, 5)], more, none)?;
+    selecting(alloc, held(alloc, 0)?, only)
+}
+
+#[test]
+fn cases_in_a_loop(rt: HostRuntime) -> Result<(), Fail> {
+    let program = cases(rt.alloc())?;
+    let text = acts(rt.alloc(), &program)?;
+    drop(program);
+    let expected =
+        "fixed 2 0 | 5\nfixed 3 1 | 0\nfixed 4 10 | 0\nfixed 5 1 | 0\ncount 0 3 3 4 5 | 10\nnext 3 19 | 1\nmod fixed 5 0 4 | 6\nif equal 5 1 10 | 2\nif equal 5 3 10 | 2\njump 12 | 1\nadd fixed 2 2 1 | 8\njump 17 | 1\nif at least 5 2 14 | 2\njump 16 | 1\nmultiply 2 2 0 | 9\njump 17 | 1\nadd 2 2 0 | 9\njump 18 | 2\nagain 0 3 6 | 4\nprint 2 | 5\nbyte 10 | 1\nfinish | 2\n";
+    assert_eq!(rt; text.as_str(), expected);
+    Ok(())
+}
+
+#[test]
+fn limits_in_a_loop(rt: HostRuntime) -> Result<(), Fail> {
+    let program = limits(rt.alloc())?;
+    let text = acts(rt.alloc(), &program)?;
+    drop(program);
+    let expected =
+        "fixed 2 0 | 5\nfixed 3 1 | 0\nfixed 4 10 | 0\nfixed 5 1 | 0\ncount 0 3 3 4 5 | 10\nnext 3 18 | 1\ncopy small 5 0 | 4\nfixed 6 3 | 0\nbinary 6 6 5 36 | 0\nfixed 7 5 | 0\nbinary 7 7 5 42 | 0\nbinary 6 6 7 47 | 0\nif 6 14 | 2\njump 16 | 1\nadd fixed 2 2 1 | 8\njump 16 | 1\njump 17 | 2\nagain 0 3 6 | 4\nprint 2 | 5\nbyte 10 | 1\nfinish | 2\n";
     assert_eq!(rt; text.as_str(), expected);
     Ok(())
 }
