@@ -9,6 +9,7 @@ fn computing(alloc: Global, act: Act) -> Result<String, AllocError> {
         Act::Fixed(d, z, n) => format!(in alloc; "fixed {d} {z} | {n}"),
         Act::Copy(d, x, n) => format!(in alloc; "copy {d} {x} | {n}"),
         Act::CopySmall(d, x, n) => format!(in alloc; "copy small {d} {x} | {n}"),
+        Act::GetBy(d, r, n) => format!(in alloc; "get by {d} {r} | {n}"),
         Act::GetElement(d, k, x, n) => format!(in alloc; "get {d} {k} {x} | {n}"),
         Act::Add(d, x, y, n) => format!(in alloc; "add {d} {x} {y} | {n}"),
         Act::Multiply(d, x, y, n) => format!(in alloc; "multiply {d} {x} {y} | {n}"),
@@ -16,6 +17,20 @@ fn computing(alloc: Global, act: Act) -> Result<String, AllocError> {
         Act::ModFixed(d, x, z, n) => format!(in alloc; "mod fixed {d} {x} {z} | {n}"),
         Act::Binary(d, x, y, k, n) => format!(in alloc; "binary {d} {x} {y} {k} | {n}"),
         _ => format!(in alloc; "other"),
+    }
+}
+
+/// An act that lends, calls, goes back or defines a dummy.
+fn calling(alloc: Global, act: Act) -> Result<String, AllocError> {
+    match act {
+        Act::LendLocal(d, at) => format!(in alloc; "lend {d} {at}"),
+        Act::LendBy(d, r) => format!(in alloc; "lend by {d} {r}"),
+        Act::SetBySmall(r, x, n) => format!(in alloc; "set by {r} {x} | {n}"),
+        Act::Call(k, from, n) => format!(in alloc; "call {k} {from} | {n}"),
+        Act::Return(x, n) => format!(in alloc; "return {x} | {n}"),
+        Act::ReturnNothing(n) => format!(in alloc; "return | {n}"),
+        Act::JumpIfLessFixed(x, z, to, n) => format!(in alloc; "if less {x} {z} {to} | {n}"),
+        _ => computing(alloc, act),
     }
 }
 
@@ -42,7 +57,7 @@ pub(crate) fn shown(alloc: Global, act: Act) -> Result<String, AllocError> {
         Act::PrintByte(b, n) => format!(in alloc; "byte {b} | {n}"),
         Act::Finish(n) => format!(in alloc; "finish | {n}"),
         Act::Leave => format!(in alloc; "leave"),
-        _ => computing(alloc, act),
+        _ => calling(alloc, act),
     }
 }
 

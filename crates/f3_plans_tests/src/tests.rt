@@ -5,8 +5,8 @@ use f3_frames::layouts::Layouts;
 use f3_gen_program::program::emit_program;
 use f3_plans::planning::plan;
 use f3_program::declarations::{Base, Constant, Declared, Dimension, Kind};
-use f3_program::expression::{BinaryOperator, Designator, Expression, Name, Selection};
-use f3_program::program::{Procedure, Program};
+use f3_program::expression::{Argument, BinaryOperator, Designator, Expression, Name, Selection};
+use f3_program::program::{Dummy, Intent, Procedure, Program};
 use f3_program::statement::{Item, Range, Statement};
 use f3_rules::source::Place;
 use std::alloc::{AllocError, Global};
@@ -26,7 +26,14 @@ const INTEGER: Kind = Kind {
     is_allocatable: false,
 };
 
-/// What a row of them is.
+/// What one of kind 8 is.
+const LONG: Kind = Kind {
+    of: Base::Long,
+    rank: 0,
+    is_allocatable: false,
+};
+
+/// What a row of integers of kind 4 is.
 const ROW: Kind = Kind {
     of: Base::Integer,
     rank: 1,
@@ -191,6 +198,63 @@ fn sum_in_two_loops(rt: HostRuntime) -> Result<(), Fail> {
     Ok(())
 }
 
+/// An operator on integers of kind 8.
+fn operate_long(
+    alloc: Global,
+    operator: BinaryOperator,
+    x: Expression,
+    y: Expression,
+) -> Result<Expression, AllocError> {
+    let left = Box::new(alloc, x)?;
+    let right = Box::new(alloc, y)?;
+    Ok(Expression::Binary(operator, Base::Long, left, right))
+}
+
+/// An assignment to one.
+fn assign_long(alloc: Global, number: usize, value: Expression) -> Result<Statement, AllocError> {
+    at(alloc, Statement::Assign(variable(number), LONG, value))
+}
+
+/// The first of two integers of kind 8 takes a constant, the other a sum with a product, and the first that of the other.
+fn longs(alloc: Global) -> Result<Program, AllocError> {
+    let product = operate_long(
+        alloc,
+        BinaryOperator::Multiply,
+        held(alloc, 0)?,
+        held(alloc, 0)?,
+    )?;
+    let sum = operate_long(alloc, BinaryOperator::Add, held(alloc, 1)?, product)?;
+    let first = block(
+        alloc,
+        assign_long(alloc, 0, literal(7))?,
+        assign_long(alloc, 1, sum)?,
+    )?;
+    let both = block(alloc, first, assign_long(alloc, 0, held(alloc, 1)?)?)?;
+    let all = block(alloc, both, print(alloc, 0)?)?;
+    let mut program = of(alloc, 0, all)?;
+    let mut locals = Vec::new(alloc);
+    for _each in 0..2 {
+        locals.push(Declared {
+            kind: LONG,
+            dimensions: Vec::new(alloc),
+            initial: Vec::new(alloc),
+        })?;
+    }
+    program.main.locals = locals;
+    Ok(program)
+}
+
+#[test]
+fn integers_of_kind_8(rt: HostRuntime) -> Result<(), Fail> {
+    let program = longs(rt.alloc())?;
+    let text = acts(rt.alloc(), &program)?;
+    drop(program);
+    let expected =
+        "fixed 0 7 | 5\nbinary 2 0 0 7 | 0\nbinary 1 1 2 1 | 12\nfixed 2 0 | 0\nbinary 0 1 2 1 | 6\nprint 0 | 4\nbyte 10 | 1\nfinish | 2\n";
+    assert_eq!(rt; text.as_str(), expected);
+    Ok(())
+}
+
 /// A number for each element of a row.
 fn fills(alloc: Global) -> Result<Program, AllocError> {
     let row = at(alloc, Statement::Assign(variable(3), ROW, literal(7)))?;
@@ -268,6 +332,130 @@ fn limits_in_a_loop(rt: HostRuntime) -> Result<(), Fail> {
     drop(program);
     let expected =
         "fixed 2 0 | 5\nfixed 3 1 | 0\nfixed 4 10 | 0\nfixed 5 1 | 0\ncount 0 3 3 4 5 | 10\nnext 3 18 | 1\ncopy small 5 0 | 4\nfixed 6 3 | 0\nbinary 6 6 5 36 | 0\nfixed 7 5 | 0\nbinary 7 7 5 42 | 0\nbinary 6 6 7 47 | 0\nif 6 14 | 2\njump 16 | 1\nadd fixed 2 2 1 | 8\njump 16 | 1\njump 17 | 2\nagain 0 3 6 | 4\nprint 2 | 5\nbyte 10 | 1\nfinish | 2\n";
+    assert_eq!(rt; text.as_str(), expected);
+    Ok(())
+}
+
+/// What the first dummy is for.
+fn dummy() -> Designator {
+    Designator::Name(Name::Lent(0), Selection::Whole)
+}
+
+/// What it holds.
+fn given(alloc: Global) -> Result<Expression, AllocError> {
+    Ok(Expression::Variable(Box::new(alloc, dummy())?))
+}
+
+/// An integer dummy.
+fn integer_dummy(alloc: Global, intent: Intent) -> Dummy {
+    Dummy {
+        kind: INTEGER,
+        intent,
+        lowers: Vec::new(alloc),
+    }
+}
+
+/// A procedure with one dummy.
+fn procedure(
+    alloc: Global,
+    intent: Intent,
+    value: Option<Declared>,
+    body: Statement,
+) -> Result<Procedure, AllocError> {
+    let mut dummies = Vec::new(alloc);
+    dummies.push(integer_dummy(alloc, intent))?;
+    Ok(Procedure {
+        unit: 0,
+        dummies,
+        locals: Vec::new(alloc),
+        result: value,
+        body,
+        end: HERE,
+    })
+}
+
+/// A reference to the procedure with a value.
+fn called(alloc: Global, value: Expression) -> Result<Expression, AllocError> {
+    let mut arguments = Vec::new(alloc);
+    arguments.push(Argument::Value(0, Box::new(alloc, value)?))?;
+    Ok(Expression::Call(0, arguments))
+}
+
+/// A reference to it with a number less than the dummy.
+fn before(alloc: Global, number: i64) -> Result<Expression, AllocError> {
+    let less = operate(
+        alloc,
+        BinaryOperator::Subtract,
+        given(alloc)?,
+        literal(number),
+    )?;
+    called(alloc, less)
+}
+
+/// Whether the dummy is less than a number.
+fn is_less(alloc: Global, number: i64) -> Result<Expression, AllocError> {
+    let left = Box::new(alloc, given(alloc)?)?;
+    let right = Box::new(alloc, literal(number))?;
+    Ok(Expression::Binary(BinaryOperator::Less, Base::Logical, left, right))
+}
+
+/// The dummy where it is less than 2, else the sum of the two values before it.
+fn numbers(alloc: Global) -> Result<Procedure, AllocError> {
+    let first = Box::new(alloc, assign(alloc, 0, given(alloc)?)?)?;
+    let sum = operate(
+        alloc,
+        BinaryOperator::Add,
+        before(alloc, 1)?,
+        before(alloc, 2)?,
+    )?;
+    let others = Box::new(alloc, assign(alloc, 0, sum)?)?;
+    let body = at(alloc, Statement::If(is_less(alloc, 2)?, first, others))?;
+    procedure(alloc, Intent::In, Some(integer(alloc)), body)
+}
+
+/// A program that takes a value of this function.
+fn recursive(alloc: Global) -> Result<Program, AllocError> {
+    let taken = assign(alloc, 0, called(alloc, literal(22))?)?;
+    let all = block(alloc, taken, print(alloc, 0)?)?;
+    let mut program = of(alloc, 0, all)?;
+    program.procedures.push(numbers(alloc)?)?;
+    Ok(program)
+}
+
+#[test]
+fn function_that_calls_itself(rt: HostRuntime) -> Result<(), Fail> {
+    let program = recursive(rt.alloc())?;
+    let text = acts(rt.alloc(), &program)?;
+    drop(program);
+    let expected =
+        "fixed 3 22 | 0\nlend 4 3\ncall 0 4 | 4\ncopy small 0 3 | 4\nprint 0 | 4\nbyte 10 | 1\nfinish | 2\njump 8 | 4\nget by 3 1 | 0\nif at least 3 2 13 | 6\nget by 3 1 | 0\ncopy small 0 3 | 6\njump 22 | 1\nget by 3 1 | 0\nadd fixed 3 3 -1 | 0\nlend 4 3\ncall 1 4 | 7\nget by 4 1 | 0\nadd fixed 4 4 -2 | 0\nlend 5 4\ncall 2 5 | 7\nadd 0 3 4 | 5\nreturn 0 | 6\n";
+    assert_eq!(rt; text.as_str(), expected);
+    Ok(())
+}
+
+/// A program that calls a subroutine in a loop, which adds to its dummy.
+fn adding(alloc: Global) -> Result<Program, AllocError> {
+    let sum = operate(alloc, BinaryOperator::Add, given(alloc)?, literal(3))?;
+    let body = at(alloc, Statement::Assign(dummy(), INTEGER, sum))?;
+    let mut arguments = Vec::new(alloc);
+    arguments.push(Argument::Variable(0, Box::new(alloc, variable(2))?))?;
+    let call = at(alloc, Statement::Call(Expression::Call(0, arguments)))?;
+    let turns = count(alloc, 0, call)?;
+    let first = block(alloc, assign(alloc, 2, literal(0))?, turns)?;
+    let all = block(alloc, first, print(alloc, 2)?)?;
+    let mut program = of(alloc, 0, all)?;
+    let added = procedure(alloc, Intent::InOut, None, body)?;
+    program.procedures.push(added)?;
+    Ok(program)
+}
+
+#[test]
+fn subroutine_in_a_loop(rt: HostRuntime) -> Result<(), Fail> {
+    let program = adding(rt.alloc())?;
+    let text = acts(rt.alloc(), &program)?;
+    drop(program);
+    let expected =
+        "fixed 2 0 | 5\nfixed 3 1 | 0\nfixed 4 10 | 0\nfixed 5 1 | 0\ncount 0 3 3 4 5 | 10\nnext 3 9 | 1\nlend 5 2\ncall 0 5 | 4\nagain 0 3 6 | 6\nprint 2 | 5\nbyte 10 | 1\nfinish | 2\njump 13 | 4\nget by 2 0 | 0\nadd fixed 2 2 3 | 0\nset by 0 2 | 8\nreturn | 6\n";
     assert_eq!(rt; text.as_str(), expected);
     Ok(())
 }
