@@ -3,8 +3,9 @@
 
 usage: kernels.py [NAME..]      (after bin/f3 has built the program)
 f3 is crates/f3/out/f3, or what the variable F3 names. Each program runs three times by each; the least of the processor's seconds
-counts, the start of the program included. What they print must be the same numbers. The last line is the geometric mean of f3's
-seconds in Lua's, and the greatest of them."""
+counts, the start of the program included. What they print must be the same numbers. The last lines are the geometric mean of f3's
+seconds in Lua's, and the greatest of them: of the programs without allocatables, of those with such, and of all."""
+import math
 import os
 import resource
 import subprocess
@@ -37,18 +38,28 @@ def compare(name, room):
     return [max(min(run[k][0] for run in runs), 0.0005) for k in range(3)]
 
 
+def has_allocatables(name):
+    return "allocatable" in open(f"{KERNELS}/{name}.f90").read()
+
+
+def tell(which, ratios):
+    if ratios:
+        mean = math.exp(sum(math.log(ratio) for ratio in ratios) / len(ratios))
+        print(f"{which}: geometric mean {mean:.2f}, greatest {max(ratios):.2f}")
+
+
 def main():
     names = sys.argv[1:] or sorted(file[:-4] for file in os.listdir(KERNELS) if file.endswith(".f90"))
-    ratios = []
+    names.sort(key=has_allocatables)
+    ratios = {}
     with tempfile.TemporaryDirectory() as room:
         for name in names:
             f3, lua, gfortran = compare(name, room)
-            ratios.append(f3 / lua)
+            ratios[name] = f3 / lua
             print(f"{name:12} f3 {f3:7.3f}   lua {lua:7.3f}   gfortran {gfortran:7.3f}   f3 by lua {f3 / lua:7.2f}", flush=True)
-    product = 1.0
-    for ratio in ratios:
-        product *= ratio
-    print(f"geometric mean {product ** (1 / len(ratios)):.2f}, greatest {max(ratios):.2f}")
+    tell("without allocatables", [ratios[name] for name in names if not has_allocatables(name)])
+    tell("with allocatables", [ratios[name] for name in names if has_allocatables(name)])
+    tell("all", list(ratios.values()))
 
 
 main()
