@@ -75,6 +75,27 @@ impl RawHeap {
     }
 }
 
+impl RawHeap {
+    /// A heap of no words, which takes no memory.
+    pub fn none(alloc: Global) -> RawHeap
+        ensures { result ≡ record { blocks = empty; size = 0 } }
+    {
+        let Ok(region) = Region::new(alloc, 0) else {
+            unreachable!();
+        };
+        RawHeap {
+            arena: Arena {
+                region,
+                size: 0,
+                first: 0,
+                hints: [0; CLASSES],
+                end: 0,
+                used: 0,
+            },
+        }
+    }
+}
+
 impl Blocks for RawHeap {
     ghost blocks = { λ h. h.blocks };
 

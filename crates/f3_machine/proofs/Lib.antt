@@ -1,4 +1,5 @@
 pub mod Course
+pub mod Leading
 pub mod Stepping
 pub mod Silent
 pub mod Beginning

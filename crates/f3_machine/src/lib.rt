@@ -1,10 +1,13 @@
 //! The machine: it runs the code of a program, instruction by instruction.
 #![tactic(auto)]
 
+mod cells;
+mod lookout;
 pub mod machine;
+mod part;
 mod planning;
 pub mod printing;
-mod registers;
 pub mod start;
 mod step;
 mod table;
+mod turns;

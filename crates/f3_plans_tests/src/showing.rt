@@ -50,7 +50,7 @@ pub(crate) fn shown(alloc: Global, act: Act) -> Result<String, AllocError> {
         }
         Act::JumpIfEqualFixed(x, z, to, n) => format!(in alloc; "if equal {x} {z} {to} | {n}"),
         Act::JumpIfAtMost(x, y, to, n) => format!(in alloc; "if at most {x} {y} {to} | {n}"),
-        Act::Count(v, t, x, y, z, n) => format!(in alloc; "count {v} {t} {x} {y} {z} | {n}"),
+        Act::Count(n, v, t, x, y, z) => format!(in alloc; "count {v} {t} {x} {y} {z} | {n}"),
         Act::Next(t, to, n) => format!(in alloc; "next {t} {to} | {n}"),
         Act::Again(v, t, to, n) => format!(in alloc; "again {v} {t} {to} | {n}"),
         Act::PrintNumber(x, n) => format!(in alloc; "print {x} | {n}"),

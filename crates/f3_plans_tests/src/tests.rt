@@ -5,7 +5,9 @@ use f3_frames::layouts::Layouts;
 use f3_gen_program::program::emit_program;
 use f3_plans::planning::plan;
 use f3_program::declarations::{Base, Constant, Declared, Dimension, Kind};
-use f3_program::expression::{Argument, BinaryOperator, Designator, Expression, Name, Selection};
+use f3_program::expression::{
+    Argument, BinaryOperator, Designator, Expression, Name, Selection, Subscript,
+};
 use f3_program::program::{Dummy, Intent, Procedure, Program};
 use f3_program::statement::{Item, Range, Statement};
 use f3_rules::source::Place;
@@ -36,6 +38,20 @@ const LONG: Kind = Kind {
 /// What a row of integers of kind 4 is.
 const ROW: Kind = Kind {
     of: Base::Integer,
+    rank: 1,
+    is_allocatable: false,
+};
+
+/// What a logical is.
+const LOGICAL: Kind = Kind {
+    of: Base::Logical,
+    rank: 0,
+    is_allocatable: false,
+};
+
+/// What a row of logicals is.
+const TRUTHS: Kind = Kind {
+    of: Base::Logical,
     rank: 1,
     is_allocatable: false,
 };
@@ -268,6 +284,55 @@ fn scalar_for_a_row(rt: HostRuntime) -> Result<(), Fail> {
     let text = acts(rt.alloc(), &program)?;
     drop(program);
     let expected = "fixed 8 7 | 0\nfill 0 8 | 5\nprint 2 | 4\nbyte 10 | 1\nfinish | 2\n";
+    assert_eq!(rt; text.as_str(), expected);
+    Ok(())
+}
+
+/// The element of a row that a variable says.
+fn element(alloc: Global, number: usize, place: usize) -> Result<Designator, AllocError> {
+    let mut subscripts = Vec::new(alloc);
+    subscripts.push(Subscript::At(Box::new(alloc, held(alloc, place)?)?))?;
+    Ok(Designator::Name(Name::Local(number), Selection::Elements(false, subscripts)))
+}
+
+/// A row of 200,000 logicals, ten of which become true in a loop.
+fn sieve(alloc: Global) -> Result<Program, AllocError> {
+    let truth = Expression::Literal(Constant::Truth(true));
+    let set = Statement::Assign(element(alloc, 3, 0)?, LOGICAL, truth);
+    let turns = count(alloc, 0, at(alloc, set)?)?;
+    let all = block(alloc, turns, print(alloc, 2)?)?;
+    let mut program = of(alloc, 0, all)?;
+    let mut truths = row(alloc, 200_000)?;
+    truths.kind = TRUTHS;
+    program.main.locals.push(truths)?;
+    Ok(program)
+}
+
+#[test]
+fn row_of_200000_logicals_in_a_loop(rt: HostRuntime) -> Result<(), Fail> {
+    let program = sieve(rt.alloc())?;
+    let text = acts(rt.alloc(), &program)?;
+    drop(program);
+    let expected =
+        "fixed 200003 1 | 0\nfixed 200004 10 | 0\nfixed 200005 1 | 0\ncount 0 200003 200003 200004 200005 | 10\nnext 200003 8 | 1\nfixed 200005 1 | 0\nset 0 0 200005 | 9\nagain 0 200003 5 | 4\nprint 2 | 5\nbyte 10 | 1\nfinish | 2\n";
+    assert_eq!(rt; text.as_str(), expected);
+    Ok(())
+}
+
+/// A row takes the values of another, and then a variable a number.
+fn copied_row(alloc: Global) -> Result<Program, AllocError> {
+    let row = Statement::Assign(variable(3), ROW, held(alloc, 4)?);
+    let first = block(alloc, at(alloc, row)?, assign(alloc, 2, literal(7))?)?;
+    let all = block(alloc, first, print(alloc, 2)?)?;
+    of(alloc, 2, all)
+}
+
+#[test]
+fn statements_behind_one_without_acts(rt: HostRuntime) -> Result<(), Fail> {
+    let program = copied_row(rt.alloc())?;
+    let text = acts(rt.alloc(), &program)?;
+    drop(program);
+    let expected = "leave\nfixed 2 7 | 5\nprint 2 | 4\nbyte 10 | 1\nfinish | 2\n";
     assert_eq!(rt; text.as_str(), expected);
     Ok(())
 }
