@@ -42,4 +42,3 @@ returns-then-free_left-eq0-clause-arena c =
 
 pub returns-then-free_left-eq0-clause-given : goal.returns-then-free_left-eq0-clause-given
 returns-then-free_left-eq0-clause-given c = last-live (region_words c.args.arena.now.region) (region_size c.args.arena.now.region) c.args.arena.now.size c.args.arena.now.first c.args.arena.now.end c.args.arena.now.used c.args.at c.requires.arena.heap c.requires.block (omega (arith, given_is (region_words c.args.arena.now.region) c.args.arena.now.size c.args.arena.now.first c.args.arena.now.end c.args.at c.requires.arena.heap.lays c.requires.block c.size_of_block-given.result c.link.result c.size_of_block-given.ensures c.link.ensures, c.if-at-given.true)) c.free_left.result c.free_left.ensures.start c.free_left.ensures.tag c.if-free_left-eq0.true
-

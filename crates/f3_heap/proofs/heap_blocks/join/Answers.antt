@@ -86,4 +86,3 @@ returns-else-run-arena-clause-given c =
 
 pub lower_hints-requires : goal.lower_hints-requires
 lower_hints-requires c = omega (arith, around-end (region_words c.args.arena.now.region) (region_size c.args.arena.now.region) c.args.arena.now.size c.args.arena.now.first c.args.arena.now.end c.args.arena.now.used c.requires.arena.heap c.args.at c.run_around-run.result.at c.run_around-run.result.size c.run_around-run.result.prev c.run_around-run.result.next c.run_around-run.ensures, c.requires.arena.heap.within, c.requires.arena.heap.small)
-
