@@ -3,6 +3,7 @@
 ghost use Rattle.std.specs.Prelude.{◌≡◌, ◌≢◌, ◌+◌, ◌^◌, ◌<◌, ◌≤◌, true, false, None, Some, IfSome, IfNone};
 ghost use Rattle.std.specs.List.{list_any};
 ghost use Rattle.std.specs.FinMap.{get, remove};
+ghost use Rattle.f3_heap_laws.specs.Account.{r};
 ghost use Rattle.f3_heap_laws.specs.Blocks.{with_taken};
 ghost use Rattle.f3_heap_laws.specs.Gaps.{gaps, places, is_wide, first_wide};
 ghost use Rattle.f3_heap_laws.specs.Segments.{UsedAt, FitsAt, NoneFits};
@@ -16,6 +17,7 @@ use crate::segments::{
 use f3_heap_laws::{fits, size_of_block};
 
 /// Takes a block of so many words from the first run that has room for it, and tells its place.
+#[inline(always)]
 pub(crate) fn take_block(arena: &mut Arena, words: usize) -> Option<usize>
     requires { IsArena arena.old }
     ensures arena { IsArena arena.new }
@@ -43,6 +45,21 @@ pub(crate) fn take_block(arena: &mut Arena, words: usize) -> Option<usize>
         write_used(&mut arena.region, at, words, taken);
         return Some(at);
     }
+    take_at(arena, words, at);
+    Some(at)
+}
+
+/// Takes a block of so many words from the front of the free block at a place, which is the first that has room for it.
+#[inline(never)]
+fn take_at(arena: &mut Arena, words: usize, at: usize)
+    requires arena { IsArena arena.old }
+    requires fits { FitsAt (r words) (segments_in arena.old) at }
+    ensures arena { IsArena arena.new }
+    ensures taken { live_in arena.new ≡ with_taken (live_in arena.old) (at + 1) words }
+    ensures fresh { get (live_in arena.old) (at + 1) ≡ None }
+    ensures size { arena.new.size ≡ arena.old.size }
+{
+    let taken = size_of_block(words);
     let next = carve(
         &mut arena.region,
         &mut arena.first,
@@ -54,10 +71,10 @@ pub(crate) fn take_block(arena: &mut Arena, words: usize) -> Option<usize>
     move_hints(&mut arena.hints, at, at + 1, next);
     arena.used += taken;
     write_used(&mut arena.region, at, words, taken);
-    Some(at)
 }
 
 /// The first free block of `size` words or more, or the heap's size. The hint of its width moves on.
+#[inline(always)]
 fn find_room(arena: &mut Arena, size: usize) -> usize
     requires arena { IsArena arena.old }
     requires wide { 4 ≤ size }
@@ -79,7 +96,9 @@ fn find_room(arena: &mut Arena, size: usize) -> usize
     first_fit(&arena.region, from, arena.size, arena.end, size)
 }
 
-/// Gives the live block at a place back, and joins it to the free words on both its sides.
+/// Gives the live block at a place back, and joins it to the free words on both its sides. Behind it there may be no block: then no free
+/// block changes, where none stands before it.
+#[inline(always)]
 pub(crate) fn give_block(arena: &mut Arena, at: usize)
     requires arena { IsArena arena.old }
     requires block { UsedAt (segments_in arena.old) at }
@@ -88,12 +107,26 @@ pub(crate) fn give_block(arena: &mut Arena, at: usize)
     ensures size { arena.new.size ≡ arena.old.size }
 {
     let given = size_of_block(link(&arena.region, at));
-    arena.used -= given;
     if at + given == arena.end && free_left(&arena.region, at) == 0 {
+        arena.used -= given;
         arena.end = at;
         return;
     }
-    let run = run_around(&arena.region, arena.first, arena.size, arena.end, at, given);
+    join(arena, at);
+}
+
+/// The same where a free block or a live one stands beside it.
+#[inline(never)]
+fn join(arena: &mut Arena, at: usize)
+    requires arena { IsArena arena.old }
+    requires block { UsedAt (segments_in arena.old) at }
+    ensures arena { IsArena arena.new }
+    ensures given { live_in arena.new ≡ remove (live_in arena.old) (at + 1) }
+    ensures size { arena.new.size ≡ arena.old.size }
+{
+    let freed = size_of_block(link(&arena.region, at));
+    arena.used -= freed;
+    let run = run_around(&arena.region, arena.first, arena.size, arena.end, at, freed);
     if run.at + run.size == arena.end {
         arena.end = run.at;
         link_next(

@@ -111,6 +111,7 @@ impl Blocks for RawHeap {
 
     ghost after_pair = { λ h b ws. record h { blocks = with_words h.blocks b (written_over (words_of h.blocks b) ws) } };
 
+    #[inline(always)]
     fn take(&mut self, words: usize) -> Result<BlockId, TakeFault>
         ensures full { (result ≡ Err TakeFault.Full) ↔ (list_any (is_wide words) (gaps (places self.old.blocks) self.old.size) ≡ false) }
         ensures fresh { IfOk result (λ b. get self.old.blocks b ≡ None) }
@@ -127,6 +128,7 @@ impl Blocks for RawHeap {
         }
     }
 
+    #[inline(always)]
     fn give(&mut self, block: BlockId) -> Result<(), Pinned> {
         let at = block.place();
         if pin_count(&self.arena.region, at + 1) != 0 {

@@ -128,7 +128,11 @@ impl Region {
         ensures words { region_words self.new ≡ written (region_words self.old) from (replicate n (pos 0)) }
         ensures size { region_size self.new ≡ region_size self.old }
     {
-        let below = n.min(self.frontier - from);
+        let below = self.frontier - from;
+        if n <= below {
+            self.fill_below(from, n);
+            return;
+        }
         self.fill_below(from, below);
         self.append_zeros(n - below);
     }

@@ -52,33 +52,6 @@ pub returns-then-at-arena-clause-some : goal.returns-then-at-arena-clause-some
 returns-then-at-arena-clause-some c =
     (λ i. list_any (is_wide c.args.words) (gaps (places (sym c.find_room-at.ensures.same i)) (sym c.find_room-at.ensures.size i))) ∙ room-behind (region_words c.find_room-at.new.arena.region) (region_size c.find_room-at.new.arena.region) c.find_room-at.new.arena.size c.find_room-at.new.arena.first c.find_room-at.new.arena.end c.find_room-at.new.arena.used c.find_room-at.ensures.arena.heap c.args.words c.size_of_block-taken.result c.size_of_block-taken.ensures (c.find_room-at.ensures.lacking c.if-at-arena.true) (omega (arith, c.if-arena-taken.false))
 
-pub overflow_add-arena-2 : goal.overflow_add-arena-2
-overflow_add-arena-2 c = let u = cut-used (region_words c.find_room-at.new.arena.region) (region_size c.find_room-at.new.arena.region) c.find_room-at.new.arena.size c.find_room-at.new.arena.first c.find_room-at.new.arena.end c.find_room-at.new.arena.used c.find_room-at.ensures.arena.heap c.args.words c.size_of_block-taken.result c.find_room-at.result c.carve-next.new.first (region_words c.carve-next.new.region) c.size_of_block-taken.ensures c.carve-next.ensures.cuts.cuts in record { fits = omega (arith, u, c.find_room-at.ensures.arena.heap.within, c.find_room-at.ensures.arena.heap.small) }
-
-pub write_used-requires-2-clause-reached : goal.write_used-requires-2-clause-reached
-write_used-requires-2-clause-reached c = omega (arith, c.carve-next.ensures.length, heap-words (region_words c.find_room-at.new.arena.region) (region_size c.find_room-at.new.arena.region) c.find_room-at.new.arena.size c.find_room-at.new.arena.first c.find_room-at.new.arena.end c.find_room-at.new.arena.used c.find_room-at.ensures.arena.heap, fits-within (region_words c.find_room-at.new.arena.region) (region_size c.find_room-at.new.arena.region) c.find_room-at.new.arena.size c.find_room-at.new.arena.first c.find_room-at.new.arena.end c.find_room-at.new.arena.used c.find_room-at.ensures.arena.heap c.size_of_block-taken.result c.find_room-at.result (c.find_room-at.ensures.fits c.if-at-arena.false))
-
-pub write_used-requires-2-clause-inside : goal.write_used-requires-2-clause-inside
-write_used-requires-2-clause-inside c = omega (arith, c.carve-next.ensures.size, c.find_room-at.ensures.arena.heap.within, c.find_room-at.ensures.arena.heap.fits, fits-within (region_words c.find_room-at.new.arena.region) (region_size c.find_room-at.new.arena.region) c.find_room-at.new.arena.size c.find_room-at.new.arena.first c.find_room-at.new.arena.end c.find_room-at.new.arena.used c.find_room-at.ensures.arena.heap c.size_of_block-taken.result c.find_room-at.result (c.find_room-at.ensures.fits c.if-at-arena.false))
-
-pub returns-clause-arena : goal.returns-clause-arena
-returns-clause-arena c =
-    record {
-      heap = heap-at _ _ _ _ c.find_room-at.new.arena.size _ _ _ _ _ _ (cut-heap (region_words c.find_room-at.new.arena.region) (region_size c.find_room-at.new.arena.region) c.find_room-at.new.arena.size c.find_room-at.new.arena.first c.find_room-at.new.arena.end c.find_room-at.new.arena.used c.args.words c.find_room-at.result c.carve-next.new.first c.find_room-at.ensures.arena.heap (region_words c.carve-next.new.region) (subst (λ (m : ℕ). Cuts c.find_room-at.new.arena.size m (segments (region_words c.find_room-at.new.arena.region) c.find_room-at.new.arena.end) c.find_room-at.result c.carve-next.new.first c.find_room-at.new.arena.end (region_words c.carve-next.new.region)) c.size_of_block-taken.ensures c.carve-next.ensures.cuts.cuts))
-          c.write_used-2.ensures.words (c.write_used-2.ensures.size ∙ c.carve-next.ensures.size) refl refl (ap (λ n. c.find_room-at.new.arena.used + n) c.size_of_block-taken.ensures);
-      hints = hints-at _ _ c.find_room-at.new.arena.size _ _ c.move_hints.new.hints (cut-hints (region_words c.find_room-at.new.arena.region) (region_size c.find_room-at.new.arena.region) c.find_room-at.new.arena.size c.find_room-at.new.arena.first c.find_room-at.new.arena.end c.find_room-at.new.arena.used c.find_room-at.ensures.arena.heap c.find_room-at.new.arena.hints c.find_room-at.ensures.arena.hints c.args.words c.find_room-at.result c.carve-next.result c.carve-next.new.first (region_words c.carve-next.new.region) (subst (λ (m : ℕ). CutsTo c.find_room-at.new.arena.size m (segments (region_words c.find_room-at.new.arena.region) c.find_room-at.new.arena.end) c.find_room-at.result c.carve-next.result c.carve-next.new.first c.find_room-at.new.arena.end (region_words c.carve-next.new.region)) c.size_of_block-taken.ensures c.carve-next.ensures.cuts) c.move_hints.new.hints c.move_hints.ensures.moved) c.write_used-2.ensures.words refl;
-    }
-
-pub returns-clause-taken : goal.returns-clause-taken
-returns-clause-taken c =
-    ap (λ z. live_segments (segments z c.find_room-at.new.arena.end)) c.write_used-2.ensures.words
-    ∙ cut-live (region_words c.find_room-at.new.arena.region) (region_size c.find_room-at.new.arena.region) c.find_room-at.new.arena.size c.find_room-at.new.arena.first c.find_room-at.new.arena.end c.find_room-at.new.arena.used c.args.words c.find_room-at.result c.carve-next.new.first c.find_room-at.ensures.arena.heap (region_words c.carve-next.new.region) (subst (λ (m : ℕ). Cuts c.find_room-at.new.arena.size m (segments (region_words c.find_room-at.new.arena.region) c.find_room-at.new.arena.end) c.find_room-at.result c.carve-next.new.first c.find_room-at.new.arena.end (region_words c.carve-next.new.region)) c.size_of_block-taken.ensures c.carve-next.ensures.cuts.cuts) (c.find_room-at.result + 1) refl
-    ∙ ap (λ m. with_taken m (c.find_room-at.result + 1) c.args.words) c.find_room-at.ensures.same
-
-pub returns-clause-fresh : goal.returns-clause-fresh
-returns-clause-fresh c =
-    ap (λ m. get m (c.find_room-at.result + 1)) (sym c.find_room-at.ensures.same) ∙ cut-fresh (region_words c.find_room-at.new.arena.region) (region_size c.find_room-at.new.arena.region) c.find_room-at.new.arena.size c.find_room-at.new.arena.first c.find_room-at.new.arena.end c.find_room-at.new.arena.used c.args.words c.find_room-at.result c.carve-next.new.first c.find_room-at.ensures.arena.heap (region_words c.carve-next.new.region) (subst (λ (m : ℕ). Cuts c.find_room-at.new.arena.size m (segments (region_words c.find_room-at.new.arena.region) c.find_room-at.new.arena.end) c.find_room-at.result c.carve-next.new.first c.find_room-at.new.arena.end (region_words c.carve-next.new.region)) c.size_of_block-taken.ensures c.carve-next.ensures.cuts.cuts) (c.find_room-at.result + 1) refl
-
 pub returns-clause-first : goal.returns-clause-first
 returns-clause-first c =
     (λ i. first_wide c.args.words (gaps (places (sym c.find_room-at.ensures.same i)) (sym c.find_room-at.ensures.size i))) ∙ first-fits (region_words c.find_room-at.new.arena.region) (region_size c.find_room-at.new.arena.region) c.find_room-at.new.arena.size c.find_room-at.new.arena.first c.find_room-at.new.arena.end c.find_room-at.new.arena.used c.args.words c.find_room-at.ensures.arena.heap c.find_room-at.result (subst (λ (k : ℕ). FitsAt k (segments (region_words c.find_room-at.new.arena.region) c.find_room-at.new.arena.end) c.find_room-at.result) c.size_of_block-taken.ensures (c.find_room-at.ensures.fits c.if-at-arena.false))
@@ -90,7 +63,11 @@ pub returns-clause-some : goal.returns-clause-some
 returns-clause-some c =
     (λ i. list_any (is_wide c.args.words) (gaps (places (sym c.find_room-at.ensures.same i)) (sym c.find_room-at.ensures.size i))) ∙ room-fits (region_words c.find_room-at.new.arena.region) (region_size c.find_room-at.new.arena.region) c.find_room-at.new.arena.size c.find_room-at.new.arena.first c.find_room-at.new.arena.end c.find_room-at.new.arena.used c.args.words c.find_room-at.ensures.arena.heap c.find_room-at.result (subst (λ (k : ℕ). FitsAt k (segments (region_words c.find_room-at.new.arena.region) c.find_room-at.new.arena.end) c.find_room-at.result) c.size_of_block-taken.ensures (c.find_room-at.ensures.fits c.if-at-arena.false))
 
-pub overflow_add-at : goal.overflow_add-at
-overflow_add-at c =
-    let w = fits-within (region_words c.find_room-at.new.arena.region) (region_size c.find_room-at.new.arena.region) c.find_room-at.new.arena.size c.find_room-at.new.arena.first c.find_room-at.new.arena.end c.find_room-at.new.arena.used c.find_room-at.ensures.arena.heap c.size_of_block-taken.result c.find_room-at.result (c.find_room-at.ensures.fits c.if-at-arena.false) in
-    record { fits = omega (arith, w, c.find_room-at.ensures.arena.heap.within, c.find_room-at.ensures.arena.heap.small) }
+pub take_at-requires-clause-fits : goal.take_at-requires-clause-fits
+take_at-requires-clause-fits c = subst (λ (k : ℕ). FitsAt k (segments (region_words c.find_room-at.new.arena.region) c.find_room-at.new.arena.end) c.find_room-at.result) c.size_of_block-taken.ensures (c.find_room-at.ensures.fits c.if-at-arena.false)
+
+pub returns-clause-taken : goal.returns-clause-taken
+returns-clause-taken c = c.take_at.ensures.taken ∙ ap (λ m. with_taken m (c.find_room-at.result + 1) c.args.words) c.find_room-at.ensures.same
+
+pub returns-clause-fresh : goal.returns-clause-fresh
+returns-clause-fresh c = ap (λ m. get m (c.find_room-at.result + 1)) (sym c.find_room-at.ensures.same) ∙ c.take_at.ensures.fresh
