@@ -1,16 +1,18 @@
 //! Changes of objects.
 
-ghost use Rattle.std.specs.Prelude.{◌≡◌, ℕ, ◌+◌, List, ◌∷◌, [], true, drop, IfOk, OnOk, length, map, replicate};
+ghost use Rattle.std.specs.Prelude.{◌≡◌, ℕ, ◌+◌, ◌<◌, List, ◌∷◌, [], true, drop, IfOk, OnOk, length, map, replicate};
 ghost use Rattle.f3_meaning_whole.specs.Value as v;
 ghost use Rattle.f3_meaning_whole.specs.Value.{spread};
+ghost use Rattle.f3_meaning_whole.specs.Store as s;
 ghost use Rattle.f3_meaning_whole.specs.Store.{get, put_all};
 ghost use Rattle.f3_meaning_whole.specs.Reference.{paths};
 ghost use Rattle.f3_located.specs.Kinds.{is_array};
+ghost use Rattle.f3_located.specs.Ways.{LeadsToElement};
 ghost use Rattle.f3_data.specs.Values.{value_of, values_of};
 ghost use Rattle.f3_data.specs.Stores.{steps_of, path_of, store_of};
 ghost use Rattle.f3_data.specs.References.{element_path, numbers_of, reference_of};
 
-use crate::elements::{element_path, length_of, place_at};
+use crate::elements::{element_path, go_to, length_of, place_at};
 use f3_data::copies;
 use f3_data::reference::{Numbers, Reach, Reference};
 use f3_data::store::{Path, Step, Store};
@@ -27,25 +29,27 @@ fn put_first(store: &mut Store, path: &Path, mut values: Vec<Value>)
 }
 
 /// A part of the element of a number, among those that are meant, takes a value; nothing happens where there is none.
+///
+/// The path is one to that part of an element, whatever element, before and after.
 #[tactic(auto, using(crate::proofs::Spreading::put_more, crate::proofs::Spreading::put_past))]
 fn put_at(
-    alloc: Global,
     store: &mut Store,
+    path: &mut Path,
     array: &Path,
     numbers: &Numbers,
-    tail: &[Step],
     k: usize,
     value: Value,
-) -> Result<(), AllocError>
-    ensures { OnOk result ((xs : List v.Value) → put_all (map (element_path (path_of array.now) (steps_of tail.now)) (drop (k + 1) (numbers_of numbers.now))) xs (store_of store.new) ≡ put_all (map (element_path (path_of array.now) (steps_of tail.now)) (drop k (numbers_of numbers.now))) (value_of value ∷ xs) (store_of store.old)) }
+)
+    requires { length array.now.steps.items < length path.old.steps.items }
+    ensures leads { (tail : List s.Step) → LeadsToElement (path_of array.now) tail (path_of path.old) → LeadsToElement (path_of array.now) tail (path_of path.new) }
+    ensures put { (tail : List s.Step) → LeadsToElement (path_of array.now) tail (path_of path.old) → (xs : List v.Value) → put_all (map (element_path (path_of array.now) tail) (drop (k + 1) (numbers_of numbers.now))) xs (store_of store.new) ≡ put_all (map (element_path (path_of array.now) tail) (drop k (numbers_of numbers.now))) (value_of value ∷ xs) (store_of store.old) }
 {
     if k < length_of(numbers) {
-        let path = element_path(alloc, array, place_at(numbers, k), tail)?;
-        store.put(&path, value);
+        go_to(path, array, place_at(numbers, k));
+        store.put(path, value);
     } else {
         drop(value);
     }
-    Ok(())
 }
 
 /// A part of elements of an array takes these values, each its own.
@@ -60,9 +64,10 @@ fn put_each(
 ) -> Result<(), AllocError>
     ensures { OnOk result (store_of store.new ≡ put_all (map (element_path (path_of array.now) (steps_of tail.now)) (numbers_of numbers.now)) (values_of values.items) (store_of store.old)) }
 {
+    let mut path = element_path(alloc, array, 0, tail)?;
     let mut k = 0;
     for value in values {
-        put_at(alloc, store, array, numbers, tail, k, value)?;
+        put_at(store, &mut path, array, numbers, k, value);
         k += 1;
     }
     Ok(())
@@ -73,7 +78,7 @@ fn put_each(
 fn copies_of(alloc: Global, value: &Value, count: usize) -> Result<Vec<Value>, AllocError>
     ensures { IfOk result (λ xs. values_of xs.items ≡ replicate count (value_of value.now)) }
 {
-    let mut copies = Vec::new(alloc);
+    let mut copies = Vec::with_capacity(alloc, count)?;
     let mut left = count;
     while left > 0 {
         copies.push(copies::value(alloc, value)?)?;
@@ -175,7 +180,7 @@ fn cleared(alloc: Global, value: &Value) -> Result<Value, AllocError>
 fn all_cleared(alloc: Global, values: &[Value]) -> Result<Vec<Value>, AllocError>
     ensures { IfOk result (λ xs. values_of xs.items ≡ map v.cleared (values_of values.now)) }
 {
-    let mut all = Vec::new(alloc);
+    let mut all = Vec::with_capacity(alloc, values.len())?;
     for value in values {
         all.push(cleared(alloc, value)?)?;
     }
@@ -203,9 +208,11 @@ fn each_cleared(
 ) -> Result<Vec<Value>, AllocError>
     ensures { IfOk result (λ xs. values_of xs.items ≡ map (λ p. v.cleared (get (store_of store.now) p)) (map (element_path (path_of array.now) (steps_of tail.now)) (numbers_of numbers.now))) }
 {
-    let mut all = Vec::new(alloc);
-    for k in 0..length_of(numbers) {
-        let path = element_path(alloc, array, place_at(numbers, k), tail)?;
+    let count = length_of(numbers);
+    let mut all = Vec::with_capacity(alloc, count)?;
+    let mut path = element_path(alloc, array, 0, tail)?;
+    for k in 0..count {
+        go_to(&mut path, array, place_at(numbers, k));
         all.push(cleared_at(alloc, store, &path)?)?;
     }
     Ok(all)

@@ -1,6 +1,7 @@
 //! The elements that a reference means.
 
-ghost use Rattle.std.specs.Prelude.{◌≡◌, ◌<◌, IfOk, MatchOption, length, None, Some, slice_get};
+ghost use Rattle.std.specs.Prelude.{◌≡◌, ℕ, ◌<◌, IfOk, List, MatchOption, length, None, Some, slice_get};
+ghost use Rattle.f3_meaning_whole.specs.Store as s;
 ghost use Rattle.f3_meaning_whole.specs.Reference.{paths};
 ghost use Rattle.f3_data.specs.Stores.{steps_of, path_of};
 ghost use Rattle.f3_data.specs.References.{element_path, numbers_of, reference_of};
@@ -63,11 +64,25 @@ pub fn element_path(
 ) -> Result<Path, AllocError>
     ensures { IfOk result (λ p. path_of p ≡ element_path (path_of array.now) (steps_of tail.now) place) }
 {
-    let mut steps = Vec::from_slice(alloc, &array.steps)?;
+    let count = array
+        .steps
+        .len()
+        .saturating_add(1)
+        .saturating_add(tail.len());
+    let mut steps = Vec::with_capacity(alloc, count)?;
+    steps.extend_from_slice(&array.steps)?;
     steps.push(Step::Element(place))?;
     steps.extend_from_slice(tail)?;
     Ok(Path {
         root: array.root,
         steps,
     })
+}
+
+/// A way to a part of an element of an array becomes the way to that part of another element.
+pub(crate) fn go_to(path: &mut Path, array: &Path, place: usize)
+    requires { length array.now.steps.items < length path.old.steps.items }
+    ensures { (tail : List s.Step) (n : ℕ) → path_of path.old ≡ element_path (path_of array.now) tail n → path_of path.new ≡ element_path (path_of array.now) tail place }
+{
+    path.steps[array.steps.len()] = Step::Element(place);
 }

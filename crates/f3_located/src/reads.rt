@@ -8,7 +8,7 @@ ghost use Rattle.f3_data.specs.Values.{value_of, values_of};
 ghost use Rattle.f3_data.specs.Stores.{steps_of, path_of, store_of};
 ghost use Rattle.f3_data.specs.References.{element_path, numbers_of, reach_in};
 
-use crate::elements::{element_path, length_of, place_at};
+use crate::elements::{element_path, go_to, length_of, place_at};
 use crate::reaches::show;
 use f3_data::copies;
 use f3_data::reference::{Numbers, Reach, Reference};
@@ -37,9 +37,11 @@ fn copies_at(
 ) -> Result<Vec<Value>, AllocError>
     ensures { IfOk result (λ xs. values_of xs.items ≡ map (s.get (store_of store.now)) (map (element_path (path_of array.now) (steps_of tail.now)) (numbers_of numbers.now))) }
 {
-    let mut copies = Vec::new(alloc);
-    for k in 0..length_of(numbers) {
-        let path = element_path(alloc, array, place_at(numbers, k), tail)?;
+    let count = length_of(numbers);
+    let mut copies = Vec::with_capacity(alloc, count)?;
+    let mut path = element_path(alloc, array, 0, tail)?;
+    for k in 0..count {
+        go_to(&mut path, array, place_at(numbers, k));
         copies.push(copy_at(alloc, store, &path)?)?;
     }
     Ok(copies)

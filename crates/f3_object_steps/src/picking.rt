@@ -53,7 +53,7 @@ fn some_zero_step(chosen: &[Chosen]) -> bool
 fn numbers_at(alloc: Global, numbers: &Numbers, places: &[usize]) -> Result<Vec<usize>, AllocError>
     ensures { IfOk result (λ v. v.items ≡ filter_map (slice_get (numbers_of numbers.now)) places.now) }
 {
-    let mut found = Vec::new(alloc);
+    let mut found = Vec::with_capacity(alloc, places.len())?;
     for place in places {
         if let Some(number) = number_at(numbers, *place) {
             found.push(number)?;

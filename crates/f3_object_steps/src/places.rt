@@ -66,7 +66,8 @@ fn rows(
 ) -> Result<Vec<usize>, AllocError>
     ensures { IfOk result (λ v. v.items ≡ kept limit (flat_map (row_of offsets.now extent) rows.now)) }
 {
-    let mut places = Vec::new(alloc);
+    let most = offsets.len().saturating_mul(rows.len()).min(limit);
+    let mut places = Vec::with_capacity(alloc, most)?;
     for row in rows {
         add_row(&mut places, offsets, extent, *row, limit)?;
     }

@@ -11,6 +11,9 @@ use f3_cells::cell::Chosen;
 use f3_data::value::Span;
 use std::alloc::{AllocError, Global};
 
+/// For how many subscripts there is room at most, before it is known whether they are inside.
+const ROOM: u128 = 1 << 16;
+
 /// The subscripts that are left: the next one, how many there are, and how far each is from the one before.
 #[derive(Clone, Copy, PartialEq, Eq, Debug)]
 pub struct Walk {
@@ -144,8 +147,9 @@ pub fn offsets(alloc: Global, span: Span, chosen: Chosen) -> Result<Option<Vec<u
     requires { steps_by_zero (chosen_of chosen) ≡ false }
     ensures { IfOk result (λ found. MatchOption found (is_inside (span_of span) (subscripts_in (span_of span) (chosen_of chosen)) ≡ false) (λ v. (is_inside (span_of span) (subscripts_in (span_of span) (chosen_of chosen)) ≡ true) × (v.items ≡ map (λ z. nat_abs (z -ℤ span.lower)) (subscripts_in (span_of span) (chosen_of chosen))))) }
 {
-    let mut offsets = Vec::new(alloc);
     let mut walk = walk_of(span, chosen);
+    let room = walk.left.min(span.extent as u128).min(ROOM);
+    let mut offsets = Vec::with_capacity(alloc, room as usize)?;
     while walk.left > 0 {
         let Some(offset) = next_offset(span, walk) else {
             return Ok(None);

@@ -1,13 +1,16 @@
-use Rattle.std.proofs.Common.{◌∙◌, ap}
+use Rattle.std.proofs.Common.{◌≡◌, ◌∙◌, ap}
 use Rattle.f3_meaning_whole.specs.Value as v
 use Rattle.f3_meaning_whole.specs.Store.{get}
 use Rattle.f3_data.specs.Stores.{steps_of, path_of, store_of}
-use Rattle.f3_data.specs.References.{numbers_of}
+use Rattle.f3_data.specs.References.{element_path, numbers_of}
 use Rattle.f3_located.proofs.Spreading.{copied_more}
 use Rattle.f3_located.proofs.changes.each_cleared.Goals as goal
 
 pub loop-k-preserved : goal.loop-k-preserved
 loop-k-preserved c =
-    copied_more (λ p. v.cleared (get (store_of c.args.store.now) p)) (path_of c.args.array.now) (steps_of c.args.tail.now) (numbers_of c.args.numbers.now) c.loop-k.k c.place_at.result
-    c.loop-k.all.items c.push.new.self.items c.in_ok-cleared_at.field-0 c.place_at.ensures c.in_ok-push.ensures.items
-    (c.in_ok-cleared_at.ensures ∙ ap (λ p. v.cleared (get (store_of c.args.store.now) p)) c.in_ok-path.ensures) ∙ c.loop-k.invariant
+    let went : path_of c.go_to.new.path ≡ element_path (path_of c.args.array.now) (steps_of c.args.tail.now) c.place_at.result = c.go_to.ensures (steps_of c.args.tail.now) c.loop-k.invariant.1.0 c.loop-k.invariant.1.1 in (
+      copied_more (λ p. v.cleared (get (store_of c.args.store.now) p)) (path_of c.args.array.now) (steps_of c.args.tail.now) (numbers_of c.args.numbers.now) c.loop-k.k c.place_at.result
+          c.loop-k.all.items c.push.new.self.items c.in_ok-cleared_at.field-0 c.place_at.ensures c.in_ok-push.ensures.items
+          (c.in_ok-cleared_at.ensures ∙ ap (λ p. v.cleared (get (store_of c.args.store.now) p)) went) ∙ c.loop-k.invariant.0,
+      (c.place_at.result, went),
+    )

@@ -4,6 +4,7 @@ use Rattle.f3_meaning_whole.specs.Store.{put_all}
 use Rattle.f3_data.specs.Values.{values_of}
 use Rattle.f3_data.specs.Stores.{steps_of, path_of, store_of}
 use Rattle.f3_data.specs.References.{element_path, numbers_of}
+use Rattle.f3_located.specs.Ways.{LeadsToElement}
 use Rattle.f3_located.proofs.changes.put_each.Given as goal
 
 abbrev pub invariant-loop-value : goal.invariant-loop-value
@@ -11,3 +12,4 @@ invariant-loop-value l =
     (put_all (map (element_path (path_of l.array) (steps_of l.tail)) (drop l.k (numbers_of l.numbers))) (values_of (into_iter_items l.value-iterator)) (store_of l.store)
     ≡ put_all (map (element_path (path_of l.array) (steps_of l.tail)) (numbers_of l.numbers)) (values_of l.fn.values.items) (store_of l.fn.store))
     × (l.k + length (into_iter_items l.value-iterator) ≡ length l.fn.values.items)
+    × LeadsToElement (path_of l.array) (steps_of l.tail) (path_of l.path)

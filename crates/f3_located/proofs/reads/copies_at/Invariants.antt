@@ -3,9 +3,11 @@ use Rattle.f3_meaning_whole.specs.Store as s
 use Rattle.f3_data.specs.Values.{values_of}
 use Rattle.f3_data.specs.Stores.{steps_of, path_of, store_of}
 use Rattle.f3_data.specs.References.{element_path, numbers_of}
+use Rattle.f3_located.specs.Ways.{LeadsToElement}
 use Rattle.f3_located.proofs.reads.copies_at.Given as goal
 
 abbrev pub invariant-loop-k : goal.invariant-loop-k
 invariant-loop-k l =
-    values_of l.copies.items ++ map (s.get (store_of l.store)) (map (element_path (path_of l.array) (steps_of l.tail)) (drop l.k (numbers_of l.numbers)))
-    ≡ map (s.get (store_of l.store)) (map (element_path (path_of l.array) (steps_of l.tail)) (numbers_of l.numbers))
+    (values_of l.copies.items ++ map (s.get (store_of l.store)) (map (element_path (path_of l.array) (steps_of l.tail)) (drop l.k (numbers_of l.numbers)))
+    ≡ map (s.get (store_of l.store)) (map (element_path (path_of l.array) (steps_of l.tail)) (numbers_of l.numbers)))
+    × LeadsToElement (path_of l.array) (steps_of l.tail) (path_of l.path)
