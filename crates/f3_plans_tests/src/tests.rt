@@ -11,7 +11,8 @@ use f3_program::expression::{
 use f3_program::program::{Dummy, Intent, Procedure, Program};
 use f3_program::statement::{Item, Range, Statement};
 use f3_rules::source::Place;
-use std::alloc::{AllocError, Global};
+use std::alloc::Global;
+use std::process::Abort;
 use std::test::Fail;
 
 /// Where all of the program stands.
@@ -62,8 +63,8 @@ fn variable(number: usize) -> Designator {
 }
 
 /// What it holds.
-fn held(alloc: Global, number: usize) -> Result<Expression, AllocError> {
-    Ok(Expression::Variable(Box::new(alloc, variable(number))?))
+fn held(rt: &impl Abort, alloc: Global, number: usize) -> Expression {
+    Expression::Variable(Box::new(alloc, variable(number)).expect(rt, "memory"))
 }
 
 /// A number.
@@ -73,39 +74,45 @@ fn literal(number: i64) -> Expression {
 
 /// An operator.
 fn operate(
+    rt: &impl Abort,
     alloc: Global,
     operator: BinaryOperator,
     x: Expression,
     y: Expression,
-) -> Result<Expression, AllocError> {
-    let left = Box::new(alloc, x)?;
-    let right = Box::new(alloc, y)?;
-    Ok(Expression::Binary(operator, Base::Integer, left, right))
+) -> Expression {
+    let left = Box::new(alloc, x).expect(rt, "memory");
+    let right = Box::new(alloc, y).expect(rt, "memory");
+    Expression::Binary(operator, Base::Integer, left, right)
 }
 
 /// A statement at its place.
-fn at(alloc: Global, statement: Statement) -> Result<Statement, AllocError> {
-    Ok(Statement::At(HERE, true, Box::new(alloc, statement)?))
+fn at(rt: &impl Abort, alloc: Global, statement: Statement) -> Statement {
+    Statement::At(HERE, true, Box::new(alloc, statement).expect(rt, "memory"))
 }
 
 /// An assignment.
-fn assign(alloc: Global, number: usize, value: Expression) -> Result<Statement, AllocError> {
-    at(alloc, Statement::Assign(variable(number), INTEGER, value))
+fn assign(rt: &impl Abort, alloc: Global, number: usize, value: Expression) -> Statement {
+    at(
+        rt,
+        alloc,
+        Statement::Assign(variable(number), INTEGER, value),
+    )
 }
 
 /// One statement after another.
-fn block(alloc: Global, first: Statement, then: Statement) -> Result<Statement, AllocError> {
+fn block(rt: &impl Abort, alloc: Global, first: Statement, then: Statement) -> Statement {
     let mut all = Vec::new(alloc);
-    all.push(first)?;
-    all.push(then)?;
-    Ok(Statement::Block(all))
+    all.push(first).expect(rt, "memory");
+    all.push(then).expect(rt, "memory");
+    Statement::Block(all)
 }
 
 /// A DO from 1 to 10.
-fn count(alloc: Global, number: usize, body: Statement) -> Result<Statement, AllocError> {
-    let body = Box::new(alloc, body)?;
+fn count(rt: &impl Abort, alloc: Global, number: usize, body: Statement) -> Statement {
+    let body = Box::new(alloc, body).expect(rt, "memory");
     let x = variable(number);
     at(
+        rt,
         alloc,
         Statement::Count(x, INTEGER, literal(1), literal(10), literal(1), body),
     )
@@ -113,21 +120,24 @@ fn count(alloc: Global, number: usize, body: Statement) -> Result<Statement, All
 
 /// A case of a SELECT CASE that has these ranges, and what is done else.
 fn case(
+    rt: &impl Abort,
     alloc: Global,
     ranges: &[Range],
     body: Statement,
     others: Statement,
-) -> Result<Statement, AllocError> {
-    let ranges = Vec::from_slice(alloc, ranges)?;
-    let body = Box::new(alloc, body)?;
-    Ok(Statement::Case(ranges, body, Box::new(alloc, others)?))
+) -> Statement {
+    let ranges = Vec::from_slice(alloc, ranges).expect(rt, "memory");
+    let body = Box::new(alloc, body).expect(rt, "memory");
+    Statement::Case(ranges, body, Box::new(alloc, others).expect(rt, "memory"))
 }
 
 /// A PRINT of a variable.
-fn print(alloc: Global, number: usize) -> Result<Statement, AllocError> {
+fn print(rt: &impl Abort, alloc: Global, number: usize) -> Statement {
     let mut items = Vec::new(alloc);
-    items.push(Item::Value(held(alloc, number)?))?;
-    at(alloc, Statement::Print(items))
+    items
+        .push(Item::Value(held(rt, alloc, number)))
+        .expect(rt, "memory");
+    at(rt, alloc, Statement::Print(items))
 }
 
 /// What an integer is declared as.
@@ -140,26 +150,28 @@ fn integer(alloc: Global) -> Declared {
 }
 
 /// What a row of so many integers is.
-fn row(alloc: Global, extent: u64) -> Result<Declared, AllocError> {
+fn row(rt: &impl Abort, alloc: Global, extent: u64) -> Declared {
     let mut dimensions = Vec::new(alloc);
-    dimensions.push(Dimension { lower: 1, extent })?;
-    Ok(Declared {
+    dimensions
+        .push(Dimension { lower: 1, extent })
+        .expect(rt, "memory");
+    Declared {
         kind: ROW,
         dimensions,
         initial: Vec::new(alloc),
-    })
+    }
 }
 
 /// A program with three integers, so many rows of five, and this body.
-fn of(alloc: Global, rows: usize, body: Statement) -> Result<Program, AllocError> {
+fn of(rt: &impl Abort, alloc: Global, rows: usize, body: Statement) -> Program {
     let mut locals = Vec::new(alloc);
     for _each in 0..3 {
-        locals.push(integer(alloc))?;
+        locals.push(integer(alloc)).expect(rt, "memory");
     }
     for _each in 0..rows {
-        locals.push(row(alloc, 5)?)?;
+        locals.push(row(rt, alloc, 5)).expect(rt, "memory");
     }
-    Ok(Program {
+    Program {
         types: Vec::new(alloc),
         statics: Vec::new(alloc),
         procedures: Vec::new(alloc),
@@ -172,41 +184,42 @@ fn of(alloc: Global, rows: usize, body: Statement) -> Result<Program, AllocError
             end: HERE,
         },
         start: HERE,
-    })
+    }
 }
 
 /// The acts of its plan.
-fn acts(alloc: Global, program: &Program) -> Result<String, AllocError> {
-    let emission = emit_program(alloc, program)?;
-    let Some(layouts) = Layouts::new(alloc, program)? else {
-        return String::from_str(alloc, "no layouts\n");
+fn acts(rt: &impl Abort, alloc: Global, program: &Program) -> String {
+    let emission = emit_program(alloc, program).expect(rt, "memory");
+    let Some(layouts) = Layouts::new(alloc, program).expect(rt, "memory") else {
+        return String::from_str(alloc, "no layouts\n").expect(rt, "memory");
     };
-    match plan(alloc, &layouts, &emission)? {
-        Some(plan) => listed(alloc, &plan.code.acts),
-        None => String::from_str(alloc, "no plan\n"),
+    match plan(alloc, &layouts, &emission).expect(rt, "memory") {
+        Some(plan) => listed(alloc, &plan.code.acts).expect(rt, "memory"),
+        None => String::from_str(alloc, "no plan\n").expect(rt, "memory"),
     }
 }
 
 /// A sum of products in two loops.
-fn loops(alloc: Global) -> Result<Program, AllocError> {
+fn loops(rt: &impl Abort, alloc: Global) -> Program {
     let product = operate(
+        rt,
         alloc,
         BinaryOperator::Multiply,
-        held(alloc, 0)?,
-        held(alloc, 1)?,
-    )?;
-    let sum = operate(alloc, BinaryOperator::Add, held(alloc, 2)?, product)?;
-    let inner = count(alloc, 1, assign(alloc, 2, sum)?)?;
-    let outer = count(alloc, 0, inner)?;
-    let body = block(alloc, assign(alloc, 2, literal(0))?, outer)?;
-    let all = block(alloc, body, print(alloc, 2)?)?;
-    of(alloc, 0, all)
+        held(rt, alloc, 0),
+        held(rt, alloc, 1),
+    );
+    let sum = operate(rt, alloc, BinaryOperator::Add, held(rt, alloc, 2), product);
+    let inner = count(rt, alloc, 1, assign(rt, alloc, 2, sum));
+    let outer = count(rt, alloc, 0, inner);
+    let body = block(rt, alloc, assign(rt, alloc, 2, literal(0)), outer);
+    let all = block(rt, alloc, body, print(rt, alloc, 2));
+    of(rt, alloc, 0, all)
 }
 
 #[test]
 fn sum_in_two_loops(rt: HostRuntime) -> Result<(), Fail> {
-    let program = loops(rt.alloc())?;
-    let text = acts(rt.alloc(), &program)?;
+    let program = loops(&rt, rt.alloc());
+    let text = acts(&rt, rt.alloc(), &program);
     drop(program);
     let expected =
         "fixed 2 0 | 5\nfixed 3 1 | 0\nfixed 4 10 | 0\nfixed 5 1 | 0\ncount 0 3 3 4 5 | 10\nnext 3 15 | 1\nfixed 5 1 | 0\nfixed 6 10 | 0\nfixed 7 1 | 0\ncount 1 5 5 6 7 | 10\nnext 5 14 | 1\nmultiply 7 0 1 | 0\nadd 2 2 7 | 12\nagain 1 5 11 | 4\nagain 0 3 6 | 5\nprint 2 | 5\nbyte 10 | 1\nfinish | 2\n";
@@ -216,54 +229,64 @@ fn sum_in_two_loops(rt: HostRuntime) -> Result<(), Fail> {
 
 /// An operator on integers of kind 8.
 fn operate_long(
+    rt: &impl Abort,
     alloc: Global,
     operator: BinaryOperator,
     x: Expression,
     y: Expression,
-) -> Result<Expression, AllocError> {
-    let left = Box::new(alloc, x)?;
-    let right = Box::new(alloc, y)?;
-    Ok(Expression::Binary(operator, Base::Long, left, right))
+) -> Expression {
+    let left = Box::new(alloc, x).expect(rt, "memory");
+    let right = Box::new(alloc, y).expect(rt, "memory");
+    Expression::Binary(operator, Base::Long, left, right)
 }
 
 /// An assignment to one.
-fn assign_long(alloc: Global, number: usize, value: Expression) -> Result<Statement, AllocError> {
-    at(alloc, Statement::Assign(variable(number), LONG, value))
+fn assign_long(rt: &impl Abort, alloc: Global, number: usize, value: Expression) -> Statement {
+    at(rt, alloc, Statement::Assign(variable(number), LONG, value))
 }
 
 /// The first of two integers of kind 8 takes a constant, the other a sum with a product, and the first that of the other.
-fn longs(alloc: Global) -> Result<Program, AllocError> {
+fn longs(rt: &impl Abort, alloc: Global) -> Program {
     let product = operate_long(
+        rt,
         alloc,
         BinaryOperator::Multiply,
-        held(alloc, 0)?,
-        held(alloc, 0)?,
-    )?;
-    let sum = operate_long(alloc, BinaryOperator::Add, held(alloc, 1)?, product)?;
+        held(rt, alloc, 0),
+        held(rt, alloc, 0),
+    );
+    let sum = operate_long(rt, alloc, BinaryOperator::Add, held(rt, alloc, 1), product);
     let first = block(
+        rt,
         alloc,
-        assign_long(alloc, 0, literal(7))?,
-        assign_long(alloc, 1, sum)?,
-    )?;
-    let both = block(alloc, first, assign_long(alloc, 0, held(alloc, 1)?)?)?;
-    let all = block(alloc, both, print(alloc, 0)?)?;
-    let mut program = of(alloc, 0, all)?;
+        assign_long(rt, alloc, 0, literal(7)),
+        assign_long(rt, alloc, 1, sum),
+    );
+    let both = block(
+        rt,
+        alloc,
+        first,
+        assign_long(rt, alloc, 0, held(rt, alloc, 1)),
+    );
+    let all = block(rt, alloc, both, print(rt, alloc, 0));
+    let mut program = of(rt, alloc, 0, all);
     let mut locals = Vec::new(alloc);
     for _each in 0..2 {
-        locals.push(Declared {
-            kind: LONG,
-            dimensions: Vec::new(alloc),
-            initial: Vec::new(alloc),
-        })?;
+        locals
+            .push(Declared {
+                kind: LONG,
+                dimensions: Vec::new(alloc),
+                initial: Vec::new(alloc),
+            })
+            .expect(rt, "memory");
     }
     program.main.locals = locals;
-    Ok(program)
+    program
 }
 
 #[test]
 fn integers_of_kind_8(rt: HostRuntime) -> Result<(), Fail> {
-    let program = longs(rt.alloc())?;
-    let text = acts(rt.alloc(), &program)?;
+    let program = longs(&rt, rt.alloc());
+    let text = acts(&rt, rt.alloc(), &program);
     drop(program);
     let expected =
         "fixed 0 7 | 5\nbinary 2 0 0 7 | 0\nbinary 1 1 2 1 | 12\nfixed 2 0 | 0\nbinary 0 1 2 1 | 6\nprint 0 | 4\nbyte 10 | 1\nfinish | 2\n";
@@ -272,16 +295,16 @@ fn integers_of_kind_8(rt: HostRuntime) -> Result<(), Fail> {
 }
 
 /// A number for each element of a row.
-fn fills(alloc: Global) -> Result<Program, AllocError> {
-    let row = at(alloc, Statement::Assign(variable(3), ROW, literal(7)))?;
-    let all = block(alloc, row, print(alloc, 2)?)?;
-    of(alloc, 1, all)
+fn fills(rt: &impl Abort, alloc: Global) -> Program {
+    let row = at(rt, alloc, Statement::Assign(variable(3), ROW, literal(7)));
+    let all = block(rt, alloc, row, print(rt, alloc, 2));
+    of(rt, alloc, 1, all)
 }
 
 #[test]
 fn scalar_for_a_row(rt: HostRuntime) -> Result<(), Fail> {
-    let program = fills(rt.alloc())?;
-    let text = acts(rt.alloc(), &program)?;
+    let program = fills(&rt, rt.alloc());
+    let text = acts(&rt, rt.alloc(), &program);
     drop(program);
     let expected = "fixed 8 7 | 0\nfill 0 8 | 5\nprint 2 | 4\nbyte 10 | 1\nfinish | 2\n";
     assert_eq!(rt; text.as_str(), expected);
@@ -289,29 +312,31 @@ fn scalar_for_a_row(rt: HostRuntime) -> Result<(), Fail> {
 }
 
 /// The element of a row that a variable says.
-fn element(alloc: Global, number: usize, place: usize) -> Result<Designator, AllocError> {
+fn element(rt: &impl Abort, alloc: Global, number: usize, place: usize) -> Designator {
     let mut subscripts = Vec::new(alloc);
-    subscripts.push(Subscript::At(Box::new(alloc, held(alloc, place)?)?))?;
-    Ok(Designator::Name(Name::Local(number), Selection::Elements(false, subscripts)))
+    subscripts
+        .push(Subscript::At(Box::new(alloc, held(rt, alloc, place)).expect(rt, "memory")))
+        .expect(rt, "memory");
+    Designator::Name(Name::Local(number), Selection::Elements(false, subscripts))
 }
 
 /// A row of 200,000 logicals, ten of which become true in a loop.
-fn sieve(alloc: Global) -> Result<Program, AllocError> {
+fn sieve(rt: &impl Abort, alloc: Global) -> Program {
     let truth = Expression::Literal(Constant::Truth(true));
-    let set = Statement::Assign(element(alloc, 3, 0)?, LOGICAL, truth);
-    let turns = count(alloc, 0, at(alloc, set)?)?;
-    let all = block(alloc, turns, print(alloc, 2)?)?;
-    let mut program = of(alloc, 0, all)?;
-    let mut truths = row(alloc, 200_000)?;
+    let set = Statement::Assign(element(rt, alloc, 3, 0), LOGICAL, truth);
+    let turns = count(rt, alloc, 0, at(rt, alloc, set));
+    let all = block(rt, alloc, turns, print(rt, alloc, 2));
+    let mut program = of(rt, alloc, 0, all);
+    let mut truths = row(rt, alloc, 200_000);
     truths.kind = TRUTHS;
-    program.main.locals.push(truths)?;
-    Ok(program)
+    program.main.locals.push(truths).expect(rt, "memory");
+    program
 }
 
 #[test]
 fn row_of_200000_logicals_in_a_loop(rt: HostRuntime) -> Result<(), Fail> {
-    let program = sieve(rt.alloc())?;
-    let text = acts(rt.alloc(), &program)?;
+    let program = sieve(&rt, rt.alloc());
+    let text = acts(&rt, rt.alloc(), &program);
     drop(program);
     let expected =
         "fixed 200003 1 | 0\nfixed 200004 10 | 0\nfixed 200005 1 | 0\ncount 0 200003 200003 200004 200005 | 10\nnext 200003 8 | 1\nfixed 200005 1 | 0\nset 0 0 200005 | 9\nagain 0 200003 5 | 4\nprint 2 | 5\nbyte 10 | 1\nfinish | 2\n";
@@ -320,17 +345,22 @@ fn row_of_200000_logicals_in_a_loop(rt: HostRuntime) -> Result<(), Fail> {
 }
 
 /// A row takes the values of another, and then a variable a number.
-fn copied_row(alloc: Global) -> Result<Program, AllocError> {
-    let row = Statement::Assign(variable(3), ROW, held(alloc, 4)?);
-    let first = block(alloc, at(alloc, row)?, assign(alloc, 2, literal(7))?)?;
-    let all = block(alloc, first, print(alloc, 2)?)?;
-    of(alloc, 2, all)
+fn copied_row(rt: &impl Abort, alloc: Global) -> Program {
+    let row = Statement::Assign(variable(3), ROW, held(rt, alloc, 4));
+    let first = block(
+        rt,
+        alloc,
+        at(rt, alloc, row),
+        assign(rt, alloc, 2, literal(7)),
+    );
+    let all = block(rt, alloc, first, print(rt, alloc, 2));
+    of(rt, alloc, 2, all)
 }
 
 #[test]
 fn statements_behind_one_without_acts(rt: HostRuntime) -> Result<(), Fail> {
-    let program = copied_row(rt.alloc())?;
-    let text = acts(rt.alloc(), &program)?;
+    let program = copied_row(&rt, rt.alloc());
+    let text = acts(&rt, rt.alloc(), &program);
     drop(program);
     let expected = "leave\nfixed 2 7 | 5\nprint 2 | 4\nbyte 10 | 1\nfinish | 2\n";
     assert_eq!(rt; text.as_str(), expected);
@@ -339,50 +369,61 @@ fn statements_behind_one_without_acts(rt: HostRuntime) -> Result<(), Fail> {
 
 /// A value of a variable by an operator and another value.
 fn updated(
+    rt: &impl Abort,
     alloc: Global,
     operator: BinaryOperator,
     value: Expression,
-) -> Result<Statement, AllocError> {
-    let new = operate(alloc, operator, held(alloc, 2)?, value)?;
-    assign(alloc, 2, new)
+) -> Statement {
+    let new = operate(rt, alloc, operator, held(rt, alloc, 2), value);
+    assign(rt, alloc, 2, new)
 }
 
 /// A program that prints a sum to which a SELECT CASE in a loop adds.
-fn selecting(alloc: Global, value: Expression, cases: Statement) -> Result<Program, AllocError> {
-    let select = at(alloc, Statement::Select(value, Box::new(alloc, cases)?))?;
-    let turns = count(alloc, 0, select)?;
-    let body = block(alloc, assign(alloc, 2, literal(0))?, turns)?;
-    let all = block(alloc, body, print(alloc, 2)?)?;
-    of(alloc, 0, all)
+fn selecting(rt: &impl Abort, alloc: Global, value: Expression, cases: Statement) -> Program {
+    let select = at(
+        rt,
+        alloc,
+        Statement::Select(value, Box::new(alloc, cases).expect(rt, "memory")),
+    );
+    let turns = count(rt, alloc, 0, select);
+    let body = block(rt, alloc, assign(rt, alloc, 2, literal(0)), turns);
+    let all = block(rt, alloc, body, print(rt, alloc, 2));
+    of(rt, alloc, 0, all)
 }
 
 /// A SELECT CASE in a loop, of two values, of a range and of the others.
-fn cases(alloc: Global) -> Result<Program, AllocError> {
+fn cases(rt: &impl Abort, alloc: Global) -> Program {
     let values = [
         Range::One(Constant::Number(1)),
         Range::One(Constant::Number(3)),
     ];
-    let others = updated(alloc, BinaryOperator::Add, held(alloc, 0)?)?;
-    let doubled = updated(alloc, BinaryOperator::Multiply, held(alloc, 0)?)?;
-    let from = case(alloc, &[Range::From(2)], doubled, others)?;
-    let more = updated(alloc, BinaryOperator::Add, literal(1))?;
-    let first = case(alloc, &values, more, from)?;
-    let rest = operate(alloc, BinaryOperator::Mod, held(alloc, 0)?, literal(4))?;
-    selecting(alloc, rest, first)
+    let others = updated(rt, alloc, BinaryOperator::Add, held(rt, alloc, 0));
+    let doubled = updated(rt, alloc, BinaryOperator::Multiply, held(rt, alloc, 0));
+    let from = case(rt, alloc, &[Range::From(2)], doubled, others);
+    let more = updated(rt, alloc, BinaryOperator::Add, literal(1));
+    let first = case(rt, alloc, &values, more, from);
+    let rest = operate(
+        rt,
+        alloc,
+        BinaryOperator::Mod,
+        held(rt, alloc, 0),
+        literal(4),
+    );
+    selecting(rt, alloc, rest, first)
 }
 
 /// A SELECT CASE in a loop, of a range with two limits.
-fn limits(alloc: Global) -> Result<Program, AllocError> {
-    let more = updated(alloc, BinaryOperator::Add, literal(1))?;
+fn limits(rt: &impl Abort, alloc: Global) -> Program {
+    let more = updated(rt, alloc, BinaryOperator::Add, literal(1));
     let none = Statement::Block(Vec::new(alloc));
-    let only = case(alloc, &[Range::Between(3, 5)], more, none)?;
-    selecting(alloc, held(alloc, 0)?, only)
+    let only = case(rt, alloc, &[Range::Between(3, 5)], more, none);
+    selecting(rt, alloc, held(rt, alloc, 0), only)
 }
 
 #[test]
 fn cases_in_a_loop(rt: HostRuntime) -> Result<(), Fail> {
-    let program = cases(rt.alloc())?;
-    let text = acts(rt.alloc(), &program)?;
+    let program = cases(&rt, rt.alloc());
+    let text = acts(&rt, rt.alloc(), &program);
     drop(program);
     let expected =
         "fixed 2 0 | 5\nfixed 3 1 | 0\nfixed 4 10 | 0\nfixed 5 1 | 0\ncount 0 3 3 4 5 | 10\nnext 3 19 | 1\nmod fixed 5 0 4 | 6\nif equal 5 1 10 | 2\nif equal 5 3 10 | 2\njump 12 | 1\nadd fixed 2 2 1 | 8\njump 17 | 1\nif at least 5 2 14 | 2\njump 16 | 1\nmultiply 2 2 0 | 9\njump 17 | 1\nadd 2 2 0 | 9\njump 18 | 2\nagain 0 3 6 | 4\nprint 2 | 5\nbyte 10 | 1\nfinish | 2\n";
@@ -392,8 +433,8 @@ fn cases_in_a_loop(rt: HostRuntime) -> Result<(), Fail> {
 
 #[test]
 fn limits_in_a_loop(rt: HostRuntime) -> Result<(), Fail> {
-    let program = limits(rt.alloc())?;
-    let text = acts(rt.alloc(), &program)?;
+    let program = limits(&rt, rt.alloc());
+    let text = acts(&rt, rt.alloc(), &program);
     drop(program);
     let expected =
         "fixed 2 0 | 5\nfixed 3 1 | 0\nfixed 4 10 | 0\nfixed 5 1 | 0\ncount 0 3 3 4 5 | 10\nnext 3 18 | 1\ncopy small 5 0 | 4\nfixed 6 3 | 0\nbinary 6 6 5 36 | 0\nfixed 7 5 | 0\nbinary 7 7 5 42 | 0\nbinary 6 6 7 47 | 0\nif 6 14 | 2\njump 16 | 1\nadd fixed 2 2 1 | 8\njump 16 | 1\njump 17 | 2\nagain 0 3 6 | 4\nprint 2 | 5\nbyte 10 | 1\nfinish | 2\n";
@@ -407,8 +448,8 @@ fn dummy() -> Designator {
 }
 
 /// What it holds.
-fn given(alloc: Global) -> Result<Expression, AllocError> {
-    Ok(Expression::Variable(Box::new(alloc, dummy())?))
+fn given(rt: &impl Abort, alloc: Global) -> Expression {
+    Expression::Variable(Box::new(alloc, dummy()).expect(rt, "memory"))
 }
 
 /// An integer dummy.
@@ -422,75 +463,89 @@ fn integer_dummy(alloc: Global, intent: Intent) -> Dummy {
 
 /// A procedure with one dummy.
 fn procedure(
+    rt: &impl Abort,
     alloc: Global,
     intent: Intent,
     value: Option<Declared>,
     body: Statement,
-) -> Result<Procedure, AllocError> {
+) -> Procedure {
     let mut dummies = Vec::new(alloc);
-    dummies.push(integer_dummy(alloc, intent))?;
-    Ok(Procedure {
+    dummies
+        .push(integer_dummy(alloc, intent))
+        .expect(rt, "memory");
+    Procedure {
         unit: 0,
         dummies,
         locals: Vec::new(alloc),
         result: value,
         body,
         end: HERE,
-    })
+    }
 }
 
 /// A reference to the procedure with a value.
-fn called(alloc: Global, value: Expression) -> Result<Expression, AllocError> {
+fn called(rt: &impl Abort, alloc: Global, value: Expression) -> Expression {
     let mut arguments = Vec::new(alloc);
-    arguments.push(Argument::Value(0, Box::new(alloc, value)?))?;
-    Ok(Expression::Call(0, arguments))
+    arguments
+        .push(Argument::Value(0, Box::new(alloc, value).expect(rt, "memory")))
+        .expect(rt, "memory");
+    Expression::Call(0, arguments)
 }
 
 /// A reference to it with a number less than the dummy.
-fn before(alloc: Global, number: i64) -> Result<Expression, AllocError> {
+fn before(rt: &impl Abort, alloc: Global, number: i64) -> Expression {
     let less = operate(
+        rt,
         alloc,
         BinaryOperator::Subtract,
-        given(alloc)?,
+        given(rt, alloc),
         literal(number),
-    )?;
-    called(alloc, less)
+    );
+    called(rt, alloc, less)
 }
 
 /// Whether the dummy is less than a number.
-fn is_less(alloc: Global, number: i64) -> Result<Expression, AllocError> {
-    let left = Box::new(alloc, given(alloc)?)?;
-    let right = Box::new(alloc, literal(number))?;
-    Ok(Expression::Binary(BinaryOperator::Less, Base::Logical, left, right))
+fn is_less(rt: &impl Abort, alloc: Global, number: i64) -> Expression {
+    let left = Box::new(alloc, given(rt, alloc)).expect(rt, "memory");
+    let right = Box::new(alloc, literal(number)).expect(rt, "memory");
+    Expression::Binary(BinaryOperator::Less, Base::Logical, left, right)
 }
 
 /// The dummy where it is less than 2, else the sum of the two values before it.
-fn numbers(alloc: Global) -> Result<Procedure, AllocError> {
-    let first = Box::new(alloc, assign(alloc, 0, given(alloc)?)?)?;
+fn numbers(rt: &impl Abort, alloc: Global) -> Procedure {
+    let first = Box::new(alloc, assign(rt, alloc, 0, given(rt, alloc))).expect(rt, "memory");
     let sum = operate(
+        rt,
         alloc,
         BinaryOperator::Add,
-        before(alloc, 1)?,
-        before(alloc, 2)?,
-    )?;
-    let others = Box::new(alloc, assign(alloc, 0, sum)?)?;
-    let body = at(alloc, Statement::If(is_less(alloc, 2)?, first, others))?;
-    procedure(alloc, Intent::In, Some(integer(alloc)), body)
+        before(rt, alloc, 1),
+        before(rt, alloc, 2),
+    );
+    let others = Box::new(alloc, assign(rt, alloc, 0, sum)).expect(rt, "memory");
+    let body = at(
+        rt,
+        alloc,
+        Statement::If(is_less(rt, alloc, 2), first, others),
+    );
+    procedure(rt, alloc, Intent::In, Some(integer(alloc)), body)
 }
 
 /// A program that takes a value of this function.
-fn recursive(alloc: Global) -> Result<Program, AllocError> {
-    let taken = assign(alloc, 0, called(alloc, literal(22))?)?;
-    let all = block(alloc, taken, print(alloc, 0)?)?;
-    let mut program = of(alloc, 0, all)?;
-    program.procedures.push(numbers(alloc)?)?;
-    Ok(program)
+fn recursive(rt: &impl Abort, alloc: Global) -> Program {
+    let taken = assign(rt, alloc, 0, called(rt, alloc, literal(22)));
+    let all = block(rt, alloc, taken, print(rt, alloc, 0));
+    let mut program = of(rt, alloc, 0, all);
+    program
+        .procedures
+        .push(numbers(rt, alloc))
+        .expect(rt, "memory");
+    program
 }
 
 #[test]
 fn function_that_calls_itself(rt: HostRuntime) -> Result<(), Fail> {
-    let program = recursive(rt.alloc())?;
-    let text = acts(rt.alloc(), &program)?;
+    let program = recursive(&rt, rt.alloc());
+    let text = acts(&rt, rt.alloc(), &program);
     drop(program);
     let expected =
         "fixed 3 22 | 0\nlend 4 3\ncall 0 4 | 4\ncopy small 0 3 | 4\nprint 0 | 4\nbyte 10 | 1\nfinish | 2\njump 8 | 4\nget by 3 1 | 0\nif at least 3 2 13 | 6\nget by 3 1 | 0\ncopy small 0 3 | 6\njump 22 | 1\nget by 3 1 | 0\nadd fixed 3 3 -1 | 0\nlend 4 3\ncall 1 4 | 7\nget by 4 1 | 0\nadd fixed 4 4 -2 | 0\nlend 5 4\ncall 2 5 | 7\nadd 0 3 4 | 5\nreturn 0 | 6\n";
@@ -499,25 +554,27 @@ fn function_that_calls_itself(rt: HostRuntime) -> Result<(), Fail> {
 }
 
 /// A program that calls a subroutine in a loop, which adds to its dummy.
-fn adding(alloc: Global) -> Result<Program, AllocError> {
-    let sum = operate(alloc, BinaryOperator::Add, given(alloc)?, literal(3))?;
-    let body = at(alloc, Statement::Assign(dummy(), INTEGER, sum))?;
+fn adding(rt: &impl Abort, alloc: Global) -> Program {
+    let sum = operate(rt, alloc, BinaryOperator::Add, given(rt, alloc), literal(3));
+    let body = at(rt, alloc, Statement::Assign(dummy(), INTEGER, sum));
     let mut arguments = Vec::new(alloc);
-    arguments.push(Argument::Variable(0, Box::new(alloc, variable(2))?))?;
-    let call = at(alloc, Statement::Call(Expression::Call(0, arguments)))?;
-    let turns = count(alloc, 0, call)?;
-    let first = block(alloc, assign(alloc, 2, literal(0))?, turns)?;
-    let all = block(alloc, first, print(alloc, 2)?)?;
-    let mut program = of(alloc, 0, all)?;
-    let added = procedure(alloc, Intent::InOut, None, body)?;
-    program.procedures.push(added)?;
-    Ok(program)
+    arguments
+        .push(Argument::Variable(0, Box::new(alloc, variable(2)).expect(rt, "memory")))
+        .expect(rt, "memory");
+    let call = at(rt, alloc, Statement::Call(Expression::Call(0, arguments)));
+    let turns = count(rt, alloc, 0, call);
+    let first = block(rt, alloc, assign(rt, alloc, 2, literal(0)), turns);
+    let all = block(rt, alloc, first, print(rt, alloc, 2));
+    let mut program = of(rt, alloc, 0, all);
+    let added = procedure(rt, alloc, Intent::InOut, None, body);
+    program.procedures.push(added).expect(rt, "memory");
+    program
 }
 
 #[test]
 fn subroutine_in_a_loop(rt: HostRuntime) -> Result<(), Fail> {
-    let program = adding(rt.alloc())?;
-    let text = acts(rt.alloc(), &program)?;
+    let program = adding(&rt, rt.alloc());
+    let text = acts(&rt, rt.alloc(), &program);
     drop(program);
     let expected =
         "fixed 2 0 | 5\nfixed 3 1 | 0\nfixed 4 10 | 0\nfixed 5 1 | 0\ncount 0 3 3 4 5 | 10\nnext 3 9 | 1\nlend 5 2\ncall 0 5 | 4\nagain 0 3 6 | 6\nprint 2 | 5\nbyte 10 | 1\nfinish | 2\njump 13 | 4\nget by 2 0 | 0\nadd fixed 2 2 3 | 0\nset by 0 2 | 8\nreturn | 6\n";
