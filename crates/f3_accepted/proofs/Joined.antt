@@ -1,6 +1,6 @@
 -- The answers of the phases, joined.
 use Rattle.std.proofs.Common.{◌≡◌, List, Err, sym, subst}
-use Rattle.f3_rules.specs.declared.source.Source.{Source}
+use Rattle.f3_places.specs.declared.source.Source.{Source}
 use Rattle.f3_rules.specs.declared.breaks.Break.{Break}
 use Rattle.f3_rules.specs.declared.refusal.Refusal.{Refusal}
 use Rattle.f3_text.specs.declared.statement.TextFault.{TextFault}

@@ -1,6 +1,6 @@
 -- What is accepted.
 use Rattle.std.specs.Prelude.{List}
-use Rattle.f3_rules.specs.declared.source.Source.{Source}
+use Rattle.f3_places.specs.declared.source.Source.{Source}
 use Rattle.f3_rules.specs.declared.breaks.Break.{Break}
 use Rattle.f3_tree.specs.Tree.{Tree}
 use Rattle.f3_parse.specs.Spells.{Spells}

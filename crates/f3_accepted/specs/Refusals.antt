@@ -1,6 +1,6 @@
 -- What is accepted, and what is refused first.
 use Rattle.std.specs.Prelude.{◌≡◌, List, Result, Ok, Err, Some}
-use Rattle.f3_rules.specs.declared.source.Source.{Source}
+use Rattle.f3_places.specs.declared.source.Source.{Source}
 use Rattle.f3_rules.specs.declared.breaks.Break.{Break}
 use Rattle.f3_rules.specs.declared.refusal.Refusal.{Refusal}
 use Rattle.f3_rules.specs.Least.{Least}

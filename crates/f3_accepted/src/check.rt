@@ -14,7 +14,7 @@ use crate::checked::Checked;
 use f3_graph::{CheckFault, UnitOrder, order};
 use f3_names::table::Names;
 use f3_parse::parser::parse;
-use f3_rules::source::Source;
+use f3_places::source::Source;
 use f3_text::statement::TextFault;
 use f3_tree::program::Program;
 use f3_types::table::Types;

@@ -1,12 +1,12 @@
 -- What is accepted breaks no rule, so its entities agree and its elaborated program is lawful.
 use Rattle.std.proofs.Common.{ℕ, List, inl, Contains}
 use Rattle.f3_rules.specs.declared.breaks.Break.{Break}
-use Rattle.f3_rules.specs.declared.source.Source.{Source}
+use Rattle.f3_places.specs.declared.source.Source.{Source}
 use Rattle.f3_tree.specs.Tree.{Tree}
 use Rattle.f3_scopes.specs.Scopes.{scopes_of}
 use Rattle.f3_scope_rules.specs.ScopeBreaks.{ScopeBreaks}
 use Rattle.f3_name_rules.specs.NameBreaks.{NameBreaks}
-use Rattle.f3_access.specs.declared.table.Lookup.{Lookup}
+use Rattle.f3_lookups.specs.declared.lookup.Lookup.{Lookup}
 use Rattle.f3_graph.specs.Order.{IsOrderOf}
 use Rattle.f3_graph.specs.Units.{nodes_of}
 use Rattle.f3_type_rules.specs.Program.{program_breaks}

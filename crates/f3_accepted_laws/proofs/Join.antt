@@ -3,7 +3,7 @@ use Rattle.std.proofs.Common.{◌≡◌, ℕ, List}
 use Rattle.f3_rules.specs.declared.breaks.Break.{Break}
 use Rattle.f3_tree.specs.Tree.{Tree}
 use Rattle.f3_scopes.specs.Scopes.{scopes_of}
-use Rattle.f3_access.specs.declared.table.Lookup.{Lookup}
+use Rattle.f3_lookups.specs.declared.lookup.Lookup.{Lookup}
 use Rattle.f3_name_rules.specs.NameBreaks.{NameBreaks}
 use Rattle.f3_program.specs.declared.program.Program.{Program}
 use Rattle.f3_type_rules.specs.Members.{Member, Numbered}

@@ -1,7 +1,7 @@
 -- No source spells a type definition in a procedure.
 use Rattle.std.proofs.Common.{sym, subst, zero, suc, false, List, [], ◌∷◌, Option, Some, None}
-use Rattle.f3_rules.specs.declared.source.Place.{Place}
-use Rattle.f3_rules.specs.declared.source.Source.{Source}
+use Rattle.f3_places.specs.declared.source.Place.{Place}
+use Rattle.f3_places.specs.declared.source.Source.{Source}
 use Rattle.f3_tree.specs.declared.program.UnitKind.{UnitKind}
 use Rattle.f3_tree.specs.declared.program.UnitKind.TheVariants.{Module, Program}
 use Rattle.f3_tree.specs.Declarations.{SpecificationTree, defines}

@@ -1,8 +1,8 @@
 -- What is accepted is lawful.
 use Rattle.std.specs.Prelude.{◌≡◌, ℕ, List}
-use Rattle.f3_rules.specs.declared.source.Source.{Source}
+use Rattle.f3_places.specs.declared.source.Source.{Source}
 use Rattle.f3_tree.specs.Tree.{Tree}
-use Rattle.f3_access.specs.declared.table.Lookup.{Lookup}
+use Rattle.f3_lookups.specs.declared.lookup.Lookup.{Lookup}
 use Rattle.f3_graph.specs.Order.{IsOrderOf}
 use Rattle.f3_graph.specs.Units.{nodes_of}
 use Rattle.f3_program.specs.declared.program.Program.{Program}

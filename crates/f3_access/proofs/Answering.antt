@@ -10,9 +10,9 @@ use Rattle.std.proofs.lemmas.Option.{slice_get_cases, slice_get_within, slice_ge
 use Rattle.indexmap.specs.IndexSet.{insert_all}
 use Rattle.std.specs.Option.{option_map}
 use Rattle.f3_scopes.specs.Outlines.{Scope}
-use Rattle.f3_access.specs.declared.table.Visible.{Visible}
-use Rattle.f3_access.specs.declared.table.Lookup.{Lookup}
-use Rattle.f3_access.specs.declared.table.Lookup.TheVariants.{One, Nothing, Several}
+use Rattle.f3_lookups.specs.declared.lookup.Visible.{Visible}
+use Rattle.f3_lookups.specs.declared.lookup.Lookup.{Lookup}
+use Rattle.f3_lookups.specs.declared.lookup.Lookup.TheVariants.{One, Nothing, Several}
 use Rattle.f3_access.specs.declared.table.ScopeTable.{ScopeTable}
 use Rattle.f3_selecting.specs.declared.choosing.Accesses.{Accesses}
 use Rattle.f3_access.specs.Hosts.{host_of, HostsBefore, outward}

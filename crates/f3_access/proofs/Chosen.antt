@@ -6,7 +6,7 @@ use Rattle.std.proofs.lemmas.Map.Views.{exact_unsigned_eq}
 use Rattle.indexmap.specs.IndexMap.{get}
 use Rattle.f3_scopes.specs.declared.outline.UseItem.{UseItem}
 use Rattle.f3_scopes.specs.Outlines.{Using}
-use Rattle.f3_access.specs.declared.table.Visible.{Visible}
+use Rattle.f3_lookups.specs.declared.lookup.Visible.{Visible}
 use Rattle.f3_selecting.specs.declared.selecting.Selected.{Selected}
 use Rattle.f3_selecting.specs.declared.selecting.Selections.{Selections}
 use Rattle.f3_access.specs.Listing.{pair, items_of, is_open, names_alone, renames, locals_of, is_kept, called}

@@ -1,9 +1,9 @@
 -- One, none or several entities stand in a table under a name.
 use Rattle.std.proofs.Common.{◌≡◌, ℕ, List, [], ◌∷◌, refl, sym, ap, ◌∙◌, Bool, true, false, if◌then◌else◌, ◌==◌, ◌⊎◌, inl, inr, Contains}
 use Rattle.std.proofs.lemmas.Bool.{eqb-true, eqb-false}
-use Rattle.f3_access.specs.declared.table.Visible.{Visible}
-use Rattle.f3_access.specs.declared.table.Lookup.{Lookup}
-use Rattle.f3_access.specs.declared.table.Lookup.TheVariants.{One, Nothing, Several}
+use Rattle.f3_lookups.specs.declared.lookup.Visible.{Visible}
+use Rattle.f3_lookups.specs.declared.lookup.Lookup.{Lookup}
+use Rattle.f3_lookups.specs.declared.lookup.Lookup.TheVariants.{One, Nothing, Several}
 use Rattle.f3_access.specs.Lookups.{ResolvesAs}
 use Rattle.f3_access.specs.Parts.{note, meaning}
 use Rattle.f3_selecting.proofs.Members.{Has, has_of, contains_of}

@@ -9,7 +9,7 @@ use Rattle.std.proofs.lemmas.Option.{slice_get-get_or, slice_get_past, slice_get
 use Rattle.indexmap.specs.IndexSet.{insert_all, insert_key}
 use Rattle.f3_scopes.specs.declared.outline.Outline.{Outline}
 use Rattle.f3_scopes.specs.Outlines.{Scope, Using, scope_view}
-use Rattle.f3_access.specs.declared.table.Visible.{Visible}
+use Rattle.f3_lookups.specs.declared.lookup.Visible.{Visible}
 use Rattle.f3_access.specs.declared.table.ScopeTable.{ScopeTable}
 use Rattle.f3_selecting.specs.declared.choosing.Accesses.{Accesses}
 use Rattle.f3_access.specs.Access.{entities_of, first_entity, IsUnitOrder}

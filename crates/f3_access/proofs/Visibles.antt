@@ -11,7 +11,7 @@ use Rattle.f3_tree.specs.declared.expression.Name.{Name}
 use Rattle.f3_scopes.specs.declared.outline.ScopeKind.TheVariants.{Module}
 use Rattle.f3_scopes.specs.declared.outline.UseItem.{UseItem}
 use Rattle.f3_scopes.specs.Outlines.{Scope, Own, Using, Listed}
-use Rattle.f3_access.specs.declared.table.Visible.{Visible}
+use Rattle.f3_lookups.specs.declared.lookup.Visible.{Visible}
 use Rattle.f3_access.specs.declared.table.ScopeTable.{ScopeTable}
 use Rattle.f3_access.specs.Access.{first_entity, IsModule, IsNamed, IsPrivate, IsCalled, Brings, IsOwn, IsExported, IsUsed, IsUnitOrder, ModulesDiffer}
 use Rattle.f3_scopes.specs.Kinds.{is_module}

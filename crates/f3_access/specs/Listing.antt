@@ -7,7 +7,7 @@ use Rattle.f3_scopes.specs.declared.outline.ScopeKind.TheVariants.{Module, Progr
 use Rattle.f3_scopes.specs.declared.outline.UseItem.{UseItem}
 use Rattle.f3_scopes.specs.Kinds.{is_module}
 use Rattle.f3_scopes.specs.Outlines.{Scope, Own, Using}
-use Rattle.f3_access.specs.declared.table.Visible.{Visible}
+use Rattle.f3_lookups.specs.declared.lookup.Visible.{Visible}
 use Rattle.f3_access.specs.Access.{first_entity}
 pub use Rattle.f3_selecting.specs.Sources.{modules_of, module_from}
 pub use Rattle.f3_selecting.specs.Private.{is_private}

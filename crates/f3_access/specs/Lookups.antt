@@ -1,7 +1,7 @@
 -- What is visible under a name: one entity, none, or several.
 use Rattle.std.specs.Prelude.{◌≡◌, ◌≢◌, ℕ}
-use Rattle.f3_access.specs.declared.table.Lookup.{Lookup}
-use Rattle.f3_access.specs.declared.table.Lookup.TheVariants.{One, Nothing, Several}
+use Rattle.f3_lookups.specs.declared.lookup.Lookup.{Lookup}
+use Rattle.f3_lookups.specs.declared.lookup.Lookup.TheVariants.{One, Nothing, Several}
 
 abbrev pub ResolvesAs : Lookup → (ℕ → Type 0) → Type 0
 ResolvesAs (One e) Is = Is e × ((d : ℕ) → Is d → d ≡ e)

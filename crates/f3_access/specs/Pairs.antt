@@ -1,6 +1,6 @@
 -- What a walk over what is visible in a scope has left.
 use Rattle.std.specs.Prelude.{ℕ, List, ◌++◌, Option, None, Some, []}
-use Rattle.f3_access.specs.declared.table.Visible.{Visible}
+use Rattle.f3_lookups.specs.declared.lookup.Visible.{Visible}
 use Rattle.f3_access.specs.declared.table.ScopeTable.{ScopeTable}
 use Rattle.f3_access.specs.declared.pairs.VisiblePairs.{VisiblePairs}
 use Rattle.f3_access.specs.Hosts.{outward}

@@ -7,9 +7,9 @@ use Rattle.indexmap.specs.IndexSet.{insert_all}
 use Rattle.f3_scopes.specs.Outlines.{Scope}
 use Rattle.f3_selecting.specs.Private.{makes_private}
 use Rattle.f3_selecting.specs.Places.{places_in}
-use Rattle.f3_access.specs.declared.table.Visible.{Visible}
-use Rattle.f3_access.specs.declared.table.Lookup.{Lookup}
-use Rattle.f3_access.specs.declared.table.Lookup.TheVariants.{One, Nothing, Several}
+use Rattle.f3_lookups.specs.declared.lookup.Visible.{Visible}
+use Rattle.f3_lookups.specs.declared.lookup.Lookup.{Lookup}
+use Rattle.f3_lookups.specs.declared.lookup.Lookup.TheVariants.{One, Nothing, Several}
 use Rattle.f3_access.specs.declared.table.ScopeTable.{ScopeTable}
 use Rattle.f3_selecting.specs.declared.choosing.Accesses.{Accesses}
 use Rattle.f3_access.specs.Hosts.{host_of, HostsBefore, outward}

@@ -2,8 +2,8 @@
 use Rattle.std.specs.Prelude.{ℕ, List, Option, Bool, nat_eq, slice_get}
 use Rattle.indexmap.specs.IndexMap.{get}
 use Rattle.f3_scopes.specs.Outlines.{Scope}
-use Rattle.f3_access.specs.declared.table.Visible.{Visible}
-use Rattle.f3_access.specs.declared.table.Lookup.{Lookup}
+use Rattle.f3_lookups.specs.declared.lookup.Visible.{Visible}
+use Rattle.f3_lookups.specs.declared.lookup.Lookup.{Lookup}
 use Rattle.f3_access.specs.declared.table.Tables.{Tables}
 use Rattle.f3_access.specs.Parts.{own_at, exports_at, used_in, host_at, visible_at, lookup_at, private_in, AreTablesOf}
 

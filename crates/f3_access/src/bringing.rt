@@ -11,7 +11,8 @@ ghost use Rattle.f3_access.specs.Inner.Calling.{called_by, OnlyNamed};
 ghost use Rattle.f3_access.specs.Parts.{exports_at, HasPlaces};
 ghost use Rattle.f3_access.specs.Inner.Walk.{unseen, RestIsSilent};
 
-use crate::table::{ScopeTable, Visible};
+use crate::table::ScopeTable;
+use f3_lookups::lookup::Visible;
 use f3_scopes::outline::UseOutline;
 use f3_selecting::places::sorted_places;
 use f3_selecting::selecting::{Selections, kept_by, locals_by, names_of, selections_of};

@@ -6,7 +6,7 @@ ghost use Rattle.indexmap.specs.IndexSet.{insert_all};
 ghost use Rattle.indexmap.specs.IndexMap.{get};
 ghost use Rattle.f3_scopes.specs.Outlines.{using_view, scope_view};
 ghost use Rattle.f3_scopes.specs.Kinds.{is_module};
-ghost use Rattle.f3_access.specs.declared.table.Lookup.TheVariants.{Nothing};
+ghost use Rattle.f3_lookups.specs.declared.lookup.Lookup.TheVariants.{Nothing};
 ghost use Rattle.f3_access.specs.Listing.{same_pair, brought};
 ghost use Rattle.f3_selecting.specs.Private.{is_private, makes_private};
 ghost use Rattle.f3_selecting.specs.Places.{places_in};
@@ -14,7 +14,8 @@ ghost use Rattle.f3_access.specs.Parts.{note, meaning, found, exports_at, places
 
 use crate::bringing::used_by;
 use crate::exporting::exported;
-use crate::table::{Lookup, ScopeTable, Visible};
+use crate::table::ScopeTable;
+use f3_lookups::lookup::{Lookup, Visible};
 use f3_scopes::outline::{Outline, ScopeKind, UseOutline};
 use f3_selecting::choosing::Accesses;
 use f3_selecting::places::add_place;

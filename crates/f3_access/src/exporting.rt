@@ -4,7 +4,7 @@ ghost use Rattle.std.specs.Prelude.{◌≡◌, [], not, IfOk, filter, if◌then�
 ghost use Rattle.f3_scopes.specs.Kinds.{is_module};
 ghost use Rattle.f3_selecting.specs.Private.{makes_private};
 
-use crate::table::Visible;
+use f3_lookups::lookup::Visible;
 use f3_scopes::outline::ScopeKind;
 use f3_selecting::choosing::{Accesses, is_private};
 use std::alloc::{AllocError, Global};

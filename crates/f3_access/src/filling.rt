@@ -13,7 +13,8 @@ ghost use Rattle.f3_access.specs.Tables.{AreTables};
 ghost use Rattle.f3_selecting.specs.Private.{AreAccesses};
 
 use crate::building::table_of;
-use crate::table::{ScopeTable, Tables, Visible};
+use crate::table::{ScopeTable, Tables};
+use f3_lookups::lookup::Visible;
 use f3_scopes::outline::{Declared, Outline, ScopeKind};
 use f3_selecting::choosing::{Accesses, all_accesses};
 use f3_selecting::modules::modules_by_name;

@@ -5,7 +5,8 @@ ghost use Rattle.f3_access.specs.Parts.{is_number, holder_at, seen_in};
 ghost use Rattle.f3_access.specs.Pairs.{seen_behind};
 
 use crate::reading::{holder, host, own};
-use crate::table::{Tables, Visible};
+use crate::table::Tables;
+use f3_lookups::lookup::Visible;
 
 /// What is visible in a scope, each entity once under each name: its own, then what is visible around it under names that
 /// none of its own has, in their order (own rule). The walk takes no memory. It looks at each pair of the scope and of those

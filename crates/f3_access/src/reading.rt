@@ -8,7 +8,8 @@ ghost use Rattle.f3_access.specs.Parts.{host_in, lookup_in, is_nothing, holder_a
 ghost use Rattle.f3_access.specs.Tables.{own_of, exports_of, used_of, visible_of, lookup_of, private_of, module_of, host_of};
 
 use crate::pairs::VisiblePairs;
-use crate::table::{Lookup, Tables, Visible};
+use crate::table::Tables;
+use f3_lookups::lookup::{Lookup, Visible};
 use f3_selecting::choosing;
 
 /// What a scope has of its own, each entity once under each name: what its USE statements bring, in the order of the

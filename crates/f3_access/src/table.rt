@@ -4,31 +4,9 @@ ghost use Rattle.std.specs.Prelude.{nat_eq};
 ghost use Rattle.indexmap.specs.IndexMap.{get};
 ghost use Rattle.f3_access.specs.Parts.{AreOfScopes};
 
+use f3_lookups::lookup::{Lookup, Visible};
 use f3_selecting::choosing::Accesses;
 use indexmap::{IndexMap, IndexSet};
-
-/// An entity by its number: its place, from 0, among the declarations of all scopes, scope by scope.
-pub type EntityId = usize;
-
-/// A name of a scope, and an entity that it has there.
-#[derive(Clone, Copy, PartialEq, Eq, Hash, Debug)]
-pub struct Visible {
-    /// The number of the name among the names of the program.
-    pub symbol: usize,
-    /// The number of the entity.
-    pub entity: EntityId,
-}
-
-/// What is visible under a name.
-#[derive(Clone, Copy, PartialEq, Eq, Debug)]
-pub enum Lookup {
-    /// One entity, by its number.
-    One(EntityId),
-    /// No entity.
-    Nothing,
-    /// Two entities or more.
-    Several,
-}
 
 /// The table of one scope. Only this crate makes one.
 #[derive(Drop)]

@@ -11,11 +11,11 @@ ghost use Rattle.f3_typed_parts.specs.Known.{context_of, nature_of};
 
 use crate::kinds::kind;
 use f3_access::lookup;
-use f3_access::table::Lookup;
 use f3_expression_nodes::expressions::{expression, given};
 use f3_expression_parts::arguments::arguments_for;
 use f3_expression_parts::selections::{itself, named};
 use f3_kinds::things::{Intrinsic, Signature, Thing};
+use f3_lookups::lookup::Lookup;
 use f3_numbers::surroundings::Surroundings;
 use f3_program::expression as program;
 use f3_program::statement::Statement;

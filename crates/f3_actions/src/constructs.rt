@@ -11,9 +11,9 @@ ghost use Rattle.f3_actions.specs.Inner.Readings.{HasColon, EatsCaseBehind};
 ghost use Rattle.f3_actions.specs.Actions.{EatsCondition, IsCondition, IsThen, ends_value, EatsCase, AreCases, IsCaseList, IsDefault, AreValues, IsCase, EatsStepPerhaps, IsSteps, IsCounted, IsWhile, IsControl, IsDo, EatsAssociation, AreAssociations, IsAssociate};
 
 use f3_expressions::expressions::expression;
+use f3_places::source::Place;
 use f3_reading::lists::{list, perhaps};
 use f3_reading::signs::{behind, is_over, name, skip};
-use f3_rules::source::Place;
 use f3_tree::expression::Expression;
 use f3_tree::statement::{Association, CaseValue, Control, Selector};
 use f3_words::error::ReadError;

@@ -17,10 +17,10 @@ ghost use Rattle.f3_sites.specs.Sites.{site_of};
 
 use crate::moving::move_allocation;
 use f3_access::lookup;
-use f3_access::table::Lookup;
 use f3_definable::definable::definition;
 use f3_kinds::said::Given;
 use f3_kinds::things::{Dummy, Intrinsic, Thing};
+use f3_lookups::lookup::Lookup;
 use f3_references::arguments::{call, within_count};
 use f3_rules::breaks::Break;
 use f3_rules::rule::Rule;

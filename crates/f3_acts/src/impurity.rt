@@ -10,11 +10,11 @@ ghost use Rattle.f3_sites.specs.Sites.{site_of};
 ghost use Rattle.f3_acts.specs.Inner.Rows.{is_pure_nature, is_pure_meaning};
 
 use f3_access::lookup;
-use f3_access::table::Lookup;
 use f3_kinds::things::Thing;
+use f3_lookups::lookup::Lookup;
+use f3_places::source::Place;
 use f3_rules::breaks::Break;
 use f3_rules::rule::Rule;
-use f3_rules::source::Place;
 use f3_sites::site::Site;
 use f3_tree::expression::Name;
 use f3_tree::statement::Action;

@@ -3,7 +3,7 @@ use Rattle.std.proofs.Common.{◌≡◌, ℕ, suc, Bool, true, false, not, List,
 use Rattle.std.specs.Prelude.{slice_get}
 use Rattle.std.specs.List.{flat_map}
 use mathlib.Core.Path.{subst}
-use Rattle.f3_access.specs.declared.table.Lookup.{Lookup}
+use Rattle.f3_lookups.specs.declared.lookup.Lookup.{Lookup}
 use Rattle.f3_access.specs.Access.{first_entity}
 use Rattle.f3_rules.specs.declared.breaks.Break.{Break}
 use Rattle.f3_rules.specs.declared.rule.Rule.TheVariants.{N9}

@@ -1,7 +1,7 @@
 -- What the rules on types know of the entities of a program that breaks no rule, and what its elaboration says of them.
 use Rattle.std.specs.Prelude.{◌≡◌, ℕ, Bool, List, Some, map}
 use Rattle.std.specs.List.{flat_map}
-use Rattle.f3_access.specs.declared.table.Lookup.{Lookup}
+use Rattle.f3_lookups.specs.declared.lookup.Lookup.{Lookup}
 use Rattle.f3_access.specs.Access.{IsVisible}
 use Rattle.f3_graph.specs.Order.{IsOrderOf}
 use Rattle.f3_graph.specs.Units.{nodes_of}

@@ -1,6 +1,6 @@
 -- What breaks no rule, and has no type definition in a procedure, as no source spells one there.
 use Rattle.std.specs.Prelude.{◌≡◌, ℕ, List, Some, Contains, slice_get}
-use Rattle.f3_access.specs.declared.table.Lookup.{Lookup}
+use Rattle.f3_lookups.specs.declared.lookup.Lookup.{Lookup}
 use Rattle.f3_access.specs.Access.{IsVisible}
 use Rattle.f3_access.specs.Lookups.{Resolves}
 use Rattle.f3_graph.specs.Order.{IsOrderOf}

@@ -1,6 +1,6 @@
 -- What instructions about allocation come to.
 use Rattle.std.specs.Prelude.{⊤, ◌≡◌, ℕ, Bool, false, ◌||◌, nat_lt, List, [], Option, None, Some, Result, Ok, Err, if◌then◌else◌, length}
-use Rattle.f3_rules.specs.declared.source.Place.{Place}
+use Rattle.f3_places.specs.declared.source.Place.{Place}
 use Rattle.f3_program.specs.declared.program.Program.{Program}
 use Rattle.f3_program.specs.declared.declarations.Base.{Base}
 use Rattle.f3_meaning_whole.specs.Value as m

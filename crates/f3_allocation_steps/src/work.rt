@@ -1,7 +1,7 @@
 //! What is freed, and the parts of objects on which work goes on.
 
 ghost use Rattle.std.specs.Prelude.{◌≡◌, ◌<◌, ◌^◌, IfOk, Some, length, slice_get, None};
-ghost use Rattle.f3_rules.specs.declared.source.Place.{Place};
+ghost use Rattle.f3_places.specs.declared.source.Place.{Place};
 ghost use Rattle.f3_meaning_whole.specs.Reference as r;
 ghost use Rattle.f3_meaning_whole.specs.Reference.{paths};
 ghost use Rattle.f3_meaning_whole.specs.Act.{moved};
@@ -25,8 +25,8 @@ use f3_located::elements::{count, element_path, place_at};
 use f3_located::parts::{component, contents};
 use f3_located::pins::is_pinned;
 use f3_meaning_whole::run_error::RunError;
+use f3_places::source::Place;
 use f3_program::declarations::Base;
-use f3_rules::source::Place;
 use std::alloc::{AllocError, Global};
 
 /// The object is unallocated (ISO/IEC 1539-1:2004, 6.3.3).

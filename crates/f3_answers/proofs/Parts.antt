@@ -1,7 +1,7 @@
 -- The parts of instructions that any answers of a heap can follow.
 use Rattle.std.proofs.Common.{ℕ, zero, suc, ℤ, pos, negsuc, Bool, List, [], ◌∷◌, Option, None, Some}
 use Rattle.std.specs.Prelude.{int_le, ◌-ℤ◌, ◌||◌, nat_lt}
-use Rattle.f3_rules.specs.declared.source.Place.{Place}
+use Rattle.f3_places.specs.declared.source.Place.{Place}
 use Rattle.f3_program.specs.declared.declarations.Base.{Base}
 use Rattle.f3_program.specs.declared.declarations.Declared.{Declared}
 use Rattle.f3_program.specs.declared.expression.BinaryOperator.{BinaryOperator}

@@ -1,6 +1,6 @@
 -- What instructions do, where any answers of a heap can follow.
 use Rattle.std.proofs.Common.{◌≡◌, ℕ, zero, suc, ℤ, Bool, true, false, List, [], ◌∷◌, Option, None, Some, refl, ap, ◌∙◌, if◌then◌else◌}
-use Rattle.f3_rules.specs.declared.source.Place.{Place}
+use Rattle.f3_places.specs.declared.source.Place.{Place}
 use Rattle.f3_meaning_whole.specs.Value.{Span, Value}
 use Rattle.f3_meaning_whole.specs.Store.{Store, Path}
 use Rattle.f3_meaning_whole.specs.Reference.{Reference}

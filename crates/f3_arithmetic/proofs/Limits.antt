@@ -5,7 +5,7 @@ use Rattle.std.specs.Int.{w64}
 use Rattle.std.specs.Int.RustNames.{FitsSigned}
 use Rattle.std.proofs.lemmas.Bool.Decides.{nat_tests}
 use Rattle.std.proofs.lemmas.Int.{ints}
-use Rattle.f3_rules.specs.declared.source.Place.{Place}
+use Rattle.f3_places.specs.declared.source.Place.{Place}
 use Rattle.f3_meaning_whole.specs.Value.{Value, Number}
 use Rattle.f3_meaning_whole.specs.Arithmetic.{fits, converted, divided, is_zero, floor_rem, is_even, raised, power}
 use Rattle.f3_meaning_whole.specs.Ran.{Ran, gives, fails}

@@ -1,7 +1,7 @@
 //! Operations on whole numbers: each answers one of its type, or the error that ends the run.
 
 ghost use Rattle.std.specs.Prelude.{◌≡◌, pos, negsuc, ◌+ℤ◌, ◌-ℤ◌, ◌*ℤ◌, ◌<ℤ◌, ◌≤ℤ◌, neg_ℤ, nat_abs, unsigned_abs, int_div, int_rem};
-ghost use Rattle.f3_rules.specs.declared.source.Place.{Place};
+ghost use Rattle.f3_places.specs.declared.source.Place.{Place};
 ghost use Rattle.f3_meaning_whole.specs.Value.{Number};
 ghost use Rattle.f3_meaning_whole.specs.Arithmetic.{fits, converted, divided, floor_rem, raised, power};
 ghost use Rattle.f3_arithmetic.specs.Scalars.{base_of, floored, number_ran};

@@ -1,7 +1,7 @@
 //! What operators make of scalars.
 
 ghost use Rattle.std.specs.Prelude.{◌≡◌};
-ghost use Rattle.f3_rules.specs.declared.source.Place.{Place};
+ghost use Rattle.f3_places.specs.declared.source.Place.{Place};
 ghost use Rattle.f3_meaning_whole.specs.Value as v;
 ghost use Rattle.f3_meaning_whole.specs.Arithmetic.{apply, change_of, constant_value, meets, same_number, same_truth};
 ghost use Rattle.f3_arithmetic.specs.Scalars.{base_of, number_ran, scalar_ran};

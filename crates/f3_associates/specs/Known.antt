@@ -1,7 +1,7 @@
 -- What the entities of associate names are known to be.
 use Rattle.std.specs.Prelude.{ℕ, ◌≡◌, List, IsSome}
 use Rattle.std.specs.List.{All}
-use Rattle.f3_access.specs.declared.table.Lookup.TheVariants.{One}
+use Rattle.f3_lookups.specs.declared.lookup.Lookup.TheVariants.{One}
 use Rattle.f3_kinds.specs.declared.said.Said.{Said}
 use Rattle.f3_type_rules.specs.Definitions.{Site}
 

@@ -11,8 +11,8 @@ ghost use Rattle.f3_associates.specs.Known.{IsSettled, AreKnown};
 ghost use Rattle.f3_associates.specs.Inner.Said.{with_said};
 
 use f3_access::lookup;
-use f3_access::table::Lookup;
 use f3_kinds::said::Said;
+use f3_lookups::lookup::Lookup;
 use f3_rules::breaks::Break;
 use f3_sites::site::Site;
 use f3_tree::statement::Association;

@@ -3,7 +3,7 @@ use Rattle.std.proofs.Common.{◌≡◌, ◌<◌, ◌≤◌, ◌+◌, ℕ, Bool,
 use Rattle.std.specs.Prelude.{◌||◌}
 use Rattle.std.specs.Global.{Vec}
 use Rattle.std.proofs.lemmas.List.{reverse-append, at_drop_more, at_drop_all}
-use Rattle.f3_rules.specs.declared.source.Place.{Place}
+use Rattle.f3_places.specs.declared.source.Place.{Place}
 use Rattle.f3_tree.specs.declared.expression.Expression.{Expression}
 use Rattle.f3_tree.specs.declared.statement.Selector.{Selector}
 use Rattle.f3_tree.specs.declared.statement.Control.{Control}

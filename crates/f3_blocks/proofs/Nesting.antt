@@ -2,7 +2,7 @@
 use Rattle.std.proofs.Common.{◌≡◌, Bool, true, false, List, [], ◌∷◌, ◌++◌, map, Option, Some, None, refl, sym, ap, subst, ◌∙◌, append_assoc}
 use Rattle.std.specs.Prelude.{option_and_then}
 use Rattle.std.proofs.lemmas.List.{append-nil}
-use Rattle.f3_rules.specs.declared.source.Place.{Place}
+use Rattle.f3_places.specs.declared.source.Place.{Place}
 use Rattle.f3_tree.specs.Expressions.{Tree}
 use Rattle.f3_tree.specs.Statements.{Act, Selects, StatementTree, acts, acts_if, branches, selects, repeats, associates, Block, no_statements, statements, Branches, no_branches, branch, Alternative, no_alternative, alternative, Cases, no_cases, case_block, block_of}
 use Rattle.f3_form.specs.declared.form.Ended.TheVariants as ended

@@ -1,6 +1,6 @@
 -- What a statement is in a block: a whole statement, or an edge of a construct (8.1).
 use Rattle.std.specs.Prelude.{List, Option, Some, None}
-use Rattle.f3_rules.specs.declared.source.Place.{Place}
+use Rattle.f3_places.specs.declared.source.Place.{Place}
 use Rattle.f3_tree.specs.Expressions.{Tree}
 use Rattle.f3_tree.specs.Statements.{Act, Selects, Controls, AssociationTree}
 use Rattle.f3_form.specs.declared.form.Ended.TheVariants as ended

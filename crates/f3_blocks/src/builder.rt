@@ -11,7 +11,7 @@ ghost use Rattle.f3_blocks.specs.Machine.{Open, start, step, in_loop, may_stand,
 
 use crate::error::{StepError, out_of_place};
 use f3_form::form::{Ended, Form};
-use f3_rules::source::Place;
+use f3_places::source::Place;
 use f3_tree::expression::{Expression, Name};
 use f3_tree::statement::{Action, Association, Control, Selector, Statement};
 use std::alloc::Global;

@@ -3,9 +3,9 @@
 ghost use Rattle.std.specs.Prelude.{◌≡◌};
 ghost use Rattle.f3_breaks.specs.At.{at, at_keyword};
 
+use f3_places::source::Place;
 use f3_rules::breaks::Break;
 use f3_rules::rule::Rule;
-use f3_rules::source::Place;
 use f3_tree::expression::Name;
 
 /// The break of a rule of a phase at a name.

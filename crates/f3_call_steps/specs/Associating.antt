@@ -1,6 +1,6 @@
 -- What it is to begin an ASSOCIATE.
 use Rattle.std.specs.Prelude.{⊤, ◌≡◌, ℕ, ◌+◌, List, ◌∷◌, length, map, Result}
-use Rattle.f3_rules.specs.declared.source.Place.{Place}
+use Rattle.f3_places.specs.declared.source.Place.{Place}
 use Rattle.f3_program.specs.declared.program.Program.{Program}
 use Rattle.f3_meaning_whole.specs.Reference.{Reference}
 use Rattle.f3_meaning_whole.specs.Ran.{World, Entered, effect}

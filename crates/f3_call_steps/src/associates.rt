@@ -1,7 +1,7 @@
 //! The ASSOCIATE construct.
 
 ghost use Rattle.std.specs.Prelude.{◌≡◌, ◌+◌, ◌<◌, ◌^◌, ◌++◌, ◌∷◌, [], IfOk, OnOk, length, map};
-ghost use Rattle.f3_rules.specs.declared.source.Place.{Place};
+ghost use Rattle.f3_places.specs.declared.source.Place.{Place};
 ghost use Rattle.f3_meaning_whole.specs.Value as m;
 ghost use Rattle.f3_meaning_whole.specs.Exec as x;
 ghost use Rattle.f3_meaning_whole.specs.Exec.{associates, held_by};

@@ -14,8 +14,8 @@ use f3_cells::scene::Scene;
 use f3_cells::state::{State, Stop};
 use f3_data::value::Value;
 use f3_meaning_whole::run_error::RunError;
+use f3_places::source::Place;
 use f3_program::program::Procedure;
-use f3_rules::source::Place;
 use std::alloc::Global;
 
 /// How many procedures are active at most (own rule).

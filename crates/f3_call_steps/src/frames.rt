@@ -13,8 +13,8 @@ use crate::arguments::{dummies, held};
 use crate::heres::within_procedure;
 use f3_cells::cell::{Here, Passed};
 use f3_cells::state::{Frame, State};
+use f3_places::source::Place;
 use f3_program::program::{Procedure, Program};
-use f3_rules::source::Place;
 use std::alloc::{AllocError, Global};
 use std::mem::replace;
 

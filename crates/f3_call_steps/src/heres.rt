@@ -13,7 +13,7 @@ use f3_data::copies;
 use f3_data::lent::{Lent, lent_too, shared};
 use f3_data::reference::Reference;
 use f3_data::value::Value;
-use f3_rules::source::Place;
+use f3_places::source::Place;
 use std::alloc::{AllocError, Global};
 
 /// What is lent where these objects are lent too, the first of them last.

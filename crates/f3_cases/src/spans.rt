@@ -5,7 +5,7 @@ ghost use Rattle.f3_type_rules.specs.Cases.{one_span, range_span};
 ghost use Rattle.f3_cases.specs.Inner.Spans.{span_view, from_span, up_to_span};
 
 use f3_kinds::types::Scalar;
-use f3_rules::source::Place;
+use f3_places::source::Place;
 
 /// What a value or a range of values holds.
 #[derive(Clone, Copy)]

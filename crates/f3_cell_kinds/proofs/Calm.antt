@@ -1,6 +1,6 @@
 -- Parts of runs that leave the store as it is, and what they give.
 use Rattle.std.proofs.Common.{◌≡◌, refl, Bool, true, false, List, subst, if◌then◌else◌}
-use Rattle.f3_rules.specs.declared.source.Place.{Place}
+use Rattle.f3_places.specs.declared.source.Place.{Place}
 use Rattle.f3_meaning_whole.specs.Value.{Value}
 use Rattle.f3_meaning_whole.specs.Store.{Store}
 use Rattle.f3_meaning_whole.specs.declared.run_error.RunError.{RunError}

@@ -1,7 +1,7 @@
 -- The kinds of the code of constructs.
 use Rattle.std.proofs.Common.{◌≡◌, ◌∙◌, sym, ap, drop, ℕ, suc, ◌+◌, ◌-◌, true, List, [], ◌∷◌, ◌++◌, length, Option, Some, refl, subst, arith, length-append}
 use Rattle.std.proofs.Math.Seq.{drop-append_seam}
-use Rattle.f3_rules.specs.declared.source.Place.{Place}
+use Rattle.f3_places.specs.declared.source.Place.{Place}
 use Rattle.f3_program.specs.declared.declarations.Kind.{Kind}
 use Rattle.f3_program.specs.declared.statement.Range.{Range}
 use Rattle.f3_program.specs.declared.program.Program.{Program}

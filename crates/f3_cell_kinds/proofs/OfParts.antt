@@ -1,7 +1,7 @@
 -- The kinds of the code of parts of statements.
 use Rattle.std.proofs.Common.{◌≡◌, ap, ℕ, ◌+◌, Bool, true, false, List, [], ◌∷◌, ◌++◌, length, Option, subst, arith, length-append, if◌then◌else◌}
 use Rattle.std.specs.Prelude.{nat_eq, nat_lt}
-use Rattle.f3_rules.specs.declared.source.Place.{Place}
+use Rattle.f3_places.specs.declared.source.Place.{Place}
 use Rattle.f3_program.specs.declared.declarations.Kind.{Kind}
 use Rattle.f3_program.specs.declared.program.Program.{Program}
 use Rattle.f3_meaning_whole.specs.Formed.{only, takes}

@@ -1,7 +1,7 @@
 -- The kinds of the code of work on an object.
 use Rattle.std.proofs.Common.{◌≡◌, refl, ap, ℕ, ◌+◌, ◌-◌, Bool, true, false, not, List, [], ◌∷◌, ◌++◌, length, Option, Some, subst, arith, length-append, if◌then◌else◌}
 use Rattle.std.specs.Prelude.{nat_lt, nat_eq}
-use Rattle.f3_rules.specs.declared.source.Place.{Place}
+use Rattle.f3_places.specs.declared.source.Place.{Place}
 use Rattle.f3_program.specs.declared.declarations.Base.TheVariants as base
 use Rattle.f3_program.specs.declared.declarations.Component.{Component}
 use Rattle.f3_program.specs.declared.declarations.Kind.{Kind}

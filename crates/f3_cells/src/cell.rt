@@ -4,8 +4,8 @@ use f3_data::lent::Lent;
 use f3_data::reference::Reference;
 use f3_data::value::{Span, Value};
 use f3_meaning_whole::run_error::RunError;
+use f3_places::source::Place;
 use f3_program::declarations::Base;
-use f3_rules::source::Place;
 
 /// An argument with its number: a value, or an object (ISO/IEC 1539-1:2004, 12.4.1.2).
 #[derive(Drop)]

@@ -15,7 +15,7 @@ use crate::state::Stop;
 use f3_data::reference::Reference;
 use f3_data::value::{Span, Value};
 use f3_meaning_whole::run_error::RunError;
-use f3_rules::source::Place;
+use f3_places::source::Place;
 
 /// The cell on top, which is taken.
 pub fn pop_any(stack: &mut Vec<Cell>) -> Option<Cell>

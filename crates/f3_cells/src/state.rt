@@ -8,7 +8,7 @@ use crate::cell::{Cell, Here, Passed};
 use crate::stacks::push;
 use f3_data::store::Store;
 use f3_meaning_whole::run_error::RunError;
-use f3_rules::source::Place;
+use f3_places::source::Place;
 use std::alloc::{AllocError, AllocFailed};
 
 /// What a procedure goes back to: the line, the cells and the activation of its caller, the place where it was called, its

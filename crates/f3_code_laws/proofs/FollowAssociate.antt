@@ -1,7 +1,7 @@
 -- The code of an ASSOCIATE follows it, where that of the statements in it does; and so the code of each statement.
 use Rattle.std.proofs.Common.{◌≡◌, ℕ, ◌+◌, List, [], ◌∷◌, ◌++◌, length, Option, Some, refl, ap, ◌∙◌, arith, length-append}
 use Rattle.std.specs.Prelude.{⊤, slice_get}
-use Rattle.f3_rules.specs.declared.source.Place.{Place}
+use Rattle.f3_places.specs.declared.source.Place.{Place}
 use Rattle.f3_meaning_whole.specs.Store.{Store}
 use Rattle.f3_meaning_whole.specs.Reference.{Reference}
 use Rattle.f3_meaning_whole.specs.Ran.{World, Ran, ◌>>=◌, gives, looks}

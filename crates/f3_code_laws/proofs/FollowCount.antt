@@ -1,7 +1,7 @@
 -- The turns of a DO.
 use Rattle.std.proofs.Common.{◌≡◌, ℕ, zero, suc, ◌+◌, ◌-◌, ◌≤◌, ℤ, List, [], ◌∷◌, Option, Some, ap, ◌∙◌, arith}
 use Rattle.std.specs.Prelude.{⊤, slice_get}
-use Rattle.f3_rules.specs.declared.source.Place.{Place}
+use Rattle.f3_places.specs.declared.source.Place.{Place}
 use Rattle.f3_meaning_whole.specs.Ran.{World, Ran, ◌>>=◌, gives}
 use Rattle.f3_meaning_whole.specs.Act.{Setting, Here}
 use Rattle.f3_meaning_whole.specs.Exec.{Flow, Onward, Cycled, Left, Returned, next_turn, counted}

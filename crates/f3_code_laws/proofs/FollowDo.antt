@@ -1,6 +1,6 @@
 -- The code of a DO follows it, where that of its body does.
 use Rattle.std.proofs.Common.{◌≡◌, ℕ, ◌+◌, ◌-◌, ℤ, List, [], ◌∷◌, ◌++◌, length, Option, refl, arith, length-append, ◌+ℤ◌}
-use Rattle.f3_rules.specs.declared.source.Place.{Place}
+use Rattle.f3_places.specs.declared.source.Place.{Place}
 use Rattle.f3_program.specs.declared.declarations.Kind.{Kind}
 use Rattle.f3_program.specs.declared.expression.Designator.{Designator}
 use Rattle.f3_program.specs.declared.expression.Expression.{Expression}

@@ -1,7 +1,7 @@
 -- The code of parts of statements follows them.
 use Rattle.std.proofs.Common.{◌≡◌, ℕ, suc, ◌+◌, Bool, true, false, List, [], ◌∷◌, ◌++◌, length, Option, None, Some, refl, ap, arith, if◌then◌else◌}
 use Rattle.std.specs.Prelude.{slice_get, pos}
-use Rattle.f3_rules.specs.declared.source.Place.{Place}
+use Rattle.f3_places.specs.declared.source.Place.{Place}
 use Rattle.f3_program.specs.declared.expression.Designator.{Designator}
 use Rattle.f3_program.specs.declared.expression.Expression.{Expression}
 use Rattle.f3_program.specs.declared.statement.Bounds.{Bounds}

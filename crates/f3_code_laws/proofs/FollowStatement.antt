@@ -1,7 +1,7 @@
 -- The code of statements follows Core.
 use Rattle.std.proofs.Common.{◌≡◌, ℕ, zero, suc, ◌+◌, ◌-◌, ◌≤◌, Bool, true, false, List, [], ◌∷◌, Option, Some, refl, sym, ap, ◌∙◌, arith, if◌then◌else◌}
 use Rattle.std.specs.Prelude.{slice_get, drop}
-use Rattle.f3_rules.specs.declared.source.Place.{Place}
+use Rattle.f3_places.specs.declared.source.Place.{Place}
 use Rattle.f3_meaning_whole.specs.Value.{Value, truth_of}
 use Rattle.f3_meaning_whole.specs.Ran.{World, Ran, ◌>>=◌, gives, beyond}
 use Rattle.f3_meaning_whole.specs.Act.{Setting, Here, at}

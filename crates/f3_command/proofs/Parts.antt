@@ -8,7 +8,7 @@ use Rattle.f3_graph.specs.declared.CheckFault.{CheckFault}
 use Rattle.f3_graph.specs.declared.CheckFault.TheVariants as fault
 use Rattle.f3_name_table.specs.Answers as table
 use Rattle.f3_accepted.specs.Refusals.{Checks}
-use Rattle.f3_rules.specs.declared.source.Source.{Source}
+use Rattle.f3_places.specs.declared.source.Source.{Source}
 use Rattle.f3_rules.specs.declared.refusal.Refusal.{Refusal}
 use Rattle.f3_accepted.specs.Refusals.{First}
 use Rattle.f3_program.specs.declared.program.Program.{Program}

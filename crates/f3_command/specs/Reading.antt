@@ -1,6 +1,6 @@
 -- Files that are read.
 use Rattle.std.specs.Prelude.{◌≡◌, ℕ, List, [], ◌∷◌, Option, IfSome, Contains, take, string_bytes}
-use Rattle.f3_rules.specs.declared.source.Source.{Source}
+use Rattle.f3_places.specs.declared.source.Source.{Source}
 use Rattle.f3_command.specs.declared.files.ReadFault.{ReadFault}
 use Rattle.f3_command.specs.declared.files.ReadFault.TheVariants.{Unreadable, Memory}
 

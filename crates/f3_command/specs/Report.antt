@@ -1,7 +1,7 @@
 -- What f3 says of what became of a call, and its exit status (own rules).
 use Rattle.std.specs.Prelude.{◌≡◌, ℕ, List, [], ◌∷◌, ◌++◌, ◌⊎◌, None, Some, codes, decimal}
-use Rattle.f3_rules.specs.declared.source.Place.{Place}
-use Rattle.f3_rules.specs.declared.source.Source.{Source}
+use Rattle.f3_places.specs.declared.source.Place.{Place}
+use Rattle.f3_places.specs.declared.source.Source.{Source}
 use Rattle.f3_rules.specs.Line.{file_name, line_of}
 use Rattle.f3_meaning_whole.specs.declared.run_error.RunError.{RunError}
 use Rattle.f3_meaning_whole.specs.Error.{error_number, error_words}

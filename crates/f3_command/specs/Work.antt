@@ -1,7 +1,7 @@
 -- What f3 does with its files.
 use Rattle.std.specs.Prelude.{ℕ, List, [], Option, Result, Ok, Err, ◌⊎◌, Contains, String, string_bytes}
 use Rattle.std.specs.Global.{Global}
-use Rattle.f3_rules.specs.declared.source.Source.{Source}
+use Rattle.f3_places.specs.declared.source.Source.{Source}
 use Rattle.f3_rules.specs.declared.refusal.Refusal.{Refusal}
 use Rattle.f3_tree.specs.Tree.{Tree}
 use Rattle.f3_graph.specs.declared.CheckFault.{CheckFault}

@@ -3,7 +3,7 @@
 ghost use Rattle.std.specs.Prelude.{◌≡◌, ◌≤◌, ◌<◌, ℕ, List, Option, None, Some, IfOk, IfErr, IfSome, length, map, take};
 ghost use Rattle.f3_command.specs.Reading.{IsOf, AreOf, IsFaultOf, IsFaultAmong};
 
-use f3_rules::source::Source;
+use f3_places::source::Source;
 use std::alloc::{AllocError, Global};
 use std::fs::{self, OpenFile};
 use std::io::{self, Read};

@@ -7,8 +7,8 @@ ghost use Rattle.f3_command.specs.Report.{status_of, words_of, error_line, as_li
 
 use f3_meaning_whole::run_error::RunError;
 use f3_output::output::{Output, Refused};
+use f3_places::source::{Place, Source};
 use f3_rules::refusal::{Refusal, render};
-use f3_rules::source::{Place, Source};
 use f3_run::end::End;
 use std::alloc::{AllocError, Global};
 use std::io::Write;

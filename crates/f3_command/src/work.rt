@@ -12,7 +12,7 @@ use crate::report::{Outcome, finish};
 use f3_graph::CheckFault;
 use f3_name_table::name_table;
 use f3_output::output::{Output, Refused};
-use f3_rules::source::Source;
+use f3_places::source::Source;
 use f3_run::code::check_and_code;
 use f3_run::compile::check_and_run;
 use f3_run::end::{End, Limits};

@@ -1,7 +1,7 @@
 //! Constructs.
 
 ghost use Rattle.std.specs.Prelude.{◌≡◌, ◌<◌, ◌^◌, IfOk};
-ghost use Rattle.f3_rules.specs.declared.source.Place.{Place};
+ghost use Rattle.f3_places.specs.declared.source.Place.{Place};
 ghost use Rattle.f3_code.specs.declared.instruction.Instruction.TheVariants.{Begin, SetPlace, Meets, Selecting, Leave, Depart, SelectVariable, SelectValue, Associated, NextObject, CountNext, Discard, Finish};
 ghost use Rattle.f3_code.specs.declared.instruction.Instruction.TheVariants as instruction;
 ghost use Rattle.f3_arithmetic.specs.Turns.{turns_of};
@@ -23,9 +23,9 @@ use f3_code::instruction::Way;
 use f3_data::copies;
 use f3_data::lent::shared;
 use f3_data::value::Value;
+use f3_places::source::Place;
 use f3_program::declarations::Base;
 use f3_program::statement::Range;
-use f3_rules::source::Place;
 use f3_shaping::operators;
 use std::alloc::{AllocError, Global};
 use std::mem;

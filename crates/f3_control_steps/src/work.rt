@@ -16,7 +16,7 @@ use f3_cells::stacks::{pop_object, pop_to, push};
 use f3_cells::state::{State, Stop};
 use f3_data::reference::{Reach, Reference};
 use f3_data::{copies, lent};
-use f3_rules::source::Place;
+use f3_places::source::Place;
 use std::alloc::Global;
 
 /// The object is lent.

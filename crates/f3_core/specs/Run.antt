@@ -4,7 +4,7 @@ use Rattle.std.specs.declared.alloc.Global.{Global}
 use lib.Dec.{ltb→lt}
 use native.Mathlib.Nat.{le_refl}
 use denote.RawPtr.{null_ptr}
-use Rattle.f3_rules.specs.declared.source.Place.{Place}
+use Rattle.f3_places.specs.declared.source.Place.{Place}
 use Rattle.f3_program.specs.declared.statement.Statement as s
 use Rattle.f3_program.specs.declared.program.Procedure as procedure
 use Rattle.f3_program.specs.declared.program.Program as program

@@ -1,7 +1,7 @@
 -- The statements of a specification part, and those that begin and end units, types and procedures.
 use Rattle.std.specs.Prelude.{◌≡◌, ◌≢◌, ◌⊎◌, Bool, true, false, List, [], ◌∷◌, Option, Some, None, is_some, option_and_then, if◌then◌else◌}
 use Rattle.std.specs.List.{list_any}
-use Rattle.f3_rules.specs.declared.source.Place.{Place}
+use Rattle.f3_places.specs.declared.source.Place.{Place}
 use Rattle.f3_tree.specs.declared.expression.Name.{Name as Identifier}
 use Rattle.f3_tree.specs.declared.declaration.Rename.{Rename}
 use Rattle.f3_tree.specs.declared.declaration.Only.{Only}

@@ -1,15 +1,15 @@
 //! Access statements, and the access of a type.
 
 ghost use Rattle.std.specs.Prelude.{Option};
-ghost use Rattle.f3_rules.specs.declared.source.Place.{Place};
+ghost use Rattle.f3_places.specs.declared.source.Place.{Place};
 ghost use Rattle.f3_tree.specs.declared.declaration.Accessibility.{Accessibility};
 ghost use Rattle.f3_tree.specs.Declarations.{access_view};
 ghost use Rattle.f3_words.specs.Reads.{Reads, Finds};
 ghost use Rattle.f3_declarations.specs.Specifications.{IsAccessList, IsAccess, EatsAccess, EatsTypeAccess};
 
+use f3_places::source::Place;
 use f3_reading::names::name_list;
 use f3_reading::signs::{is_over, skip};
-use f3_rules::source::Place;
 use f3_tree::declaration::{Access, Accessibility};
 use f3_tree::expression::Name;
 use f3_words::error::ReadError;

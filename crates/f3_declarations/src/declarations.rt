@@ -12,10 +12,10 @@ ghost use Rattle.f3_declarations.specs.Specifications.{EatsInitialPerhaps, EatsE
 use crate::attributes::{attributes, specifier};
 use crate::shapes::shape_perhaps;
 use f3_expressions::expressions::expression;
+use f3_places::source::Place;
 use f3_reading::lists::{list, perhaps};
 use f3_reading::names::skip_colons;
 use f3_reading::signs::{is_over, name};
-use f3_rules::source::Place;
 use f3_tree::declaration::{Attribute, Declaration, Entity, TypeSpecifier};
 use f3_tree::expression::Expression;
 use f3_words::error::ReadError;

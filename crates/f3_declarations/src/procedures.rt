@@ -10,10 +10,10 @@ ghost use Rattle.f3_declarations.specs.declared.procedures.Prefixes.{Prefixes};
 ghost use Rattle.f3_declarations.specs.Specifications.{EatsDummies, IsDummiesPerhaps, EatsResultPerhaps, IsSubroutine, IsFunction, IsProcedureOf, IsProcedureBehind, IsHeader, is_prefix, EatsTyped, EatsPrefixOf, EatsPrefix, EatsPrefixes, with_prefix};
 
 use crate::attributes::specifier_of;
+use f3_places::source::Place;
 use f3_reading::lists::perhaps;
 use f3_reading::names::{enclosed_name, names_perhaps};
 use f3_reading::signs::{is_over, name, skip};
-use f3_rules::source::Place;
 use f3_tree::declaration::TypeSpecifier;
 use f3_tree::expression::Name;
 use f3_tree::program::{Header, ProcedureKind};

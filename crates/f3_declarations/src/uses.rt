@@ -8,10 +8,10 @@ ghost use Rattle.f3_words.specs.Reads.{Reads, Finds};
 ghost use Rattle.f3_reading.specs.Parts.{Skips};
 ghost use Rattle.f3_declarations.specs.Specifications.{EatsRename, AreRenames, EatsOnly, AreOnly, EatsOnlyHead, IsOnlyList, IsRenameList, IsSelection, IsUse};
 
+use f3_places::source::Place;
 use f3_reading::lists::list;
 use f3_reading::names::skip_colons;
 use f3_reading::signs::{behind, is_over, name, skip};
-use f3_rules::source::Place;
 use f3_tree::declaration::{Only, Rename, Selection, Use};
 use f3_words::error::ReadError;
 use f3_words::item::{Item, Keyword, Word};

@@ -3,7 +3,7 @@ use Rattle.std.specs.Prelude.{◌≡◌, ℕ, ◌<◌, List, length}
 use Rattle.f3_rules.specs.declared.breaks.Break.{Break}
 use Rattle.f3_tree.specs.Tree.{Tree}
 use Rattle.f3_scopes.specs.Outlines.{Scope}
-use Rattle.f3_access.specs.declared.table.Lookup.TheVariants.{One}
+use Rattle.f3_lookups.specs.declared.lookup.Lookup.TheVariants.{One}
 use Rattle.f3_access.specs.declared.table.Tables.{Tables}
 use Rattle.f3_access.specs.Access.{entities_of}
 use Rattle.f3_access.specs.Tables.{lookup_of, AreTables}

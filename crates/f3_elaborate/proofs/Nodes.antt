@@ -1,6 +1,6 @@
 -- Nodes of procedures from the nodes of their parts.
 use Rattle.std.proofs.Common.{◌≡◌, ℕ, ◌+◌, List, [], Option, None, map, refl, sym, ap, ◌∙◌}
-use Rattle.f3_rules.specs.declared.source.Place.{Place}
+use Rattle.f3_places.specs.declared.source.Place.{Place}
 use Rattle.f3_tree.specs.Tree.{ProcedureTree, UnitTree}
 use Rattle.f3_type_rules.specs.Members.{Member, Numbered}
 use Rattle.f3_elaboration.specs.Nodes as n

@@ -2,8 +2,8 @@
 use Rattle.std.proofs.Common.{◌≡◌, ℕ, Result, Ok, Err, IfOk, List, Option, None, nat_eq, map, slice_get, ap, sym, ◌∙◌}
 use Rattle.std.specs.List.{flat_map}
 use Rattle.std.specs.Map.{lookup}
-use Rattle.f3_access.specs.declared.table.Lookup.{Lookup}
-use Rattle.f3_rules.specs.declared.source.Place.{Place}
+use Rattle.f3_lookups.specs.declared.lookup.Lookup.{Lookup}
+use Rattle.f3_places.specs.declared.source.Place.{Place}
 use Rattle.f3_tree.specs.Tree.{Tree}
 use Rattle.f3_kinds.specs.declared.types.Scalar.{Scalar}
 use Rattle.f3_kinds.specs.Things.{map_or}

@@ -2,7 +2,7 @@
 use Rattle.std.proofs.Common.{◌≡◌, ℕ, Bool, map, Option, rules}
 use Rattle.std.specs.Option.{option_map}
 use Rattle.std.specs.Global.{Box, Vec}
-use Rattle.f3_rules.specs.declared.source.Place.{Place}
+use Rattle.f3_places.specs.declared.source.Place.{Place}
 use Rattle.f3_program.specs.declared.declarations.Base.{Base}
 use Rattle.f3_program.specs.declared.declarations.Constant.{Constant}
 use Rattle.f3_program.specs.declared.declarations.Kind.{Kind}

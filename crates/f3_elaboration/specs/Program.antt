@@ -1,8 +1,8 @@
 -- The elaborated program of a tree.
 use Rattle.std.specs.Prelude.{ℕ, Bool, true, false, List, [], Option, None, map, filter, slice_get}
 use Rattle.std.specs.List.{flat_map}
-use Rattle.f3_access.specs.declared.table.Lookup.{Lookup}
-use Rattle.f3_rules.specs.declared.source.Place.{Place}
+use Rattle.f3_lookups.specs.declared.lookup.Lookup.{Lookup}
+use Rattle.f3_places.specs.declared.source.Place.{Place}
 use Rattle.f3_scopes.specs.Scopes.{scopes_of}
 use Rattle.f3_tree.specs.declared.program.UnitKind.{UnitKind}
 use Rattle.f3_tree.specs.declared.program.UnitKind.TheVariants as unit

@@ -1,7 +1,7 @@
 -- Programs, each in the text above it, elaborated, and what they print.
 use Rattle.std.specs.Prelude.{◌≡◌, false, [], ◌∷◌, None, Some, codes}
 use Rattle.std.specs.declared.alloc.Global.{Global}
-use Rattle.f3_access.specs.declared.table.Lookup.TheVariants.{One}
+use Rattle.f3_lookups.specs.declared.lookup.Lookup.TheVariants.{One}
 use Rattle.f3_tree.specs.declared.expression.Operator.TheVariants as o
 use Rattle.f3_tree.specs.declared.expression.IntegerKind.TheVariants.{Four, Eight}
 use Rattle.f3_tree.specs.declared.declaration.Intent.TheVariants.{Out, InOut}

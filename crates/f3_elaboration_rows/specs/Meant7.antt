@@ -1,7 +1,7 @@
 -- Programs, each in the text above it, elaborated, and what they print.
 use Rattle.std.specs.Prelude.{◌≡◌, pos, true, false, [], ◌∷◌, None, Some, codes}
 use Rattle.std.specs.declared.alloc.Global.{Global}
-use Rattle.f3_access.specs.declared.table.Lookup.TheVariants.{One}
+use Rattle.f3_lookups.specs.declared.lookup.Lookup.TheVariants.{One}
 use Rattle.f3_tree.specs.declared.expression.Sign.TheVariants.{Minus}
 use Rattle.f3_tree.specs.declared.expression.Relation.TheVariants as r
 use Rattle.f3_tree.specs.declared.expression.Operator.TheVariants as o

@@ -1,8 +1,8 @@
 -- Programs, each in the text above its tree, and what the runs of their elaborated programs show.
 use Rattle.std.specs.Prelude.{ℕ, pos, true, false, List, [], ◌∷◌, None, Some, codes}
 use Rattle.std.specs.declared.alloc.Global.{Global}
-use Rattle.f3_access.specs.declared.table.Lookup.{Lookup}
-use Rattle.f3_access.specs.declared.table.Lookup.TheVariants.{One}
+use Rattle.f3_lookups.specs.declared.lookup.Lookup.{Lookup}
+use Rattle.f3_lookups.specs.declared.lookup.Lookup.TheVariants.{One}
 use Rattle.f3_tree.specs.declared.expression.Sign.TheVariants.{Minus}
 use Rattle.f3_tree.specs.declared.expression.Relation.TheVariants as r
 use Rattle.f3_tree.specs.declared.expression.Operator.TheVariants as o

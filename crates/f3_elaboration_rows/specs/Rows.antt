@@ -1,7 +1,7 @@
 -- What the run of the elaborated program of a tree shows.
 use Rattle.std.specs.Prelude.{◌≡◌, ℕ, List}
 use Rattle.std.specs.declared.alloc.Global.{Global}
-use Rattle.f3_access.specs.declared.table.Lookup.{Lookup}
+use Rattle.f3_lookups.specs.declared.lookup.Lookup.{Lookup}
 use Rattle.f3_tree.specs.Tree.{Tree}
 use Rattle.f3_meaning_whole.specs.Run.{run_of}
 use Rattle.f3_meaning_whole.specs.Formed.{IsWellFormed}

@@ -1,9 +1,9 @@
 -- Trees of programs in short words: nothing is written of what an elaborated program does not rest on.
 use Rattle.std.specs.Prelude.{ℕ, pos, Bool, false, List, [], Option, None, Some, map, nat_eq, slice_get}
 use Rattle.std.specs.Map.{lookup}
-use Rattle.f3_access.specs.declared.table.Lookup.{Lookup}
-use Rattle.f3_access.specs.declared.table.Lookup.TheVariants.{Nothing}
-use Rattle.f3_rules.specs.declared.source.Place.{Place}
+use Rattle.f3_lookups.specs.declared.lookup.Lookup.{Lookup}
+use Rattle.f3_lookups.specs.declared.lookup.Lookup.TheVariants.{Nothing}
+use Rattle.f3_places.specs.declared.source.Place.{Place}
 use Rattle.f3_tree.specs.declared.expression.Name.{Name}
 use Rattle.f3_tree.specs.declared.expression.IntegerLiteral.TheVariants.{Four, Eight}
 use Rattle.f3_tree.specs.declared.declaration.Accessibility.{Accessibility}

@@ -2,7 +2,7 @@
 -- places there.
 use Rattle.std.specs.Prelude.{◌≡◌, ℕ, Bool, List, Some, map, slice_get, position, nat_eq}
 use Rattle.std.specs.List.{flat_map}
-use Rattle.f3_access.specs.declared.table.Lookup.{Lookup}
+use Rattle.f3_lookups.specs.declared.lookup.Lookup.{Lookup}
 use Rattle.f3_access.specs.Access.{entities_of, IsDeclared}
 use Rattle.f3_graph.specs.Order.{IsOrderOf}
 use Rattle.f3_graph.specs.Units.{nodes_of}

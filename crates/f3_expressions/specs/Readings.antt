@@ -1,7 +1,7 @@
 -- What the readers of parts of expressions find.
 use Rattle.std.specs.Prelude.{◌≡◌, ◌==◌, ℕ, Bool, true, false, List, ◌∷◌, Option, Some, None}
 use Rattle.std.specs.Borrow.{Bor}
-use Rattle.f3_rules.specs.declared.source.Place.{Place}
+use Rattle.f3_places.specs.declared.source.Place.{Place}
 use Rattle.f3_tree.specs.declared.expression.Operator.{Operator}
 use Rattle.f3_tree.specs.declared.expression.Relation.{Relation}
 use Rattle.f3_tree.specs.declared.expression.Sign.{Sign}

@@ -11,7 +11,7 @@ ghost use Rattle.f3_expressions.specs.Views.{arguments_view, bound_view};
 use crate::expressions::operation;
 use crate::levels::WHOLE;
 use crate::marks::{behind, bound_ends, keyword_front};
-use f3_rules::source::Place;
+use f3_places::source::Place;
 use f3_tree::expression::{Argument, Expression};
 use f3_words::error::ReadError;
 use f3_words::item::{Item, Word};

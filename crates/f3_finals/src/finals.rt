@@ -15,7 +15,8 @@ ghost use Rattle.f3_finals.specs.Inner.Looked.{rank_at, rank_found};
 
 use crate::candidate::Candidate;
 use f3_access::lookup;
-use f3_access::table::{Lookup, Tables};
+use f3_access::table::Tables;
+use f3_lookups::lookup::Lookup;
 use f3_rules::breaks::Break;
 use f3_rules::rule::Rule;
 use f3_tree::expression::Name;

@@ -1,6 +1,6 @@
 -- The forms of a statement, without where they lie in memory.
 use Rattle.std.specs.Prelude.{List, map, Option}
-use Rattle.f3_rules.specs.declared.source.Place.{Place}
+use Rattle.f3_places.specs.declared.source.Place.{Place}
 use Rattle.f3_tree.specs.declared.expression.Name.{Name}
 use Rattle.f3_tree.specs.declared.declaration.Accessibility.{Accessibility}
 use Rattle.f3_tree.specs.declared.program.UnitKind.{UnitKind}

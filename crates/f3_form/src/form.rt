@@ -1,6 +1,6 @@
 //! One statement, apart from how statements make units.
 
-use f3_rules::source::Place;
+use f3_places::source::Place;
 use f3_tree::declaration::{Access, Accessibility, Declaration, Use};
 use f3_tree::expression::{Expression, Name};
 use f3_tree::program::{Header, UnitKind};

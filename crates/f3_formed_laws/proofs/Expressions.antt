@@ -1,7 +1,7 @@
 -- Expressions that break no rule are of the kinds that are said.
 use Rattle.std.proofs.Common.{◌≡◌, true, false, Bool, ◌&&◌, List, [], ◌∷◌, ◌++◌, Option, refl, sym, ◌∙◌, if◌then◌else◌}
 use Rattle.std.specs.List.{flat_map, list_all}
-use Rattle.f3_rules.specs.declared.source.Place.{Place}
+use Rattle.f3_places.specs.declared.source.Place.{Place}
 use Rattle.f3_rules.specs.declared.rule.Rule.TheVariants.{T6}
 use Rattle.f3_tree.specs.declared.expression.IntegerLiteral.{IntegerLiteral}
 use Rattle.f3_tree.specs.declared.expression.IntegerLiteral.TheVariants as literal

@@ -4,7 +4,7 @@ use Rattle.std.specs.Prelude.{slice_get}
 use Rattle.std.specs.Option.{option_map}
 use Rattle.std.specs.List.{flat_map}
 use mathlib.Core.Path.{subst}
-use Rattle.f3_rules.specs.declared.source.Place.{Place}
+use Rattle.f3_places.specs.declared.source.Place.{Place}
 use Rattle.f3_scopes.specs.declared.outline.EntityKind.TheVariants.{DerivedType}
 use Rattle.f3_tree.specs.declared.expression.Name.{Name}
 use Rattle.f3_program.specs.declared.declarations.Declared.{Declared}

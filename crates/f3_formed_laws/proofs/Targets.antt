@@ -1,7 +1,7 @@
 -- Where a variable is defined that stands in no expression: it breaks no rule in one.
 use Rattle.std.proofs.Common.{◌≡◌, ℕ, true, false, Bool, ◌&&◌, not, List, [], ◌∷◌, ◌++◌, Option, Some, None, refl, sym, ap, ◌∙◌, if◌then◌else◌}
 use mathlib.Core.Path.{subst}
-use Rattle.f3_access.specs.declared.table.Lookup.TheVariants.{One}
+use Rattle.f3_lookups.specs.declared.lookup.Lookup.TheVariants.{One}
 use Rattle.f3_rules.specs.declared.breaks.Break.{Break}
 use Rattle.f3_tree.specs.declared.expression.Name.{Name}
 use Rattle.f3_tree.specs.Expressions as t

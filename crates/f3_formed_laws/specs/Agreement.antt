@@ -1,7 +1,7 @@
 -- What the rules on types know where a statement stands, and what its elaborated program says there, are of the same kinds: of one type,
 -- of one rank, allocatable or not.
 use Rattle.std.specs.Prelude.{◌≡◌, ⊤, ℕ, Bool, true, false, List, [], ◌∷◌, map, Some, slice_get}
-use Rattle.f3_access.specs.declared.table.Lookup.TheVariants.{One}
+use Rattle.f3_lookups.specs.declared.lookup.Lookup.TheVariants.{One}
 use Rattle.f3_program.specs.declared.declarations.Base.{Base}
 use Rattle.f3_program.specs.declared.declarations.Base.TheVariants as base_is
 use Rattle.f3_program.specs.declared.declarations.Component as program

@@ -2,7 +2,7 @@
 -- type that is declared has a number.
 use Rattle.std.specs.Prelude.{◌≡◌, ℕ, ◌<◌, nat_eq, false, List, [], map, length, Some, slice_get}
 use Rattle.std.specs.List.{flat_map, list_any}
-use Rattle.f3_access.specs.declared.table.Lookup.{Lookup}
+use Rattle.f3_lookups.specs.declared.lookup.Lookup.{Lookup}
 use Rattle.f3_scopes.specs.declared.outline.EntityKind.TheVariants.{DerivedType}
 use Rattle.f3_tree.specs.declared.expression.Name.{Name}
 use Rattle.f3_tree.specs.Declarations.{DeclarationTree}

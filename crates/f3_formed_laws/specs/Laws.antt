@@ -1,7 +1,7 @@
 -- What breaks no rule on types makes sense in the elaborated program: as f3_meaning_whole's Formed says it.
 use Rattle.std.specs.Prelude.{◌≡◌, ⊤, ℕ, true, List, [], length, Contains, Option, None, Some}
 use Rattle.std.specs.List.{flat_map}
-use Rattle.f3_access.specs.declared.table.Lookup.{Lookup}
+use Rattle.f3_lookups.specs.declared.lookup.Lookup.{Lookup}
 use Rattle.f3_access.specs.Access.{IsVisible}
 use Rattle.f3_access.specs.Lookups.{Resolves}
 use Rattle.f3_rules.specs.declared.breaks.Break.{Break}

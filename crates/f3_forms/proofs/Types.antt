@@ -1,6 +1,6 @@
 -- The statement that begins a type, with the access behind a comma.
 use Rattle.std.proofs.Common.{◌≡◌, List, Option, Some, None, refl, ap, subst, ◌∙◌}
-use Rattle.f3_rules.specs.declared.source.Place.{Place}
+use Rattle.f3_places.specs.declared.source.Place.{Place}
 use Rattle.f3_tree.specs.declared.declaration.Accessibility.{Accessibility}
 use Rattle.f3_tree.specs.declared.expression.Name.{Name as Identifier}
 use Rattle.f3_words.specs.declared.item.Word.TheVariants.{Comma}

@@ -1,6 +1,6 @@
 -- The code of a DEALLOCATE, from its end.
 use Rattle.std.proofs.Common.{◌≡◌, ℕ, ◌-◌, ◌++◌, List, ◌∷◌, [], length, map, ap, ◌∙◌, append_assoc, Option}
-use Rattle.f3_rules.specs.declared.source.Place.{Place}
+use Rattle.f3_places.specs.declared.source.Place.{Place}
 use Rattle.f3_program.specs.declared.declarations.Derived.{Derived}
 use Rattle.f3_program.specs.declared.statement.Request.{Request}
 use Rattle.f3_meaning_whole.specs.Act.{Setting}

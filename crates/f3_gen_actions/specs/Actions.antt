@@ -1,6 +1,6 @@
 -- The code of one item, and of both orders of MOVE_ALLOC.
 use Rattle.std.specs.Prelude.{Bool, if◌then◌else◌, List, ◌∷◌, [], ◌++◌, Option}
-use Rattle.f3_rules.specs.declared.source.Place.{Place}
+use Rattle.f3_places.specs.declared.source.Place.{Place}
 use Rattle.f3_program.specs.declared.statement.Item.{Item}
 use Rattle.f3_program.specs.declared.statement.Item.TheVariants as item
 use Rattle.f3_code.specs.declared.instruction.Instruction.TheVariants as i

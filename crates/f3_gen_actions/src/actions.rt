@@ -13,9 +13,9 @@ use f3_gen_values::line::{Line, put};
 use f3_gen_values::value::{emit_object, emit_value};
 use f3_gen_work::transfer::emit_transfer;
 use f3_gen_work::work::emit_end;
+use f3_places::source::Place;
 use f3_program::declarations::{Derived, Kind};
 use f3_program::expression::{Designator, Expression};
-use f3_rules::source::Place;
 use std::alloc::AllocError;
 
 /// An assignment to a variable of a kind (7.4.1).

@@ -8,8 +8,8 @@ ghost use Rattle.f3_gen_actions.specs.Actions.{item_code};
 use f3_code::instruction::Instruction;
 use f3_gen_values::line::{Line, put};
 use f3_gen_values::value::emit_value_then;
+use f3_places::source::Place;
 use f3_program::statement::Item;
-use f3_rules::source::Place;
 use std::alloc::AllocError;
 
 /// Bytes that are printed (9.5).

@@ -11,9 +11,9 @@ use f3_code::instruction::Instruction;
 use f3_gen_values::line::{Line, put};
 use f3_gen_values::value::{emit_object_then, emit_value_then};
 use f3_gen_work::work::emit_discard;
+use f3_places::source::Place;
 use f3_program::declarations::Kind;
 use f3_program::statement::{Range, Selector};
-use f3_rules::source::Place;
 use std::alloc::AllocError;
 
 /// Tests whether a value is in one of some ranges: if so the code goes on behind the next line (8.1.3).

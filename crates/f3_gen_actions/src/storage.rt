@@ -12,10 +12,10 @@ use f3_code::instruction::Instruction;
 use f3_gen_values::line::{Line, put};
 use f3_gen_values::value::{emit_object, emit_object_then, emit_value, emit_value_then};
 use f3_gen_work::work::{emit_deallocation, put_initial};
+use f3_places::source::Place;
 use f3_program::declarations::{Base, Derived};
 use f3_program::expression::Designator;
 use f3_program::statement::{Bounds, Request};
-use f3_rules::source::Place;
 use std::alloc::AllocError;
 
 /// The bounds of a dimension (6.3.1).

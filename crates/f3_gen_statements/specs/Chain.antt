@@ -1,6 +1,6 @@
 -- The code of chains: an IF with each ELSE IF behind it, or cases (ISO/IEC 1539-1:2004, 8.1.2, 8.1.3).
 use Rattle.std.specs.Prelude.{ℕ, ◌+◌, false, List, [], ◌∷◌, ◌++◌, length, Option}
-use Rattle.f3_rules.specs.declared.source.Place.{Place}
+use Rattle.f3_places.specs.declared.source.Place.{Place}
 use Rattle.f3_program.specs.declared.statement.Statement as s
 use Rattle.f3_meaning_whole.specs.Act.{Setting}
 use Rattle.f3_core.specs.Lower.{lowered}

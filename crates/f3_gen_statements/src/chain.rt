@@ -8,9 +8,9 @@ ghost use Rattle.f3_core.specs.Lower.{lowered};
 ghost use Rattle.f3_code.specs.Code.{Ways, code_of};
 ghost use Rattle.f3_gen_statements.specs.Chain.{IsSingle, chain_code};
 
+use f3_places::source::Place;
 use f3_program::expression::Expression;
 use f3_program::statement::{Range, Statement};
-use f3_rules::source::Place;
 use std::alloc::{AllocError, Global};
 
 /// What a link is taken by: a condition that holds, or a value that is in a range.

@@ -9,7 +9,7 @@ ghost use Rattle.f3_gen_statements.specs.Leading.{LeadInto, ways_from};
 use crate::site::Exits;
 use f3_code::instruction::{Instruction, Way};
 use f3_gen_values::line::{Line, put};
-use f3_rules::source::Place;
+use f3_places::source::Place;
 use std::alloc::AllocError;
 
 /// A CYCLE (8.1.6.4.3).

@@ -17,10 +17,10 @@ use f3_gen_actions::selecting::{emit_discards, emit_ranges};
 use f3_gen_actions::storage::{emit_allocations, emit_deallocations, emit_status};
 use f3_gen_values::line::{Line, put};
 use f3_gen_values::value::emit_value_then;
+use f3_places::source::Place;
 use f3_program::declarations::Kind;
 use f3_program::expression::{Designator, Expression};
 use f3_program::statement::{Request, Selector};
-use f3_rules::source::Place;
 use std::alloc::AllocError;
 
 /// An ALLOCATE (6.3.1).

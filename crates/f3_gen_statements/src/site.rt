@@ -1,7 +1,7 @@
 //! Where statements stand.
 
+use f3_places::source::Place;
 use f3_program::declarations::Derived;
-use f3_rules::source::Place;
 
 /// Where CYCLE, EXIT and RETURN lead: of each, how many lines there are from there to the end. And how many cells go at a
 /// RETURN.

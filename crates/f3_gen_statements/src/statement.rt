@@ -21,10 +21,10 @@ use f3_gen_actions::output::emit_items;
 use f3_gen_actions::selecting::emit_selectors;
 use f3_gen_values::line::{Line, put};
 use f3_gen_values::value::{emit_object_then, emit_value, emit_value_then};
+use f3_places::source::Place;
 use f3_program::declarations::Kind;
 use f3_program::expression::{Designator, Expression};
 use f3_program::statement::{Selector, Statement};
-use f3_rules::source::Place;
 use std::alloc::AllocError;
 
 /// A statement at its site: behind it the code goes on, or it leads out by the site's exits. The links of a chain are taken

@@ -3,11 +3,11 @@
 use f3_code::instruction::Instruction;
 use f3_gen_program::program::emit_program;
 use f3_gen_values::emission::Emission;
+use f3_places::source::Place;
 use f3_program::declarations::Constant;
 use f3_program::expression::Expression;
 use f3_program::program::{Procedure, Program};
 use f3_program::statement::{Item, Statement};
-use f3_rules::source::Place;
 use std::alloc::{AllocError, Global};
 use std::test::Fail;
 

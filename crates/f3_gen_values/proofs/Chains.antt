@@ -7,7 +7,7 @@ use Rattle.f3_program.specs.declared.expression.BinaryOperator.{BinaryOperator}
 use Rattle.std.specs.List.{flat_map}
 use Rattle.std.proofs.lemmas.Grind.{flat_map-append}
 use Rattle.std.proofs.lemmas.List.{append-nil}
-use Rattle.f3_rules.specs.declared.source.Place.{Place}
+use Rattle.f3_places.specs.declared.source.Place.{Place}
 use Rattle.f3_program.specs.declared.expression.Expression.{Expression, size-Expression}
 use Rattle.f3_program.specs.declared.expression.Expression as e
 use Rattle.f3_program.specs.declared.expression.Expression.TheVariants as variants

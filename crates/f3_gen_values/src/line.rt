@@ -5,8 +5,8 @@ ghost use Rattle.f3_code.specs.State.{line};
 ghost use Rattle.f3_gen_values.specs.Emitted.{Emitted};
 
 use f3_code::instruction::Instruction;
+use f3_places::source::Place;
 use f3_program::declarations::Base;
-use f3_rules::source::Place;
 use std::alloc::AllocError;
 
 /// A line of code: an instruction, the place that its errors tell, where that is not the activation's, and the type

@@ -8,8 +8,8 @@ ghost use Rattle.f3_gen_values.specs.Emitted.{Emitted, IsOperand, limit_code};
 
 use crate::line::{Line, put};
 use f3_code::instruction::Instruction;
+use f3_places::source::Place;
 use f3_program::expression::{Argument, Designator, Expression, Selection, Subscript};
-use f3_rules::source::Place;
 use std::alloc::AllocError;
 
 /// The value of an expression (ISO/IEC 1539-1:2004, 7.1). The operands of operators are taken one by one, the last first,

@@ -1,7 +1,7 @@
 -- Code in front of code, in a program of some types.
 use Rattle.std.proofs.Common.{◌≡◌, ℕ, ◌+◌, ◌-◌, ◌≤◌, ◌++◌, List, ◌∷◌, [], length, reverse, sym, ap, subst, ◌∙◌, append_assoc, arith, Result, Ok, Err, OnOk, Option}
 use Rattle.std.specs.declared.alloc.AllocError.{AllocError}
-use Rattle.f3_rules.specs.declared.source.Place.{Place}
+use Rattle.f3_places.specs.declared.source.Place.{Place}
 use Rattle.std.proofs.lemmas.List.{reverse-append, length-append, length-map, length-reverse}
 use Rattle.f3_program.specs.declared.declarations.Derived.{Derived}
 use Rattle.f3_meaning_whole.specs.Act.{Setting}

@@ -10,8 +10,8 @@ ghost use Rattle.f3_gen_work.specs.EmittedIn.{EmittedBy, EmittedIn};
 use crate::work::{emit_deallocation, emit_destruction, put_initial};
 use f3_code::instruction::Instruction;
 use f3_gen_values::line::{Line, put};
+use f3_places::source::Place;
 use f3_program::declarations::{Derived, Kind};
-use f3_rules::source::Place;
 use std::alloc::AllocError;
 
 /// What was there is destroyed, then the value put there (7.4.1.3).

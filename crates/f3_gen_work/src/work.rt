@@ -10,9 +10,9 @@ ghost use Rattle.f3_gen_work.specs.EmittedIn.{EmittedBy, EmittedIn};
 
 use f3_code::instruction::Instruction;
 use f3_gen_values::line::{Line, put};
+use f3_places::source::Place;
 use f3_program::declarations::{Base, Component, Derived, Final, Kind};
 use f3_program::program::Intent;
-use f3_rules::source::Place;
 use std::alloc::AllocError;
 
 /// One more line in front, which takes the value with which an object of a type begins.

@@ -1,7 +1,7 @@
 -- Parts of arguments, each read where what it holds is read.
 use Rattle.std.proofs.Common.{◌≡◌, ◌≤◌, true, false, List, [], ◌∷◌, Some, None, refl, sym, ap, subst, ◌∙◌, arith}
 use Rattle.std.proofs.lemmas.Bool.{true≢false}
-use Rattle.f3_rules.specs.declared.source.Place.{Place}
+use Rattle.f3_places.specs.declared.source.Place.{Place}
 use Rattle.f3_tree.specs.Expressions.{Tree, Arguments, no_arguments, arguments, ArgumentTree, value, triplet, Perhaps, absent, present, Behind, bare, within}
 use Rattle.f3_tree.specs.declared.expression.Name.{Name}
 use Rattle.f3_words.specs.declared.item.Word.{Word}

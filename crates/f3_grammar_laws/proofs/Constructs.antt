@@ -1,7 +1,7 @@
 -- Conditions, the values of CASE, and what stands behind DO are spelled in one way.
 use Rattle.std.proofs.Common.{List, [], Option, sym, ap, ◌∙◌, inl, inr}
 use Rattle.std.proofs.lemmas.Bool.{true≢false}
-use Rattle.f3_rules.specs.declared.source.Place.{Place}
+use Rattle.f3_places.specs.declared.source.Place.{Place}
 use Rattle.f3_tree.specs.declared.expression.Name.{Name as Identifier}
 use Rattle.f3_tree.specs.Expressions.{Tree}
 use Rattle.f3_tree.specs.Statements.{CaseTree, one, from, up_to, range, values, counted, while, AssociationTree}

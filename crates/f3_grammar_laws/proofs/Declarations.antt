@@ -1,6 +1,6 @@
 -- The statements of a specification part, and headers, are spelled in one way.
 use Rattle.std.proofs.Common.{◌≡◌, List, [], Option, Some, None, refl, sym, ap, subst, ◌∙◌, inl, inr}
-use Rattle.f3_rules.specs.declared.source.Place.{Place}
+use Rattle.f3_places.specs.declared.source.Place.{Place}
 use Rattle.f3_tree.specs.declared.expression.Name.{Name as Identifier}
 use Rattle.f3_tree.specs.declared.declaration.Rename.{Rename}
 use Rattle.f3_tree.specs.declared.declaration.Only.{Only}

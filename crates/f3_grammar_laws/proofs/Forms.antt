@@ -1,6 +1,6 @@
 -- Statements are spelled in one way.
 use Rattle.std.proofs.Common.{◌≡◌, List, [], ◌∷◌, Option, Some, sym, ap, subst, ◌∙◌, inl, inr}
-use Rattle.f3_rules.specs.declared.source.Place.{Place}
+use Rattle.f3_places.specs.declared.source.Place.{Place}
 use Rattle.f3_tree.specs.declared.declaration.Accessibility.{Accessibility}
 use Rattle.f3_tree.specs.declared.declaration.Accessibility.TheVariants as accessibility
 use Rattle.f3_tree.specs.declared.expression.Name.{Name as Identifier}

@@ -1,7 +1,7 @@
 -- SUBROUTINE, FUNCTION and TYPE are spelled in one way.
 use Rattle.std.proofs.Common.{◌≡◌, List, [], ◌∷◌, Option, Some, None, refl, sym, ap, subst, ◌∙◌, inl, inr}
 use Rattle.std.proofs.lemmas.Bool.{true≢false}
-use Rattle.f3_rules.specs.declared.source.Place.{Place}
+use Rattle.f3_places.specs.declared.source.Place.{Place}
 use Rattle.f3_tree.specs.declared.expression.Name.{Name as Identifier}
 use Rattle.f3_tree.specs.declared.declaration.Accessibility.{Accessibility}
 use Rattle.f3_tree.specs.declared.declaration.TypeSpecifier.{TypeSpecifier}

@@ -1,6 +1,6 @@
 -- How statements that are no assignments begin.
 use Rattle.std.proofs.Common.{◌≡◌, ℤ, List, [], ◌∷◌, Bool, true, false, Option, Some, None, refl, sym, ap, subst, ◌∙◌, inl, inr}
-use Rattle.f3_rules.specs.declared.source.Place.{Place}
+use Rattle.f3_places.specs.declared.source.Place.{Place}
 use Rattle.f3_tree.specs.declared.expression.Name.{Name as Identifier}
 use Rattle.f3_tree.specs.declared.expression.Operator.TheVariants.{Multiply}
 use Rattle.f3_tree.specs.declared.declaration.Accessibility.{Accessibility}

@@ -1,7 +1,7 @@
 -- What a front of the tokens spells is what is read there: no other tree is spelled.
 use Rattle.std.proofs.Common.{◌≡◌, ℕ, suc, true, false, List, [], ◌∷◌, Some, None, refl, sym, ap, subst, ◌∙◌, arith}
 use Rattle.std.specs.Prelude.{ℤ, Bool}
-use Rattle.f3_rules.specs.declared.source.Place.{Place}
+use Rattle.f3_places.specs.declared.source.Place.{Place}
 use Rattle.f3_tree.specs.declared.expression.Name.{Name}
 use Rattle.f3_tree.specs.Expressions.{Tree, integer, truth, text, designator, group, array, signed, negation, comparison, chain, Rest, no_more, more, rest_of, Trees, no_trees, trees, trees_of, Parts, no_parts, parts, Behind, bare, within, Arguments, no_arguments, arguments, ArgumentTree, value, triplet, Perhaps, absent, present}
 use Rattle.f3_words.specs.declared.item.Word.{Word}

@@ -1,6 +1,6 @@
 -- What instructions do keeps to heights: the parts.
 use Rattle.std.proofs.Common.{◌≡◌, ℕ, zero, suc, ◌+◌, ℤ, Bool, true, false, List, [], ◌∷◌, length, Option, Some, None, sym, refl, ◌∙◌, ap, subst, arith, if◌then◌else◌}
-use Rattle.f3_rules.specs.declared.source.Place.{Place}
+use Rattle.f3_places.specs.declared.source.Place.{Place}
 use Rattle.f3_meaning_whole.specs.Value.{Span, Value}
 use Rattle.f3_meaning_whole.specs.Store.{Path}
 use Rattle.f3_meaning_whole.specs.Reference.{Reference}

@@ -16,7 +16,7 @@ use Rattle.f3_code.specs.declared.instruction.Instruction.{Instruction}
 use Rattle.f3_code.specs.State.{Line, placed, Entry, Code, Cell, Datum, Object, To, Frame, State, Next, Goes}
 use Rattle.std.proofs.Common.{◌≡◌, ℕ, zero, suc, ◌+◌, ◌-◌, ◌<◌, true, ℤ, Bool, List, [], ◌∷◌, length, drop, Option, None, Some, refl, sym, subst, arith, slice_get, nat_eq, nat_lt}
 use Rattle.f3_code.specs.Machine.{act, does_line, step, begun, selects, opens, checked, tested, no_calls, called_at, returned, outward, passed_in, routine_at, departs, branches, next_turn_at, next_element, next_object, next_argument, skips_failed, argument_of, choice_of, extent_of, selector_of}
-use Rattle.f3_rules.specs.declared.source.Place.{Place}
+use Rattle.f3_places.specs.declared.source.Place.{Place}
 use Rattle.f3_heights.specs.Heights.{IsAt}
 use Rattle.f3_heights.specs.Needs.{IsKept}
 use Rattle.f3_heights.specs.Room.{Stays, Begins, Ends}

@@ -4,7 +4,7 @@ use Rattle.f3_tree.specs.declared.program.UnitKind.{UnitKind}
 use Rattle.f3_tree.specs.declared.program.UnitKind.TheVariants as unit
 use Rattle.f3_tree.specs.Tree.{UnitTree, Tree}
 use Rattle.f3_nodes.proofs.Members.{Has, at_has, has_mapped}
-use Rattle.f3_access.specs.declared.table.Lookup.{Lookup}
+use Rattle.f3_lookups.specs.declared.lookup.Lookup.{Lookup}
 use Rattle.f3_program.specs.declared.program.Program.{Program}
 use Rattle.f3_type_rules.specs.Members.{Member, Numbered}
 use Rattle.f3_phase_laws.specs.Numbers.{units_of}

@@ -12,8 +12,8 @@ use Rattle.f3_tree.specs.Tree.{Tree}
 use Rattle.f3_nodes.proofs.Members.{Has, at_has, has_left, has_right, has_mapped, has_parts, mapped_of, contains_of, any_of}
 use Rattle.f3_scopes.specs.declared.outline.EntityKind.TheVariants as entity
 use Rattle.f3_scopes.specs.Scopes.{declared_in as declared_by, name_or, outcome_of, plain as plain_own, result_of, scope_of_procedure, scopes_of, typed_result}
-use Rattle.f3_access.specs.declared.table.Lookup.{Lookup}
-use Rattle.f3_access.specs.declared.table.Lookup.TheVariants.{One}
+use Rattle.f3_lookups.specs.declared.lookup.Lookup.{Lookup}
+use Rattle.f3_lookups.specs.declared.lookup.Lookup.TheVariants.{One}
 use Rattle.f3_access.specs.Access.{IsDeclared, IsVisible}
 use Rattle.f3_access.specs.Hosts.{host_in}
 use Rattle.f3_access.specs.Lookups.{Resolves}

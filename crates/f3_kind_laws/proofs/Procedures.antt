@@ -4,7 +4,7 @@ use Rattle.std.specs.Prelude.{slice_get}
 use Rattle.std.specs.List.{list_any}
 use Rattle.std.specs.Option.{option_map}
 use Rattle.std.proofs.lemmas.Option.{slice_get_within}
-use Rattle.f3_access.specs.declared.table.Lookup.{Lookup}
+use Rattle.f3_lookups.specs.declared.lookup.Lookup.{Lookup}
 use Rattle.f3_access.specs.Access.{first_entity}
 use Rattle.f3_rules.specs.declared.rule.Rule.TheVariants.{N3}
 use Rattle.f3_scope_rules.specs.ScopeBreaks.{at, header_names, DeclaredTwice, BreaksOf}

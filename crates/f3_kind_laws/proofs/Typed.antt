@@ -1,6 +1,6 @@
 -- In the specification parts of what breaks no rule each expression that is written has a type.
 use Rattle.std.proofs.Common.{◌≡◌, ℕ, Bool, true, false, List, [], ◌∷◌, map, Option, Some, None, refl, sym, ap}
-use Rattle.f3_access.specs.declared.table.Lookup.{Lookup}
+use Rattle.f3_lookups.specs.declared.lookup.Lookup.{Lookup}
 use Rattle.f3_tree.specs.Expressions as e
 use Rattle.f3_tree.specs.Tree.{Tree}
 use Rattle.f3_program.specs.declared.declarations.Component as program

@@ -4,7 +4,7 @@ use Rattle.std.specs.List.{flat_map}
 use Rattle.f3_tree.specs.declared.expression.Name as names
 use Rattle.f3_tree.specs.Tree.{Tree}
 use Rattle.f3_nodes.proofs.Members.{at_has}
-use Rattle.f3_access.specs.declared.table.Lookup.{Lookup}
+use Rattle.f3_lookups.specs.declared.lookup.Lookup.{Lookup}
 use Rattle.f3_program.specs.declared.declarations.Declared.{Declared}
 use Rattle.f3_program.specs.declared.declarations.Kind.{Kind}
 use Rattle.f3_program.specs.declared.expression.Name.TheVariants.{Static, Local, Lent}

@@ -1,6 +1,6 @@
 -- What the rules on types know of a program that breaks no rule, and what its elaborated program says, are of the same kinds.
 use Rattle.std.proofs.Common.{◌≡◌, ℕ, List, []}
-use Rattle.f3_access.specs.declared.table.Lookup.{Lookup}
+use Rattle.f3_lookups.specs.declared.lookup.Lookup.{Lookup}
 use Rattle.f3_tree.specs.Tree.{Tree}
 use Rattle.f3_program.specs.declared.program.Procedure.{Procedure}
 use Rattle.f3_program.specs.declared.program.Program.{Program}

@@ -1,8 +1,8 @@
 -- What the entities of a program are, without where they lie in memory, and what a name means where it stands (ISO/IEC 1539-1:2004, 16.2).
 use Rattle.std.specs.Prelude.{ℕ, Bool, List, map, nat_eq, position, Option, None, Some, slice_get}
 use Rattle.std.specs.Map.{lookup}
-use Rattle.f3_access.specs.declared.table.Lookup.{Lookup}
-use Rattle.f3_access.specs.declared.table.Lookup.TheVariants.{One, Nothing, Several}
+use Rattle.f3_lookups.specs.declared.lookup.Lookup.{Lookup}
+use Rattle.f3_lookups.specs.declared.lookup.Lookup.TheVariants.{One, Nothing, Several}
 use Rattle.f3_kinds.specs.declared.types.Object.{Object}
 use Rattle.f3_kinds.specs.declared.types.Scalar.{Scalar}
 use Rattle.f3_kinds.specs.declared.things.Component.{Component}

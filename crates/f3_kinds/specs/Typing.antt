@@ -1,7 +1,7 @@
 -- The type and the rank of an expression, and its breaks of phase 6 (ISO/IEC 1539-1:2004, 7.1.4): bottom up, what is said of an
 -- expression hangs on what is said of its parts alone.
 use Rattle.std.specs.Prelude.{ℕ, Bool, true, false, ◌==◌, List, [], ◌∷◌, ◌++◌, Option, None, Some, if◌then◌else◌}
-use Rattle.f3_rules.specs.declared.source.Place.{Place}
+use Rattle.f3_places.specs.declared.source.Place.{Place}
 use Rattle.f3_rules.specs.declared.rule.Rule.TheVariants.{N10, N11, T6, T9}
 use Rattle.f3_rules.specs.declared.breaks.Break.{Break}
 use Rattle.f3_tree.specs.declared.expression.Name.{Name}

@@ -2,8 +2,8 @@
 -- all else, and none past the range of the kind or by a zero divisor.
 use Rattle.std.specs.Prelude.{ℕ, zero, suc, ◌^◌, ◌%◌, ℤ, pos, negsuc, ◌+ℤ◌, ◌-ℤ◌, ◌*ℤ◌, neg_ℤ, int_lt, int_le, int_div, Bool, true, false, not, ◌&&◌}
 use Rattle.std.specs.Prelude.{◌||◌, nat_eq, nat_lt, Option, None, Some, if◌then◌else◌}
-use Rattle.f3_access.specs.declared.table.Lookup.{Lookup}
-use Rattle.f3_access.specs.declared.table.Lookup.TheVariants.{One, Nothing, Several}
+use Rattle.f3_lookups.specs.declared.lookup.Lookup.{Lookup}
+use Rattle.f3_lookups.specs.declared.lookup.Lookup.TheVariants.{One, Nothing, Several}
 use Rattle.f3_tree.specs.declared.expression.Sign.{Sign}
 use Rattle.f3_tree.specs.declared.expression.Sign.TheVariants.{Plus, Minus}
 use Rattle.f3_tree.specs.declared.expression.Relation.{Relation}

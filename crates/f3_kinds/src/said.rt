@@ -2,7 +2,7 @@
 
 use crate::things::Component;
 use crate::types::{DataType, Object};
-use f3_rules::source::Place;
+use f3_places::source::Place;
 use f3_tree::expression::Name;
 
 /// What an expression is besides its value.

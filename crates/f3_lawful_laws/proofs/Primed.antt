@@ -1,6 +1,6 @@
 -- The view of each form in memory, by cases.
 use Rattle.std.proofs.Common.{◌≡◌, ℕ, Bool, map, rules}
-use Rattle.f3_rules.specs.declared.source.Place.{Place}
+use Rattle.f3_places.specs.declared.source.Place.{Place}
 use Rattle.f3_program.specs.declared.declarations.Base.{Base}
 use Rattle.f3_program.specs.declared.declarations.Kind.{Kind}
 use Rattle.f3_program.specs.declared.expression.Argument as a

@@ -1,7 +1,7 @@
 -- Objects of ALLOCATE and DEALLOCATE may be defined where they break no rule.
 use Rattle.std.proofs.Common.{◌≡◌, ℕ, true, List, [], ◌∷◌, map, Option, Some, None, refl, sym, ap}
 use mathlib.Core.Path.{subst}
-use Rattle.f3_access.specs.declared.table.Lookup.TheVariants.{One}
+use Rattle.f3_lookups.specs.declared.lookup.Lookup.TheVariants.{One}
 use Rattle.f3_tree.specs.declared.expression.Name.{Name}
 use Rattle.f3_tree.specs.Expressions as t
 use Rattle.f3_program.specs.declared.program.Program.{Program}

@@ -1,7 +1,7 @@
 -- Variables where they are defined: in assignments, in DO, and as STAT variables.
 use Rattle.std.proofs.Common.{◌≡◌, ℕ, true, [], Option, Some, refl, sym, ap, ◌∙◌}
 use mathlib.Core.Path.{subst}
-use Rattle.f3_access.specs.declared.table.Lookup.TheVariants.{One}
+use Rattle.f3_lookups.specs.declared.lookup.Lookup.TheVariants.{One}
 use Rattle.f3_tree.specs.declared.expression.Name.{Name}
 use Rattle.f3_tree.specs.Expressions as t
 use Rattle.f3_program.specs.declared.program.Program.{Program}

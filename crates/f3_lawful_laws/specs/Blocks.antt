@@ -1,7 +1,7 @@
 -- Statements that a source may spell, in which each ASSOCIATE construct is a scope of its own, inside the scope that it stands in.
 use Rattle.std.specs.Prelude.{◌≡◌, ⊤, ℕ, ◌+◌, false, nat_eq, position, length, List, Option, None, Some, map, slice_get}
-use Rattle.f3_access.specs.declared.table.Lookup.{Lookup}
-use Rattle.f3_access.specs.declared.table.Lookup.TheVariants.{One}
+use Rattle.f3_lookups.specs.declared.lookup.Lookup.{Lookup}
+use Rattle.f3_lookups.specs.declared.lookup.Lookup.TheVariants.{One}
 use Rattle.f3_tree.specs.Expressions as e
 use Rattle.f3_tree.specs.Tree.{ProcedureTree, UnitTree, Tree}
 use Rattle.f3_tree.specs.Statements.{Controls, forever, counted, while, AssociationTree, StatementTree, acts, acts_if, branches, selects, repeats, associates}

@@ -1,7 +1,7 @@
 -- What breaks no rule is lawful, where the rules and the program speak of the same entities.
 use Rattle.std.specs.Prelude.{◌≡◌, ℕ, true, List, [], Contains, Option}
 use Rattle.std.specs.List.{flat_map}
-use Rattle.f3_access.specs.declared.table.Lookup.{Lookup}
+use Rattle.f3_lookups.specs.declared.lookup.Lookup.{Lookup}
 use Rattle.f3_access.specs.Access.{IsVisible}
 use Rattle.f3_access.specs.Lookups.{Resolves}
 use Rattle.f3_rules.specs.declared.breaks.Break.{Break}

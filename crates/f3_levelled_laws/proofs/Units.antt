@@ -1,6 +1,6 @@
 -- The bodies of units that sources spell have expressions with operators of one sort.
 use Rattle.std.proofs.Common.{Bool, true, false, List, [], ◌∷◌, ◌++◌, Option, Some, None, sym, subst}
-use Rattle.f3_rules.specs.declared.source.Place.{Place}
+use Rattle.f3_places.specs.declared.source.Place.{Place}
 use Rattle.f3_tree.specs.declared.program.UnitKind.{UnitKind}
 use Rattle.f3_tree.specs.declared.program.UnitKind.TheVariants.{Module, Program}
 use Rattle.f3_tree.specs.Statements.{Block}

@@ -1,7 +1,7 @@
 -- What sources spell has operators of one sort in each chain, and initializers that are written; so it makes sense where it breaks no rule.
 use Rattle.std.specs.Prelude.{ℕ, List}
-use Rattle.f3_access.specs.declared.table.Lookup.{Lookup}
-use Rattle.f3_rules.specs.declared.source.Source.{Source}
+use Rattle.f3_lookups.specs.declared.lookup.Lookup.{Lookup}
+use Rattle.f3_places.specs.declared.source.Source.{Source}
 use Rattle.f3_tree.specs.Expressions as e
 use Rattle.f3_tree.specs.Tree.{Tree}
 use Rattle.f3_words.specs.declared.item.Item.{Item}

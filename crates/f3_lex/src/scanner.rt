@@ -9,8 +9,8 @@ use crate::length::{
     constant_length, integer_length, name_length, sign_length, truth_length, word_length,
 };
 use crate::token::{Lexed, Token, TokenKind};
+use f3_places::source::Place;
 use f3_rules::refusal::Refusal;
-use f3_rules::source::Place;
 use f3_text::statement::RawStatement;
 use std::alloc::{AllocError, Global};
 

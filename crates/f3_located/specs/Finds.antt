@@ -1,6 +1,6 @@
 -- What it is to find what the meaning finds.
 use Rattle.std.specs.Prelude.{◌≡◌, ℕ, Bool, []}
-use Rattle.f3_rules.specs.declared.source.Place.{Place}
+use Rattle.f3_places.specs.declared.source.Place.{Place}
 use Rattle.f3_meaning_whole.specs.declared.run_error.RunError.{RunError}
 use Rattle.f3_meaning_whole.specs.Ran.{World, Gives, Fails, Ran}
 use Rattle.f3_data.specs.declared.store.Store.{Store}

@@ -1,7 +1,7 @@
 //! Ends of runs.
 
 use f3_meaning_whole::run_error::RunError;
-use f3_rules::source::Place;
+use f3_places::source::Place;
 
 /// How a run of the machine ended.
 #[derive(Clone, Copy, PartialEq, Eq, Debug)]

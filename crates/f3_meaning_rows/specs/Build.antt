@@ -8,7 +8,7 @@ use lib.ListN.{length-map}
 use native.Mathlib.Nat.{le_refl}
 use mathlib.Core.Former.{this, list_count, none_left}
 use denote.RawPtr.{null_ptr}
-use Rattle.f3_rules.specs.declared.source.Place.{Place}
+use Rattle.f3_places.specs.declared.source.Place.{Place}
 use Rattle.f3_program.specs.declared.declarations.Base.{Base}
 use Rattle.f3_program.specs.declared.declarations.Kind.{Kind}
 use Rattle.f3_program.specs.declared.declarations.Constant.{Constant}

@@ -1,6 +1,6 @@
 -- Parts of runs, one behind another. What happens in a run are events, and the store changes by them alone.
 use Rattle.std.specs.Prelude.{⊤, ℕ, suc, Bool, List, [], ◌∷◌, ◌++◌, Option, map, take}
-use Rattle.f3_rules.specs.declared.source.Place.{Place}
+use Rattle.f3_places.specs.declared.source.Place.{Place}
 use Rattle.f3_meaning_whole.specs.declared.run_error.RunError.{RunError}
 use Rattle.f3_meaning_whole.specs.Value.{Value}
 use Rattle.f3_meaning_whole.specs.Store.{Store, put_all}

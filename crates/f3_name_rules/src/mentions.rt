@@ -10,8 +10,9 @@ ghost use Rattle.f3_name_rules.specs.Inner.Rows.{listed_row, access_row, accesse
 
 use crate::is_intrinsic;
 use f3_access::lookup;
-use f3_access::table::{Lookup, Tables};
+use f3_access::table::Tables;
 use f3_breaks::{at, first_among};
+use f3_lookups::lookup::Lookup;
 use f3_rules::breaks::{Break, earlier};
 use f3_rules::rule::Rule;
 use f3_scopes::outline::{AccessOutline, Outline, ScopeKind};

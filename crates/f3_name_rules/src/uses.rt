@@ -8,9 +8,10 @@ ghost use Rattle.f3_access.specs.Tables.{private_of};
 ghost use Rattle.f3_breaks.specs.At.{at};
 ghost use Rattle.f3_name_rules.specs.Inner.Rows.{item_row, use_row};
 
-use f3_access::table::{Lookup, Tables};
+use f3_access::table::Tables;
 use f3_access::{is_private, lookup, module};
 use f3_breaks::{at, first_among};
+use f3_lookups::lookup::Lookup;
 use f3_rules::breaks::Break;
 use f3_rules::rule::Rule;
 use f3_scopes::outline::{UseItem, UseOutline};

@@ -7,7 +7,7 @@ use Rattle.f3_tree.specs.declared.program.UnitKind.TheVariants as unit
 use Rattle.f3_tree.specs.Tree.{UnitTree, Tree}
 use Rattle.f3_scopes.specs.Outlines.{Scope}
 use Rattle.f3_scopes.specs.Scopes.{unit_kind, scope_of_unit, unit_scopes, scopes_from, scopes_of}
-use Rattle.f3_access.specs.declared.table.Visible.{Visible}
+use Rattle.f3_lookups.specs.declared.lookup.Visible.{Visible}
 use Rattle.f3_access.specs.Listing.{is_private}
 use Rattle.f3_access.specs.Tables.{own_of, private_of}
 use Rattle.f3_access.proofs.Visibles.{private_of as private_is, private_from}

@@ -9,8 +9,8 @@ ghost use Rattle.f3_names.specs.Tables.{AreNames};
 ghost use Rattle.f3_name_table.specs.NameTable.{unit_word, kind_word, entity_text, table_text};
 ghost use Rattle.f3_name_table.specs.Inner.Lines.{texts_of, access_word, line_by, head_by, unit_by, units_by};
 
-use f3_access::table::Visible;
 use f3_graph::UnitId;
+use f3_lookups::lookup::Visible;
 use f3_names::table::{Names, ScopeId};
 use f3_scopes::outline::EntityKind;
 use f3_tree::program::{Program, Unit, UnitKind};

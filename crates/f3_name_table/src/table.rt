@@ -1,7 +1,7 @@
 //! From sources to the table of their names.
 
 ghost use Rattle.std.specs.Prelude.{◌≡◌, List, Ok};
-ghost use Rattle.f3_rules.specs.declared.source.Source.{Source};
+ghost use Rattle.f3_places.specs.declared.source.Source.{Source};
 ghost use Rattle.f3_parse.specs.Spells.{Parses};
 ghost use Rattle.f3_name_table.specs.Answers.{Answers, fault_of_text};
 
@@ -9,7 +9,7 @@ use crate::lines::table_text;
 use f3_graph::{CheckFault, order};
 use f3_names::names;
 use f3_parse::parser::parse;
-use f3_rules::source::Source;
+use f3_places::source::Source;
 use f3_text::statement::TextFault;
 use f3_tree::program::Program;
 use std::alloc::Global;

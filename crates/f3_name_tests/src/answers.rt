@@ -6,8 +6,8 @@
 use crate::passes::{Pass, passed};
 use f3_graph::CheckFault;
 use f3_name_table::name_table;
+use f3_places::source::Source;
 use f3_rules::refusal::render;
-use f3_rules::source::Source;
 use std::alloc::{AllocError, Global};
 use std::process::Abort;
 use std::test::Fail;

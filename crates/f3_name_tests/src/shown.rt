@@ -1,8 +1,8 @@
 //! What passes make, as text.
 
-use f3_access::table::{Lookup, Visible};
 use f3_access::{module, used};
 use f3_graph::{UnitId, UnitOrder};
+use f3_lookups::lookup::{Lookup, Visible};
 use f3_names::entity::Entity;
 use f3_names::resolve;
 use f3_names::table::{Names, ScopeId};

@@ -2,8 +2,8 @@
 use Rattle.std.proofs.Common.{◌≡◌, ℕ, ◌↔◌, List, Option, Some, map, slice_get, string_bytes, sym, subst}
 use Rattle.f3_tree.specs.Tree.{Tree}
 use Rattle.f3_scopes.specs.Scopes.{scopes_of}
-use Rattle.f3_access.specs.declared.table.Lookup.{Lookup}
-use Rattle.f3_access.specs.declared.table.Lookup.TheVariants.{One, Nothing, Several}
+use Rattle.f3_lookups.specs.declared.lookup.Lookup.{Lookup}
+use Rattle.f3_lookups.specs.declared.lookup.Lookup.TheVariants.{One, Nothing, Several}
 use Rattle.f3_access.specs.Lookups.{Resolves}
 use Rattle.f3_access.specs.Access.{IsVisible}
 use Rattle.f3_names.specs.declared.table.Names.{Names}

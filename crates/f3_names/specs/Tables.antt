@@ -3,8 +3,8 @@ use Rattle.std.specs.Prelude.{◌≡◌, ℕ, List, [], Option, None, Some, map,
 use Rattle.f3_tree.specs.Tree.{Tree}
 use Rattle.f3_scopes.specs.Outlines.{Scope, scope_view}
 use Rattle.f3_scopes.specs.Scopes.{scopes_of}
-use Rattle.f3_access.specs.declared.table.Visible.{Visible}
-use Rattle.f3_access.specs.declared.table.Lookup.{Lookup}
+use Rattle.f3_lookups.specs.declared.lookup.Visible.{Visible}
+use Rattle.f3_lookups.specs.declared.lookup.Lookup.{Lookup}
 use Rattle.f3_access.specs.Access.{IsVisible}
 use Rattle.f3_access.specs.Tables.{exports_of, lookup_of, host_of}
 use Rattle.f3_names.specs.declared.entity.Entity.{Entity}

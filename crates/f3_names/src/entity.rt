@@ -1,6 +1,6 @@
 //! Entities.
 
-use f3_rules::source::Place;
+use f3_places::source::Place;
 use f3_scopes::outline::EntityKind;
 
 /// An entity: a name that a scope declares (ISO/IEC 1539-1:2004, 16.4.1). Names are the numbers that they have among those

@@ -15,8 +15,9 @@ use crate::entity::Entity;
 use crate::table::{Names, ScopeId};
 use crate::texts::symbol_of;
 use f3_access::pairs::VisiblePairs;
-use f3_access::table::{EntityId, Lookup, Tables, Visible};
+use f3_access::table::Tables;
 use f3_graph::UnitId;
+use f3_lookups::lookup::{EntityId, Lookup, Visible};
 use f3_scopes::outline::Outline;
 
 /// What is visible in a scope under a name, by the number of the name among the program's.

@@ -11,8 +11,8 @@ ghost use Rattle.f3_natures.specs.Inner.Objects.{extent, common_of, extent_by, d
 
 use crate::names::Names;
 use f3_access::lookup;
-use f3_access::table::Lookup;
 use f3_kinds::types::{DataType, Object};
+use f3_lookups::lookup::Lookup;
 use f3_scopes::outline::EntityKind;
 use f3_tree::declaration::{
     Attribute, AttributeKind, Declaration, Entity, Intent, Shape, TypeSpecifier,

@@ -1,7 +1,7 @@
 -- Instructions by what they take, do and leave.
 use Rattle.std.proofs.Common.{◌≡◌, map, ℕ, ◌+◌, List, [], ◌∷◌, refl, sym, ap, ◌∙◌, Result, Ok, Err, Option, None, Some, Vec, Global}
 use Rattle.std.specs.Prelude.{⊤, ℤ}
-use Rattle.f3_rules.specs.declared.source.Place.{Place}
+use Rattle.f3_places.specs.declared.source.Place.{Place}
 use Rattle.f3_program.specs.declared.program.Program.{Program}
 use Rattle.f3_meaning_whole.specs.declared.run_error.RunError.{RunError}
 use Rattle.f3_meaning_whole.specs.Value as v

@@ -1,7 +1,7 @@
 //! Instructions that locate objects.
 
 ghost use Rattle.std.specs.Prelude.{◌≡◌, ◌<◌, ◌^◌, MatchResult};
-ghost use Rattle.f3_rules.specs.declared.source.Place.{Place};
+ghost use Rattle.f3_places.specs.declared.source.Place.{Place};
 ghost use Rattle.f3_meaning_whole.specs.Value.{Value};
 ghost use Rattle.f3_code.specs.declared.instruction.Instruction.TheVariants as i;
 ghost use Rattle.f3_data.specs.References.{reference_of};

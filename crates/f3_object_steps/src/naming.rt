@@ -1,7 +1,7 @@
 //! The objects that names mean, and parts of objects.
 
 ghost use Rattle.std.specs.Prelude.{◌≡◌, IfOk, slice_get, slice_index_or};
-ghost use Rattle.f3_rules.specs.declared.source.Place.{Place};
+ghost use Rattle.f3_places.specs.declared.source.Place.{Place};
 ghost use Rattle.f3_program.specs.declared.declarations.Base.TheVariants as base;
 ghost use Rattle.f3_meaning_whole.specs.Value as v;
 ghost use Rattle.f3_meaning_whole.specs.Store as s;

@@ -7,8 +7,8 @@ use Rattle.std.specs.Map.{lookup}
 use Rattle.f3_nodes.proofs.Members.{Has}
 use Rattle.f3_rules.specs.declared.rule.Rule.TheVariants.{T3, T5}
 use Rattle.f3_rules.specs.declared.breaks.Break.{Break}
-use Rattle.f3_access.specs.declared.table.Lookup.{Lookup}
-use Rattle.f3_access.specs.declared.table.Lookup.TheVariants.{One, Nothing, Several}
+use Rattle.f3_lookups.specs.declared.lookup.Lookup.{Lookup}
+use Rattle.f3_lookups.specs.declared.lookup.Lookup.TheVariants.{One, Nothing, Several}
 use Rattle.f3_scopes.specs.declared.outline.EntityKind.{EntityKind}
 use Rattle.f3_scopes.specs.declared.outline.EntityKind.TheVariants as entity
 use Rattle.f3_tree.specs.declared.expression.Name.{Name}

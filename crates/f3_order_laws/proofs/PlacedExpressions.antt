@@ -3,7 +3,7 @@ use Rattle.std.proofs.Common.{refl, ℕ, ◌+◌, Bool, true, false, not, ◌&&�
 use Rattle.std.specs.Prelude.{nat_lt}
 use Rattle.std.specs.List.{flat_map, list_all}
 use Rattle.f3_nodes.proofs.Members.{Has}
-use Rattle.f3_rules.specs.declared.source.Place.{Place}
+use Rattle.f3_places.specs.declared.source.Place.{Place}
 use Rattle.f3_rules.specs.declared.rule.Rule.TheVariants.{T6, T7, T8, T9, T10, T12}
 use Rattle.f3_rules.specs.declared.breaks.Break.{Break}
 use Rattle.f3_tree.specs.declared.expression.Name.{Name}

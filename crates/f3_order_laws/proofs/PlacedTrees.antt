@@ -1,7 +1,7 @@
 -- Whole expressions break rules at places of their own.
 use Rattle.std.proofs.Common.{ℕ, Bool, not, ◌||◌, List, ◌++◌, None, Some}
 use Rattle.std.specs.List.{flat_map}
-use Rattle.f3_rules.specs.declared.source.Place.{Place}
+use Rattle.f3_places.specs.declared.source.Place.{Place}
 use Rattle.f3_rules.specs.declared.rule.Rule.TheVariants.{T2}
 use Rattle.f3_rules.specs.declared.breaks.Break.{Break}
 use Rattle.f3_tree.specs.Expressions.{Tree, integer, truth, text, designator, group, array, signed, negation, comparison, chain, Rest, no_more, more}

@@ -1,7 +1,7 @@
 -- The one entity that a name is resolved to is visible.
 use Rattle.std.proofs.Common.{subst}
-use Rattle.f3_access.specs.declared.table.Lookup.{Lookup}
-use Rattle.f3_access.specs.declared.table.Lookup.TheVariants.{One}
+use Rattle.f3_lookups.specs.declared.lookup.Lookup.{Lookup}
+use Rattle.f3_lookups.specs.declared.lookup.Lookup.TheVariants.{One}
 use Rattle.f3_access.specs.Access.{IsVisible}
 use Rattle.f3_access.specs.Lookups.{ResolvesAs}
 use Rattle.f3_order_laws.specs.Laws.{ResolvedIsVisible}

@@ -3,8 +3,8 @@ use Rattle.std.proofs.Common.{◌≡◌, refl, ℕ, Bool, true, false, not, ◌&
 use Rattle.std.specs.Prelude.{pos, nat_eq}
 use Rattle.std.specs.List.{flat_map, list_all}
 use Rattle.f3_rules.specs.declared.rule.Rule.TheVariants.{T2}
-use Rattle.f3_access.specs.declared.table.Lookup.{Lookup}
-use Rattle.f3_access.specs.declared.table.Lookup.TheVariants.{One, Nothing, Several}
+use Rattle.f3_lookups.specs.declared.lookup.Lookup.{Lookup}
+use Rattle.f3_lookups.specs.declared.lookup.Lookup.TheVariants.{One, Nothing, Several}
 use Rattle.f3_tree.specs.declared.expression.IntegerKind.TheVariants.{Four}
 use Rattle.f3_tree.specs.Expressions.{Tree, integer, truth, text, designator, group, array, signed, negation, comparison, chain, Rest, no_more, more}
 use Rattle.f3_tree.specs.Expressions.{Trees, no_trees, trees, Parts, no_parts, parts, bare, within}

@@ -1,13 +1,13 @@
 -- Of the orders of a program's units in which used modules come first it is no matter which is taken.
 use Rattle.std.specs.Prelude.{◌≡◌, ℕ, List, Option, None, Some, Contains, slice_get}
-use Rattle.f3_rules.specs.declared.source.Place.{Place}
+use Rattle.f3_places.specs.declared.source.Place.{Place}
 use Rattle.f3_rules.specs.declared.breaks.Break.{Break}
 use Rattle.f3_rules.specs.Least.{first_of}
 use Rattle.f3_tree.specs.Tree.{UnitTree, Tree}
 use Rattle.f3_scopes.specs.Outlines.{Scope}
 use Rattle.f3_scopes.specs.Scopes.{scopes_of}
-use Rattle.f3_access.specs.declared.table.Lookup.{Lookup}
-use Rattle.f3_access.specs.declared.table.Lookup.TheVariants.{One}
+use Rattle.f3_lookups.specs.declared.lookup.Lookup.{Lookup}
+use Rattle.f3_lookups.specs.declared.lookup.Lookup.TheVariants.{One}
 use Rattle.f3_access.specs.Access.{IsVisible}
 use Rattle.f3_access.specs.Lookups.{Resolves}
 use Rattle.f3_graph.specs.Units.{nodes_of}

@@ -1,6 +1,6 @@
 -- What owners of modules rely on, of each program that accepted sources spell.
 use Rattle.std.specs.Prelude.{◌≡◌, ℕ, Bool, true, List, Some, slice_get}
-use Rattle.f3_rules.specs.declared.source.Source.{Source}
+use Rattle.f3_places.specs.declared.source.Source.{Source}
 use Rattle.f3_program.specs.declared.declarations.Base.{Base}
 use Rattle.f3_program.specs.declared.declarations.Component.{Component}
 use Rattle.f3_program.specs.declared.declarations.Derived.{Derived}
@@ -11,7 +11,7 @@ use Rattle.f3_meaning_whole.specs.Ran.{Event, Change, Stage}
 use Rattle.f3_meaning_whole.specs.Act.{whole, derived_of}
 use Rattle.f3_meaning_whole.specs.Run.{run_of, changes}
 use Rattle.f3_meaning_whole.specs.Permitted.{Each, Permitted, IsLawful}
-use Rattle.f3_meaning_whole.specs.Laws.{AreStages, along, IsNotOwn, IsNotAbove, IsNotBy}
+use Rattle.f3_meaning_laws.specs.Laws.{AreStages, along, IsNotOwn, IsNotAbove, IsNotBy}
 use Rattle.f3_run.specs.Compiles.{Means}
 
 -- the program that accepted sources spell is lawful

@@ -3,7 +3,7 @@
 
 ghost use Rattle.f3_owner_laws.specs.Laws.{AcceptedIsLawful, ChangesArePermitted, PrivateStays, ProtectedStays};
 
-use f3_meaning_whole::laws;
+use f3_meaning_laws::laws;
 
 /// The program that accepted sources spell is lawful, each name in it replaced by what it means.
 pub fn accepted_is_lawful()

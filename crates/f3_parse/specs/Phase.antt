@@ -1,6 +1,6 @@
 -- The first phase: statements, the units that they are, and the breaks of the first that is wrong.
 use Rattle.std.specs.Prelude.{◌≡◌, ◌⊎◌, ℕ, List, [], ◌∷◌, ◌++◌, Option, Some, None}
-use Rattle.f3_rules.specs.declared.source.Place.{Place}
+use Rattle.f3_places.specs.declared.source.Place.{Place}
 use Rattle.f3_rules.specs.declared.rule.Rule.TheVariants.{S5, S6, S7, S8}
 use Rattle.f3_rules.specs.declared.breaks.Break.{Break}
 use Rattle.f3_words.specs.declared.item.Item.{Item}

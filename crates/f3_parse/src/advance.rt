@@ -9,9 +9,9 @@ ghost use Rattle.f3_parse.specs.Inner.Steps.{Advances};
 
 use f3_blocks::error::StepError;
 use f3_forms::statements::statement;
+use f3_places::source::Place;
 use f3_rules::breaks::{Break, is_before};
 use f3_rules::rule::Rule;
-use f3_rules::source::Place;
 use f3_units::builder::Builder;
 use f3_words::error::ReadError;
 use f3_words::item::Item;

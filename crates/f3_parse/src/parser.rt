@@ -9,10 +9,10 @@ ghost use Rattle.f3_parse.specs.Spells.{end_place, ends_of, last_end, Parses};
 ghost use Rattle.f3_parse.specs.Inner.Steps.{GoesOnAt, LeavesOpen, Goes, EndsText, Finishes};
 
 use crate::advance::{LineFault, advance, first_place};
+use f3_places::source::{Place, Source};
 use f3_rules::breaks::Break;
 use f3_rules::refusal::Refusal;
 use f3_rules::rule::Rule;
-use f3_rules::source::{Place, Source};
 use f3_text::cut::source_end;
 use f3_text::reader::Statements;
 use f3_text::statement::TextFault;

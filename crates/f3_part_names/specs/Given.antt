@@ -1,7 +1,7 @@
 -- The names to which specification parts give an access or PROTECTED, and where access attributes stand (5.1.2.1, 5.2).
 use Rattle.std.specs.Prelude.{List, [], ◌∷◌, map, Option, Some, None}
 use Rattle.std.specs.List.{flat_map}
-use Rattle.f3_rules.specs.declared.source.Place.{Place}
+use Rattle.f3_places.specs.declared.source.Place.{Place}
 use Rattle.f3_tree.specs.declared.expression.Name.{Name}
 use Rattle.f3_tree.specs.declared.declaration.Accessibility.{Accessibility}
 use Rattle.f3_tree.specs.Declarations.{AttributeTree, access, Placed, EntityTree, SpecificationTree, declares, accesses, protects, defines}

@@ -5,7 +5,7 @@ ghost use Rattle.std.specs.List.{flat_map};
 ghost use Rattle.f3_tree.specs.Declarations.{placed_view, entity_view, specification_view};
 ghost use Rattle.f3_part_names.specs.Given.{accesses_of, access_place, access_places_in, each_time, given_to, given_in, protects_in};
 
-use f3_rules::source::Place;
+use f3_places::source::Place;
 use f3_tree::declaration::{Accessibility, Attribute, AttributeKind, Entity, Specification};
 use f3_tree::expression::Name;
 use std::alloc::{AllocError, Global};

@@ -1,7 +1,7 @@
 -- A specification part, and the statements that spell it (2.2, 4.5, 11.2).
 use Rattle.std.specs.Prelude.{◌≡◌, ◌≢◌, Bool, true, ◌==◌, List, [], ◌∷◌, ◌++◌, map, Option, Some, None}
 use Rattle.std.specs.List.{flat_map}
-use Rattle.f3_rules.specs.declared.source.Place.{Place}
+use Rattle.f3_places.specs.declared.source.Place.{Place}
 use Rattle.f3_tree.specs.declared.expression.Name.{Name}
 use Rattle.f3_tree.specs.declared.declaration.Accessibility.TheVariants.{Private}
 use Rattle.f3_tree.specs.Declarations.{TypeTree, SpecificationTree, declares, accesses, protects, saves, defines, PartTree}

@@ -1,6 +1,6 @@
 -- What a statement is in a specification part.
 use Rattle.std.specs.Prelude.{List, Option, Some}
-use Rattle.f3_rules.specs.declared.source.Place.{Place}
+use Rattle.f3_places.specs.declared.source.Place.{Place}
 use Rattle.f3_tree.specs.declared.expression.Name.{Name}
 use Rattle.f3_tree.specs.declared.declaration.Accessibility.{Accessibility}
 use Rattle.f3_tree.specs.Declarations.{UseTree, AccessTree, DeclarationTree}

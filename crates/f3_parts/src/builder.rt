@@ -10,7 +10,7 @@ ghost use Rattle.f3_parts.specs.Machine.{is_nil, is_none, start, step, step_from
 
 use f3_blocks::error::{StepError, out_of_place};
 use f3_form::form::{Ended, Form};
-use f3_rules::source::Place;
+use f3_places::source::Place;
 use f3_tree::declaration::{
     Access, Accessibility, Declaration, Specification, SpecificationPart, TypeDefinition, Use,
 };

@@ -3,6 +3,7 @@
 use crate::showing::listed;
 use f3_frames::layouts::Layouts;
 use f3_gen_program::program::emit_program;
+use f3_places::source::Place;
 use f3_plans::planning::plan;
 use f3_program::declarations::{Base, Constant, Declared, Dimension, Kind};
 use f3_program::expression::{
@@ -10,7 +11,6 @@ use f3_program::expression::{
 };
 use f3_program::program::{Dummy, Intent, Procedure, Program};
 use f3_program::statement::{Item, Range, Statement};
-use f3_rules::source::Place;
 use std::alloc::Global;
 use std::process::Abort;
 use std::test::Fail;

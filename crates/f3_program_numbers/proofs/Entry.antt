@@ -1,6 +1,6 @@
 -- What is numbered inside a procedure or the main program is what the definitions number.
 use Rattle.std.proofs.Common.{◌≡◌, ℕ, Bool, true, false, not, ◌&&◌, if◌then◌else◌, List, [], ◌++◌, map, refl, ap, ◌∙◌}
-use Rattle.f3_access.specs.declared.table.Lookup.{Lookup}
+use Rattle.f3_lookups.specs.declared.lookup.Lookup.{Lookup}
 use Rattle.f3_tree.specs.declared.expression.Name.{Name}
 use Rattle.f3_tree.specs.Declarations.{parameter}
 use Rattle.f3_tree.specs.Tree.{ProcedureTree, UnitTree}

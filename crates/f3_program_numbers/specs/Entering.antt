@@ -1,6 +1,6 @@
 -- What is numbered inside a procedure or the main program, by its scope and its first entity.
 use Rattle.std.specs.Prelude.{ℕ, true, false, List, [], ◌∷◌, ◌++◌, map}
-use Rattle.f3_access.specs.declared.table.Lookup.{Lookup}
+use Rattle.f3_lookups.specs.declared.lookup.Lookup.{Lookup}
 use Rattle.f3_scopes.specs.Scopes.{result_of}
 use Rattle.f3_tree.specs.declared.expression.Name.{Name}
 use Rattle.f3_tree.specs.Tree.{ProcedureTree, UnitTree}

@@ -10,7 +10,7 @@ use Rattle.f3_program.specs.declared.program.Program.{Program}
 use Rattle.f3_meaning_whole.specs.Shape.{Shape, Whole, Logical, Record, Parts, nothing, and, shape_in, shapes_of}
 use Rattle.f3_meaning_whole.specs.Act.{component_type}
 use Rattle.f3_meaning_whole.specs.Permitted.{Each}
-use Rattle.f3_meaning_whole.proofs.Shapes.{IsShape, AreParts, shapes_are}
+use Rattle.f3_meaning_laws.proofs.Shapes.{IsShape, AreParts, shapes_are}
 use Rattle.f3_pure_laws.specs.Pure.{finals_of, HasPureFinals, HavePureFinals}
 use Rattle.f3_pure_laws.specs.Ending.{IsHarmless, AreHarmless, HarmlessMayEnd}
 

@@ -2,7 +2,7 @@
 use Rattle.std.proofs.Common.{◌≡◌, ℕ, zero, suc, ◌≤◌, Bool, true, false, List, [], ◌∷◌, ◌++◌, refl, sym, ap, ◌∙◌, if◌then◌else◌, length, take, arith}
 use Rattle.std.specs.Prelude.{⊤, slice_set}
 use mathlib.Core.Path.{subst}
-use Rattle.f3_rules.specs.declared.source.Place.{Place}
+use Rattle.f3_places.specs.declared.source.Place.{Place}
 use Rattle.f3_meaning_whole.specs.Value.{Value}
 use Rattle.f3_meaning_whole.specs.Store.{Root, Static, Local, Store, Path, with_root, put, put_all}
 use Rattle.f3_meaning_whole.specs.Reference.{Reference, paths}
@@ -10,7 +10,7 @@ use Rattle.f3_meaning_whole.specs.declared.run_error.RunError.{RunError}
 use Rattle.f3_meaning_whole.specs.Ran.{Event, replayed, World, End, Gives, Fails, Stops, Beyond, Ran, go_on, ◌>>=◌, gives, fails, beyond, looks, does, asks, each}
 use Rattle.f3_meaning_whole.specs.Act.{Here, set, clear, enter, leave, begins}
 use Rattle.f3_meaning_whole.specs.Permitted.{Each}
-use Rattle.f3_meaning_whole.proofs.Keeping.{each-append, replayed-append}
+use Rattle.f3_meaning_laws.proofs.Keeping.{each-append, replayed-append}
 use Rattle.f3_pure_laws.specs.Laws.{IsFree, IsQuiet}
 
 -- there are this many levels

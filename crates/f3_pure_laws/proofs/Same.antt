@@ -13,9 +13,9 @@ use Rattle.f3_meaning_whole.specs.Act.{Here, Passed}
 use Rattle.f3_meaning_whole.specs.Eval.{value, locate}
 use Rattle.f3_meaning_whole.specs.Permitted.{Each}
 use Rattle.f3_meaning_whole.specs.Run.{setting_of, calls_of}
-use Rattle.f3_meaning_whole.specs.Laws.{Apart, Outlives, Spares, IsThere}
-use Rattle.f3_meaning_whole.proofs.Frame.{same_roots, spared}
-use Rattle.f3_meaning_whole.proofs.Keeping.{no}
+use Rattle.f3_meaning_laws.specs.Laws.{Apart, Outlives, Spares, IsThere}
+use Rattle.f3_meaning_laws.proofs.Frame.{same_roots, spared}
+use Rattle.f3_meaning_laws.proofs.Keeping.{no}
 use Rattle.f3_pure_laws.specs.References.{Refers}
 use Rattle.f3_pure_laws.specs.Pure.{definable_in, IsPure}
 use Rattle.f3_pure_laws.specs.Laws.{IsFree, IsQuiet, NeverStops, AreNewFree, IsPassedFree, is_new, FunctionsChangeNothing, PlacesChangeNothing, FunctionsAreQuiet, PureCallsAreQuiet, PureCallsKeep}

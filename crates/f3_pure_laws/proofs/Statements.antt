@@ -23,7 +23,7 @@ use Rattle.f3_meaning_whole.specs.Eval.{value, locate}
 use Rattle.f3_meaning_whole.specs.Exec.{Flow, Onward, Cycled, Left, Returned, onward, next_turn, turns, counted, unless_failed, status_number, Association, allocate, too_many, overwrite, fill, renew, assign, answer, dimensions, allocate_all, deallocate, deallocate_all, take_over, move_alloc, selectors, increment, associates, new_value}
 use Rattle.f3_meaning_whole.specs.Run.{setting_of}
 use Rattle.f3_meaning_whole.specs.Permitted.{Each}
-use Rattle.f3_meaning_whole.proofs.Keeping.{no}
+use Rattle.f3_meaning_laws.proofs.Keeping.{no}
 use Rattle.f3_pure_laws.specs.References.{Refers, RefersIn, CallRefers, StatRefers, BoundsRefer, RequestRefers, SelectorRefers}
 use Rattle.f3_pure_laws.specs.Pure.{definable_in, first_name, is_own, Owns, own_selectors, OwnsStat, MayEnd, CallsPure, OwnsRequest, EndsRequest}
 use Rattle.f3_pure_laws.specs.Laws.{AreNewFree}

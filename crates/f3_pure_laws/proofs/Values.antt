@@ -20,7 +20,7 @@ use Rattle.f3_meaning_whole.specs.Act.{Here, Passed, Given, Lent, Calls, named, 
 use Rattle.f3_meaning_whole.specs.Eval.{by_reach, value, bounds, argument, arguments, locate, select, select_in_each, chosen, subscript}
 use Rattle.f3_meaning_whole.specs.Run.{setting_of}
 use Rattle.f3_meaning_whole.specs.Permitted.{Each, dummies_in}
-use Rattle.f3_meaning_whole.proofs.Keeping.{no}
+use Rattle.f3_meaning_laws.proofs.Keeping.{no}
 use Rattle.f3_pure_laws.specs.References.{is_function, Refers, ArgumentRefers, AllRefer, RefersIn, SelectionRefers, SubscriptsRefer, SubscriptRefers}
 use Rattle.f3_pure_laws.specs.Pure.{definable, definable_in, first_name, IsGiven, OwnsPassed, OwnsAllPassed, is_own}
 use Rattle.f3_pure_laws.specs.Laws.{IsPassedFree}

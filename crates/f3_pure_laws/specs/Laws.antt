@@ -10,7 +10,7 @@ use Rattle.f3_meaning_whole.specs.Ran.{Event, Printed, Changed, Began, Entered, 
 use Rattle.f3_meaning_whole.specs.Act.{Here, Passed, Given, Lent}
 use Rattle.f3_meaning_whole.specs.Eval.{value, locate}
 use Rattle.f3_meaning_whole.specs.Permitted.{Each}
-use Rattle.f3_meaning_whole.specs.Laws.{IsThere}
+use Rattle.f3_meaning_laws.specs.Laws.{IsThere}
 use Rattle.f3_meaning_whole.specs.Run.{setting_of, calls_of}
 use Rattle.f3_pure_laws.specs.References.{Refers, RefersIn}
 use Rattle.f3_pure_laws.specs.Pure.{definable_in, IsPure}

@@ -5,9 +5,9 @@ use Rattle.std.specs.Map.{lookup}
 use Rattle.std.specs.List.{flat_map}
 use mathlib.Core.Path.{subst}
 use Rattle.f3_rules.specs.declared.breaks.Break.{Break}
-use Rattle.f3_rules.specs.declared.source.Place.{Place}
-use Rattle.f3_access.specs.declared.table.Lookup.{Lookup}
-use Rattle.f3_access.specs.declared.table.Lookup.TheVariants.{One, Nothing, Several}
+use Rattle.f3_places.specs.declared.source.Place.{Place}
+use Rattle.f3_lookups.specs.declared.lookup.Lookup.{Lookup}
+use Rattle.f3_lookups.specs.declared.lookup.Lookup.TheVariants.{One, Nothing, Several}
 use Rattle.f3_tree.specs.declared.expression.Name.{Name}
 use Rattle.f3_tree.specs.Expressions as t
 use Rattle.f3_tree.specs.Statements as a

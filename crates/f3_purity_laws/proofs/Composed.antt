@@ -17,7 +17,7 @@ use Rattle.f3_program.specs.declared.statement.Statement as s
 use Rattle.f3_program.specs.declared.program.Program.{Program}
 use Rattle.f3_meaning_whole.specs.Act.{component_type}
 use Rattle.f3_meaning_whole.specs.Permitted.{Each, Lendable, Scope, unknown, same_type, name_of, designated, MayDefineAs, MayRequest, MayExec, MayBlock, names_by, naming}
-use Rattle.f3_meaning_whole.proofs.Keeping.{no}
+use Rattle.f3_meaning_laws.proofs.Keeping.{no}
 use Rattle.f3_pure_laws.specs.Ending.{IsHarmless, AreHarmless}
 use Rattle.f3_pure_laws.specs.Pure.{MayEnd, EndsRequest, IsPureStatement, IsPureBlock}
 use Rattle.f3_pure_laws.proofs.Ending.{harmless_may_end}

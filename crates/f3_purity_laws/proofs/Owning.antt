@@ -14,7 +14,7 @@ use Rattle.f3_program.specs.declared.statement.Statement as s
 use Rattle.f3_program.specs.declared.program.Dummy.{Dummy}
 use Rattle.f3_program.specs.declared.program.Program.{Program}
 use Rattle.f3_meaning_whole.specs.Permitted.{Each, Lendable, Scope, unknown, lendable, names_in, dummies_in, name_of, designated, MayPassAll, MayDefine, MayStat, MayRequest, MayExec, MayBlock, names_by, naming}
-use Rattle.f3_meaning_whole.proofs.Keeping.{no}
+use Rattle.f3_meaning_laws.proofs.Keeping.{no}
 use Rattle.f3_pure_laws.specs.Pure.{definable, definable_in, first_name, is_own, Owns, own_selectors, OwnsStat, OwnsAllPassed, OwnsRequest}
 use Rattle.f3_purity_laws.specs.Owning.{ChangesOwn, AllChangeOwn, may_defines, AreBarred, LawfulChangesOwn}
 

@@ -1,6 +1,6 @@
 -- What is wanted, as it is counted in memory.
 use Rattle.std.specs.Prelude.{⊤, ◌≡◌, ℕ, ◌+◌, ◌%◌, ◌^◌, ◌||◌, Bool, true, false, nat_lt, List, [], ◌∷◌, Option, None, Some, Result}
-use Rattle.f3_rules.specs.declared.source.Place.{Place}
+use Rattle.f3_places.specs.declared.source.Place.{Place}
 use Rattle.f3_arithmetic.specs.Turns.{turns_of}
 use Rattle.f3_meaning_whole.specs.Value.{Span, Value, count, joined}
 use Rattle.f3_meaning_whole.specs.Exec.{too_many}

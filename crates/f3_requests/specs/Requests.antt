@@ -1,6 +1,6 @@
 -- What it is to answer what an instruction asks of a heap.
 use Rattle.std.specs.Prelude.{⊤, ◌≡◌, ℕ, Bool, true, false, Result, Ok, Err, []}
-use Rattle.f3_rules.specs.declared.source.Place.{Place}
+use Rattle.f3_places.specs.declared.source.Place.{Place}
 use Rattle.f3_meaning_whole.specs.Value.{Value}
 use Rattle.f3_meaning_whole.specs.Act.{at}
 use Rattle.f3_code.specs.declared.instruction.Instruction.{Instruction}

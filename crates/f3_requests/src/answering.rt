@@ -10,8 +10,8 @@ use crate::refusing::refuse;
 use f3_cells::scene::Scene;
 use f3_cells::state::{State, Stop};
 use f3_code::instruction::Instruction;
+use f3_places::source::Place;
 use f3_program::declarations::Base;
-use f3_rules::source::Place;
 use std::alloc::Global;
 
 /// Whether a heap of so many words refuses what an instruction asks; where it does, the instruction is done, with its request

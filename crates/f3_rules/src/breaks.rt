@@ -5,7 +5,7 @@ ghost use Rattle.f3_rules.specs.Rule.{row_of};
 ghost use Rattle.f3_rules.specs.Least.{is_before, earlier_of, FirstIsLeast};
 
 use crate::rule::Rule;
-use crate::source::Place;
+use f3_places::source::Place;
 
 /// A rule is broken at a place.
 #[derive(Clone, Copy, PartialEq, Eq, Debug)]

@@ -1,7 +1,6 @@
-//! Places in sources, the rules of the refusal table, the order of breaks, and refusals.
+//! The rules of the refusal table, the order of breaks, and refusals.
 #![tactic(auto)]
 
 pub mod breaks;
 pub mod refusal;
 pub mod rule;
-pub mod source;

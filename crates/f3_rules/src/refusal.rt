@@ -4,7 +4,7 @@ ghost use Rattle.std.specs.Prelude.{◌≡◌, ◌++◌, IfOk, string_bytes};
 ghost use Rattle.f3_rules.specs.Line.{file_name, named, line_of};
 
 use crate::rule::Rule;
-use crate::source::{Place, Source};
+use f3_places::source::{Place, Source};
 use std::alloc::{AllocError, Global};
 
 /// The first break of a rule in a list of sources.

@@ -1,6 +1,6 @@
 -- What compiling answers.
 use Rattle.std.specs.Prelude.{Err, List}
-use Rattle.f3_rules.specs.declared.source.Source.{Source}
+use Rattle.f3_places.specs.declared.source.Source.{Source}
 use Rattle.f3_graph.specs.declared.CheckFault.{CheckFault}
 use Rattle.f3_graph.specs.declared.CheckFault.TheVariants as fault
 use Rattle.f3_accepted.specs.Refusals.{Checks}

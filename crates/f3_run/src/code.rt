@@ -10,7 +10,7 @@ use crate::compiled::Compiled;
 use f3_gen_laws::generate;
 use f3_graph::CheckFault;
 use f3_listing::listing;
-use f3_rules::source::Source;
+use f3_places::source::Source;
 use std::alloc::{AllocError, Global};
 
 /// The text of the code that `run` runs: a line for each instruction, its number from 0, its name and its operands in decimal

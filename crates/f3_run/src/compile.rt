@@ -20,7 +20,7 @@ use f3_accepted::checked::{Checked, Parts};
 use f3_elaborate::elaborate::elaborate;
 use f3_graph::CheckFault;
 use f3_output::output::Output;
-use f3_rules::source::Source;
+use f3_places::source::Source;
 use std::alloc::{AllocError, Global};
 use std::io::Write;
 

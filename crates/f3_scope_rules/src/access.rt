@@ -11,9 +11,9 @@ ghost use Rattle.f3_scope_rules.specs.Inner.Rows.{pass, StatementOutside, Attrib
 use crate::again::first_again;
 use crate::at::{break_at, break_at_keyword};
 use f3_breaks::first_among;
+use f3_places::source::Place;
 use f3_rules::breaks::{Break, earlier};
 use f3_rules::rule::Rule;
-use f3_rules::source::Place;
 use f3_scopes::outline::{AccessOutline, Component, Outline, ScopeKind};
 use f3_tree::declaration::Accessibility;
 use f3_tree::expression::Name;

@@ -6,9 +6,9 @@ ghost use Rattle.f3_scope_rules.specs.ScopeBreaks.{at, at_keyword};
 ghost use Rattle.f3_scope_rules.specs.Inner.Rows.{If};
 
 use f3_breaks::{at, at_keyword};
+use f3_places::source::Place;
 use f3_rules::breaks::Break;
 use f3_rules::rule::Rule;
-use f3_rules::source::Place;
 use f3_tree::expression::Name;
 
 /// The break of a rule at a name, where it is broken.

@@ -1,6 +1,6 @@
 //! The outline of a scope.
 
-use f3_rules::source::Place;
+use f3_places::source::Place;
 use f3_tree::declaration::{Accessibility, Intent};
 use f3_tree::expression::Name;
 

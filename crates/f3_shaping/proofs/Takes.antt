@@ -1,6 +1,6 @@
 -- What components take.
 use Rattle.std.proofs.Common.{◌≡◌, refl, ap, true, false}
-use Rattle.f3_rules.specs.declared.source.Place.{Place}
+use Rattle.f3_places.specs.declared.source.Place.{Place}
 use Rattle.f3_program.specs.declared.declarations.Declared.{Declared}
 use Rattle.f3_meaning_whole.specs.Value as m
 use Rattle.f3_meaning_whole.specs.Value.{conforms}

@@ -1,6 +1,6 @@
 -- What operations on values answer.
 use Rattle.std.specs.Prelude.{ℕ, List, flat_map, Bool, true, false, Result, Ok, Err}
-use Rattle.f3_rules.specs.declared.source.Place.{Place}
+use Rattle.f3_places.specs.declared.source.Place.{Place}
 use Rattle.f3_program.specs.declared.declarations.Base.{Base}
 use Rattle.f3_program.specs.declared.declarations.Base.TheVariants as base
 use Rattle.f3_arithmetic.specs.declared.numbers.Width.{Width}

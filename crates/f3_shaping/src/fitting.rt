@@ -2,7 +2,7 @@
 //! memory for it.
 
 ghost use Rattle.std.specs.Prelude.{◌≡◌, IfOk};
-ghost use Rattle.f3_rules.specs.declared.source.Place.{Place};
+ghost use Rattle.f3_places.specs.declared.source.Place.{Place};
 ghost use Rattle.f3_meaning_whole.specs.Act.{Here, fitted, fitted_contents, laid_out};
 ghost use Rattle.f3_data.specs.Values.{spans_of, value_of};
 ghost use Rattle.f3_shaping.specs.Results.{value_ran, held_ran, laid_ran};

@@ -1,7 +1,7 @@
 -- What instructions perform comes to an end, whatever the bound on turns of loops.
 use Rattle.std.proofs.Common.{ℕ, true, false, if◌then◌else◌, zero, suc, ℤ, pos, negsuc, Bool, List, [], ◌∷◌, Option, None, Some}
 use Rattle.std.specs.Prelude.{⊤, int_le, ◌-ℤ◌, ◌||◌, nat_lt}
-use Rattle.f3_rules.specs.declared.source.Place.{Place}
+use Rattle.f3_places.specs.declared.source.Place.{Place}
 use Rattle.f3_program.specs.declared.declarations.Base.{Base}
 use Rattle.f3_program.specs.declared.declarations.Declared.{Declared}
 use Rattle.f3_program.specs.declared.expression.BinaryOperator.{BinaryOperator}

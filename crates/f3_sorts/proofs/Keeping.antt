@@ -1,6 +1,6 @@
 -- What instructions do keeps to sorts: the parts.
 use Rattle.std.proofs.Common.{◌≡◌, refl, ap, ℕ, zero, suc, ℤ, Bool, true, false, List, [], ◌∷◌, ◌++◌, Option, Some, sym, subst, append_assoc, if◌then◌else◌}
-use Rattle.f3_rules.specs.declared.source.Place.{Place}
+use Rattle.f3_places.specs.declared.source.Place.{Place}
 use Rattle.f3_meaning_whole.specs.Value.{Span, Value}
 use Rattle.f3_meaning_whole.specs.Store.{Path}
 use Rattle.f3_meaning_whole.specs.Reference.{Reference}

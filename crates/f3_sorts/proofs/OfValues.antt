@@ -1,6 +1,6 @@
 -- The sorts of the code of expressions and designators.
 use Rattle.std.proofs.Common.{◌≡◌, ℕ, zero, suc, Bool, true, false, List, [], ◌∷◌, ◌++◌, Option, refl, ap, append_assoc, if◌then◌else◌}
-use Rattle.f3_rules.specs.declared.source.Place.{Place}
+use Rattle.f3_places.specs.declared.source.Place.{Place}
 use Rattle.f3_program.specs.declared.expression.Argument as a
 use Rattle.f3_program.specs.declared.expression.Designator as d
 use Rattle.f3_program.specs.declared.expression.Expression as e

@@ -1,7 +1,7 @@
 -- Tokens that spell a given header.
 use Rattle.std.proofs.Common.{◌≡◌, List, [], ◌∷◌, Bool, true, false, Option, Some, None, refl, ap, ◌∙◌, inl, inr}
 use Rattle.f3_words.specs.Lines.{no_value}
-use Rattle.f3_rules.specs.declared.source.Place.{Place}
+use Rattle.f3_places.specs.declared.source.Place.{Place}
 use Rattle.f3_tree.specs.declared.expression.Name.{Name}
 use Rattle.f3_tree.specs.declared.declaration.TypeSpecifier.{TypeSpecifier}
 use Rattle.f3_tree.specs.declared.declaration.TypeSpecifier.TheVariants as specifier

@@ -1,6 +1,6 @@
 -- Sources, and the statements in them, spell one tree at most.
 use Rattle.std.specs.Prelude.{◌≡◌, Bool, List, string_bytes}
-use Rattle.f3_rules.specs.declared.source.Source.{Source}
+use Rattle.f3_places.specs.declared.source.Source.{Source}
 use Rattle.f3_rules.specs.declared.breaks.Break.{Break}
 use Rattle.f3_rules.specs.declared.refusal.Refusal.{Refusal}
 use Rattle.f3_tree.specs.Statements.{Block}

@@ -1,6 +1,6 @@
 -- What tokens spell as a statement of a block is one that a source may spell.
 use Rattle.std.proofs.Common.{◌≡◌, List, Option, Some, None, sym, subst, inl, inr}
-use Rattle.f3_rules.specs.declared.source.Place.{Place}
+use Rattle.f3_places.specs.declared.source.Place.{Place}
 use Rattle.f3_tree.specs.declared.expression.Name.{Name}
 use Rattle.f3_tree.specs.declared.program.UnitKind.TheVariants.{Module, Program}
 use Rattle.f3_words.specs.declared.item.Keyword.{Keyword}

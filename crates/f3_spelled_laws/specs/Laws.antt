@@ -1,6 +1,6 @@
 -- What sources spell, and breaks no rule on scopes, has bodies as the laws on what is lawful ask for them.
 use Rattle.std.specs.Prelude.{◌≡◌, List, []}
-use Rattle.f3_rules.specs.declared.source.Source.{Source}
+use Rattle.f3_places.specs.declared.source.Source.{Source}
 use Rattle.f3_rules.specs.declared.breaks.Break.{Break}
 use Rattle.f3_tree.specs.declared.program.UnitKind.TheVariants.{Module, Program}
 use Rattle.f3_tree.specs.Statements.{no_statements}

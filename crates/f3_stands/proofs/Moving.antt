@@ -9,7 +9,7 @@ use Rattle.f3_objects.specs.Tree as t
 use Rattle.f3_objects.specs.Holds.{with_moved}
 use Rattle.f3_meaning_whole.specs.Value.{Value, Unallocated, Allocated, spans_of}
 use Rattle.f3_meaning_whole.specs.Store.{Root, Store, Path, at_root, get, put, part, with_part, begins_with, same_root, goes_through}
-use Rattle.f3_meaning_whole.proofs.Frame.{root_itself}
+use Rattle.f3_meaning_laws.proofs.Frame.{root_itself}
 use Rattle.f3_storage.specs.Values as raw
 use Rattle.f3_storage.specs.Objects as o
 use Rattle.f3_storage.specs.Objects.{Object, plain, tree, spelled}

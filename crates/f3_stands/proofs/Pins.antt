@@ -4,7 +4,7 @@ use Rattle.std.specs.Prelude.{◌&&◌, ◌||◌}
 use Rattle.f3_meaning_whole.specs.Value.{Value, Allocated}
 use Rattle.f3_meaning_whole.specs.Store.{Root, Store, Path, Step, Contents, at_root, get, within, same_root, begins_with, goes_through}
 use Rattle.f3_meaning_whole.specs.Reference.{Reference, is_pinned}
-use Rattle.f3_meaning_whole.proofs.Frame.{same_roots, root_itself}
+use Rattle.f3_meaning_laws.proofs.Frame.{same_roots, root_itself}
 use Rattle.f3_storage.specs.Values as raw
 use Rattle.f3_storage.specs.Values.{Lending, path_of}
 use Rattle.f3_storage.specs.Objects as o

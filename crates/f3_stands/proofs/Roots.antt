@@ -4,7 +4,7 @@ use Rattle.std.specs.Prelude.{slice_index_or, slice_set}
 use Rattle.std.proofs.lemmas.Bool.{cases_eq}
 use Rattle.f3_meaning_whole.specs.Value.{Value, Unallocated}
 use Rattle.f3_meaning_whole.specs.Store.{Root, Static, Local, Store, at_root, with_root, same_root}
-use Rattle.f3_meaning_whole.proofs.Frame.{same_roots, root_itself}
+use Rattle.f3_meaning_laws.proofs.Frame.{same_roots, root_itself}
 use Rattle.f3_stands.specs.Homes.{IsRoot}
 
 pub length_set : {A : Type 0} (xs : List A) (i : ℕ) (x : A) → length (slice_set xs i x) ≡ length xs

@@ -5,9 +5,9 @@ ghost use Rattle.f3_elaboration.specs.Views.{statement_view};
 ghost use Rattle.f3_statement_nodes.specs.Inner.Nested.{branch_of, branched};
 
 use crate::nodes::{at, branch};
+use f3_places::source::Place;
 use f3_program::expression::Expression;
 use f3_program::statement::Statement;
-use f3_rules::source::Place;
 use std::alloc::{AllocError, Global};
 
 /// IF or an ELSE IF, with its condition and its block.

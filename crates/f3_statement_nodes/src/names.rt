@@ -9,7 +9,8 @@ ghost use Rattle.f3_statement_nodes.specs.Inner.Entities.{entity_at};
 ghost use Rattle.f3_statement_nodes.specs.Inner.Exchanged.{put, put_all, lent_from};
 
 use f3_access::lookup;
-use f3_access::table::{Lookup, Tables};
+use f3_access::table::Tables;
+use f3_lookups::lookup::Lookup;
 use f3_numbers::numbers::Numbers;
 use f3_program::expression::Name;
 use f3_tree::statement::Association;

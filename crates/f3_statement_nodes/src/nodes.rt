@@ -5,9 +5,9 @@ ghost use Rattle.f3_elaboration.specs.Actions as elaborated;
 ghost use Rattle.f3_elaboration.specs.Nodes as n;
 ghost use Rattle.f3_elaboration.specs.Views.{expression_view, selector_view, statement_view, statements_of};
 
+use f3_places::source::Place;
 use f3_program::expression::Expression;
 use f3_program::statement::{Range, Selector, Statement};
-use f3_rules::source::Place;
 use std::alloc::{AllocError, Global};
 
 /// An action or a construct that begins at a place, or, where the flag is `false`, an ELSE IF there.

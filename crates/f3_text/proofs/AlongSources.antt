@@ -1,8 +1,8 @@
 -- From statement to statement, and from source to source.
 use Rattle.std.proofs.Common.{◌≡◌, ℕ, ◌+◌, ◌-◌, ◌<◌, ◌≤◌, length, List, [], ◌∷◌, Bool, true, false, Option, None, Some, Err, ◌==◌, ◌&&◌, refl, sym, ap, ◌∙◌, arith, append-nil, vec_len}
 use Rattle.std.proofs.lemmas.Bool.{eq-eqb, ne_eqb, eqb-true, eqb-false, and_parts, true≢false, lt-ltb, le-ltb}
-use Rattle.f3_rules.specs.declared.source.Place.{Place}
-use Rattle.f3_rules.specs.declared.source.Source.{Source}
+use Rattle.f3_places.specs.declared.source.Place.{Place}
+use Rattle.f3_places.specs.declared.source.Source.{Source}
 use Rattle.f3_rules.specs.declared.rule.Rule.TheVariants.{S2, S8}
 use Rattle.f3_rules.specs.declared.breaks.Break.{Break}
 use Rattle.f3_text.specs.declared.letter.Letter.{Letter}

@@ -1,7 +1,7 @@
 -- The end of a source (own rule: the place just past its last byte).
 use Rattle.std.specs.Prelude.{ℕ, ◌+◌, List, [], ◌∷◌, length, count_by, Bool, ◌==◌, if◌then◌else◌}
 use Rattle.std.specs.List.{list_any}
-use Rattle.f3_rules.specs.declared.source.Place.{Place}
+use Rattle.f3_places.specs.declared.source.Place.{Place}
 
 unfoldable pub has_feed : List ℕ → Bool
 has_feed bs = list_any (λ b. b == 10) bs

@@ -1,6 +1,6 @@
 -- What the definitions make of small texts.
 use Rattle.std.specs.Prelude.{◌≡◌, ℕ, zero, suc, List, [], ◌∷◌, ◌++◌, map, Option, None, Some, codes}
-use Rattle.f3_rules.specs.declared.source.Place.{Place}
+use Rattle.f3_places.specs.declared.source.Place.{Place}
 use Rattle.f3_rules.specs.declared.rule.Rule.{Rule}
 use Rattle.f3_rules.specs.declared.rule.Rule.TheVariants.{S1, S2, S8}
 use Rattle.f3_rules.specs.declared.breaks.Break.{Break}

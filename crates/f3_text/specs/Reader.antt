@@ -1,7 +1,7 @@
 -- What is left of sources before a reader of statements.
 use Rattle.std.specs.Prelude.{◌≡◌, ℕ, ◌+◌, List, [], map, length, Option, None, Some, Result, Ok, Err, ◌==◌, ◌<◌, if◌then◌else◌}
 use Rattle.std.specs.String.{string_bytes}
-use Rattle.f3_rules.specs.declared.source.Source.{Source}
+use Rattle.f3_places.specs.declared.source.Source.{Source}
 use Rattle.f3_rules.specs.declared.breaks.Break.{Break}
 use Rattle.f3_rules.specs.declared.refusal.Refusal.{Refusal}
 use Rattle.f3_text.specs.declared.letter.Letter.{Letter}

@@ -9,7 +9,7 @@ ghost use Rattle.f3_text.specs.Examples.{CutsSo};
 
 use crate::reader::Statements;
 use crate::statement::{Cut, RawStatement, TextFault};
-use f3_rules::source::{Place, Source};
+use f3_places::source::{Place, Source};
 use std::alloc::{AllocError, Global};
 
 /// The statements before a fault, and that fault.

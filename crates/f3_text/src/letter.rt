@@ -4,7 +4,7 @@ ghost use Rattle.std.specs.Prelude.{◌≡◌, ◌==◌};
 ghost use Rattle.f3_text.specs.Lines.{is_blank, is_quote, after, is_open};
 ghost use Rattle.f3_text.specs.Statements.{is_allowed, opens, closes, separates};
 
-use f3_rules::source::Place;
+use f3_places::source::Place;
 
 /// A byte of a source text, at its place.
 #[derive(Clone, Copy)]

@@ -8,7 +8,7 @@ ghost use Rattle.f3_text.specs.Inner.Steps.{ends_text, Takes, FindsFirst, FindsL
 
 use crate::cursor::Cursor;
 use crate::letter::{Letter, Quoting, after, is_blank, is_open};
-use f3_rules::source::Place;
+use f3_places::source::Place;
 
 /// A line that is no comment line.
 #[derive(Clone, Copy)]

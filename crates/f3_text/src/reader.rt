@@ -5,7 +5,7 @@ ghost use Rattle.std.specs.Prelude.{◌+◌, ◌<◌, ◌≤◌, ◌^◌, length
 use crate::cursor::Cursor;
 use crate::sources::{enter, next_statement};
 use crate::statement::{RawStatement, TextFault};
-use f3_rules::source::Source;
+use f3_places::source::Source;
 use std::alloc::Global;
 
 /// The statements of a list of sources, one by one.

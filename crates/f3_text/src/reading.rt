@@ -16,9 +16,9 @@ use crate::letter::{
 use crate::lines::{below, ends_text, only_blanks, take, text_line};
 use crate::mode::{Mode, Step};
 use crate::statement::{RawStatement, TextFault};
+use f3_places::source::Place;
 use f3_rules::refusal::Refusal;
 use f3_rules::rule::Rule;
-use f3_rules::source::Place;
 use std::alloc::{AllocError, Global};
 
 /// How deep parentheses and brackets may nest.

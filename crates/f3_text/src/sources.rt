@@ -12,8 +12,8 @@ use crate::lines::{TextLine, only_blanks, text_line};
 use crate::reader::Statements;
 use crate::reading::{refuse, statement};
 use crate::statement::{RawStatement, TextFault};
+use f3_places::source::{Place, Source};
 use f3_rules::rule::Rule;
-use f3_rules::source::{Place, Source};
 use std::alloc::Global;
 
 /// Whether an `&` is the only letter of a line but blanks.

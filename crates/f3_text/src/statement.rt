@@ -1,7 +1,7 @@
 //! Statements before they are read.
 
+use f3_places::source::Place;
 use f3_rules::refusal::Refusal;
-use f3_rules::source::Place;
 
 /// A statement of a source text: its bytes with continuations joined and comments dropped, from its
 /// first byte that is no blank (3.3.1).

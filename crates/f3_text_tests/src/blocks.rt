@@ -3,7 +3,7 @@
 use f3_blocks::builder::BlockBuilder;
 use f3_blocks::error::StepError;
 use f3_form::form::{Ended, Form};
-use f3_rules::source::Place;
+use f3_places::source::Place;
 use f3_tree::statement::{Action, Control};
 use std::alloc::Global;
 use std::test::Fail;

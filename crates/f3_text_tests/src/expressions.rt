@@ -3,7 +3,7 @@
 use f3_expressions::arguments::arguments;
 use f3_expressions::designators::designator;
 use f3_expressions::expressions::expression;
-use f3_rules::source::Place;
+use f3_places::source::Place;
 use f3_tree::expression::{Argument, Expression, IntegerLiteral, Name, Operator, Relation, Sign};
 use f3_words::error::ReadError;
 use f3_words::item::{Item, Keyword, Word};

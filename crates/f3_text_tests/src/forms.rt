@@ -2,7 +2,7 @@
 
 use f3_form::form::{Ended, Form};
 use f3_forms::statements::statement;
-use f3_rules::source::Source;
+use f3_places::source::Source;
 use f3_text::reader::Statements;
 use f3_tree::statement::{Action, Control, Selector};
 use f3_words::error::ReadError;

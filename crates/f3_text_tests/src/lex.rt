@@ -3,8 +3,8 @@
 use f3_lex::scanner::{text, tokens};
 use f3_lex::token::Lexed;
 use f3_lex::value::{integer, lower_case};
+use f3_places::source::Place;
 use f3_rules::rule::Rule;
-use f3_rules::source::Place;
 use f3_text::statement::RawStatement;
 use f3_tree::expression::IntegerLiteral;
 use std::alloc::{AllocError, Global};

@@ -1,9 +1,9 @@
 //! Sources parsed with ample memory.
 
 use f3_parse::parser::parse;
+use f3_places::source::{Place, Source};
 use f3_rules::refusal::render;
 use f3_rules::rule::Rule;
-use f3_rules::source::{Place, Source};
 use f3_text::statement::TextFault;
 use f3_tree::program::UnitKind;
 use std::alloc::{AllocError, Global};

@@ -1,8 +1,8 @@
 //! Lines of refusals.
 
+use f3_places::source::{Place, Source};
 use f3_rules::refusal::{Refusal, render};
 use f3_rules::rule::Rule;
-use f3_rules::source::{Place, Source};
 use std::test::Fail;
 
 #[test]

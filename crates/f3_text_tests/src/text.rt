@@ -1,6 +1,6 @@
 //! Statements of sources.
 
-use f3_rules::source::{Place, Source};
+use f3_places::source::{Place, Source};
 use f3_text::cut::{source_end, statements};
 use f3_text::statement::Cut;
 use std::alloc::{AllocError, Global};

@@ -2,7 +2,7 @@
 
 use f3_blocks::error::StepError;
 use f3_form::form::{Ended, Form};
-use f3_rules::source::Place;
+use f3_places::source::Place;
 use f3_tree::expression::Name;
 use f3_tree::program::{Header, ProcedureKind, UnitKind};
 use f3_tree::statement::Action;

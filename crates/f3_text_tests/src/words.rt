@@ -1,7 +1,7 @@
 //! Statements as the grammar sees them, with ample memory.
 
+use f3_places::source::Place;
 use f3_rules::rule::Rule;
-use f3_rules::source::Place;
 use f3_text::statement::RawStatement;
 use f3_tree::expression::{IntegerKind, IntegerLiteral, Operator, Relation};
 use f3_words::constant::characters;

@@ -1,7 +1,7 @@
 -- A program without where it lies in memory: what two trees have to share to be the same tree.
 use Rattle.std.specs.Prelude.{ℕ, Bool, List, map, Option}
 use Rattle.std.specs.String.{string_bytes}
-use Rattle.f3_rules.specs.declared.source.Place.{Place}
+use Rattle.f3_places.specs.declared.source.Place.{Place}
 use Rattle.f3_tree.specs.declared.expression.Name.{Name}
 use Rattle.f3_tree.specs.declared.program.ProcedureKind.{ProcedureKind}
 use Rattle.f3_tree.specs.declared.program.Header.{Header}

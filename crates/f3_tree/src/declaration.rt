@@ -1,7 +1,7 @@
 //! The statements of a specification part.
 
 use crate::expression::{Expression, IntegerKind, Name};
-use f3_rules::source::Place;
+use f3_places::source::Place;
 
 /// A local name and the name that it stands for (R1111).
 #[derive(Clone, Copy, PartialEq, Eq, Debug)]

@@ -1,6 +1,6 @@
 //! Names and expressions (ISO/IEC 1539-1:2004, clause 7).
 
-use f3_rules::source::Place;
+use f3_places::source::Place;
 
 /// An identifier where it stands.
 #[derive(Clone, Copy, PartialEq, Eq, Debug)]

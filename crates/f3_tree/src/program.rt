@@ -3,7 +3,7 @@
 use crate::declaration::{SpecificationPart, TypeSpecifier};
 use crate::expression::Name;
 use crate::statement::Statement;
-use f3_rules::source::Place;
+use f3_places::source::Place;
 use indexmap::IndexSet;
 
 /// What a procedure is.

@@ -1,7 +1,7 @@
 //! Executable statements and constructs.
 
 use crate::expression::{Argument, Expression, Name};
-use f3_rules::source::Place;
+use f3_places::source::Place;
 
 /// A designator: its parts from left to right, at least one, each a name and what stands in the parentheses behind
 /// it, if any (6.1).

@@ -1,8 +1,8 @@
 -- What tables in memory say of final subroutines is what they are.
 use Rattle.std.proofs.Common.{◌≡◌, ℕ, List, [], ◌∷◌, ◌++◌, Option, None, Some, option_map, refl, ap, sym, ◌∙◌}
 use Rattle.std.specs.List.{flat_map}
-use Rattle.f3_access.specs.declared.table.Lookup.{Lookup}
-use Rattle.f3_access.specs.declared.table.Lookup.TheVariants.{One, Nothing, Several}
+use Rattle.f3_lookups.specs.declared.lookup.Lookup.{Lookup}
+use Rattle.f3_lookups.specs.declared.lookup.Lookup.TheVariants.{One, Nothing, Several}
 use Rattle.f3_access.specs.Tables.{lookup_of}
 use Rattle.f3_tree.specs.declared.expression.Name.{Name}
 use Rattle.f3_kinds.specs.Things.{map_or}

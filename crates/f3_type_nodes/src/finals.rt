@@ -7,9 +7,9 @@ ghost use Rattle.f3_finals.specs.Inner.Looked.{rank_at};
 ghost use Rattle.f3_type_nodes.specs.Inner.Finals.{final_of, final_found, finals_by};
 
 use f3_access::lookup;
-use f3_access::table::Lookup;
 use f3_declaration_nodes::whole::Whole;
 use f3_finals::candidate::Candidate;
+use f3_lookups::lookup::Lookup;
 use f3_part_rules::finalizers::Finalizers;
 use f3_program::declarations::Final;
 use f3_tree::expression::Name;

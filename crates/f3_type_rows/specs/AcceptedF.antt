@@ -1,6 +1,6 @@
 -- Programs, each in the text above it, that nothing refuses.
 use Rattle.std.specs.Prelude.{true, false, [], ◌∷◌, None, Some, codes}
-use Rattle.f3_access.specs.declared.table.Lookup.TheVariants.{One}
+use Rattle.f3_lookups.specs.declared.lookup.Lookup.TheVariants.{One}
 use Rattle.f3_tree.specs.declared.expression.Sign.TheVariants.{Minus}
 use Rattle.f3_tree.specs.declared.expression.Relation.TheVariants as r
 use Rattle.f3_tree.specs.declared.expression.Operator.TheVariants as o

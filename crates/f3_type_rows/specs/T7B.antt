@@ -1,6 +1,6 @@
 -- Programs, each in the text above it, with what refuses it.
 use Rattle.std.specs.Prelude.{false, [], ◌∷◌, None, Some, codes}
-use Rattle.f3_access.specs.declared.table.Lookup.TheVariants.{One}
+use Rattle.f3_lookups.specs.declared.lookup.Lookup.TheVariants.{One}
 use Rattle.f3_rules.specs.declared.rule.Rule.TheVariants.{T7}
 use Rattle.f3_tree.specs.declared.expression.Relation.TheVariants as r
 use Rattle.f3_tree.specs.declared.expression.IntegerKind.TheVariants.{Four, Eight}

@@ -1,6 +1,6 @@
 -- Programs, each in the text above it, with what refuses it.
 use Rattle.std.specs.Prelude.{true, false, [], ◌∷◌, None, Some, codes}
-use Rattle.f3_access.specs.declared.table.Lookup.TheVariants.{One}
+use Rattle.f3_lookups.specs.declared.lookup.Lookup.TheVariants.{One}
 use Rattle.f3_rules.specs.declared.rule.Rule.TheVariants.{T8}
 use Rattle.f3_tree.specs.declared.expression.Operator.TheVariants as o
 use Rattle.f3_tree.specs.declared.expression.IntegerKind.TheVariants.{Four, Eight}

@@ -2,7 +2,7 @@
 -- construct is a scope of its own: the number of the next one goes along.
 use Rattle.std.specs.Prelude.{ℕ, ◌+◌, List, [], ◌++◌, length}
 use Rattle.std.specs.List.{flat_map}
-use Rattle.f3_rules.specs.declared.source.Place.{Place}
+use Rattle.f3_places.specs.declared.source.Place.{Place}
 use Rattle.f3_rules.specs.declared.breaks.Break.{Break}
 use Rattle.f3_tree.specs.Statements.{Act, Controls, AssociationTree, StatementTree, acts, acts_if, branches, selects, repeats, associates}
 use Rattle.f3_tree.specs.Statements.{Block, no_statements, statements, Branches, no_branches, branch}

@@ -1,7 +1,7 @@
 -- The breaks of phase 6 of SELECT CASE (ISO/IEC 1539-1:2004, 8.1.3).
 use Rattle.std.specs.Prelude.{ℤ, int_lt, int_le, Bool, true, false, not, ◌&&◌, List, [], ◌∷◌, ◌++◌, Option, None, Some, map, if◌then◌else◌}
 use Rattle.std.specs.List.{flat_map, list_any}
-use Rattle.f3_rules.specs.declared.source.Place.{Place}
+use Rattle.f3_places.specs.declared.source.Place.{Place}
 use Rattle.f3_rules.specs.declared.rule.Rule.TheVariants.{T11}
 use Rattle.f3_rules.specs.declared.breaks.Break.{Break}
 use Rattle.f3_tree.specs.Expressions.{Tree}

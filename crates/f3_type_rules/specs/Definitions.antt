@@ -1,7 +1,7 @@
 -- What an action defines, and what may be defined (ISO/IEC 1539-1:2004, 16.5.7, 5.1.2, 12.6; phase 7).
 use Rattle.std.specs.Prelude.{ℕ, ◌+◌, Bool, true, false, ◌||◌, not, ◌==◌, nat_eq, List, [], ◌∷◌, ◌++◌, Option, None, Some, map, if◌then◌else◌}
 use Rattle.std.specs.List.{flat_map, list_any}
-use Rattle.f3_rules.specs.declared.source.Place.{Place}
+use Rattle.f3_places.specs.declared.source.Place.{Place}
 use Rattle.f3_rules.specs.declared.rule.Rule.{Rule}
 use Rattle.f3_rules.specs.declared.rule.Rule.TheVariants.{D1, D2, D3, D4, D5, D6}
 use Rattle.f3_rules.specs.declared.breaks.Break.{Break}

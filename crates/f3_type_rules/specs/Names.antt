@@ -2,8 +2,8 @@
 use Rattle.std.specs.Prelude.{ℕ, Bool, true, false, List, [], ◌∷◌, Option, None, Some, map, length}
 use Rattle.std.specs.Prelude.{slice_get}
 use Rattle.std.specs.List.{flat_map, list_any}
-use Rattle.f3_access.specs.declared.table.Lookup.{Lookup}
-use Rattle.f3_access.specs.declared.table.Lookup.TheVariants.{One}
+use Rattle.f3_lookups.specs.declared.lookup.Lookup.{Lookup}
+use Rattle.f3_lookups.specs.declared.lookup.Lookup.TheVariants.{One}
 use Rattle.f3_scopes.specs.declared.outline.EntityKind.{EntityKind}
 use Rattle.f3_scopes.specs.declared.outline.EntityKind.TheVariants as entity
 use Rattle.f3_scopes.specs.Scopes.{intent_of as intents}

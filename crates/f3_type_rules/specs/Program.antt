@@ -1,7 +1,7 @@
 -- The breaks of phases 5 to 7 of a program: what no rule on text, units and names refuses is refused for the least of them.
 use Rattle.std.specs.Prelude.{ℕ, ◌+◌, Bool, false, List, [], ◌∷◌, ◌++◌, slice_get}
 use Rattle.std.specs.List.{flat_map}
-use Rattle.f3_access.specs.declared.table.Lookup.{Lookup}
+use Rattle.f3_lookups.specs.declared.lookup.Lookup.{Lookup}
 use Rattle.f3_rules.specs.declared.breaks.Break.{Break}
 use Rattle.f3_scopes.specs.Outlines.{Scope}
 use Rattle.f3_scopes.specs.Scopes.{scopes_of}

@@ -4,7 +4,7 @@ use Rattle.std.specs.Prelude.{slice_get, codes}
 use Rattle.std.specs.List.{flat_map, list_any}
 use Rattle.std.specs.Map.{lookup}
 use Rattle.std.specs.Cmp.Lexicographic.{pointwise}
-use Rattle.f3_access.specs.declared.table.Lookup.{Lookup}
+use Rattle.f3_lookups.specs.declared.lookup.Lookup.{Lookup}
 use Rattle.f3_access.specs.Access.{entities_of}
 use Rattle.f3_scopes.specs.Outlines.{Own, Scope}
 use Rattle.f3_scopes.specs.Scopes.{scopes_of}

@@ -4,9 +4,9 @@ ghost use Rattle.std.specs.Prelude.{◌≡◌, List, [], ◌∷◌};
 ghost use Rattle.f3_kinds.specs.Rows.{unless, at_place, at_name};
 ghost use Rattle.f3_typed_parts.specs.Noted.{noted};
 
+use f3_places::source::Place;
 use f3_rules::breaks::{Break, earlier};
 use f3_rules::rule::Rule;
-use f3_rules::source::Place;
 use f3_tree::expression::Name;
 
 /// Notes a break.

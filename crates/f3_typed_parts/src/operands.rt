@@ -10,9 +10,9 @@ use crate::noted::{at_place, note};
 use crate::rows::{computed, fits, is_unbroken, same_type, scalar, wider};
 use f3_kinds::said::{Form, Has, Said};
 use f3_kinds::types::{DataType, Wanted};
+use f3_places::source::Place;
 use f3_rules::breaks::Break;
 use f3_rules::rule::Rule;
-use f3_rules::source::Place;
 use f3_tree::expression::{IntegerKind, Operator};
 
 pub fn begun(said: &Said, are_parts_typed: bool, has: Option<Has>) -> Said

@@ -1,7 +1,7 @@
 -- What is known behind the bodies of a program is what it was before them, and the breaks are the program's.
 use Rattle.std.proofs.Common.{◌≡◌, ℕ, suc, ◌+◌, ◌<◌, ◌^◌, List, [], ◌∷◌, ◌++◌, Option, None, Some, length, map, slice_get, refl, sym, ap, subst, ◌∙◌, arith}
 use Rattle.std.proofs.lemmas.Option.{slice_get-map}
-use Rattle.f3_access.specs.declared.table.Lookup.{Lookup}
+use Rattle.f3_lookups.specs.declared.lookup.Lookup.{Lookup}
 use Rattle.f3_graph.specs.Order.{IsOrderOf}
 use Rattle.f3_graph.specs.Units.{nodes_of}
 use Rattle.f3_rules.specs.declared.breaks.Break.{Break}

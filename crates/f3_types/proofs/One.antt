@@ -1,8 +1,8 @@
 -- What names mean is one, so the breaks of a program are those along the order that was taken.
 use Rattle.std.proofs.Common.{◌≡◌, ℕ, List, Contains, sym, ap, subst, ◌∙◌}
 use Rattle.std.proofs.Math.Path.{fun_ext}
-use Rattle.f3_access.specs.declared.table.Lookup.{Lookup}
-use Rattle.f3_access.specs.declared.table.Lookup.TheVariants.{One, Nothing, Several}
+use Rattle.f3_lookups.specs.declared.lookup.Lookup.{Lookup}
+use Rattle.f3_lookups.specs.declared.lookup.Lookup.TheVariants.{One, Nothing, Several}
 use Rattle.f3_access.specs.Access.{IsVisible}
 use Rattle.f3_access.specs.Lookups.{ResolvesAs}
 use Rattle.f3_graph.specs.Order.{IsOrderOf}

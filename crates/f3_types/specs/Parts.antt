@@ -1,7 +1,7 @@
 -- What the entities of a program are.
 use Rattle.std.specs.Prelude.{◌≡◌, ℕ, nat_eq, List, Option, None, map, slice_get}
 use Rattle.std.specs.Map.{lookup}
-use Rattle.f3_access.specs.declared.table.Lookup.{Lookup}
+use Rattle.f3_lookups.specs.declared.lookup.Lookup.{Lookup}
 use Rattle.f3_graph.specs.Order.{IsOrderOf}
 use Rattle.f3_graph.specs.Units.{nodes_of}
 use Rattle.f3_scopes.specs.Scopes.{scopes_of}

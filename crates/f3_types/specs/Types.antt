@@ -1,6 +1,6 @@
 -- The tables of what the entities of a program are.
 use Rattle.std.specs.Prelude.{ℕ, List, Option, None, slice_get}
-use Rattle.f3_access.specs.declared.table.Lookup.{Lookup}
+use Rattle.f3_lookups.specs.declared.lookup.Lookup.{Lookup}
 use Rattle.f3_tree.specs.Tree.{Tree}
 use Rattle.f3_kinds.specs.declared.types.Scalar.{Scalar}
 use Rattle.f3_kinds.specs.Things.{map_or}

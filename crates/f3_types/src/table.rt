@@ -2,9 +2,9 @@
 
 ghost use Rattle.f3_types.specs.Parts.{AreOfAProgram};
 
-use f3_access::table::EntityId;
 use f3_kinds::things::Thing;
 use f3_kinds::types::Scalar;
+use f3_lookups::lookup::EntityId;
 use f3_rules::breaks::Break;
 
 /// What the entities of a program are, the values of its named constants, the cells of its types, and whether a rule on

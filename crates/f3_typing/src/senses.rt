@@ -10,15 +10,15 @@ ghost use Rattle.f3_typed_parts.specs.Known.{context_of, part_of, nature_of};
 ghost use Rattle.f3_typed_parts.specs.Noted.{noted};
 
 use f3_access::lookup;
-use f3_access::table::Lookup;
 use f3_kinds::said::{Form, Given, Role, Said};
 use f3_kinds::things::{Intrinsic, Thing};
+use f3_lookups::lookup::Lookup;
+use f3_places::source::Place;
 use f3_references::arguments::function;
 use f3_references::constructors::constructor;
 use f3_references::intrinsics::intrinsic_function;
 use f3_rules::breaks::Break;
 use f3_rules::rule::Rule;
-use f3_rules::source::Place;
 use f3_tree::expression::Name;
 use f3_typed_parts::designators::{Judged, are_typed, is_of_heap, object, parts_typed};
 use f3_typed_parts::known::{Known, Part, Position};

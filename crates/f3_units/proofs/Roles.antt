@@ -1,6 +1,6 @@
 -- The statements of a specification part and of a block by their roles.
 use Rattle.std.proofs.Common.{◌≡◌, Bool, false, Option, Some, None, ◌⊎◌, inl, inr, refl}
-use Rattle.f3_rules.specs.declared.source.Place.{Place}
+use Rattle.f3_places.specs.declared.source.Place.{Place}
 use Rattle.f3_tree.specs.Declarations.{PartTree, TypeTree}
 use Rattle.f3_form.specs.declared.form.Ended.TheVariants as ended
 use Rattle.f3_form.specs.Forms.{FormTree}

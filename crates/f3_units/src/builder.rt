@@ -14,7 +14,7 @@ use crate::scope::{Role, Scope, role_of};
 use f3_blocks::error::{StepError, out_of_place};
 use f3_form::form::{Ended, Form};
 use f3_parts::builder::fits_label;
-use f3_rules::source::Place;
+use f3_places::source::Place;
 use f3_tree::expression::Name;
 use f3_tree::program::{Header, Procedure, ProcedureKind, Unit, UnitKind};
 use std::alloc::Global;

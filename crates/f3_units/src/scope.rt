@@ -9,7 +9,7 @@ use f3_blocks::builder::BlockBuilder;
 use f3_blocks::error::{StepError, out_of_place};
 use f3_form::form::{Ended, Form};
 use f3_parts::builder::PartBuilder;
-use f3_rules::source::Place;
+use f3_places::source::Place;
 use f3_tree::expression::Name;
 use f3_tree::program::UnitKind;
 use std::alloc::Global;

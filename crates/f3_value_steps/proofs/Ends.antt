@@ -1,7 +1,7 @@
 -- What a part of a run comes to.
 use Rattle.std.proofs.Common.{◌≡◌, [], ◌∷◌, Result, Ok, Err, Bool, true, false, refl, sym, ap, ◌∙◌, subst}
 use Rattle.std.specs.Prelude.{⊤, if◌then◌else◌}
-use Rattle.f3_rules.specs.declared.source.Place.{Place}
+use Rattle.f3_places.specs.declared.source.Place.{Place}
 use Rattle.f3_program.specs.declared.program.Program.{Program}
 use Rattle.f3_meaning_whole.specs.Value as m
 use Rattle.f3_meaning_whole.specs.Act.{Here, needs_storage, claim}

@@ -1,6 +1,6 @@
 -- How instructions end.
 use Rattle.std.specs.Prelude.{⊤, ℕ, pos, List, [], ◌∷◌, length, Result}
-use Rattle.f3_rules.specs.declared.source.Place.{Place}
+use Rattle.f3_places.specs.declared.source.Place.{Place}
 use Rattle.f3_program.specs.declared.program.Program.{Program}
 use Rattle.f3_meaning_whole.specs.Value as m
 use Rattle.f3_meaning_whole.specs.Ran.{◌>>=◌}

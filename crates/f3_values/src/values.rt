@@ -9,8 +9,8 @@ ghost use Rattle.f3_values.specs.Inner.Chains.{run, raised_to};
 
 use crate::operations::{apply, compared, denied, is_power, literal_value, signed_value};
 use f3_access::lookup;
-use f3_access::table::Lookup;
 use f3_kinds::types::Scalar;
+use f3_lookups::lookup::Lookup;
 use f3_tree::expression::{Argument, Expression, Name, Operator};
 use f3_typed_parts::known::{Known, Position};
 

@@ -7,8 +7,8 @@ use Rattle.f3_tree.specs.Tree.{Tree}
 use Rattle.f3_nodes.proofs.Members.{contains_of, at_has}
 use Rattle.f3_scopes.specs.Outlines.{Own, Scope}
 use Rattle.f3_scopes.specs.Scopes.{scopes_of}
-use Rattle.f3_access.specs.declared.table.Lookup.{Lookup}
-use Rattle.f3_access.specs.declared.table.Lookup.TheVariants.{One, Nothing, Several}
+use Rattle.f3_lookups.specs.declared.lookup.Lookup.{Lookup}
+use Rattle.f3_lookups.specs.declared.lookup.Lookup.TheVariants.{One, Nothing, Several}
 use Rattle.f3_access.specs.Access.{first_entity, IsDeclared, IsOwn, IsUsed, IsVisible}
 use Rattle.f3_access.specs.Lookups.{ResolvesAs, Resolves}
 use Rattle.f3_breaks.specs.At as breaks

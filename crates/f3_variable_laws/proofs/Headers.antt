@@ -13,7 +13,7 @@ use Rattle.f3_tree.specs.Tree.{Tree}
 use Rattle.f3_nodes.proofs.Members.{Has, has_of, contains_of, has_at, at_has, any_of, any_from}
 use Rattle.f3_scopes.specs.Outlines.{Own, Scope}
 use Rattle.f3_scopes.specs.Scopes.{declared_in, is_typed, name_or, outcome_of, scope_of_procedure, scopes_of, typed_result}
-use Rattle.f3_access.specs.declared.table.Lookup.{Lookup}
+use Rattle.f3_lookups.specs.declared.lookup.Lookup.{Lookup}
 use Rattle.f3_access.specs.Access.{first_entity, IsDeclared, IsVisible}
 use Rattle.f3_access.specs.Lookups.{Resolves}
 use Rattle.f3_scope_rules.specs.ScopeBreaks.{at, header_names, DeclaredTwice, specified, IntentMisplaced, BreaksOf}

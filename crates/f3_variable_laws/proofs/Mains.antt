@@ -5,8 +5,8 @@ use Rattle.f3_tree.specs.declared.program.UnitKind.TheVariants as unit
 use Rattle.f3_tree.specs.Tree.{Tree}
 use Rattle.f3_nodes.proofs.Members.{Has, at_has, has_mapped}
 use Rattle.f3_scopes.specs.Scopes.{scopes_of}
-use Rattle.f3_access.specs.declared.table.Lookup.{Lookup}
-use Rattle.f3_access.specs.declared.table.Lookup.TheVariants.{One}
+use Rattle.f3_lookups.specs.declared.lookup.Lookup.{Lookup}
+use Rattle.f3_lookups.specs.declared.lookup.Lookup.TheVariants.{One}
 use Rattle.f3_access.specs.Access.{IsVisible}
 use Rattle.f3_access.specs.Hosts.{host_in}
 use Rattle.f3_access.specs.Lookups.{Resolves}

@@ -7,7 +7,7 @@ use Rattle.f3_scopes.specs.declared.outline.EntityKind.TheVariants as entity
 use Rattle.f3_scopes.specs.Outlines.{Own}
 use Rattle.f3_scopes.specs.Scopes.{is_parameter, intents_of, kind_of, own, scopes_of}
 use Rattle.f3_scopes.specs.Scopes as scopes
-use Rattle.f3_access.specs.declared.table.Lookup.{Lookup}
+use Rattle.f3_lookups.specs.declared.lookup.Lookup.{Lookup}
 use Rattle.f3_kinds.specs.declared.types.Object.{Object}
 use Rattle.f3_kinds.specs.Things.{Nature, constant, variable, derived, subroutine, function}
 use Rattle.f3_type_rules.specs.declared.definition.Holder.{Holder}

@@ -11,7 +11,7 @@ use Rattle.f3_scopes.specs.declared.outline.EntityKind.{EntityKind}
 use Rattle.f3_scopes.specs.declared.outline.EntityKind.TheVariants as entity
 use Rattle.f3_scopes.specs.Outlines.{Own, Scope}
 use Rattle.f3_scopes.specs.Scopes.{is_parameter, declared_in, plain, name_or, outcome_of, entity_kind, typed_result, procedure_own, scope_of_unit, scope_of_procedure, scopes_of}
-use Rattle.f3_access.specs.declared.table.Lookup.{Lookup}
+use Rattle.f3_lookups.specs.declared.lookup.Lookup.{Lookup}
 use Rattle.f3_access.specs.Access.{first_entity, IsDeclared}
 use Rattle.f3_kinds.specs.declared.types.Object.{Object}
 use Rattle.f3_kinds.specs.declared.things.Dummy.{Dummy}

@@ -6,7 +6,7 @@ use Rattle.f3_tree.specs.declared.program.UnitKind.TheVariants as unit
 use Rattle.f3_tree.specs.Tree.{Tree}
 use Rattle.f3_nodes.proofs.Members.{Has, has_left, has_right, has_mapped, has_parts, has_piece, piece_of}
 use Rattle.f3_scopes.specs.Scopes.{scopes_of}
-use Rattle.f3_access.specs.declared.table.Lookup.{Lookup}
+use Rattle.f3_lookups.specs.declared.lookup.Lookup.{Lookup}
 use Rattle.f3_access.specs.Access.{IsDeclared}
 use Rattle.f3_kinds.specs.declared.types.Object.{Object}
 use Rattle.f3_kinds.specs.Things.{variable}

@@ -1,6 +1,6 @@
 -- Where the bodies of a program begin: that of each unit itself, and that of each procedure.
 use Rattle.std.specs.Prelude.{◌≡◌, ℕ, false, List, []}
-use Rattle.f3_access.specs.declared.table.Lookup.{Lookup}
+use Rattle.f3_lookups.specs.declared.lookup.Lookup.{Lookup}
 use Rattle.f3_tree.specs.declared.program.UnitKind.TheVariants as unit
 use Rattle.f3_tree.specs.Tree.{UnitTree, Tree}
 use Rattle.f3_program.specs.declared.program.Procedure.{Procedure}

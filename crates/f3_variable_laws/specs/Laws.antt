@@ -1,7 +1,7 @@
 -- The variables that the rules on types know where a body begins are those of the elaborated program.
 use Rattle.std.specs.Prelude.{◌≡◌, ℕ, true, [], List, Some}
-use Rattle.f3_access.specs.declared.table.Lookup.{Lookup}
-use Rattle.f3_access.specs.declared.table.Lookup.TheVariants.{One}
+use Rattle.f3_lookups.specs.declared.lookup.Lookup.{Lookup}
+use Rattle.f3_lookups.specs.declared.lookup.Lookup.TheVariants.{One}
 use Rattle.f3_access.specs.Access.{IsVisible}
 use Rattle.f3_access.specs.Lookups.{Resolves}
 use Rattle.f3_rules.specs.declared.breaks.Break.{Break}

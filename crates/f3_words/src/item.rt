@@ -3,7 +3,7 @@
 ghost use Rattle.std.specs.Prelude.{◌≡◌};
 ghost use Rattle.f3_words.specs.Words.{is_name, name_of};
 
-use f3_rules::source::Place;
+use f3_places::source::Place;
 use f3_tree::expression::{IntegerKind, IntegerLiteral, Name, Operator, Relation};
 
 /// The keyword that a name may be, where a form asks for it. Keywords are not reserved: each is a name as well

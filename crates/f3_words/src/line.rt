@@ -5,9 +5,9 @@ ghost use Rattle.f3_words.specs.Lines.{broken, seen_of, nothing_seen};
 
 use crate::item::Item;
 use crate::names::Names;
+use f3_places::source::Place;
 use f3_rules::breaks::Break;
 use f3_rules::rule::Rule;
-use f3_rules::source::Place;
 use std::alloc::Global;
 
 /// A statement.

@@ -4,7 +4,7 @@ use Rattle.std.specs.List.{list_any}
 use Rattle.indexmap.specs.IndexMap.{get}
 use Rattle.f3_selecting.specs.declared.selecting.Selections.{Selections}
 use Rattle.f3_selecting.specs.Selecting.{locals_by, kept_by, names_in}
-use Rattle.f3_access.specs.declared.table.Visible.{Visible}
+use Rattle.f3_lookups.specs.declared.lookup.Visible.{Visible}
 use Rattle.f3_access.specs.Listing.{pair}
 
 abbrev pub called_by : Selections → ℕ → Visible → List Visible

@@ -1,7 +1,7 @@
 -- A walk over some places of a list.
 use Rattle.std.specs.Prelude.{◌≡◌, ◌≢◌, ℕ, ◌<◌, ◌≤◌, List, [], Option, None, Some, length, nat_lt, if◌then◌else◌, slice_get}
 use Rattle.std.specs.List.{slice_index_or}
-use Rattle.f3_access.specs.declared.table.Visible.{Visible}
+use Rattle.f3_lookups.specs.declared.lookup.Visible.{Visible}
 
 -- what stands at a place, if it is not before the next
 abbrev pub unseen : List Visible → ℕ → ℕ → Option Visible

@@ -1,7 +1,7 @@
 -- What the readers of parts of a CASE find.
 use Rattle.std.specs.Prelude.{◌≡◌, true, false, List, ◌∷◌, Option, Some, None}
 use Rattle.std.specs.Borrow.{Bor}
-use Rattle.f3_rules.specs.declared.source.Place.{Place}
+use Rattle.f3_places.specs.declared.source.Place.{Place}
 use Rattle.f3_tree.specs.Expressions.{Tree}
 use Rattle.f3_tree.specs.Statements.{CaseTree, one, from, up_to, range}
 use Rattle.f3_words.specs.declared.item.Word.TheVariants.{Colon}

@@ -1,6 +1,6 @@
 -- The values of CASE statements, one statement after another.
 use Rattle.std.specs.Prelude.{Bool, true, not, List, [], map, Option}
-use Rattle.f3_rules.specs.declared.source.Place.{Place}
+use Rattle.f3_places.specs.declared.source.Place.{Place}
 use Rattle.f3_rules.specs.declared.rule.Rule.TheVariants.{T11}
 use Rattle.f3_rules.specs.declared.breaks.Break.{Break}
 use Rattle.std.specs.List.{flat_map}

@@ -1,7 +1,7 @@
 -- What values hold, in memory, and the values of a SELECT CASE one by one.
 use Rattle.std.specs.Prelude.{List, [], ◌∷◌, ◌++◌, not, Option, None, Some}
 use Rattle.std.specs.List.{list_any}
-use Rattle.f3_rules.specs.declared.source.Place.{Place}
+use Rattle.f3_places.specs.declared.source.Place.{Place}
 use Rattle.f3_rules.specs.declared.rule.Rule.TheVariants.{T11}
 use Rattle.f3_rules.specs.declared.breaks.Break.{Break}
 use Rattle.f3_tree.specs.declared.statement.CaseValue.{CaseValue}

@@ -1,6 +1,6 @@
 -- What is seen of the parts of a form.
 use Rattle.std.specs.Prelude.{◌≡◌, Bool, true, false, List, Option, Some, None}
-use Rattle.f3_rules.specs.declared.source.Place.{Place}
+use Rattle.f3_places.specs.declared.source.Place.{Place}
 use Rattle.f3_tree.specs.declared.declaration.TypeSpecifier.{TypeSpecifier}
 use Rattle.f3_tree.specs.declared.declaration.Declaration.{Declaration}
 use Rattle.f3_tree.specs.Declarations.{Placed, EntityTree, declaration_view}

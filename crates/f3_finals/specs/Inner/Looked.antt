@@ -1,7 +1,7 @@
 -- What a name in FINAL could finalize, by the place of its procedure in its module.
 use Rattle.std.specs.Prelude.{ℕ, ◌-◌, nat_lt, List, Option, None, slice_get, if◌then◌else◌}
-use Rattle.f3_access.specs.declared.table.Lookup.{Lookup}
-use Rattle.f3_access.specs.declared.table.Lookup.TheVariants.{One}
+use Rattle.f3_lookups.specs.declared.lookup.Lookup.{Lookup}
+use Rattle.f3_lookups.specs.declared.lookup.Lookup.TheVariants.{One}
 use Rattle.f3_kinds.specs.Things.{map_or}
 use Rattle.f3_finals.specs.declared.candidate.Candidate.{Candidate}
 use Rattle.f3_finals.specs.Candidates.{rank_for}

@@ -9,8 +9,8 @@ use Rattle.f3_scopes.specs.declared.outline.UseOutline.{UseOutline}
 use Rattle.f3_scopes.specs.declared.outline.Declared.{Declared}
 use Rattle.f3_scopes.specs.declared.outline.AccessOutline.{AccessOutline}
 use Rattle.f3_scopes.specs.declared.outline.Outline.{Outline}
-use Rattle.f3_access.specs.declared.table.Lookup.{Lookup}
-use Rattle.f3_access.specs.declared.table.Lookup.TheVariants.{One, Nothing, Several}
+use Rattle.f3_lookups.specs.declared.lookup.Lookup.{Lookup}
+use Rattle.f3_lookups.specs.declared.lookup.Lookup.TheVariants.{One, Nothing, Several}
 use Rattle.f3_access.specs.declared.table.Tables.{Tables}
 use Rattle.f3_scopes.specs.Kinds.{is_module}
 use Rattle.f3_access.specs.Tables.{used_of, lookup_of, private_of, module_of}

@@ -5,7 +5,7 @@ use Rattle.f3_tree.specs.declared.program.UnitKind.{UnitKind}
 use Rattle.f3_tree.specs.declared.program.UnitKind.TheVariants as unit
 use Rattle.f3_tree.specs.Tree.{UnitTree}
 use Rattle.f3_scopes.specs.Scopes.{unit_kind}
-use Rattle.f3_access.specs.declared.table.Visible.{Visible}
+use Rattle.f3_lookups.specs.declared.lookup.Visible.{Visible}
 use Rattle.f3_access.specs.Tables.{own_of, private_of}
 use Rattle.f3_name_rules.specs.NameBreaks.{text_of}
 use Rattle.f3_names.specs.declared.table.Names.{Names}

@@ -1,6 +1,6 @@
 -- The steps of the parser over the statements of sources.
 use Rattle.std.specs.Prelude.{◌≡◌, ◌⊎◌, ℕ, List, Some, None, Result, Ok, Err}
-use Rattle.f3_rules.specs.declared.source.Place.{Place}
+use Rattle.f3_places.specs.declared.source.Place.{Place}
 use Rattle.f3_rules.specs.declared.rule.Rule.TheVariants.{S5, S6, S7, S8}
 use Rattle.f3_rules.specs.declared.breaks.Break.{Break}
 use Rattle.f3_rules.specs.declared.refusal.Refusal.{Refusal}

@@ -1,6 +1,6 @@
 -- The entities of associate names.
 use Rattle.std.specs.Prelude.{ℕ}
-use Rattle.f3_access.specs.declared.table.Lookup.{Lookup}
+use Rattle.f3_lookups.specs.declared.lookup.Lookup.{Lookup}
 use Rattle.f3_tree.specs.Statements.{AssociationTree}
 use Rattle.f3_elaboration.specs.Numbers.{entity_of}
 

@@ -1,6 +1,6 @@
 -- Branches and cases, each with what is done where it is not taken: the next one, and the last the alternative.
 use Rattle.std.specs.Prelude.{Bool, false, List, [], ◌∷◌, map}
-use Rattle.f3_rules.specs.declared.source.Place.{Place}
+use Rattle.f3_places.specs.declared.source.Place.{Place}
 use Rattle.f3_tree.specs.Statements.{Selects, values, default}
 use Rattle.f3_program.specs.declared.statement.Range.{Range}
 use Rattle.f3_kinds.specs.Things.{Context}

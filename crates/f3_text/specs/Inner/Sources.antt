@@ -1,6 +1,6 @@
 -- What the steps along sources give.
 use Rattle.std.specs.Prelude.{◌≡◌, ℕ, ◌+◌, ◌<◌, ◌≤◌, List, [], length, Option, None, Some, Result, Ok, Err}
-use Rattle.f3_rules.specs.declared.source.Source.{Source}
+use Rattle.f3_places.specs.declared.source.Source.{Source}
 use Rattle.f3_text.specs.declared.letter.Quoting.TheVariants.{Outside}
 use Rattle.f3_text.specs.declared.statement.RawStatement.{RawStatement}
 use Rattle.f3_text.specs.declared.statement.TextFault.{TextFault}

@@ -1,7 +1,7 @@
 -- The breaks of a program along an order of its units, in two parts.
 use Rattle.std.specs.Prelude.{ℕ, List}
 use Rattle.std.specs.List.{flat_map}
-use Rattle.f3_access.specs.declared.table.Lookup.{Lookup}
+use Rattle.f3_lookups.specs.declared.lookup.Lookup.{Lookup}
 use Rattle.f3_rules.specs.declared.breaks.Break.{Break}
 use Rattle.f3_tree.specs.Tree.{Tree}
 use Rattle.f3_type_rules.specs.Declarations.{unit_rows, unit_next}

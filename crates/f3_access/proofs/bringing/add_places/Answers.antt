@@ -3,7 +3,7 @@ use Rattle.std.specs.List.{flat_map}
 use Rattle.indexmap.specs.IndexSet.{insert_all}
 use Rattle.f3_access.specs.Listing.{same_pair}
 use Rattle.f3_access.specs.Inner.Calling.{called_by}
-use Rattle.f3_access.specs.declared.table.Visible.{Visible}
+use Rattle.f3_lookups.specs.declared.lookup.Visible.{Visible}
 use Rattle.f3_access.specs.Inner.Walk.{RestIsSilent}
 use Rattle.f3_access.proofs.Walks.{walk_more, walk_on, walk_ends}
 use Rattle.f3_access.proofs.bringing.add_places.Goals.{in-Some+in_ok-add_called, in_default}

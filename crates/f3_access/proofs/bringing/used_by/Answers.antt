@@ -4,7 +4,7 @@ use Rattle.std.proofs.lemmas.Result.{IfOk-weaker}
 use Rattle.indexmap.specs.IndexSet.{insert_all}
 use Rattle.indexmap.specs.IndexMap.{get}
 use Rattle.f3_scopes.specs.Outlines.{using_view}
-use Rattle.f3_access.specs.declared.table.Visible.{Visible}
+use Rattle.f3_lookups.specs.declared.lookup.Visible.{Visible}
 use Rattle.f3_access.specs.Listing.{same_pair, exports_of, called}
 use Rattle.f3_selecting.specs.Sources.{modules_of}
 use Rattle.f3_access.specs.Inner.Calling.{called_by}

@@ -1,6 +1,6 @@
 use Rattle.std.proofs.Common.{◌≡◌, ℕ, drop, nat_eq}
 use Rattle.indexmap.specs.IndexMap.{get}
-use Rattle.f3_access.specs.declared.table.Lookup.TheVariants.{Nothing}
+use Rattle.f3_lookups.specs.declared.lookup.Lookup.TheVariants.{Nothing}
 use Rattle.f3_access.specs.Parts.{found, meaning}
 use Rattle.f3_access.proofs.building.lookups_of.Given as goal
 

@@ -2,7 +2,7 @@ use Rattle.std.proofs.Common.{[], List, map, nat_eq, ap, sym, ◌∙◌}
 use Rattle.indexmap.specs.IndexSet.{insert_all}
 use Rattle.indexmap.specs.IndexMap.{get}
 use Rattle.f3_scopes.specs.Outlines.{using_view}
-use Rattle.f3_access.specs.declared.table.Visible.{Visible}
+use Rattle.f3_lookups.specs.declared.lookup.Visible.{Visible}
 use Rattle.f3_access.specs.Listing.{same_pair, brought}
 use Rattle.f3_access.specs.Parts.{exports_at}
 use Rattle.f3_selecting.proofs.Steps.{insert_more}

@@ -3,8 +3,8 @@ use Rattle.indexmap.specs.IndexSet.{insert_all}
 use Rattle.indexmap.specs.IndexMap.{get}
 use Rattle.f3_scopes.specs.declared.outline.UseOutline.{UseOutline}
 use Rattle.f3_scopes.specs.Outlines.{using_view, scope_view}
-use Rattle.f3_access.specs.declared.table.Visible.{Visible}
-use Rattle.f3_access.specs.declared.table.Lookup.TheVariants.{Nothing}
+use Rattle.f3_lookups.specs.declared.lookup.Visible.{Visible}
+use Rattle.f3_lookups.specs.declared.lookup.Lookup.TheVariants.{Nothing}
 use Rattle.f3_scopes.specs.Kinds.{is_module}
 use Rattle.f3_access.specs.Listing.{same_pair, brought, exported}
 use Rattle.f3_access.specs.Parts.{meaning, exports_at}

@@ -1,5 +1,5 @@
 use Rattle.std.proofs.Common.{◌≡◌, ◌+◌, ◌++◌, List, refl, arith, sym, ap, ◌∙◌, map}
-use Rattle.f3_rules.specs.declared.source.Place.{Place}
+use Rattle.f3_places.specs.declared.source.Place.{Place}
 use Rattle.f3_tree.specs.declared.expression.Expression.{Expression}
 use Rattle.f3_tree.specs.declared.statement.Selector.{Selector}
 use Rattle.f3_tree.specs.declared.statement.Statement.{Statement}

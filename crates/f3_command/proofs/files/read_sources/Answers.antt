@@ -2,7 +2,7 @@ use Rattle.std.proofs.Common.{◌≡◌, ℕ, zero, suc, ◌+◌, ◌<◌, List,
 use Rattle.std.specs.Prelude.{Contains}
 use Rattle.std.proofs.lemmas.List.{take_more, map-append}
 use Rattle.std.proofs.lemmas.List.Elements.{Contains-append_right}
-use Rattle.f3_rules.specs.declared.source.Source.{Source}
+use Rattle.f3_places.specs.declared.source.Source.{Source}
 use Rattle.f3_command.specs.declared.files.ReadFault.{ReadFault}
 use Rattle.f3_command.specs.declared.files.ReadFault.TheVariants.{Unreadable, Memory}
 use Rattle.f3_command.specs.Reading.{IsOf, AreOf, IsFaultOf, IsFaultAmong}

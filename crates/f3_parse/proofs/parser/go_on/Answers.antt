@@ -1,5 +1,5 @@
 use Rattle.std.proofs.Common.{◌≡◌, inr, ap, ◌∙◌, subst}
-use Rattle.f3_rules.specs.declared.source.Place.{Place}
+use Rattle.f3_places.specs.declared.source.Place.{Place}
 use Rattle.f3_text.specs.Reader.{bytes_of}
 use Rattle.f3_words.specs.Lines.{line_view}
 use Rattle.f3_units.specs.Machine.{builder_view}

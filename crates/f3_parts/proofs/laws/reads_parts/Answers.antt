@@ -1,7 +1,7 @@
 use Rattle.std.proofs.Common.{◌≡◌, ◌++◌, ◌∙◌, List, map, Some, refl, ap}
 use Rattle.std.specs.Prelude.{option_and_then}
 use Rattle.std.proofs.lemmas.List.{map-append}
-use Rattle.f3_rules.specs.declared.source.Place.{Place}
+use Rattle.f3_places.specs.declared.source.Place.{Place}
 use Rattle.f3_parts.specs.Pieces.{Piece, piece_of}
 use Rattle.f3_parts.specs.Machine.{start, closed, run}
 use Rattle.f3_parts.proofs.Reading as reading

@@ -1,5 +1,5 @@
 use Rattle.std.proofs.Common.{◌++◌, ◌∷◌, [], ◌-◌, ◌+◌, sym, ap, ◌∙◌, append_assoc, arith}
-use Rattle.f3_rules.specs.declared.source.Place.{Place}
+use Rattle.f3_places.specs.declared.source.Place.{Place}
 use Rattle.f3_text.specs.Inner.Reading.{places_from}
 use Rattle.f3_text.proofs.Going.{places_more}
 use Rattle.f3_text.proofs.reading.add_places.Goals as goal

@@ -13,10 +13,10 @@ use Rattle.f3_meaning_whole.specs.Ran.{Event, Printed, Changed, Began, Entered, 
 use Rattle.f3_meaning_whole.specs.Act.{whole, derived_of, component_type}
 use Rattle.f3_meaning_whole.specs.Run.{run_of, changes, first_store, setting_of}
 use Rattle.f3_meaning_whole.specs.Permitted.{Each, IsMadeWell, IsTyped, numbers, IsAt, Permitted, IsLawful}
-use Rattle.f3_meaning_whole.specs.Laws.{Apart, Outlives, Spares, IsThere, AreStages, along, IsNotOwn, ProtectedStays, IsNotAbove, IsNotBy, PrivateStays}
-use Rattle.f3_meaning_whole.proofs.Keeping.{no, changes-append}
-use Rattle.f3_meaning_whole.proofs.Changes.{changes_are_permitted, stages_stand}
-use Rattle.f3_meaning_whole.proofs.Frame.{Either, Left, Right, both, same_roots, root_itself, spared, between_stages}
+use Rattle.f3_meaning_laws.specs.Laws.{Apart, Outlives, Spares, IsThere, AreStages, along, IsNotOwn, ProtectedStays, IsNotAbove, IsNotBy, PrivateStays}
+use Rattle.f3_meaning_laws.proofs.Keeping.{no, changes-append}
+use Rattle.f3_meaning_laws.proofs.Changes.{changes_are_permitted, stages_stand}
+use Rattle.f3_meaning_laws.proofs.Frame.{Either, Left, Right, both, same_roots, root_itself, spared, between_stages}
 
 -- ---- the changes between two stages are permitted
 

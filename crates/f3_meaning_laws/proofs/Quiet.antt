@@ -1,7 +1,7 @@
 -- Parts of runs that change nothing.
 use Rattle.std.proofs.Common.{ℕ, zero, suc, ℤ, pos, negsuc, List, [], ◌∷◌, Option, None, Some, refl}
 use Rattle.std.specs.Prelude.{⊤, int_le, ◌-ℤ◌}
-use Rattle.f3_rules.specs.declared.source.Place.{Place}
+use Rattle.f3_places.specs.declared.source.Place.{Place}
 use Rattle.f3_program.specs.declared.declarations.Base.{Base}
 use Rattle.f3_program.specs.declared.declarations.Declared.{Declared}
 use Rattle.f3_program.specs.declared.expression.BinaryOperator.{BinaryOperator}
@@ -19,7 +19,7 @@ use Rattle.f3_meaning_whole.specs.Act.{Here, Passed, Given, Lent, claim, claim_f
 use Rattle.f3_meaning_whole.specs.Eval.{result, built, asked}
 use Rattle.f3_meaning_whole.specs.Exec.{text_of, print_value, request, unless_zero}
 use Rattle.f3_meaning_whole.specs.Permitted.{Each}
-use Rattle.f3_meaning_whole.proofs.Keeping.{Keeps, bind_keeps, gives_safe, fails_keeps, looks_safe, does_safe, if_keeps, each_keeps, asks_safe, changes-printed, printed-stands}
+use Rattle.f3_meaning_laws.proofs.Keeping.{Keeps, bind_keeps, gives_safe, fails_keeps, looks_safe, does_safe, if_keeps, each_keeps, asks_safe, changes-printed, printed-stands}
 
 module _ (p : Program) where
   -- nothing is changed

@@ -1,6 +1,6 @@
 //! Laws of the meaning: each is the contract of a function that does nothing.
 
-ghost use Rattle.f3_meaning_whole.specs.Laws.{
+ghost use Rattle.f3_meaning_laws.specs.Laws.{
   ChangesArePermitted,
   PrivateStays,
   ProtectedStays,

@@ -3,7 +3,7 @@ use Rattle.std.proofs.Common.{◌≡◌, ℕ, zero, suc, ◌+◌, arith, ℤ, po
 use Rattle.std.specs.Prelude.{⊤, T, not, length, slice_get, slice_index_or, nat_eq, nat_lt, ◌||◌, is_none, unwrap_or}
 use mathlib.Core.Path.{subst}
 use lib.Dec.{eqb→eq}
-use Rattle.f3_rules.specs.declared.source.Place.{Place}
+use Rattle.f3_places.specs.declared.source.Place.{Place}
 use Rattle.f3_program.specs.declared.declarations.Base.{Base}
 use Rattle.f3_program.specs.declared.declarations.Base.TheVariants as base
 use Rattle.f3_program.specs.declared.declarations.Component.{Component}
@@ -35,7 +35,7 @@ use Rattle.f3_meaning_whole.specs.Store.{Root, Static, Local, Path}
 use Rattle.f3_meaning_whole.specs.Reference.{Right, Define, Read, Selected, Language, Reach, One, Many, Reference, paths_by, paths, spans, is_pinned}
 use Rattle.f3_meaning_whole.specs.declared.run_error.RunError.{RunError}
 use Rattle.f3_meaning_whole.specs.declared.run_error.RunError.TheVariants.{NotAllocated}
-use Rattle.f3_meaning_whole.specs.Laws.{Stands}
+use Rattle.f3_meaning_laws.specs.Laws.{Stands}
 use Rattle.f3_meaning_whole.specs.Ran.{Ran, gives, fails}
 use Rattle.f3_meaning_whole.specs.Shape.{Shape, Whole, Logical, Record, Parts, nothing, and, shape_in, final_for}
 use Rattle.f3_meaning_whole.specs.Act.{set, given, Setting, Here, Passed, Given, Lent, Calls, at, lending, named, selecting, associating, type_of, derived_of, component_type, to_root, moved, right_to, Chosen, picks, picks_in_each, contents}
@@ -44,9 +44,9 @@ use Rattle.f3_meaning_whole.specs.Destroy.{final_of, deallocate_by, release_by, 
 use Rattle.f3_meaning_whole.specs.Exec.{Flow, Onward, Cycled, Left, Returned, onward, next_turn, turns, counted, where_out, unless_failed, status_number, declared_in, Association, held_by, allocate, too_many, initialize, overwrite, fill, renew, assign, answer, dimensions, allocate_all, deallocate, deallocate_all, take_over, move_alloc, items, selectors, increment, some_meets, exec, block, finish_locals, outs, called, right_of, based_reach, bound, dummies, argument_at, shown_reach, associated, associates, left_at, new_value, variables, held}
 use Rattle.f3_meaning_whole.specs.Run.{call_of, calls_of, main_of, runs, run_of, setting_of, first_here, first_store, first_world, changes}
 use Rattle.f3_meaning_whole.specs.Permitted.{Each, Permitted, is_define, is_in, same_type, Lendable, Scope, lendable, unknown, dummies_in, names_of, names_in, name_of, designated, selectable_of, selectable_in, selectable, MayPass, MayPassAll, MayValue, MayArgument, MayArguments, MayLocate, MayTake, MaySubscripts, MaySubscript, MayDefine, MayDefineAs, MayStat, MayBound, MayRequest, MayItem, MayBe, names_by, naming, MayExec, MayBlock, scope_of, MayRun, IsFinalOf, HaveFinals, IsLawful, numbers, IsAt}
-use Rattle.f3_meaning_whole.proofs.Keeping.{no, not_read, defines, AllAt, Keeps, Honest, Like, Part, bind_keeps, weaken, gives_keeps, gives_safe, fails_keeps, stops_keeps, beyond_keeps, looks_keeps, looks_safe, if_keeps, each_keeps, set_keeps, clear_keeps, honest_moved, honest_root, honest_local, static_declared, static_home, component_keeps, contents_keeps, picked_like, in_each_like, like_itself}
-use Rattle.f3_meaning_whole.proofs.Shapes.{from_zero, IsShape, AreParts, shapes_are}
-use Rattle.f3_meaning_whole.proofs.Quiet.{Safe, built_safe, converted_safe, apply_safe, change_safe, claim_safe, claim_for_safe, read_safe, begins_safe, enter_safe, leave_safe, printed_safe, print_safe, places_keep, result_safe, asked_safe, structure_safe, request_safe, unless_safe}
+use Rattle.f3_meaning_laws.proofs.Keeping.{no, not_read, defines, AllAt, Keeps, Honest, Like, Part, bind_keeps, weaken, gives_keeps, gives_safe, fails_keeps, stops_keeps, beyond_keeps, looks_keeps, looks_safe, if_keeps, each_keeps, set_keeps, clear_keeps, honest_moved, honest_root, honest_local, static_declared, static_home, component_keeps, contents_keeps, picked_like, in_each_like, like_itself}
+use Rattle.f3_meaning_laws.proofs.Shapes.{from_zero, IsShape, AreParts, shapes_are}
+use Rattle.f3_meaning_laws.proofs.Quiet.{Safe, built_safe, converted_safe, apply_safe, change_safe, claim_safe, claim_for_safe, read_safe, begins_safe, enter_safe, leave_safe, printed_safe, print_safe, places_keep, result_safe, asked_safe, structure_safe, request_safe, unless_safe}
 
 -- an honest reference of what is known of a name or a designator
 record Known (p : Program) (b : Lendable) (r : Reference) : Type 0 where

@@ -30,7 +30,7 @@ use Rattle.f3_meaning_whole.specs.Eval.{by_reach, value, bounds, argument, argum
 use Rattle.f3_meaning_whole.specs.Destroy.{deallocate_by, release_by, finish_by, finalize, destroy, destroy_parts, finish}
 use Rattle.f3_meaning_whole.specs.Exec.{Flow, Onward, Cycled, Left, Returned, onward, next_turn, turns, counted, where_out, unless_failed, overwrite, renew, assign, answer, dimensions, allocate_all, deallocate, deallocate_all, move_alloc, items, selectors, some_meets, exec, block, finish_locals, outs, called}
 use Rattle.f3_meaning_whole.specs.Run.{call_of, calls_of, setting_of, first_here, first_world, main_of, runs, run_of}
-use Rattle.f3_meaning_whole.specs.Laws.{GrowsAs, Extends, Grows}
+use Rattle.f3_meaning_laws.specs.Laws.{GrowsAs, Extends, Grows}
 
 pub itself : {A : Type 0} (r : Outcome A) → Extends r r
 itself {A = A} r = record { as_said = by_end r.end }

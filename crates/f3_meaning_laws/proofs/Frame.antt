@@ -9,9 +9,9 @@ use Rattle.f3_meaning_whole.specs.Store.{Root, Static, Local, Store, Path, Step,
 use Rattle.f3_meaning_whole.specs.Reference.{paths}
 use Rattle.f3_meaning_whole.specs.Ran.{Event, Printed, Changed, Began, Entered, Ended, Asked, Stage, effect, replayed}
 use Rattle.f3_meaning_whole.specs.Permitted.{Each}
-use Rattle.f3_meaning_whole.specs.Laws.{Stands, Apart, Outlives, Spares, IsThere, StoresAgree}
-use Rattle.f3_meaning_whole.proofs.Changes.{stages_stand}
-use Rattle.f3_meaning_whole.proofs.Keeping.{no}
+use Rattle.f3_meaning_laws.specs.Laws.{Stands, Apart, Outlives, Spares, IsThere, StoresAgree}
+use Rattle.f3_meaning_laws.proofs.Changes.{stages_stand}
+use Rattle.f3_meaning_laws.proofs.Keeping.{no}
 
 pub data Either (A B : Type 0) : Type 0 where
   Left : A → Either A B

@@ -3,7 +3,7 @@ use Rattle.std.proofs.Common.{◌≡◌, ℕ, zero, suc, Bool, true, false, List
 use Rattle.std.specs.Prelude.{⊤, T, nat_eq}
 use mathlib.Core.Path.{subst}
 use lib.Dec.{eqb→eq}
-use Rattle.f3_rules.specs.declared.source.Place.{Place}
+use Rattle.f3_places.specs.declared.source.Place.{Place}
 use Rattle.f3_program.specs.declared.declarations.Base.{Base}
 use Rattle.f3_program.specs.declared.declarations.Derived.{Derived}
 use Rattle.f3_program.specs.declared.program.Static as x
@@ -18,7 +18,7 @@ use Rattle.f3_meaning_whole.specs.Ran.{Event, Printed, Changed, Began, Entered, 
 use Rattle.f3_meaning_whole.specs.Act.{Setting, Here, set, clear, in_each, picked, moved, component_path, component_reach, component, opened, contents, right_to, to_root, added, elements_at, first_of, contents_by, whole, static_type, component_type}
 use Rattle.f3_meaning_whole.specs.Run.{changes}
 use Rattle.f3_meaning_whole.specs.Permitted.{Each, FromHome, IsMadeWell, IsDeclared, IsTyped, Permitted, is_define, numbers, IsAt}
-use Rattle.f3_meaning_whole.specs.Laws.{Stands, along}
+use Rattle.f3_meaning_laws.specs.Laws.{Stands, along}
 
 pub no : {A : Type 0} → false ≡ true → A
 no h = absurd (subst T (sym h) tt)

@@ -1,0 +1,4 @@
+//! Laws of what programs mean.
+#![tactic(auto)]
+
+pub mod laws;

@@ -1,5 +1,0 @@
-use Rattle.f3_meaning_whole.proofs.Changes.{changes_are_permitted}
-use Rattle.f3_meaning_whole.proofs.laws.changes_are_permitted.Goals as goal
-
-pub returns : goal.returns
-returns c = changes_are_permitted

@@ -1,5 +1,0 @@
-use Rattle.f3_meaning_whole.proofs.Owners.{protected_stays}
-use Rattle.f3_meaning_whole.proofs.laws.protected_stays.Goals as goal
-
-pub returns : goal.returns
-returns c = protected_stays

@@ -1,5 +1,0 @@
-use Rattle.f3_meaning_whole.proofs.Growth.{runs_grow}
-use Rattle.f3_meaning_whole.proofs.laws.runs_grow.Goals as goal
-
-pub returns : goal.returns
-returns c = runs_grow

@@ -1,5 +1,0 @@
-use Rattle.f3_meaning_whole.proofs.Frame.{stores_agree}
-use Rattle.f3_meaning_whole.proofs.laws.stores_agree.Goals as goal
-
-pub returns : goal.returns
-returns c = stores_agree

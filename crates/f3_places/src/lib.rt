@@ -1,0 +1,4 @@
+//! Sources, and places in them.
+#![tactic(auto)]
+
+pub mod source;
