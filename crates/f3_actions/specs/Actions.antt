@@ -183,7 +183,9 @@ IsDo x ts = ((ts ≡ []) × (x ≡ forever)) ⊎ ((ts ≢ []) × IsControl x ts)
 
 -- `n => e` (8.1.4)
 unfoldable pub EatsAssociation : AssociationTree → List Item → List Item → Type 0
-EatsAssociation x ts r = (n : Identifier) × (e : Tree) × (a : List Item) × (b : List Item) × EatsName n ts a × EatsWord word.Arrow a b × EatsExpression e b r × (x ≡ record { name = n; selector = e })
+EatsAssociation x ts r =
+    (n : Identifier) × (e : Tree) × (a : List Item) × (b : List Item) × EatsName n ts a × EatsWord word.Arrow a b
+    × EatsExpression e b r × (x ≡ record { name = n; selector = e })
 
 unfoldable pub AreAssociations : List AssociationTree → List Item → List Item → Type 0
 AreAssociations xs ts r = EatsList EatsAssociation xs ts r

@@ -8,7 +8,8 @@ use Rattle.f3_tree.specs.declared.expression.Expression.{Expression}
 use Rattle.f3_tree.specs.declared.statement.Selector.{Selector}
 use Rattle.f3_tree.specs.declared.statement.Statement.{Statement}
 use Rattle.f3_tree.specs.Statements.{Act, Selects, selector_view, Controls, control_view, StatementTree, acts, acts_if, branches, selects}
-use Rattle.f3_tree.specs.Statements.{AssociationTree, association_view, repeats, associates, Block, Branches, no_branches, branch, no_alternative, alternative, Cases, no_cases}
+use Rattle.f3_tree.specs.Statements.{AssociationTree, association_view, repeats, associates}
+use Rattle.f3_tree.specs.Statements.{Block, Branches, no_branches, branch, no_alternative, alternative, Cases, no_cases}
 use Rattle.f3_tree.specs.Statements.{case_block, block_of, statement_view, block_view}
 use Rattle.f3_blocks.specs.declared.builder.Opening.{Opening}
 use Rattle.f3_blocks.specs.declared.builder.Opening.TheVariants as opening

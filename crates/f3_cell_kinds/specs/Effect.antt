@@ -1,5 +1,6 @@
 -- Of which kinds the cells are that instructions take and leave.
-use Rattle.std.specs.Prelude.{◌≡◌, ℕ, zero, suc, Bool, true, false, not, ◌&&◌, ◌||◌, nat_eq, nat_lt, if◌then◌else◌, List, [], ◌∷◌, ◌++◌, length, Option, Some, None, slice_get}
+use Rattle.std.specs.Prelude.{◌≡◌, ℕ, zero, suc, Bool, true, false, not, ◌&&◌, ◌||◌, nat_eq}
+use Rattle.std.specs.Prelude.{nat_lt, if◌then◌else◌, List, [], ◌∷◌, ◌++◌, length, Option, Some, None, slice_get}
 use Rattle.f3_program.specs.declared.declarations.Base.{Base}
 use Rattle.f3_program.specs.declared.declarations.Base.TheVariants as base
 use Rattle.f3_program.specs.declared.declarations.Component.{Component}
@@ -21,11 +22,14 @@ use Rattle.f3_meaning_whole.specs.Arithmetic.{fits}
 use Rattle.f3_meaning_whole.specs.Act.{component_of}
 use Rattle.f3_meaning_whole.specs.Permitted.{same_type}
 use Rattle.f3_meaning_whole.specs.Run.{setting_of}
-use Rattle.f3_meaning_whole.specs.Formed.{Given, all, some, only, found, alike, is_number, of_kind, is_scalar, is_whole_number, takes, constructed, kind_of_name, sectioned, element_of_each, structured, referenced}
+use Rattle.f3_meaning_whole.specs.Formed.{Given, all, some, only, found, alike, is_number, of_kind, is_scalar}
+use Rattle.f3_meaning_whole.specs.Formed.{is_whole_number, takes, constructed, kind_of_name, sectioned, element_of_each, structured, referenced}
 use Rattle.f3_core.specs.Lower.{initial}
 use Rattle.f3_code.specs.declared.instruction.Instruction.{Instruction}
 use Rattle.f3_code.specs.declared.instruction.Instruction.TheVariants as i
-use Rattle.f3_cell_kinds.specs.Types.{Scope, Around, Told, Untold, CellType, Datum, Object, Each, Argument, Choice, Bound, Bounds, Extent, Status, Turns, Elements, Objects, Selector, Level, Outside, Going, Site, selecting, associating, arguments_on, choices_on, selectors_on}
+use Rattle.f3_cell_kinds.specs.Types.{Scope, Around, Told, Untold, CellType, Datum, Object, Each, Argument, Choice, Bound, Bounds, Extent}
+use Rattle.f3_cell_kinds.specs.Types.{Status, Turns, Elements, Objects, Selector, Level, Outside}
+use Rattle.f3_cell_kinds.specs.Types.{Going, Site, selecting, associating, arguments_on, choices_on, selectors_on}
 
 -- ---- ways on
 
@@ -269,12 +273,15 @@ module _ (p : Program) (s : Site) (v : Value) where
   Does i.EndAssociate by = (ks : List Kind) × (js : List Kind) × by (on s (Objects ks ∷ Going ∷ Level js ∷ []) (Going ∷ []))
   Does (i.Convert of) by = (k : Kind) × (is_whole_number k ≡ true) × (is_number of ≡ true) × by (on s (Datum k ∷ []) (Datum (of_kind of 0) ∷ []))
   Does i.TestStep by = (k : Kind) × (is_whole_number k ≡ true) × by (on s (Datum k ∷ []) (Datum k ∷ []))
-  Does i.CountBegin by = (k : Kind) × (is_whole_number k ≡ true) × by (on s (Object k ∷ Datum (of_kind k.of 0) ∷ Datum (of_kind k.of 0) ∷ Datum (of_kind k.of 0) ∷ []) (Turns ∷ []))
+  Does i.CountBegin by =
+      (k : Kind) × (is_whole_number k ≡ true)
+      × by (on s (Object k ∷ Datum (of_kind k.of 0) ∷ Datum (of_kind k.of 0) ∷ Datum (of_kind k.of 0) ∷ []) (Turns ∷ []))
   Does (i.CountNext d) by = by (fork s (Turns ∷ []) (Turns ∷ []) d (Turns ∷ []))
   Does (i.CountUp of) by = (k : Kind) × (is_whole_number k ≡ true) × (k.of ≡ of) × by (on s (Object k ∷ Turns ∷ []) (Turns ∷ []))
   Does i.Lend by = (k : Kind) × by (on s (Object k ∷ []) (Object k ∷ []))
   Does i.Unlend by = by (on s [] [])
-  Does (i.SkipUnlessRank rank d) by = (k : Kind) × (k.is_allocatable ≡ false) × by (either (nat_eq rank k.rank) s (Object k ∷ []) (Object k ∷ []) d (Object k ∷ []))
+  Does (i.SkipUnlessRank rank d) by =
+      (k : Kind) × (k.is_allocatable ≡ false) × by (either (nat_eq rank k.rank) s (Object k ∷ []) (Object k ∷ []) d (Object k ∷ []))
   Does i.PassObject by = (k : Kind) × by (on s (Object k ∷ []) (Argument (record { number = 0; kind = k; is_variable = true }) ∷ Object k ∷ []))
   Does (i.Routine t) by = by (on s (Object (of_kind (base.Derived t) 0) ∷ []) (Object (of_kind (base.Derived t) 0) ∷ []))
   Does (i.WorkComponent n) by = (k : Kind) × (c : Component) × (is_scalar k ≡ true) × (component_of p.types.items k.of n ≡ Some c)

@@ -190,7 +190,8 @@ module _ (p : Program) where
 
   abbrev pub finish_sites : ℕ → Site → ℕ → List w.Work → List Site
   finish_sites m h n [] = []
-  finish_sites m h n (x ∷ xs) = h ∷ (work_sites p m h (variable_kind h.scope n) x ++ (stacked (cell.Object (variable_kind h.scope n) ∷ []) h ∷ finish_sites m h (suc n) xs))
+  finish_sites m h n (x ∷ xs) =
+      h ∷ (work_sites p m h (variable_kind h.scope n) x ++ (stacked (cell.Object (variable_kind h.scope n) ∷ []) h ∷ finish_sites m h (suc n) xs))
 
   abbrev pub scope_of : c.Procedure → Scope
   scope_of q = record { variables = q.variables; names = kinds_of q.dummies; selected = None }

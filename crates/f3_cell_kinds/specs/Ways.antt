@@ -11,6 +11,7 @@ use Rattle.f3_cell_kinds.specs.Effect.{held_kind}
 -- the kind to which a way leads from an object of a kind, by the declarations on the way, whether it is there or not
 abbrev pub kind_along : List Derived → List Step → Kind → Option Kind
 kind_along types [] k = Some k
-kind_along types (Component n ∷ way) k = if is_scalar k then found (component_of types k.of n) (λ (c : m.Component). kind_along types way c.declared.kind) else None
+kind_along types (Component n ∷ way) k =
+    if is_scalar k then found (component_of types k.of n) (λ (c : m.Component). kind_along types way c.declared.kind) else None
 kind_along types (Element n ∷ way) k = if not k.is_allocatable && nat_lt 0 k.rank then kind_along types way (of_kind k.of 0) else None
 kind_along types (Contents ∷ way) k = if k.is_allocatable then kind_along types way (held_kind k) else None

@@ -53,4 +53,5 @@ pub record KindsAgree (p : Program) (t : Tree) (look : ℕ → ℕ → Lookup) (
   pub all_ordered : Each (λ (u : Numbered). (k : ℕ) × (slice_get (units_in (units_of t) order) k ≡ Some u)) (units_of t)
   pub types : (e : ℕ) → slice_get (((whole_of t look order).scene).names).kinds e ≡ Some DerivedType
       → number_in ((whole_of t look order).numbers).types e < length (flat_map definitions (units_in (units_of t) order))
-  pub components : (k : ℕ) (d : Definition) → slice_get (flat_map definitions (units_in (units_of t) order)) k ≡ Some d → StandsBehind (whole_of t look order) k d
+  pub components : (k : ℕ) (d : Definition) → slice_get (flat_map definitions (units_in (units_of t) order)) k ≡ Some d
+      → StandsBehind (whole_of t look order) k d

@@ -13,7 +13,8 @@ use Rattle.f3_gen_values.specs.declared.emission.Emission.{Emission}
 abbrev pub entries_in : Setting → List Procedure → List ℕ → List Entry
 entries_in g [] places = []
 entries_in g (p ∷ ps) [] = []
-entries_in g (p ∷ ps) (k ∷ ks) = record { at = k; unit = p.unit; dummies = p.dummies.items; variables = declared_in p; initial = variables g p } ∷ entries_in g ps ks
+entries_in g (p ∷ ps) (k ∷ ks) =
+    record { at = k; unit = p.unit; dummies = p.dummies.items; variables = declared_in p; initial = variables g p } ∷ entries_in g ps ks
 
 -- the code of a program, as it was emitted
 abbrev pub code_in : Program → Emission → Code

@@ -23,7 +23,8 @@ StepsFit = (limit : ℕ) (g : Setting) (code : Code) (height : ℕ → ℕ) → 
 abbrev pub CodeHasHeights : Type 0
 CodeHasHeights = (p : Program) → (length (program_heights p) ≡ length (program_code p).lines) × AreHeights (slice_index (program_heights p)) (program_code p)
 
--- Where heights and needs are those of a code, each step keeps to what activations need: one that goes on needs as much as before, one that begins what its first line says,
+-- Where heights and needs are those of a code, each step keeps to what activations need: one that goes on needs as much as before, one that
+-- begins what its first line says,
 -- and where one ends its caller needs what it did.
 abbrev pub StepsKeepRoom : Type 0
 StepsKeepRoom = (limit : ℕ) (g : Setting) (code : Code) (height needs : ℕ → ℕ) → AreHeights height code → AreNeeds height needs code →
@@ -54,7 +55,8 @@ WithinHasRoom = (code : Code) (height needs : ℕ → ℕ) → AreNeeds height n
 -- or to whose line the routines lead back that it runs.
 abbrev pub RunsHaveRoom : Type 0
 RunsHaveRoom = (limit : ℕ) (p : Program) (answers : ℕ → Bool) (k : ℕ) (s : State) → state_after limit p (program_code p) answers k ≡ Some s →
-    (need : ℕ) × (others : List ℕ) × IsWithin (slice_index (program_heights p)) (slice_index (program_needs p)) need others s × HasRoom (slice_index (program_heights p)) (slice_index (program_needs p)) need others s
+    (need : ℕ) × (others : List ℕ) × IsWithin (slice_index (program_heights p)) (slice_index (program_needs p)) need others s
+    × HasRoom (slice_index (program_heights p)) (slice_index (program_needs p)) need others s
 
 -- In each state of each run there are no more callers than there may be, and these and the newest activation together have no more
 -- cells than if each had the greatest need.

@@ -42,7 +42,8 @@ pub record AreTypesOf (t : Tree) (things : List Thing) (values_here : List (Opti
   pub cells : HasCells cells_here (declared_along t look order)
 
 -- With what names mean, and along an order of the units: what each entity is, the values of the named constants, and the cells of the types.
-pub record AreAlong (t : Tree) (look : ℕ → ℕ → Lookup) (order : List ℕ) (things : List Thing) (values_here : List (Option Scalar)) (cells_here : List (Option ℕ)) : Type 0 where
+pub record AreAlong (t : Tree) (look : ℕ → ℕ → Lookup) (order : List ℕ) (things : List Thing)
+    (values_here : List (Option Scalar)) (cells_here : List (Option ℕ)) : Type 0 where
   pub natures : map nature_of things ≡ (scene_in t look).natures
   pub values : (e : ℕ) → map_or None (λ (v : Option Scalar). v) (slice_get values_here e) ≡ lookup (nat_eq e) (declared_along t look order).values
   pub cells : HasCells cells_here (declared_along t look order)

@@ -1,5 +1,6 @@
 -- A statement while it is read.
-use Rattle.std.specs.Prelude.{◌≡◌, ℕ, zero, suc, ◌+◌, slice_index, true, false, ◌<◌, ◌≤◌, List, [], ◌∷◌, ◌++◌, map, length, None, Some, Result, Ok, Err, ◌==◌, ◌&&◌, if◌then◌else◌}
+use Rattle.std.specs.Prelude.{◌≡◌, ℕ, zero, suc, ◌+◌, slice_index, true, false, ◌<◌, ◌≤◌}
+use Rattle.std.specs.Prelude.{List, [], ◌∷◌, ◌++◌, map, length, None, Some, Result, Ok, Err, ◌==◌, ◌&&◌, if◌then◌else◌}
 use Rattle.f3_places.specs.declared.source.Place.{Place}
 use Rattle.f3_rules.specs.declared.breaks.Break.{Break}
 use Rattle.f3_text.specs.declared.letter.Letter.{Letter}
