@@ -1,5 +1,7 @@
-//! The calls that emit code, run on small programs with ample memory.
+//! The calls that emit code and show it, run on small programs with ample memory.
 #![tactic(auto)]
 
+#[cfg(test)]
+mod listing;
 #[cfg(test)]
 mod program;

@@ -4,7 +4,5 @@
 mod lines;
 mod operation;
 mod table;
-#[cfg(test)]
-mod tests;
 
 pub use lines::listing;

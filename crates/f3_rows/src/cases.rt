@@ -4,7 +4,7 @@
 //! the program's name; `source NAME`, `output` and `errors` begin a text, whose lines follow, each behind a `|`, or
 //! behind a `:` where no line feed ends it; `errors some` wants a text, whatever it is; `status N`. A text that is not
 //! told of is empty, and a status is 0. `prefixes N` asks for more: each front of the first source of fewer than N bytes is
-//! refused. `times N` writes the line of a text behind it N times, with the number of the time for each `#` and that of the
+//! refused. `room N`: the output has room for N bytes alone. `times N` writes the line of a text behind it N times, with the number of the time for each `#` and that of the
 //! time before for each `@`. `growths` is for bench/growths.py, which refuses each growth of the host's memory in turn. An empty
 //! line, or one that begins with `#`, says nothing.
 
@@ -29,6 +29,8 @@ pub struct Case {
     pub status: u8,
     /// Each front of the first source of fewer bytes is refused.
     pub prefixes: usize,
+    /// For how many bytes the output has room, if not for all.
+    pub room: Option<usize>,
 }
 
 /// To what a line of text belongs.
@@ -69,6 +71,7 @@ fn begun(alloc: Global, name: &[u8]) -> Result<Case, AllocError> {
         errors: Text::Is(Vec::new(alloc)),
         status: 0,
         prefixes: 0,
+        room: None,
     })
 }
 
@@ -116,6 +119,8 @@ fn told(alloc: Global, case: &mut Case, line: &[u8]) -> Result<Part, AllocError>
         case.status = text_of(alloc, status)?.as_str().parse().unwrap_or(255);
     } else if let Some(bytes) = line.strip_prefix(b"prefixes ") {
         case.prefixes = number_of(alloc, bytes)?;
+    } else if let Some(bytes) = line.strip_prefix(b"room ") {
+        case.room = Some(number_of(alloc, bytes)?);
     } else if line == b"errors some".as_slice() {
         case.errors = Text::Some;
     } else if line == b"output some".as_slice() {

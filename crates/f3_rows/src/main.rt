@@ -4,8 +4,6 @@
 mod cases;
 mod folder;
 mod running;
-#[cfg(test)]
-mod tests;
 
 use crate::cases::read;
 use crate::running::is_as_expected;

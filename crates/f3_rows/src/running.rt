@@ -5,6 +5,7 @@ use crate::folder::Folder;
 use f3_command::program::f3;
 use f3_output::output::Output;
 use std::alloc::{AllocError, Global};
+use std::io::Write;
 
 /// What f3 wrote and answered.
 #[derive(Drop)]
@@ -15,24 +16,57 @@ struct Answer {
 }
 
 /// Runs f3 on these words and files.
-fn run(alloc: Global, words: &[String], files: &[(&str, &[u8])]) -> Result<Answer, AllocError> {
+fn run<W: Write>(
+    alloc: Global,
+    words: &[String],
+    files: &[(&str, &[u8])],
+    output: &mut Output<W>,
+) -> Result<(Vec<u8>, u8), AllocError> {
     let mut line = Vec::new(alloc);
     line.push(String::from_str(alloc, "f3")?)?;
     for word in words {
         line.push(word.clone()?)?;
     }
-    let mut output = Output::new(Vec::<u8>::new(alloc));
     let mut errors = Output::new(Vec::<u8>::new(alloc));
     let status = f3(
         alloc,
         line.as_slice(),
         &Folder { files },
-        &mut output,
+        output,
         &mut errors,
     );
+    Ok((Vec::from_slice(alloc, errors.writer().as_slice())?, status))
+}
+
+/// What f3 writes and answers on these words and files.
+fn answer_of(
+    alloc: Global,
+    words: &[String],
+    files: &[(&str, &[u8])],
+) -> Result<Answer, AllocError> {
+    let mut output = Output::new(Vec::<u8>::new(alloc));
+    let (errors, status) = run(alloc, words, files, &mut output)?;
     Ok(Answer {
         output: Vec::from_slice(alloc, output.writer().as_slice())?,
-        errors: Vec::from_slice(alloc, errors.writer().as_slice())?,
+        errors,
+        status,
+    })
+}
+
+/// The same where the output has room for so many bytes alone.
+fn answer_within(
+    alloc: Global,
+    words: &[String],
+    files: &[(&str, &[u8])],
+    room: usize,
+) -> Result<Answer, AllocError> {
+    let mut bytes = vec![in alloc; 0u8; room]?;
+    let mut output = Output::new(bytes.as_mut_slice());
+    let (errors, status) = run(alloc, words, files, &mut output)?;
+    drop(output);
+    Ok(Answer {
+        output: bytes,
+        errors,
         status,
     })
 }
@@ -59,7 +93,7 @@ fn are_refused(alloc: Global, case: &Case) -> Result<bool, AllocError> {
     };
     for length in 0..case.prefixes.min(bytes.len()) {
         let files = [(name.as_str(), &bytes.as_slice()[..length])];
-        if !is_refused(&run(alloc, case.words.as_slice(), &files)?) {
+        if !is_refused(&answer_of(alloc, case.words.as_slice(), &files)?) {
             return Ok(false);
         }
     }
@@ -72,7 +106,11 @@ pub fn is_as_expected(alloc: Global, case: &Case) -> Result<bool, AllocError> {
     for (name, bytes) in &case.sources {
         files.push((name.as_str(), bytes.as_slice()))?;
     }
-    let answer = run(alloc, case.words.as_slice(), files.as_slice())?;
+    let words = case.words.as_slice();
+    let answer = match case.room {
+        None => answer_of(alloc, words, files.as_slice())?,
+        Some(room) => answer_within(alloc, words, files.as_slice(), room)?,
+    };
     Ok(
         answer.status == case.status
             && fits(&case.output, answer.output.as_slice())
