@@ -2,6 +2,6 @@
 #![tactic(auto)]
 
 #[cfg(test)]
-mod listing;
-#[cfg(test)]
 mod program;
+#[cfg(test)]
+mod shown;

@@ -2,7 +2,7 @@
 
 use f3_code::instruction::{Instruction, Way};
 use f3_gen_values::line::Line;
-use f3_listing::lines::listing;
+use f3_listing::listing;
 use f3_program::declarations::{Base, Constant};
 use f3_program::expression::BinaryOperator;
 use std::test::Fail;
