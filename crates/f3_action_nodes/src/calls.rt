@@ -77,10 +77,7 @@ fn pair(
 {
     match first {
         Argument::Value(keyword, e) => match second {
-            Argument::Value(_, f) => {
-                let found = moved(alloc, from, *keyword, e, f)?;
-                Ok(found)
-            }
+            Argument::Value(_, f) => moved(alloc, from, *keyword, e, f),
             Argument::Triplet(_, _, _, _) => Ok(nothing_done(alloc)),
         },
         Argument::Triplet(_, _, _, _) => Ok(nothing_done(alloc)),
@@ -100,8 +97,7 @@ fn move_alloc(
         Some((first, others)) => match others.split_first() {
             Some((second, more)) => {
                 if more.is_empty() {
-                    let found = pair(alloc, from, first, second)?;
-                    Ok(found)
+                    pair(alloc, from, first, second)
                 } else {
                     Ok(nothing_done(alloc))
                 }
@@ -138,10 +134,7 @@ fn entity(
     ensures { IfOk result (λ s. statement_view s ≡ elaborated.called (surroundings_of from.entry) (things.entity number (nature_of thing.now)) (map tree.argument_view list.now)) }
 {
     match thing {
-        Thing::Subroutine(signature) => {
-            let found = subroutine(alloc, from, number, signature, list)?;
-            Ok(found)
-        }
+        Thing::Subroutine(signature) => subroutine(alloc, from, number, signature, list),
         Thing::Constant(_) => Ok(nothing_done(alloc)),
         Thing::Variable(_) => Ok(nothing_done(alloc)),
         Thing::Type(_) => Ok(nothing_done(alloc)),
@@ -159,10 +152,7 @@ fn intrinsic(
     ensures { IfOk result (λ s. statement_view s ≡ elaborated.called (surroundings_of from.entry) (things.intrinsic intrinsic) (map tree.argument_view list.now)) }
 {
     match intrinsic {
-        Intrinsic::MoveAlloc => {
-            let found = move_alloc(alloc, from, list)?;
-            Ok(found)
-        }
+        Intrinsic::MoveAlloc => move_alloc(alloc, from, list),
         Intrinsic::Abs => Ok(nothing_done(alloc)),
         Intrinsic::Mod => Ok(nothing_done(alloc)),
         Intrinsic::Modulo => Ok(nothing_done(alloc)),
@@ -195,10 +185,7 @@ fn unlisted(
     ensures { IfOk result (λ s. statement_view s ≡ elaborated.called (surroundings_of from.entry) (things.map_or things.nothing things.intrinsic ((context_of from.entry.known.now from.entry.at).intrinsic symbol)) (map tree.argument_view list.now)) }
 {
     match intrinsic_of(from.known, from.at, symbol) {
-        Some(procedure) => {
-            let found = intrinsic(alloc, from, procedure, list)?;
-            Ok(found)
-        }
+        Some(procedure) => intrinsic(alloc, from, procedure, list),
         None => Ok(nothing_done(alloc)),
     }
 }
@@ -218,16 +205,10 @@ pub fn called(
 {
     match lookup(from.known.tables, from.at.scope, name.symbol) {
         Lookup::One(number) => match from.known.things.get(number) {
-            Some(thing) => {
-                let found = entity(alloc, from, number, thing, list)?;
-                Ok(found)
-            }
+            Some(thing) => entity(alloc, from, number, thing, list),
             None => Ok(nothing_done(alloc)),
         },
         Lookup::Several => Ok(nothing_done(alloc)),
-        Lookup::Nothing => {
-            let found = unlisted(alloc, from, name.symbol, list)?;
-            Ok(found)
-        }
+        Lookup::Nothing => unlisted(alloc, from, name.symbol, list),
     }
 }

@@ -184,6 +184,24 @@ fn repeated(alloc: Global, condition: Expression, body: Statement) -> Result<Sta
     Ok(Statement::While(condition, Box::new(alloc, body)?))
 }
 
+/// A DO WHILE (8.1.6.4).
+fn conditional(
+    alloc: Global,
+    from: Surroundings<'_>,
+    e: &tree::Expression,
+    body: Statement,
+) -> Result<Statement, AllocError>
+    ensures { IfOk result (λ s. statement_view s ≡ nodes.while (expressions.expression (surroundings_of from.entry) (tree.expression_view e.now)) (statement_view body)) }
+{
+    match expression(alloc, from, e) {
+        Ok(condition) => repeated(alloc, condition, body),
+        Err(error) => {
+            drop(body);
+            Err(error)
+        }
+    }
+}
+
 /// A DO construct with this body (8.1.6).
 ///
 /// # Errors
@@ -198,18 +216,10 @@ pub fn looped(
     ensures { IfOk result (λ s. statement_view s ≡ elaborated.loop (surroundings_of from.entry) (control_view control.now) (statement_view body)) }
 {
     match control {
-        Control::Forever => {
-            let found = repeated(alloc, Expression::Literal(Constant::Truth(true)), body)?;
-            Ok(found)
-        }
-        Control::While(e) => {
-            let condition = expression(alloc, from, e)?;
-            let found = repeated(alloc, condition, body)?;
-            Ok(found)
-        }
+        Control::Forever => repeated(alloc, Expression::Literal(Constant::Truth(true)), body),
+        Control::While(e) => conditional(alloc, from, e, body),
         Control::Counted(name, first, last, step) => {
-            let found = counted(alloc, from, *name, first, last, step, body)?;
-            Ok(found)
+            counted(alloc, from, *name, first, last, step, body)
         }
     }
 }
