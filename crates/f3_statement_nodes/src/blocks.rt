@@ -43,8 +43,7 @@ fn acts(
     ensures { IfOk result (λ s. views.statement_view s ≡ n.at place true (actions.action (surroundings_of from.entry) (tree.action_view act.now))) }
 {
     let node = action(alloc, from, act)?;
-    let found = at(alloc, place, true, node)?;
-    Ok(found)
+    at(alloc, place, true, node)
 }
 
 /// A logical IF (8.1.2.4).
@@ -58,10 +57,17 @@ fn acts_if(
     ensures { IfOk result (λ s. views.statement_view s ≡ n.at place true (n.branch (expressions.expression (surroundings_of from.entry) (expression_view e.now)) (actions.action (surroundings_of from.entry) (tree.action_view act.now)) actions.nothing_done)) }
 {
     let condition = expression(alloc, from, e)?;
-    let node = action(alloc, from, act)?;
-    let inner = branch(alloc, condition, node, nothing_done(alloc))?;
-    let found = at(alloc, place, true, inner)?;
-    Ok(found)
+    match action(alloc, from, act) {
+        Ok(node) => {
+            let inner = branch(alloc, condition, node, nothing_done(alloc))?;
+            let found = at(alloc, place, true, inner)?;
+            Ok(found)
+        }
+        Err(error) => {
+            drop(condition);
+            Err(error)
+        }
+    }
 }
 
 /// The selectors of an ASSOCIATE construct, which are resolved outside of it (16.3).

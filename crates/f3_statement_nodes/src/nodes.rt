@@ -46,9 +46,21 @@ pub fn branch(
 ) -> Result<Statement, AllocError>
     ensures { IfOk result (λ s. statement_view s ≡ n.branch (expression_view condition) (statement_view block) (statement_view otherwise)) }
 {
-    let block = Box::new(alloc, block)?;
-    let otherwise = Box::new(alloc, otherwise)?;
-    Ok(Statement::If(condition, block, otherwise))
+    match Box::new(alloc, block) {
+        Ok(block) => match Box::new(alloc, otherwise) {
+            Ok(otherwise) => Ok(Statement::If(condition, block, otherwise)),
+            Err(error) => {
+                drop(condition);
+                drop(block);
+                Err(error.into())
+            }
+        },
+        Err(error) => {
+            drop(condition);
+            drop(otherwise);
+            Err(error.into())
+        }
+    }
 }
 
 /// A case, and what is done where the value is in none of its ranges (8.1.3).
@@ -60,9 +72,21 @@ pub fn case(
 ) -> Result<Statement, AllocError>
     ensures { IfOk result (λ s. statement_view s ≡ n.case ranges.items (statement_view block) (statement_view otherwise)) }
 {
-    let block = Box::new(alloc, block)?;
-    let otherwise = Box::new(alloc, otherwise)?;
-    Ok(Statement::Case(ranges, block, otherwise))
+    match Box::new(alloc, block) {
+        Ok(block) => match Box::new(alloc, otherwise) {
+            Ok(otherwise) => Ok(Statement::Case(ranges, block, otherwise)),
+            Err(error) => {
+                drop(ranges);
+                drop(block);
+                Err(error.into())
+            }
+        },
+        Err(error) => {
+            drop(ranges);
+            drop(otherwise);
+            Err(error.into())
+        }
+    }
 }
 
 /// A SELECT CASE at a place (8.1.3).

@@ -5,15 +5,14 @@ use Rattle.f3_elaboration.specs.Nodes as n
 use Rattle.f3_elaboration.specs.Statements.{case_range}
 use Rattle.f3_elaboration.specs.Views.{statement_view}
 use Rattle.f3_statement_nodes.specs.Inner.Nested.{case_of, chosen, case_before}
-use Rattle.f3_statement_nodes.proofs.Folds.{case_pushed}
 use Rattle.f3_statement_nodes.proofs.cases.add_case.Goals as goal
 
-pub returns-in_ok-push-in-Values : goal.returns-in_ok-push-in-Values
-returns-in_ok-push-in-Values c = λ others.
+pub returns-in-Ok : goal.returns-in-Ok
+returns-in-Ok c = λ others.
     let old = c.args.found.now.items in
     let known = context_of c.args.known.now c.args.at in
     let body = statement_view c.args.block in
     let otherwise = statement_view c.args.otherwise in
-    case_pushed old c.push.new.self.items (record { ranges = c.in_ok-ranges-in-Values.ranges; block = c.args.block }) (others otherwise) c.in_ok-push-in-Values.ensures.items
-    ∙ ap (λ rs. chosen (map case_of old) (n.case rs body (others otherwise))) (c.in_ok-ranges-in-Values.ensures ∙ ap (λ vs. map (case_range known) (map case_view vs)) c.deref.ensures.value)
+    c.in-Ok.ensures (others otherwise)
+    ∙ ap (λ vs. chosen (map case_of old) (n.case (map (case_range known) (map case_view vs)) body (others otherwise))) c.deref.ensures.value
     ∙ sym (ap (λ s. chosen (map case_of old) (case_before known (selector_view s) body others otherwise)) c.in-Values.is)
