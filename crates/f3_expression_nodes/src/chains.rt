@@ -50,6 +50,5 @@ pub fn chained(
             last = joined(alloc, from, operator, last, operand)?;
         }
     }
-    let found = raised(alloc, from, bases, last)?;
-    Ok(found)
+    raised(alloc, from, bases, last)
 }

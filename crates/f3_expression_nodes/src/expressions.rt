@@ -43,13 +43,11 @@ pub fn expression(
         tree::Expression::Designator(list) => {
             let of = type_of_parts(alloc, from, list)?;
             let list = parts(alloc, from, list)?;
-            let found = designated(alloc, from, of, list)?;
-            Ok(found)
+            designated(alloc, from, of, list)
         }
         tree::Expression::Group(_, inner) => {
             let inner = expression(alloc, from, inner)?;
-            let found = group(alloc, inner)?;
-            Ok(found)
+            group(alloc, inner)
         }
         tree::Expression::Array(_, list) => {
             let list = items(alloc, from, list)?;
@@ -58,23 +56,20 @@ pub fn expression(
         tree::Expression::Signed(_, sign, inner) => {
             let of = type_of(alloc, from, inner)?;
             let inner = expression(alloc, from, inner)?;
-            let found = signed(alloc, from, *sign, of, inner)?;
-            Ok(found)
+            signed(alloc, from, *sign, of, inner)
         }
         tree::Expression::Not(_, inner) => {
             let inner = expression(alloc, from, inner)?;
-            let found = denied(alloc, inner)?;
-            Ok(found)
+            denied(alloc, inner)
         }
         tree::Expression::Comparison(left, relation, right) => {
             let left = expression(alloc, from, left)?;
             let right = expression(alloc, from, right)?;
-            let found = compared(alloc, *relation, left, right)?;
-            Ok(found)
+            compared(alloc, *relation, left, right)
         }
         tree::Expression::Chain(first, others) => {
-            let value = expression(alloc, from, first)?;
             let kind = operand_kind(alloc, from, first)?;
+            let value = expression(alloc, from, first)?;
             let others = operands(alloc, from, others)?;
             let found = chained(alloc, from, Operand { value, kind }, others)?;
             Ok(found.value)

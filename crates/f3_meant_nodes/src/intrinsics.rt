@@ -81,10 +81,7 @@ fn nested_of(
     ensures { IfOk result (λ z. expression_view z ≡ nested_of operator of (map expression_view values.items)) }
 {
     match split(values) {
-        Some((first, others)) => {
-            let found = nested(alloc, operator, of, first, others)?;
-            Ok(found)
-        }
+        Some((first, others)) => nested(alloc, operator, of, first, others),
         None => Ok(no_value()),
     }
 }
@@ -96,8 +93,7 @@ fn absolute(alloc: Global, of: Base, values: Vec<Expression>) -> Result<Expressi
     match split(values) {
         Some((x, others)) => {
             if others.is_empty() {
-                let found = unary(alloc, UnaryOperator::Absolute, of, x)?;
-                Ok(found)
+                unary(alloc, UnaryOperator::Absolute, of, x)
             } else {
                 Ok(no_value())
             }
@@ -129,10 +125,7 @@ fn operation_of_two(
     ensures { IfOk result (λ z. expression_view z ≡ operation_of_two operator of (map expression_view values.items)) }
 {
     match two_of(values) {
-        Some((x, y)) => {
-            let found = binary(alloc, operator, of, x, y)?;
-            Ok(found)
-        }
+        Some((x, y)) => binary(alloc, operator, of, x, y),
         None => Ok(no_value()),
     }
 }
@@ -146,10 +139,7 @@ fn bound_of_two(
     ensures { IfOk result (λ z. expression_view z ≡ bound_of_two query (map expression_view values.items)) }
 {
     match two_of(values) {
-        Some((x, d)) => {
-            let found = bound(alloc, query, x, d)?;
-            Ok(found)
-        }
+        Some((x, d)) => bound(alloc, query, x, d),
         None => Ok(no_value()),
     }
 }
@@ -168,16 +158,12 @@ fn size(alloc: Global, of: Base, values: Vec<Expression>) -> Result<Expression, 
         Some((array, others)) => match split(others) {
             Some((d, more)) => {
                 if more.is_empty() {
-                    let found = bound(alloc, Query::Extent, array, d)?;
-                    Ok(found)
+                    bound(alloc, Query::Extent, array, d)
                 } else {
                     Ok(no_value())
                 }
             }
-            None => {
-                let found = size_of_all(alloc, array)?;
-                Ok(found)
-            }
+            None => size_of_all(alloc, array),
         },
         None => Ok(no_value()),
     }
@@ -211,8 +197,7 @@ fn allocated(alloc: Global, of: Base, values: Vec<Expression>) -> Result<Express
     match split(values) {
         Some((object, others)) => {
             if others.is_empty() {
-                let found = is_allocated(alloc, of, object)?;
-                Ok(found)
+                is_allocated(alloc, of, object)
             } else {
                 Ok(no_value())
             }

@@ -74,8 +74,7 @@ fn called(
     ensures { IfOk result (λ x. expression_view x ≡ intrinsic_value (base (surroundings_of from.entry) of) intrinsic (map given_value (given_in (part_of part)))) }
 {
     let list = given_values(alloc, given_in(alloc, part))?;
-    let found = intrinsic_value(alloc, from.numbers.base(of), intrinsic, list)?;
-    Ok(found)
+    intrinsic_value(alloc, from.numbers.base(of), intrinsic, list)
 }
 
 /// What a name that no entity has and what stands behind it mean.
@@ -89,10 +88,7 @@ fn unlisted(
     ensures { IfOk result (λ x. expression_view x ≡ meant (surroundings_of from.entry) of (part_of part) (map part_of others.items) (map_or nothing intrinsic ((context_of from.entry.known.now from.entry.at).intrinsic part.name.symbol))) }
 {
     match intrinsic_of(from.known, from.at, part.name.symbol) {
-        Some(intrinsic) => {
-            let found = called(alloc, from, of, part, intrinsic)?;
-            Ok(found)
-        }
+        Some(intrinsic) => called(alloc, from, of, part, intrinsic),
         None => Ok(no_value()),
     }
 }
@@ -108,17 +104,11 @@ fn meant(
 {
     match lookup(from.known.tables, from.at.scope, part.name.symbol) {
         Lookup::One(number) => match from.known.things.get(number) {
-            Some(thing) => {
-                let found = entity(alloc, from, of, part, others, number, thing)?;
-                Ok(found)
-            }
+            Some(thing) => entity(alloc, from, of, part, others, number, thing),
             None => Ok(no_value()),
         },
         Lookup::Several => Ok(no_value()),
-        Lookup::Nothing => {
-            let found = unlisted(alloc, from, of, part, others)?;
-            Ok(found)
-        }
+        Lookup::Nothing => unlisted(alloc, from, of, part, others),
     }
 }
 
@@ -137,10 +127,7 @@ pub fn designated(
     ensures { IfOk result (λ x. expression_view x ≡ designated (surroundings_of from.entry) of (map part_of parts.items)) }
 {
     match split(parts) {
-        Some((part, others)) => {
-            let found = meant(alloc, from, of, part, others)?;
-            Ok(found)
-        }
+        Some((part, others)) => meant(alloc, from, of, part, others),
         None => Ok(no_value()),
     }
 }

@@ -93,6 +93,5 @@ pub fn variable_of(
 {
     let how = selection(alloc, object, part.given)?;
     let name = Designator::Name(from.numbers.object(entity), how);
-    let found = along(alloc, from.known, from.at, name, object, others)?;
-    Ok(found)
+    along(alloc, from.known, from.at, name, object, others)
 }

@@ -1,5 +1,6 @@
 pub mod Attributes
 pub mod First
+pub mod Blocks
 pub mod Growing
 pub mod Owned
 pub mod Steps

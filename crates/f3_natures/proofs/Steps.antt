@@ -1,6 +1,6 @@
 -- Procedures and units one after the other: their scopes, and what is made of them.
 use Rattle.std.proofs.Common.{◌≡◌, refl, sym, ap, ◌∙◌, ℕ, ◌+◌, ◌<◌, ◌≤◌, nat_eq, nat_lt, Bool, true, false, List, [], ◌∷◌, ◌++◌, map, length, drop, get_or, replicate, Option, append_assoc, arith, if◌then◌else◌}
-use Rattle.std.proofs.lemmas.List.{at_drop_more, length-append, length-map, map-append}
+use Rattle.std.proofs.lemmas.List.{at_drop_more, length-append, length-map}
 use Rattle.std.specs.List.{flat_map, list_any}
 use Rattle.std.specs.Map.{lookup}
 use Rattle.f3_lookups.specs.declared.lookup.Lookup.{Lookup}
@@ -67,16 +67,15 @@ counted v (xs ∷ xss) = ap (λ l. l ++ flat_map (λ n. replicate n v) (map leng
 
 -- ---- a procedure
 
-pub final_by : (names : Names) (scope : ℕ) (p : ProcedureTree) (es : List (ℕ × Described)) (before after : List (Option ℕ)) (x : Option ℕ) → es ≡ firsts (described_all names scope (p.part).specifications)
-    → x ≡ final_type (λ k. lookup (nat_eq k) es) (p.header).kind (p.header).dummies → after ≡ before ++ x ∷ [] → after ≡ before ++ final_made names scope p
-final_by names scope p es before after x e f g =
-    g ∙ ap (λ (o : Option ℕ). before ++ o ∷ []) (f ∙ ap (λ (l : List (ℕ × Described)). final_type (λ k. lookup (nat_eq k) l) (p.header).kind (p.header).dummies) e)
+pub final_by : (names : Names) (scope : ℕ) (p : ProcedureTree) (es : List (ℕ × Described)) (before after : List (Option ℕ)) → es ≡ firsts (described_all names scope (p.part).specifications)
+    → after ≡ before ++ final_type (λ k. lookup (nat_eq k) es) (p.header).kind (p.header).dummies ∷ [] → after ≡ before ++ final_made names scope p
+final_by names scope p es before after e f =
+    f ∙ ap (λ (l : List (ℕ × Described)). before ++ final_type (λ k. lookup (nat_eq k) l) (p.header).kind (p.header).dummies ∷ []) e
 
-pub procedure_done : (names : Names) (scope : ℕ) (p : ProcedureTree) (es : List (ℕ × Described)) (before after : List Thing) (x : Thing) → es ≡ firsts (described_all names scope (p.part).specifications)
-    → nature_of x ≡ procedure_by names scope (λ k. lookup (nat_eq k) es) p.header → after ≡ before ++ x ∷ [] → map nature_of after ≡ map nature_of before ++ procedure_made names scope p
-procedure_done names scope p es before after x e f g =
-    ap (map nature_of) g ∙ map-append nature_of before (x ∷ [])
-    ∙ ap (λ (n : Nature). map nature_of before ++ n ∷ []) (f ∙ ap (λ (l : List (ℕ × Described)). procedure_by names scope (λ k. lookup (nat_eq k) l) p.header) e)
+pub procedure_done : (names : Names) (scope : ℕ) (p : ProcedureTree) (es : List (ℕ × Described)) (before after : List Nature) → es ≡ firsts (described_all names scope (p.part).specifications)
+    → after ≡ before ++ procedure_by names scope (λ k. lookup (nat_eq k) es) p.header ∷ [] → after ≡ before ++ procedure_made names scope p
+procedure_done names scope p es before after e f =
+    f ∙ ap (λ (l : List (ℕ × Described)). before ++ procedure_by names scope (λ k. lookup (nat_eq k) l) p.header ∷ []) e
 
 same_false : (b : Bool) → (if b then false else false) ≡ false
 same_false true = refl

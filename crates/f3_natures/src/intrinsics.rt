@@ -1,12 +1,36 @@
 //! The intrinsic procedures of the profile by their names (13.7).
 
-ghost use Rattle.std.specs.Prelude.{◌≡◌, map, IfOk};
+ghost use Rattle.std.specs.Prelude.{◌≡◌, nat_eq, drop, map, IfOk};
+ghost use Rattle.std.specs.Cmp.Lexicographic.{pointwise};
+ghost use Rattle.std.specs.Map.{lookup};
 ghost use Rattle.std.specs.String.{string_bytes};
-ghost use Rattle.f3_type_rules.specs.Scene.{intrinsic_of, symbol_of};
+ghost use Rattle.f3_type_rules.specs.Scene.{intrinsic_names, intrinsic_of, symbol_of};
 
 use f3_kinds::things::Intrinsic;
 use indexmap::IndexSet;
 use std::alloc::{AllocError, Global};
+
+/// The intrinsic procedure of arrays or of allocations that a name in lower case has.
+fn array_intrinsic_of(text: &str) -> Option<Intrinsic>
+    ensures { result ≡ lookup (pointwise nat_eq text.now) (drop 5 intrinsic_names) }
+{
+    if text == "size" {
+        return Some(Intrinsic::Size);
+    }
+    if text == "lbound" {
+        return Some(Intrinsic::LowerBound);
+    }
+    if text == "ubound" {
+        return Some(Intrinsic::UpperBound);
+    }
+    if text == "allocated" {
+        return Some(Intrinsic::Allocated);
+    }
+    if text == "move_alloc" {
+        return Some(Intrinsic::MoveAlloc);
+    }
+    None
+}
 
 /// The intrinsic procedure of a name in lower case.
 fn intrinsic_of(text: &str) -> Option<Intrinsic>
@@ -27,22 +51,7 @@ fn intrinsic_of(text: &str) -> Option<Intrinsic>
     if text == "min" {
         return Some(Intrinsic::Min);
     }
-    if text == "size" {
-        return Some(Intrinsic::Size);
-    }
-    if text == "lbound" {
-        return Some(Intrinsic::LowerBound);
-    }
-    if text == "ubound" {
-        return Some(Intrinsic::UpperBound);
-    }
-    if text == "allocated" {
-        return Some(Intrinsic::Allocated);
-    }
-    if text == "move_alloc" {
-        return Some(Intrinsic::MoveAlloc);
-    }
-    None
+    array_intrinsic_of(text)
 }
 
 /// The intrinsic procedure of each name of a program, by the number of the name.

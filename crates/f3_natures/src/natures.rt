@@ -1,9 +1,10 @@
 //! What the entities of a program are, in order: those of each scope, scope by scope.
 
-ghost use Rattle.std.specs.Prelude.{◌≡◌, ◌++◌, ◌∷◌, [], ◌+◌, ◌^◌, ◌<◌, nat_lt, Some, length, map, replicate, IfOk, OnOk};
+ghost use Rattle.std.specs.Prelude.{◌≡◌, ◌++◌, ◌∷◌, [], ◌+◌, ◌^◌, ◌<◌, nat_eq, nat_lt, Some, length, map, replicate, IfOk, OnOk};
 ghost use Rattle.std.specs.List.{flat_map, list_any};
 ghost use Rattle.f3_tree.specs.Declarations.{declaration_view, specification_view};
-ghost use Rattle.f3_tree.specs.Tree.{procedure_view, unit_view, view};
+ghost use Rattle.indexmap.specs.IndexMap.{get};
+ghost use Rattle.f3_tree.specs.Tree.{header_view, procedure_view, unit_view, view};
 ghost use Rattle.f3_scopes.specs.Scopes.{declared_in, scopes_of};
 ghost use Rattle.f3_access.specs.Access.{entities_of};
 ghost use Rattle.f3_kinds.specs.Things.{variable};
@@ -12,12 +13,12 @@ ghost use Rattle.f3_type_rules.specs.Natures.{object_nature, declared_nature, ty
 ghost use Rattle.f3_typed_parts.specs.Known.{nature_of};
 ghost use Rattle.f3_natures.specs.Known.{names_view};
 ghost use Rattle.f3_natures.specs.Natures.{kept, natures_of, HasDistinctParts};
-ghost use Rattle.f3_natures.specs.Inner.Procedures.{is_for};
+ghost use Rattle.f3_natures.specs.Inner.Procedures.{final_type, is_for, procedure_by};
 ghost use Rattle.f3_natures.specs.Inner.Walk.{final_at, is_final, made_one, made_all, count_of, end_of, along, final_made, procedure_made, inner_made, all_finals, all_made, all_inner, own_count, unit_start, unit_end, unit_made, units_made, units_end};
 
 use crate::constructs::constructs;
 use crate::names::Names;
-use crate::objects::{common_of, describe, typed_object, undeclared};
+use crate::objects::{Described, common_of, describe, typed_object, undeclared};
 use crate::parts::components;
 use crate::procedures::{final_type, locals, procedure_thing};
 use f3_access::lookup;
@@ -27,7 +28,8 @@ use f3_lookups::lookup::Lookup;
 use f3_scopes::outline::EntityKind;
 use f3_tree::declaration::{Declaration, Specification};
 use f3_tree::expression::Name;
-use f3_tree::program::{Procedure, ProcedureKind, Program, Unit};
+use f3_tree::program::{Header, Procedure, ProcedureKind, Program, Unit};
+use indexmap::IndexMap;
 use std::alloc::{AllocError, Global};
 
 /// A declared name: of a constant or of a variable.
@@ -203,6 +205,25 @@ fn add_typed(
     }
 }
 
+/// What the header of a procedure with these locals tells: the type that it may be final for, and what it is.
+fn add_header(
+    alloc: Global,
+    names: &Names<'_>,
+    scope: usize,
+    finals: &mut Vec<Option<usize>>,
+    made: &mut Vec<Thing>,
+    locals: &IndexMap<usize, Described>,
+    header: &Header,
+) -> Result<(), AllocError>
+    ensures finals { OnOk result (finals.new.items ≡ finals.old.items ++ final_type (get nat_eq locals.now) header.now.kind header.now.dummies.items ∷ []) }
+    ensures made { OnOk result (map nature_of made.new.items ≡ map nature_of made.old.items ++ procedure_by (names_view names.now) scope (get nat_eq locals.now) (header_view header.now) ∷ []) }
+{
+    finals.push(final_type(locals, header))?;
+    let thing = procedure_thing(alloc, names, scope, locals, header)?;
+    made.push(thing)?;
+    Ok(())
+}
+
 /// What is found of a procedure by its header: the type that it may be final for, and what it is.
 fn add_procedure(
     alloc: Global,
@@ -216,11 +237,17 @@ fn add_procedure(
     ensures made { OnOk result (map nature_of made.new.items ≡ map nature_of made.old.items ++ procedure_made (names_view names.now) scope (procedure_view procedure.now)) }
 {
     let locals = locals(alloc, names, scope, &procedure.part.specifications)?;
-    finals.push(final_type(&locals, &procedure.header))?;
-    let thing = procedure_thing(alloc, names, scope, &locals, &procedure.header)?;
+    let added = add_header(
+        alloc,
+        names,
+        scope,
+        finals,
+        made,
+        &locals,
+        &procedure.header,
+    );
     drop(locals);
-    made.push(thing)?;
-    Ok(())
+    added
 }
 
 /// What a procedure declares. The answer is the number of the scope behind its own and those of its constructs.

@@ -1,6 +1,6 @@
 -- Outlines that are added one behind another, each part numbered from the end of those before.
-use Rattle.std.proofs.Common.{◌≡◌, ◌<◌, ◌+◌, ℕ, List, ◌∷◌, ◌++◌, length, map, drop, get_or, [], sym, ap, ◌∙◌, append_assoc}
-use Rattle.std.proofs.lemmas.List.{length-map, length-append, map-append, at_drop_more}
+use Rattle.std.proofs.Common.{◌≡◌, ◌<◌, ◌≤◌, ◌+◌, ℕ, List, ◌∷◌, ◌++◌, length, map, drop, get_or, [], sym, ap, ◌∙◌, append-nil, append_assoc}
+use Rattle.std.proofs.lemmas.List.{length-map, length-append, map-append, at_drop_all, at_drop_more}
 use Rattle.f3_tree.specs.declared.expression.Name.{Name}
 use Rattle.f3_tree.specs.Statements.{Block}
 use Rattle.f3_scopes.specs.declared.outline.Outline.{Outline}
@@ -49,3 +49,9 @@ module _ {X : Type 0} (first : ℕ → X → List Scope) (from : ℕ → List X 
       ∙ ap (λ ss. map scope_view before ++ ss) (sym (more (length before) (get_or xs i d) (drop (i + 1) xs)))
       ∙ ap (λ ss. map scope_view before ++ ss) (sym (at_drop_more (λ ys. from (length before) ys) xs i d lt))
       ∙ h
+
+-- the end of such a loop
+pub stepped_whole : {X : Type 0} (from : ℕ → List X → List Scope) → ((n : ℕ) → from n [] ≡ []) → (xs : List X) (i : ℕ) (before : List Outline) (whole : List Scope)
+    → length xs ≤ i → map scope_view before ++ from (length before) (drop i xs) ≡ whole → map scope_view before ≡ whole
+stepped_whole from none xs i before whole le h =
+    sym (ap (λ ss. map scope_view before ++ ss) (at_drop_all (λ ys. from (length before) ys) xs i le ∙ none (length before)) ∙ append-nil (map scope_view before)) ∙ h

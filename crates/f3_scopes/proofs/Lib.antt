@@ -1,2 +1,4 @@
 pub mod Views
 pub mod Growing
+pub mod Longer
+pub mod Blocks
