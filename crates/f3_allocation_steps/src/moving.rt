@@ -4,10 +4,9 @@ ghost use Rattle.std.specs.Prelude.{◌≡◌, ◌<◌, ◌^◌, OnOk, drop, len
 ghost use Rattle.f3_places.specs.declared.source.Place.{Place};
 ghost use Rattle.f3_meaning_whole.specs.Value as m;
 ghost use Rattle.f3_meaning_whole.specs.Value.{spread};
-ghost use Rattle.f3_meaning_whole.specs.Store.{put_all};
+ghost use Rattle.f3_meaning_whole.specs.Store.{get, put_all};
 ghost use Rattle.f3_meaning_whole.specs.Reference.{paths};
-ghost use Rattle.f3_data.specs.Values.{value_of};
-ghost use Rattle.f3_data.specs.Stores.{store_of};
+ghost use Rattle.f3_data.specs.Stores.{path_of, store_of};
 ghost use Rattle.f3_data.specs.References.{reference_of};
 ghost use Rattle.f3_data.specs.Lent.{lent_of};
 ghost use Rattle.f3_code.specs.declared.instruction.Instruction.TheVariants as i;
@@ -16,30 +15,37 @@ ghost use Rattle.f3_allocation_steps.specs.Acts.{TakesOver};
 
 use f3_cells::stacks::pop_object;
 use f3_cells::state::{State, Stop};
-use f3_data::copies;
 use f3_data::lent::{Lent, unlend};
-use f3_data::reference::Reference;
+use f3_data::reference::{Reach, Reference};
 use f3_data::store::Store;
 use f3_data::value::Value;
 use f3_located::changes;
 use f3_located::parts::held_at;
 use f3_located::pins::is_pinned;
+use f3_located::reads::copy_at;
 use f3_meaning_whole::run_error::RunError;
 use std::alloc::{AllocError, Global};
 
-/// An object is unallocated, and then another holds a value.
+/// An object is unallocated, and then another takes what it held: the value itself where each of them is one object.
 fn hand_over(
     alloc: Global,
     store: &mut Store,
     from: &Reference,
     to: &Reference,
-    value: Value,
 ) -> Result<(), AllocError>
-    ensures { OnOk result (store_of store.new ≡ put_all (paths (reference_of to.now)) (spread (length (paths (reference_of to.now))) (m.Allocated (value_of value))) (put_all (paths (reference_of from.now)) (spread (length (paths (reference_of from.now))) m.Unallocated) (store_of store.old))) }
+    ensures { (x : m.Value) → get (store_of store.old) (path_of from.now.path) ≡ m.Allocated x → OnOk result (store_of store.new ≡ put_all (paths (reference_of to.now)) (spread (length (paths (reference_of to.now))) (m.Allocated x)) (put_all (paths (reference_of from.now)) (spread (length (paths (reference_of from.now))) m.Unallocated) (store_of store.old))) }
 {
-    let held = Value::Allocated(Box::new(alloc, value)?);
-    changes::set(alloc, store, from, Value::Unallocated)?;
-    changes::set(alloc, store, to, held)
+    match (&from.reach, &to.reach) {
+        (Reach::One, Reach::One) => {
+            store.hand_over(&from.path, &to.path);
+            Ok(())
+        }
+        _ => {
+            let held = copy_at(alloc, store, &from.path)?;
+            changes::set(alloc, store, from, Value::Unallocated)?;
+            changes::set(alloc, store, to, held)
+        }
+    }
 }
 
 /// An object takes what another holds, if it holds something (ISO/IEC 1539-1:2004, 13.7.82). `InUse` where that is in use (own rule).
@@ -52,14 +58,13 @@ fn take_contents(
 ) -> Result<(), Stop>
     ensures { TakesOver (reference_of from.now) (reference_of to.now) (lent_of lent.now) result store.old store.new }
 {
-    let Some(held) = held_at(store, &from.path) else {
+    let Some(_) = held_at(store, &from.path) else {
         return Ok(());
     };
     if is_pinned(&from.path, lent) {
         return Err(Stop::Failed(RunError::InUse));
     }
-    let value = copies::value(alloc, held)?;
-    hand_over(alloc, store, from, to, value)?;
+    hand_over(alloc, store, from, to)?;
     Ok(())
 }
 

@@ -78,6 +78,35 @@ level_grown ls l g d y h e f =
     let c = ap level_words (level_stands ls l d h e) in
     omega arith
 
+-- one of a list and another value have changed places
+
+pub one_exchanged : (vs : List v.Value) (i a b : ℕ) (d y : v.Value) → i < length vs → d ≡ get_or vs i d →
+    words (value_of d) + a ≡ words (value_of y) + b →
+    level_words (values_of vs) + a ≡ level_words (values_of (slice_set vs i y)) + b
+one_exchanged vs i a b d y h e f =
+    let s = ap level_words (map-set value_of vs i y) in
+    let n = level_words_set (values_of vs) i (value_of y) (omega (arith, length-map vs value_of)) in
+    let o = ap words (object_stands vs i d h e) in
+    omega arith
+
+pub one_exchanged_in_row : (vs : List v.Value) (i a b : ℕ) (d y : v.Value) → i < length vs → d ≡ get_or vs i d →
+    words (value_of d) + a ≡ words (value_of y) + b →
+    row (joined (values_of vs)) + a ≡ row (joined (values_of (slice_set vs i y))) + b
+one_exchanged_in_row vs i a b d y h e f =
+    let s = row_joined (values_of vs) in
+    let n = row_joined (values_of (slice_set vs i y)) in
+    let o = one_exchanged vs i a b d y h e f in
+    omega arith
+
+pub level_exchanged : (ls : List (Vec v.Value Global)) (l a b : ℕ) (d y : Vec v.Value Global) → l < length ls → d ≡ get_or ls l d →
+    level_words (values_of d.items) + a ≡ level_words (values_of y.items) + b →
+    levels_words (levels_of ls) + a ≡ levels_words (levels_of (slice_set ls l y)) + b
+level_exchanged ls l a b d y h e f =
+    let s = ap levels_words (map-set (λ (u : Vec v.Value Global). values_of u.items) ls l y) in
+    let n = levels_words_set (levels_of ls) l (values_of y.items) (omega (arith, length-map ls (λ (u : Vec v.Value Global). values_of u.items))) in
+    let o = ap level_words (level_stands ls l d h e) in
+    omega arith
+
 -- what holds values has grown as much as these
 
 pub array_grown : (ss : Vec Span Global) (vs ws : Vec v.Value Global) (g : ℕ) →
@@ -86,6 +115,14 @@ pub array_grown : (ss : Vec Span Global) (vs ws : Vec v.Value Global) (g : ℕ) 
 array_grown ss vs ws g h =
     let a = ap words (array_is ss vs) in
     let b = ap words (array_is ss ws) in
+    omega arith
+
+pub array_exchanged : (ss : Vec Span Global) (vs ws : Vec v.Value Global) (a b : ℕ) →
+    row (joined (values_of vs.items)) + a ≡ row (joined (values_of ws.items)) + b →
+    words (value_of (v.Array ss vs)) + a ≡ words (value_of (v.Array ss ws)) + b
+array_exchanged ss vs ws a b h =
+    let s = ap words (array_is ss vs) in
+    let n = ap words (array_is ss ws) in
     omega arith
 
 -- levels that begin and end

@@ -37,6 +37,10 @@ element_steps true k = m.Contents ∷ m.Element k ∷ []
 abbrev pub levels_of : List (Vec Value Global) → List (List m'.Value)
 levels_of vs = map (λ (v : Vec Value Global). values_of v.items) vs
 
+-- what lives for the whole run, and on each level, as a store
+abbrev pub store_with : List Value → List (Vec Value Global) → m.Store
+store_with statics levels = record { statics = values_of statics; levels = levels_of levels }
+
 abbrev pub store_of : Store → m.Store
 store_of s = record { statics = values_of s.statics.items; levels = levels_of s.levels.items }
 

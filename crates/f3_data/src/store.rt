@@ -3,10 +3,10 @@
 ghost use Rattle.std.specs.Prelude.{◌≡◌, ◌%◌, ◌^◌};
 ghost use Rattle.f3_data.specs.Taken.{taken};
 
-use crate::account::{block, level_words, levels_words};
+use crate::account::{block, level_words, levels_words, words};
 use crate::parts::{
-    object, objects, part, replace_in, replace_in_level, set_element_in, set_element_in_level,
-    set_in, set_in_level,
+    exchange_at_path, object, objects, part, set_element_in, set_element_in_level, set_in,
+    set_in_level,
 };
 use crate::value::Value;
 use f3_program::declarations::Constant;
@@ -48,6 +48,7 @@ pub struct Store {
 
 impl Store {
     ghost use Rattle.std.specs.Prelude.{[], OnOk};
+    ghost use Rattle.f3_meaning_whole.specs.Value as m;
     ghost use Rattle.f3_meaning_whole.specs.Arithmetic.{constant_value};
     ghost use Rattle.f3_meaning_whole.specs.Store.{at_root, get, put};
     ghost use Rattle.f3_meaning_whole.specs.Ran.{Entered, Ended, effect};
@@ -96,14 +97,26 @@ impl Store {
     }
 
     /// The part at a path takes another value; nothing happens where there is no such object or part.
-    pub fn put(&mut self, path: &Path, new: Value)
+    pub fn put(&mut self, path: &Path, mut new: Value)
         ensures { store_of self.new ≡ put (store_of self.old) (path_of path.now) (value_of new) }
     {
-        let grown = match path.root {
-            Root::Static(i) => replace_in(&mut self.statics, i, &path.steps, new),
-            Root::Local(level, i) => replace_in_level(&mut self.levels, level, i, &path.steps, new),
-        };
-        self.used = self.used.wrapping_add(grown);
+        let come = words(&new);
+        exchange_at_path(&mut self.statics, &mut self.levels, path, &mut new);
+        let gone = words(&new);
+        self.used = self.used.wrapping_add(come).wrapping_sub(gone);
+        drop(new);
+    }
+
+    /// What stands at a path goes over to another, without a copy, and the first is unallocated.
+    pub fn hand_over(&mut self, from: &Path, to: &Path)
+        ensures { store_of self.new ≡ put (put (store_of self.old) (path_of from.now) m.Unallocated) (path_of to.now) (get (store_of self.old) (path_of from.now)) }
+    {
+        let mut held = Value::Unallocated;
+        exchange_at_path(&mut self.statics, &mut self.levels, from, &mut held);
+        exchange_at_path(&mut self.statics, &mut self.levels, to, &mut held);
+        let gone = words(&held);
+        self.used = self.used.wrapping_add(1).wrapping_sub(gone);
+        drop(held);
     }
 
     /// The part of an object that some steps lead to takes a scalar; nothing happens where there is no such object or part.
