@@ -22,7 +22,6 @@ use std::alloc::Global;
 use std::io::Write;
 
 /// An instruction of a line, which takes the initial value of a type or none, at a place.
-#[inline(never)]
 pub(crate) fn perform<W: Write>(
     alloc: Global,
     scene: &Scene<'_>,
