@@ -28,8 +28,16 @@ pub fn pop_any(stack: &mut Vec<Cell>) -> Option<Cell>
 pub fn push(stack: &mut Vec<Cell>, cell: Cell) -> Result<(), Stop>
     ensures { MatchResult result (λ done. Pushed cell stack.old.items stack.new.items) (λ e. e ≡ Stop.Memory) }
 {
-    stack.push(cell)?;
-    Ok(())
+    match stack.reserve(1) {
+        Ok(()) => {
+            stack.push_reserved(cell);
+            Ok(())
+        }
+        Err(_) => {
+            let_go(cell);
+            Err(Stop::Memory)
+        }
+    }
 }
 
 /// So many cells go, or as many as there are.

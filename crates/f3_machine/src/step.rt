@@ -18,6 +18,7 @@ use std::alloc::Global;
 use std::io::Write;
 
 /// How a run ends where an instruction at a place stops it.
+#[inline(never)]
 fn end_of(stop: Stop, place: Place) -> Ended
     ensures { result ≡ ended_by stop place }
 {
@@ -32,27 +33,28 @@ fn end_of(stop: Stop, place: Place) -> Ended
 }
 
 /// The instruction of a line at a place: the heap answers what it asks, and then it is done, unless it was refused.
+#[inline(always)]
 fn do_line<W: Write>(
     alloc: Global,
     scene: &Scene<'_>,
     size: u64,
-    line: Line,
+    line: &Line,
     place: Place,
     state: &mut State,
     output: &mut Output<W>,
 ) -> Result<(), Stop>
     requires { state.old.pc < 2 ^ 63 }
-    ensures { DoesLine size scene.now line place result state.old state.new (state_of W.contents output.old) (state_of W.contents output.new) }
+    ensures { DoesLine size scene.now line.now place result state.old state.new (state_of W.contents output.old) (state_of W.contents output.new) }
 {
-    match answer(alloc, scene, size, line.act, line.initial, place, state) {
-        Ok(false) => perform(alloc, scene, line.act, line.initial, place, state, output),
+    match answer(alloc, scene, size, line, place, state) {
+        Ok(false) => perform(alloc, scene, line, place, state, output),
         Ok(true) => Ok(()),
         Err(stop) => Err(stop),
     }
 }
 
 /// The next instruction.
-#[inline(never)]
+#[inline(always)]
 pub(crate) fn step<W: Write>(
     alloc: Global,
     scene: &Scene<'_>,

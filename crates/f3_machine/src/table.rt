@@ -13,31 +13,29 @@ use f3_cells::scene::Scene;
 use f3_cells::state::{State, Stop};
 use f3_code::instruction::Instruction;
 use f3_control_steps::{constructs, dummies, jumps, values, work};
+use f3_gen_values::line::Line;
 use f3_object_steps::{assigning, counting, locating};
 use f3_output::output::Output;
 use f3_places::source::Place;
-use f3_program::declarations::Base;
 use f3_value_steps::{constructors, operations, queries, results, structures};
 use std::alloc::Global;
 use std::io::Write;
 
 /// An instruction of a line, which takes the initial value of a type or none, at a place.
-#[inline(never)]
 pub(crate) fn perform<W: Write>(
     alloc: Global,
     scene: &Scene<'_>,
-    act: Instruction,
-    initial: Option<Base>,
+    line: &Line,
     place: Place,
     state: &mut State,
     output: &mut Output<W>,
 ) -> Result<(), Stop>
     requires { state.old.pc < 2 ^ 63 }
-    ensures { PerformsThere scene.now act (taken (setting scene.now.program.now) initial) place result state.old state.new
+    ensures { PerformsThere scene.now line.now.act (taken (setting scene.now.program.now) line.now.initial) place result state.old state.new
         (state_of W.contents output.old) (state_of W.contents output.new) }
 {
     let total = scene.emission.lines.len();
-    match act {
+    match line.act {
         Instruction::Push(a0) => values::push(state, a0),
         Instruction::Plain => values::plain(state),
         Instruction::Unary(a0, a1) => operations::unary(state, a0, a1),
@@ -67,7 +65,7 @@ pub(crate) fn perform<W: Write>(
         Instruction::TestShape => assigning::test_shape(state),
         Instruction::ByState(a0, a1) => states::by_state(state, a0, a1, total),
         Instruction::TestRank(a0) => states::test_rank(state, a0),
-        Instruction::New(a0) => allocating::new(alloc, scene, state, initial, a0),
+        Instruction::New(a0) => allocating::new(alloc, scene, state, line.initial, a0),
         Instruction::Take(a0) => assigning::take(alloc, state, a0),
         Instruction::Fill(a0) => assigning::fill(alloc, state, a0),
         Instruction::Begin => constructs::begin(state),
@@ -77,7 +75,14 @@ pub(crate) fn perform<W: Write>(
         Instruction::LendBoth => work::lend_both(alloc, state),
         Instruction::TakeOver => moving::take_over(alloc, state),
         Instruction::Dimension => values::dimension(state),
-        Instruction::Allocate(a0, a1) => allocating::allocate(alloc, scene, state, initial, a0, a1),
+        Instruction::Allocate(a0, a1) => allocating::allocate(
+            alloc,
+            scene,
+            state,
+            line.initial,
+            a0,
+            a1,
+        ),
         Instruction::TestFree(a0) => states::test_free(state, a0, total),
         Instruction::NoError => jumps::no_error(state),
         Instruction::SkipIfFailed(a0) => jumps::skip_if_failed(state, a0, total),
@@ -119,7 +124,7 @@ pub(crate) fn perform<W: Write>(
         Instruction::OpenContents => parts::open_contents(alloc, state),
         Instruction::Free => parts::free(alloc, state),
         Instruction::Clear => parts::clear(alloc, state),
-        Instruction::Set => allocating::set(alloc, scene, state, initial),
+        Instruction::Set => allocating::set(alloc, scene, state, line.initial),
         Instruction::Discard => constructs::discard(state),
         Instruction::Dummies => dummies::dummies(alloc, state),
         Instruction::ResultOf(a0) => returns::result_of(alloc, state, a0),

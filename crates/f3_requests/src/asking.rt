@@ -60,6 +60,7 @@ fn procedure_wants(scene: &Scene, number: usize, arguments: &[Cell]) -> Option<u
 }
 
 /// What a call of the procedure of a number with so many arguments wants (12.4).
+#[inline(never)]
 fn call_wants(scene: &Scene, state: &State, number: usize, count: usize) -> Option<u64>
     ensures { (v : m.Value) → result ≡ counted (wanted scene.now (Call number count) v state.now) }
 {
@@ -71,6 +72,7 @@ fn call_wants(scene: &Scene, state: &State, number: usize, count: usize) -> Opti
 
 /// What an assignment to an allocatable of a rank wants: the block of the new object, whose elements begin with the line's value,
 /// and those of the objects that are copied (7.4.1.3).
+#[inline(never)]
 fn new_wants(
     program: &Program,
     initial: Option<Base>,
@@ -116,6 +118,7 @@ fn copies(n: usize, value: &Value) -> u64
 }
 
 /// What an assignment wants: the blocks of the objects that are copied (7.4.1.3).
+#[inline(never)]
 fn assigned_wants(stack: &Vec<Cell>) -> Option<u64>
     ensures { (p : Program) → result ≡ counted (assigned (cells_of p stack.now.items)) }
 {
@@ -144,6 +147,7 @@ fn is_allocated_at(store: &Store, path: &Path) -> bool
 
 /// What an ALLOCATE of so many dimensions wants: the block of an object of a rank, whose elements begin with the line's value
 /// (6.3.1). None where it makes no object.
+#[inline(never)]
 fn allocate_wants(
     program: &Program,
     initial: Option<Base>,
@@ -169,6 +173,7 @@ fn allocate_wants(
 }
 
 /// What a value that is held for an ASSOCIATE wants: a block (8.1.4.3).
+#[inline(never)]
 fn held_wants(stack: &Vec<Cell>) -> Option<u64>
     ensures { (p : Program) → result ≡ counted (held (cells_of p stack.now.items)) }
 {
@@ -183,15 +188,16 @@ fn held_wants(stack: &Vec<Cell>) -> Option<u64>
 }
 
 /// What an instruction wants.
-fn wants(scene: &Scene, act: Instruction, initial: Option<Base>, state: &State) -> Option<u64>
-    ensures { result ≡ counted (wanted scene.now act (taken (setting scene.now.program.now) initial) state.now) }
+#[inline(always)]
+fn wants(scene: &Scene, act: &Instruction, initial: &Option<Base>, state: &State) -> Option<u64>
+    ensures { result ≡ counted (wanted scene.now act.now (taken (setting scene.now.program.now) initial.now) state.now) }
 {
-    match act {
+    match *act {
         Instruction::Call(number, count) => call_wants(scene, state, number, count),
-        Instruction::New(rank) => new_wants(scene.program, initial, rank, &state.stack),
+        Instruction::New(rank) => new_wants(scene.program, *initial, rank, &state.stack),
         Instruction::Take(_) => assigned_wants(&state.stack),
         Instruction::Allocate(rank, dimensions) => {
-            allocate_wants(scene.program, initial, rank, dimensions, state)
+            allocate_wants(scene.program, *initial, rank, dimensions, state)
         }
         Instruction::SelectValue(_) => held_wants(&state.stack),
         _ => None,
@@ -199,15 +205,15 @@ fn wants(scene: &Scene, act: Instruction, initial: Option<Base>, state: &State) 
 }
 
 /// Whether a heap of so many words refuses what an instruction wants.
-#[inline(never)]
+#[inline(always)]
 pub(crate) fn is_refused(
     scene: &Scene,
     size: u64,
-    act: Instruction,
-    initial: Option<Base>,
+    act: &Instruction,
+    initial: &Option<Base>,
     state: &State,
 ) -> bool
-    ensures { result ≡ refuses size scene.now act (taken (setting scene.now.program.now) initial) state.now }
+    ensures { result ≡ refuses size scene.now act.now (taken (setting scene.now.program.now) initial.now) state.now }
 {
     match wants(scene, act, initial, state) {
         Some(words) => state.store.used().wrapping_add(words) > size,

@@ -8,8 +8,8 @@ use Rattle.f3_requests.proofs.asking.is_refused.Goals as goal
 
 pub returns-in-Some : goal.returns-in-Some
 returns-in-Some c = full_is c.args.size c.used.result c.in-Some.words (account.used (store_of c.args.state.now.store))
-    (wanted c.args.scene.now c.args.act (taken (setting c.args.scene.now.program.now) c.args.initial) c.args.state.now) c.used.ensures c.in-Some.ensures
+    (wanted c.args.scene.now c.args.act.now (taken (setting c.args.scene.now.program.now) c.args.initial.now) c.args.state.now) c.used.ensures c.in-Some.ensures
 
 pub returns-in-None : goal.returns-in-None
 returns-in-None c = not_full c.args.size (account.used (store_of c.args.state.now.store))
-    (wanted c.args.scene.now c.args.act (taken (setting c.args.scene.now.program.now) c.args.initial) c.args.state.now) c.in-None.ensures
+    (wanted c.args.scene.now c.args.act.now (taken (setting c.args.scene.now.program.now) c.args.initial.now) c.args.state.now) c.in-None.ensures

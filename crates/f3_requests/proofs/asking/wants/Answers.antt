@@ -6,7 +6,7 @@ use Rattle.f3_requests.proofs.Wanting.{no_wants}
 use Rattle.f3_requests.proofs.asking.wants.Goals as goal
 
 pub returns-in-Call : goal.returns-in-Call
-returns-in-Call c = rw c.in-Call.is (c.call_wants.ensures (taken (setting c.args.scene.now.program.now) c.args.initial))
+returns-in-Call c = rw c.in-Call.is (c.call_wants.ensures (taken (setting c.args.scene.now.program.now) c.args.initial.now))
 
 pub returns-in-New : goal.returns-in-New
 returns-in-New c = rw c.in-New.is c.new_wants.ensures
@@ -21,6 +21,6 @@ pub returns-in-SelectValue : goal.returns-in-SelectValue
 returns-in-SelectValue c = rw c.in-SelectValue.is (c.held_wants.ensures c.args.scene.now.program.now)
 
 pub returns-in_default : goal.returns-in_default
-returns-in_default c = ap counted (sym (no_wants 1000 (code_of c.args.scene.now) c.args.act (taken (setting c.args.scene.now.program.now) c.args.initial)
+returns-in_default c = ap counted (sym (no_wants 1000 (code_of c.args.scene.now) c.args.act.now (taken (setting c.args.scene.now.program.now) c.args.initial.now)
     (state_of c.args.scene.now.program.now c.args.state.now) c.in_default.not-Call c.in_default.not-New c.in_default.not-Take c.in_default.not-Allocate
     c.in_default.not-SelectValue))
