@@ -1,29 +1,54 @@
 //! The worked heaps, and each call that can answer `Memory` with ample memory.
 #![tactic(auto, using(f3_heap_laws::proofs::Laws::live_laws))]
 
-ghost use Rattle.std.specs.Prelude.{◌≢◌};
+ghost use Rattle.std.specs.Prelude.{◌≡◌, ◌≢◌, ℕ};
 ghost use Rattle.f3_heap_laws.specs.Blocks.{IsLive};
 
 use f3_heap::{BlockId, Blocks, FullAt, PlainBlocks, RawHeap, TakeFault};
 use std::process::Abort;
 
-/// One block in a heap of 16 words.
-fn one_block<B: Blocks>(rt: &impl Abort, heap: &mut B) {
-    let a = heap.take(1).expect(rt, "room for one word");
+/// A block has one word, a zero, and there is room for nine more.
+fn has_one_word<B: Blocks>(rt: &impl Abort, heap: &B, a: BlockId)
+    requires { IsLive (B.blocks heap.now) a }
+{
     assert_eq!(rt; heap.length(a), 1);
     assert_eq!(rt; heap.read(a, 0), 0);
     assert_eq!(rt; heap.used(), 4);
     assert!(rt; heap.room(9));
     assert!(rt; !heap.room(10));
-    assert!(rt; matches!(heap.take(10), Err(TakeFault::Full)));
-    assert_eq!(rt; heap.used(), 4);
-    assert_eq!(rt; heap.length(a), 1);
+}
+
+/// There is no room for ten words more.
+fn refuses_ten<B: Blocks>(rt: &impl Abort, heap: &mut B)
+    ensures { B.blocks heap.new ≡ B.blocks heap.old }
+{
+    match heap.take(10) {
+        Err(TakeFault::Full) => (),
+        _ => panic!(rt; "not full"),
+    }
+}
+
+/// A block is not given back while it is pinned.
+fn pinned_once<B: Blocks>(rt: &impl Abort, heap: &mut B, a: BlockId)
+    requires { IsLive (B.blocks heap.old) a }
+    ensures { IsLive (B.blocks heap.new) a }
+{
     assert_eq!(rt; heap.pins(a), 0);
     heap.pin(a);
     assert_eq!(rt; heap.pins(a), 1);
     assert!(rt; heap.give(a).is_err());
     heap.unpin(a);
     assert_eq!(rt; heap.pins(a), 0);
+}
+
+/// One block in a heap of 16 words.
+fn one_block<B: Blocks>(rt: &impl Abort, heap: &mut B) {
+    let a = heap.take(1).expect(rt, "room for one word");
+    has_one_word(rt, heap, a);
+    refuses_ten(rt, heap);
+    assert_eq!(rt; heap.used(), 4);
+    assert_eq!(rt; heap.length(a), 1);
+    pinned_once(rt, heap, a);
     assert!(rt; heap.give(a).is_ok());
     assert_eq!(rt; heap.used(), 0);
     assert!(rt; heap.room(13));
@@ -45,19 +70,46 @@ fn word_at<B: Blocks>(rt: &impl Abort, heap: &B, block: BlockId, at: usize) -> i
     heap.read(block, at)
 }
 
-/// A word and a copy of it.
-fn two_blocks<B: Blocks>(rt: &impl Abort, heap: &mut B) {
+/// Two blocks of two words.
+fn pair_of_two<B: Blocks>(rt: &impl Abort, heap: &mut B) -> (BlockId, BlockId)
+    ensures first { IsLive (B.blocks heap.new) result.0 }
+    ensures second { IsLive (B.blocks heap.new) result.1 }
+{
     let a = heap.take(2).expect(rt, "room for two words");
     let b = heap.take(2).expect(rt, "room for two words more");
-    assert!(rt; heap.length(a) == 2 && a != b);
-    heap.write(a, 1, -7);
-    assert_eq!(rt; word_at(rt, heap, a, 1), -7);
+    (a, b)
+}
+
+/// Copies the second word of a block to the first of another, where both have two.
+fn copy_second<B: Blocks>(rt: &impl Abort, heap: &mut B, a: BlockId, b: BlockId)
+    requires first { IsLive (B.blocks heap.old) a }
+    requires second { IsLive (B.blocks heap.old) b }
+    requires apart { a ≢ b }
+    ensures { (q : ℕ) → IsLive (B.blocks heap.old) q → IsLive (B.blocks heap.new) q }
+{
     let (from, to) = heap.pair(a, b);
     assert!(rt; from.len() == 2 && to.len() == 2);
     to[0] = from[1];
-    assert_eq!(rt; word_at(rt, heap, b, 0), -7);
+}
+
+/// The first of two blocks has a zero and this word, the other this word and a zero.
+fn has_copy<B: Blocks>(rt: &impl Abort, heap: &B, a: BlockId, b: BlockId, word: i64)
+    requires first { IsLive (B.blocks heap.now) a }
+    requires second { IsLive (B.blocks heap.now) b }
+{
+    assert_eq!(rt; word_at(rt, heap, b, 0), word);
     assert_eq!(rt; word_at(rt, heap, b, 1), 0);
     assert_eq!(rt; word_at(rt, heap, a, 0), 0);
+}
+
+/// A word and a copy of it.
+fn two_blocks<B: Blocks>(rt: &impl Abort, heap: &mut B) {
+    let (a, b) = pair_of_two(rt, heap);
+    assert!(rt; heap.length(a) == 2 && a != b);
+    heap.write(a, 1, -7);
+    assert_eq!(rt; word_at(rt, heap, a, 1), -7);
+    copy_second(rt, heap, a, b);
+    has_copy(rt, heap, a, b, -7);
 }
 
 #[test]
@@ -71,13 +123,7 @@ fn copies_a_word(rt: HostRuntime) {
 #[test]
 fn four_blocks_by_the_account_alone(rt: HostRuntime) {
     let mut heap = PlainBlocks::new(rt.alloc(), 24);
-    let a = heap.take(1).expect(&rt, "A");
-    let b = heap.take(1).expect(&rt, "B");
-    let c = heap.take(1).expect(&rt, "C");
-    let _d = heap.take(1).expect(&rt, "D");
-    assert_eq!(rt; heap.used(), 16);
-    assert!(rt; heap.give(a).is_ok());
-    assert!(rt; heap.give(c).is_ok());
+    let (b, _) = two_left(&rt, &mut heap);
     assert!(rt; heap.room(5));
     assert!(rt; heap.room(6));
     assert!(rt; heap.give(b).is_ok());

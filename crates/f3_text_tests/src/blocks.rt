@@ -6,7 +6,7 @@ use f3_form::form::{Ended, Form};
 use f3_places::source::Place;
 use f3_tree::statement::{Action, Control};
 use std::alloc::Global;
-use std::test::Fail;
+use std::process::Abort;
 
 fn somewhere() -> Place {
     Place {
@@ -16,44 +16,57 @@ fn somewhere() -> Place {
     }
 }
 
+/// What comes of a statement of a program.
+fn step(alloc: Global, block: &mut BlockBuilder, form: Form) -> Result<(), StepError> {
+    block.step(alloc, false, somewhere(), form)
+}
+
+/// What comes of a DO without a control.
+fn step_do(alloc: Global, block: &mut BlockBuilder) -> Result<(), StepError> {
+    step(alloc, block, Form::Do(Control::Forever))
+}
+
+/// What comes of an EXIT.
+fn step_exit(alloc: Global, block: &mut BlockBuilder) -> Result<(), StepError> {
+    step(alloc, block, Form::Act(Action::Exit))
+}
+
 /// A block of a program with so many open DO constructs.
-fn opened(alloc: Global, count: usize) -> Result<BlockBuilder, StepError> {
+fn opened(rt: &impl Abort, alloc: Global, count: usize) -> BlockBuilder {
     let mut block = BlockBuilder::new(alloc);
     for _ in 0..count {
-        block.step(alloc, false, somewhere(), Form::Do(Control::Forever))?;
+        step_do(alloc, &mut block).expect(rt, "a DO");
     }
-    Ok(block)
+    block
 }
 
 #[test]
-fn exit_in_a_do(rt: HostRuntime) -> Result<(), Fail> {
+fn exit_in_a_do(rt: HostRuntime) {
     let alloc = rt.alloc();
-    let mut block = opened(alloc, 1)?;
-    block.step(alloc, false, somewhere(), Form::Act(Action::Exit))?;
-    block.step(alloc, false, somewhere(), Form::End(Some(Ended::Do), None))?;
+    let mut block = opened(&rt, alloc, 1);
+    step_exit(alloc, &mut block).expect(&rt, "EXIT");
+    step(alloc, &mut block, Form::End(Some(Ended::Do), None)).expect(&rt, "END DO");
     assert_eq!(rt; block.constructs.len(), 0);
     assert_eq!(rt; block.body.len(), 1);
-    Ok(())
+    drop(block);
 }
 
 #[test]
-fn exit_outside_of_a_do(rt: HostRuntime) -> Result<(), Fail> {
+fn exit_outside_of_a_do(rt: HostRuntime) {
     let alloc = rt.alloc();
-    let mut block = opened(alloc, 0)?;
-    match block.step(alloc, false, somewhere(), Form::Act(Action::Exit)) {
-        Ok(_) => assert!(rt; false),
-        Err(error) => assert_eq!(rt; error, StepError::OutOfPlace),
-    }
-    Ok(())
+    let mut block = opened(&rt, alloc, 0);
+    assert_eq!(rt;
+        step_exit(alloc, &mut block).err(),
+        Some(StepError::OutOfPlace)
+    );
+    drop(block);
 }
 
 #[test]
-fn sixty_five_constructs(rt: HostRuntime) -> Result<(), Fail> {
+fn sixty_five_constructs(rt: HostRuntime) {
     let alloc = rt.alloc();
-    assert_eq!(rt; opened(alloc, 64)?.constructs.len(), 64);
-    match opened(alloc, 65) {
-        Ok(_) => assert!(rt; false),
-        Err(error) => assert_eq!(rt; error, StepError::TooDeep),
-    }
-    Ok(())
+    let mut block = opened(&rt, alloc, 64);
+    assert_eq!(rt; block.constructs.len(), 64);
+    assert_eq!(rt; step_do(alloc, &mut block).err(), Some(StepError::TooDeep));
+    drop(block);
 }

@@ -8,7 +8,7 @@ use f3_tree::expression::{Argument, Expression, IntegerLiteral, Name, Operator, 
 use f3_words::error::ReadError;
 use f3_words::item::{Item, Keyword, Word};
 use std::alloc::{AllocError, Global};
-use std::test::Fail;
+use std::process::Abort;
 
 /// The token that a sign of a test's text stands for.
 fn word(sign: char) -> Word {
@@ -44,27 +44,32 @@ fn word(sign: char) -> Word {
     }
 }
 
+/// A token of this sign.
+fn item(sign: char, column: u32, value: i32) -> Item {
+    Item {
+        word: word(sign),
+        symbol: sign as usize,
+        value: IntegerLiteral::Four(value),
+        place: Place {
+            file: 1,
+            line: 1,
+            column,
+        },
+    }
+}
+
 /// The tokens of a test's text: a name and a digit have their code as symbol and value, and its column is how many
 /// signs stand up to it.
-fn items(alloc: Global, text: &str) -> Result<Vec<Item>, AllocError> {
+fn items(rt: &impl Abort, alloc: Global, text: &str) -> Vec<Item> {
     let mut items = Vec::new(alloc);
     let mut column = 0u32;
     let mut value = 0i32;
     for sign in text.chars() {
         column = column.saturating_add(1);
         value = value.saturating_add(1);
-        items.push(Item {
-            word: word(sign),
-            symbol: sign as usize,
-            value: IntegerLiteral::Four(value),
-            place: Place {
-                file: 1,
-                line: 1,
-                column,
-            },
-        })?;
+        items.push(item(sign, column, value)).expect(rt, "memory");
     }
-    Ok(items)
+    items
 }
 
 /// The sign of an operator.
@@ -203,119 +208,151 @@ fn show_bound(out: &mut String, bound: &Option<Expression>) -> Result<(), AllocE
     }
 }
 
-/// How the expression at the front of a text is read, and the number of signs behind it; `-` where none is there.
-fn read(alloc: Global, text: &str) -> Result<(String, usize), AllocError> {
-    let items = items(alloc, text)?;
-    let mut out = String::new(alloc);
-    match expression(alloc, &items) {
+/// Writes what was read of a text, and the number of signs behind it where there are any; `-` where no expression was.
+fn show_read(rt: &impl Abort, out: &mut String, read: &Result<(Expression, &[Item]), ReadError>) {
+    match read {
         Ok((found, rest)) => {
-            show(&mut out, &found)?;
-            let behind = rest.len();
-            Ok((out, behind))
+            show(out, found).expect(rt, "memory");
+            show_number(rt, out, rest.len());
         }
-        Err(ReadError::NoForm) => {
-            out.push('-')?;
-            Ok((out, 0))
-        }
-        Err(ReadError::Memory) => Err(AllocError),
+        Err(ReadError::NoForm) => out.push('-').expect(rt, "memory"),
+        Err(ReadError::Memory) => panic!(rt; "memory"),
     }
 }
 
-/// Whether the whole of a text is read so.
-fn is_read(alloc: Global, text: &str, wanted: &str) -> Result<bool, AllocError> {
-    let (found, behind) = read(alloc, text)?;
-    Ok(behind == 0 && found.as_str() == wanted)
-}
-
-#[test]
-fn levels(rt: HostRuntime) -> Result<(), Fail> {
-    let alloc = rt.alloc();
-    assert!(rt; is_read(alloc, "-1^2", "{-{0^0}}")?);
-    assert!(rt; is_read(alloc, "-1+2", "{{-0}+0}")?);
-    assert!(rt; is_read(alloc, "-1*2+3", "{{-{0*0}}+0}")?);
-    assert!(rt; is_read(alloc, "1^2^3", "{0^0^0}")?);
-    assert!(rt; is_read(alloc, "1-2+3", "{0-0+0}")?);
-    assert!(rt; is_read(alloc, "1+2*3/4", "{0+{0*0/0}}")?);
-    assert!(rt; is_read(alloc, "1^2*3", "{{0^0}*0}")?);
-    assert!(rt; is_read(alloc, "1=-2", "{0={-0}}")?);
-    assert!(rt; is_read(alloc, "!1<2", "{!{0<0}}")?);
-    assert!(rt; is_read(alloc, "!T&F", "{{!T}&F}")?);
-    assert!(rt; is_read(alloc, "T|F&T", "{T|{F&T}}")?);
-    assert!(rt; is_read(alloc, "T~F|T#F", "{T~{F|T}#F}")?);
-    assert!(rt; is_read(alloc, "(1+2)*3", "{({0+0})*0}")?);
-    assert!(rt; is_read(alloc, "((\"))", "((\"))")?);
-    Ok(())
-}
-
-#[test]
-fn no_expressions(rt: HostRuntime) -> Result<(), Fail> {
-    let alloc = rt.alloc();
-    assert!(rt; is_read(alloc, "", "-")?);
-    assert!(rt; is_read(alloc, "1<2<3", "-")?);
-    assert!(rt; is_read(alloc, "1+-2", "-")?);
-    assert!(rt; is_read(alloc, "1^-2", "-")?);
-    assert!(rt; is_read(alloc, "--1", "-")?);
-    assert!(rt; is_read(alloc, "!!T", "-")?);
-    assert!(rt; is_read(alloc, "1=!T", "-")?);
-    assert!(rt; is_read(alloc, "(1,2)", "-")?);
-    assert!(rt; is_read(alloc, "(1", "-")?);
-    assert!(rt; is_read(alloc, "()", "-")?);
-    assert!(rt; is_read(alloc, "[]", "-")?);
-    assert!(rt; is_read(alloc, "[1}", "-")?);
-    assert!(rt; is_read(alloc, "a(,)", "-")?);
-    assert!(rt; is_read(alloc, "a(b$1:2)", "-")?);
-    assert!(rt; is_read(alloc, "a(1:2:)", "-")?);
-    assert!(rt; is_read(alloc, "a%1", "-")?);
-    Ok(())
-}
-
-#[test]
-fn primaries(rt: HostRuntime) -> Result<(), Fail> {
-    let alloc = rt.alloc();
-    assert!(rt; is_read(alloc, "[1,2+3]", "[0,{0+0},]")?);
-    assert!(rt; is_read(alloc, "{T}", "[T,]")?);
-    assert!(rt; is_read(alloc, "a", "%n")?);
-    assert!(rt; is_read(alloc, "a()", "%n()")?);
-    assert!(rt; is_read(alloc, "a%b(1)%c", "%n%n(0,)%n")?);
-    assert!(rt; is_read(alloc, "a(b$1,2)", "%n(n$0,0,)")?);
-    assert!(rt; is_read(alloc, "a(b=1)", "%n({%n=0},)")?);
-    assert!(rt; is_read(alloc, "a(:,1:,:2,1:2:3,::3)", "%n(::,0::,:0:,0:0:0,::0,)")?);
-    let (found, behind) = read(alloc, "a(1)(2)")?;
-    assert!(rt; found.as_str() == "%n(0,)");
-    assert_eq!(rt; behind, 3);
-    Ok(())
-}
-
-#[test]
-fn places(rt: HostRuntime) -> Result<(), Fail> {
-    let alloc = rt.alloc();
-    let text = items(alloc, "a%b(-1)")?;
-    match designator(alloc, &text) {
-        Ok((parts, _)) => {
-            assert_eq!(rt; parts.len(), 2);
-            assert_eq!(rt; parts[1].0.symbol, 'b' as usize);
-            assert_eq!(rt; parts[1].0.place.column, 3);
-        }
-        Err(_) => assert!(rt; false),
+/// Writes a blank and a number that is not 0.
+fn show_number(rt: &impl Abort, out: &mut String, number: usize) {
+    if number > 0 {
+        write!(out, " {number}").expect(rt, "memory");
     }
-    let text = items(alloc, "(x$1,y:2)")?;
-    match arguments(alloc, &text) {
-        Ok((found, _)) => {
-            assert_eq!(rt; found.len(), 2);
-            match &found[0] {
-                Argument::Value(Some(keyword), Expression::Integer(place, value)) => {
-                    assert_eq!(rt; keyword.place.column, 2);
-                    assert_eq!(rt; place.column, 4);
-                    assert_eq!(rt; *value, IntegerLiteral::Four(4));
-                }
-                _ => assert!(rt; false),
-            }
-            match &found[1] {
-                Argument::Triplet(place, _, _, _) => assert_eq!(rt; place.column, 6),
-                _ => assert!(rt; false),
-            }
-        }
-        Err(_) => assert!(rt; false),
+}
+
+/// How the expression at the front of a text is read.
+fn read(rt: &impl Abort, alloc: Global, text: &str) -> String {
+    let mut out = String::new(alloc);
+    let items = items(rt, alloc, text);
+    let read = expression(alloc, &items);
+    show_read(rt, &mut out, &read);
+    drop(read);
+    drop(items);
+    out
+}
+
+/// Whether a text is read so.
+fn is_read(rt: &impl Abort, alloc: Global, text: &str, wanted: &str) -> bool {
+    let found = read(rt, alloc, text);
+    let is_wanted = found.as_str() == wanted;
+    drop(found);
+    is_wanted
+}
+
+/// Each line of a table is a text, and behind `-> ` how it is read.
+fn all_right(rt: &impl Abort, alloc: Global, table: &str) {
+    for line in table.lines() {
+        let (text, wanted) = line.split_once(" -> ").expect(rt, "an arrow");
+        assert!(rt; is_read(rt, alloc, text, wanted), "{line}");
     }
-    Ok(())
+}
+
+const LEVELS: &str = "\
+-1^2 -> {-{0^0}}
+-1+2 -> {{-0}+0}
+-1*2+3 -> {{-{0*0}}+0}
+1^2^3 -> {0^0^0}
+1-2+3 -> {0-0+0}
+1+2*3/4 -> {0+{0*0/0}}
+1^2*3 -> {{0^0}*0}
+1=-2 -> {0={-0}}
+!1<2 -> {!{0<0}}
+!T&F -> {{!T}&F}
+T|F&T -> {T|{F&T}}
+T~F|T#F -> {T~{F|T}#F}
+(1+2)*3 -> {({0+0})*0}
+((\")) -> ((\"))";
+
+#[test]
+fn levels(rt: HostRuntime) {
+    all_right(&rt, rt.alloc(), LEVELS);
+}
+
+const NO_EXPRESSIONS: &str = "\
+1<2<3 -> -
+1+-2 -> -
+1^-2 -> -
+--1 -> -
+!!T -> -
+1=!T -> -
+(1,2) -> -
+(1 -> -
+() -> -
+[] -> -
+[1} -> -
+a(,) -> -
+a(b$1:2) -> -
+a(1:2:) -> -
+a%1 -> -
+ -> -";
+
+#[test]
+fn no_expressions(rt: HostRuntime) {
+    all_right(&rt, rt.alloc(), NO_EXPRESSIONS);
+}
+
+const PRIMARIES: &str = "\
+[1,2+3] -> [0,{0+0},]
+{T} -> [T,]
+a -> %n
+a() -> %n()
+a%b(1)%c -> %n%n(0,)%n
+a(b$1,2) -> %n(n$0,0,)
+a(b=1) -> %n({%n=0},)
+a(:,1:,:2,1:2:3,::3) -> %n(::,0::,:0:,0:0:0,::0,)
+a(1)(2) -> %n(0,) 3";
+
+#[test]
+fn primaries(rt: HostRuntime) {
+    all_right(&rt, rt.alloc(), PRIMARIES);
+}
+
+/// An argument that is an integer behind a keyword: the columns of both, and the integer.
+fn keyword_and_integer(argument: &Argument) -> Option<(u32, u32, IntegerLiteral)> {
+    match argument {
+        Argument::Value(Some(keyword), Expression::Integer(place, value)) => {
+            Some((keyword.place.column, place.column, *value))
+        }
+        _ => None,
+    }
+}
+
+/// The column of a triplet.
+fn triplet_column(argument: &Argument) -> Option<u32> {
+    match argument {
+        Argument::Triplet(place, _, _, _) => Some(place.column),
+        _ => None,
+    }
+}
+
+#[test]
+fn places_of_parts(rt: HostRuntime) {
+    let text = items(&rt, rt.alloc(), "a%b(-1)");
+    let (parts, _) = designator(rt.alloc(), &text).expect(&rt, "a designator");
+    assert_eq!(rt; parts.len(), 2);
+    assert_eq!(rt; parts[1].0.symbol, 'b' as usize);
+    assert_eq!(rt; parts[1].0.place.column, 3);
+    drop(parts);
+    drop(text);
+}
+
+#[test]
+fn places_of_arguments(rt: HostRuntime) {
+    let text = items(&rt, rt.alloc(), "(x$1,y:2)");
+    let (found, _) = arguments(rt.alloc(), &text).expect(&rt, "arguments");
+    assert_eq!(rt; found.len(), 2);
+    assert_eq!(rt;
+        keyword_and_integer(&found[0]),
+        Some((2, 4, IntegerLiteral::Four(4)))
+    );
+    assert_eq!(rt; triplet_column(&found[1]), Some(6));
+    drop(found);
+    drop(text);
 }

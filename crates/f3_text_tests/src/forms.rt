@@ -4,13 +4,13 @@ use f3_form::form::{Ended, Form};
 use f3_forms::statements::statement;
 use f3_places::source::Source;
 use f3_text::reader::Statements;
+use f3_text::statement::{RawStatement, TextFault};
 use f3_tree::statement::{Action, Control, Selector};
 use f3_words::error::ReadError;
 use f3_words::items::line;
-use f3_words::line::Tables;
-use std::alloc::{AllocError, Global};
+use f3_words::line::{Line, Tables};
+use std::alloc::Global;
 use std::process::Abort;
-use std::test::Fail;
 
 /// What an action is called in these tests.
 fn action_kind(action: &Action) -> &'static str {
@@ -64,43 +64,82 @@ fn kind(form: &Form) -> &'static str {
     }
 }
 
-/// What the statement of a text is called; "none" where it has no form, "nothing" where the text has no statement.
-fn read(alloc: Global, text: &str) -> Result<&'static str, AllocError> {
+/// The sources with this text alone.
+fn sources(rt: &impl Abort, alloc: Global, text: &str) -> Vec<Source> {
+    let name = String::from_str(alloc, "a.f90").expect(rt, "memory");
+    let bytes = Vec::from_slice(alloc, text.as_bytes()).expect(rt, "memory");
     let mut sources = Vec::new(alloc);
-    sources.push(Source {
-        name: String::from_str(alloc, "a.f90")?,
-        bytes: Vec::from_slice(alloc, text.as_bytes())?,
-    })?;
+    sources.push(Source { name, bytes }).expect(rt, "memory");
+    sources
+}
+
+/// The first statement of a text.
+fn first_statement(
+    rt: &impl Abort,
+    alloc: Global,
+    text: &str,
+) -> Result<Option<RawStatement>, TextFault> {
+    let sources = sources(rt, alloc, text);
     let mut reader = Statements::new(&sources);
-    let Ok(Some(raw)) = reader.next(alloc) else {
-        return Ok("nothing");
-    };
+    let raw = reader.next(alloc);
+    drop(sources);
+    raw
+}
+
+/// A statement, as the grammar sees it.
+fn seen(rt: &impl Abort, alloc: Global, raw: &RawStatement) -> Line {
     let mut tables = Tables::new(alloc);
-    let line = line(alloc, &mut tables, &raw)?;
-    match statement(alloc, &line.items) {
-        Ok(form) => Ok(kind(&form)),
-        Err(ReadError::NoForm) => Ok("none"),
-        Err(ReadError::Memory) => Err(AllocError),
+    let line = line(alloc, &mut tables, raw).expect(rt, "memory");
+    drop(tables);
+    line
+}
+
+/// What a form is called, and "none" where there is none.
+fn called(rt: &impl Abort, form: &Result<Form, ReadError>) -> &'static str {
+    match form {
+        Ok(form) => kind(form),
+        Err(ReadError::NoForm) => "none",
+        Err(ReadError::Memory) => panic!(rt; "memory"),
     }
+}
+
+/// What a statement is called.
+fn read_statement(rt: &impl Abort, alloc: Global, raw: &RawStatement) -> &'static str {
+    let line = seen(rt, alloc, raw);
+    let form = statement(alloc, &line.items);
+    drop(line);
+    let name = called(rt, &form);
+    drop(form);
+    name
+}
+
+/// What the statement of a text is called; "none" where it has no form, "nothing" where the text has no statement.
+fn read(rt: &impl Abort, alloc: Global, text: &str) -> &'static str {
+    let first = first_statement(rt, alloc, text);
+    let name = match &first {
+        Ok(Some(raw)) => read_statement(rt, alloc, raw),
+        _ => "nothing",
+    };
+    drop(first);
+    name
 }
 
 /// The first line of a table, `KIND: TEXT`, whose text is read as something else.
-fn first_wrong<'a>(alloc: Global, table: &'a str) -> Result<Option<&'a str>, AllocError> {
+fn first_wrong<'a>(rt: &impl Abort, alloc: Global, table: &'a str) -> Option<&'a str> {
     for line in table.lines() {
         let Some((expected, text)) = line.split_once(": ") else {
-            return Ok(Some(line));
+            return Some(line);
         };
-        if read(alloc, text)? != expected {
-            return Ok(Some(line));
+        if read(rt, alloc, text) != expected {
+            return Some(line);
         }
     }
-    Ok(None)
+    None
 }
 
 /// Each text of a table is read as its line says.
-fn all_right(rt: &impl Abort, alloc: Global, table: &str) -> Result<(), Fail> {
-    assert_eq!(rt; first_wrong(alloc, table)?, None);
-    Ok(())
+fn all_right(rt: &impl Abort, alloc: Global, table: &str) {
+    assert_eq!(rt; first_wrong(rt, alloc, table), None);
 }
 
 const UNITS: &str = "\
@@ -114,8 +153,8 @@ contains: CONTAINS
 none: CONTAINS s";
 
 #[test]
-fn units(rt: HostRuntime) -> Result<(), Fail> {
-    all_right(&rt, rt.alloc(), UNITS)
+fn units(rt: HostRuntime) {
+    all_right(&rt, rt.alloc(), UNITS);
 }
 
 const ENDS: &str = "\
@@ -144,8 +183,8 @@ none: END x
 none: END CASE";
 
 #[test]
-fn ends(rt: HostRuntime) -> Result<(), Fail> {
-    all_right(&rt, rt.alloc(), ENDS)
+fn ends(rt: HostRuntime) {
+    all_right(&rt, rt.alloc(), ENDS);
 }
 
 const SUBROUTINES: &str = "\
@@ -165,8 +204,8 @@ none: SUBROUTINE s ( ) RESULT ( r )
 none: SUBROUTINE";
 
 #[test]
-fn subroutines(rt: HostRuntime) -> Result<(), Fail> {
-    all_right(&rt, rt.alloc(), SUBROUTINES)
+fn subroutines(rt: HostRuntime) {
+    all_right(&rt, rt.alloc(), SUBROUTINES);
 }
 
 const FUNCTIONS: &str = "\
@@ -188,8 +227,8 @@ none: FUNCTION f ( ) RESULT ( )
 none: FUNCTION f ( ) RESULT ( r , q )";
 
 #[test]
-fn functions(rt: HostRuntime) -> Result<(), Fail> {
-    all_right(&rt, rt.alloc(), FUNCTIONS)
+fn functions(rt: HostRuntime) {
+    all_right(&rt, rt.alloc(), FUNCTIONS);
 }
 
 const USES: &str = "\
@@ -211,8 +250,8 @@ none: USE , m
 none: USE";
 
 #[test]
-fn uses(rt: HostRuntime) -> Result<(), Fail> {
-    all_right(&rt, rt.alloc(), USES)
+fn uses(rt: HostRuntime) {
+    all_right(&rt, rt.alloc(), USES);
 }
 
 const ACCESS: &str = "\
@@ -238,8 +277,8 @@ none: SAVE a
 none: SAVE ::";
 
 #[test]
-fn access(rt: HostRuntime) -> Result<(), Fail> {
-    all_right(&rt, rt.alloc(), ACCESS)
+fn access(rt: HostRuntime) {
+    all_right(&rt, rt.alloc(), ACCESS);
 }
 
 const TYPES: &str = "\
@@ -260,8 +299,8 @@ none: FINAL ::
 none: FINAL a b";
 
 #[test]
-fn types(rt: HostRuntime) -> Result<(), Fail> {
-    all_right(&rt, rt.alloc(), TYPES)
+fn types(rt: HostRuntime) {
+    all_right(&rt, rt.alloc(), TYPES);
 }
 
 const ATTRIBUTES: &str = "\
@@ -290,8 +329,8 @@ none: INTEGER , :: n
 none: INTEGER , SAVE ,";
 
 #[test]
-fn attributes(rt: HostRuntime) -> Result<(), Fail> {
-    all_right(&rt, rt.alloc(), ATTRIBUTES)
+fn attributes(rt: HostRuntime) {
+    all_right(&rt, rt.alloc(), ATTRIBUTES);
 }
 
 const DECLARATIONS: &str = "\
@@ -320,8 +359,8 @@ none: TYPE ( ) x
 none: TYPE t x";
 
 #[test]
-fn declarations(rt: HostRuntime) -> Result<(), Fail> {
-    all_right(&rt, rt.alloc(), DECLARATIONS)
+fn declarations(rt: HostRuntime) {
+    all_right(&rt, rt.alloc(), DECLARATIONS);
 }
 
 const KINDS: &str = "\
@@ -346,8 +385,8 @@ stop digits: STOP 4
 none: STOP 4_4";
 
 #[test]
-fn kinds(rt: HostRuntime) -> Result<(), Fail> {
-    all_right(&rt, rt.alloc(), KINDS)
+fn kinds(rt: HostRuntime) {
+    all_right(&rt, rt.alloc(), KINDS);
 }
 
 const CALLS: &str = "\
@@ -362,8 +401,8 @@ none: CALL a % b
 none: CALL";
 
 #[test]
-fn calls(rt: HostRuntime) -> Result<(), Fail> {
-    all_right(&rt, rt.alloc(), CALLS)
+fn calls(rt: HostRuntime) {
+    all_right(&rt, rt.alloc(), CALLS);
 }
 
 const ACTIONS: &str = "\
@@ -393,8 +432,8 @@ return: RETURN
 none: RETURN 1";
 
 #[test]
-fn actions(rt: HostRuntime) -> Result<(), Fail> {
-    all_right(&rt, rt.alloc(), ACTIONS)
+fn actions(rt: HostRuntime) {
+    all_right(&rt, rt.alloc(), ACTIONS);
 }
 
 const SINGLE_WORDS: &str = "\
@@ -410,8 +449,8 @@ none: NULLIFY ( p )
 none: WRITE ( * , * ) 1";
 
 #[test]
-fn single_words(rt: HostRuntime) -> Result<(), Fail> {
-    all_right(&rt, rt.alloc(), SINGLE_WORDS)
+fn single_words(rt: HostRuntime) {
+    all_right(&rt, rt.alloc(), SINGLE_WORDS);
 }
 
 const ALLOCATIONS: &str = "\
@@ -432,8 +471,8 @@ none: DEALLOCATE ( )
 none: DEALLOCATE a";
 
 #[test]
-fn allocations(rt: HostRuntime) -> Result<(), Fail> {
-    all_right(&rt, rt.alloc(), ALLOCATIONS)
+fn allocations(rt: HostRuntime) {
+    all_right(&rt, rt.alloc(), ALLOCATIONS);
 }
 
 const ASSOCIATES: &str = "\
@@ -452,8 +491,8 @@ end what: endassociate
 none: END ASSOCIATE z";
 
 #[test]
-fn associates(rt: HostRuntime) -> Result<(), Fail> {
-    all_right(&rt, rt.alloc(), ASSOCIATES)
+fn associates(rt: HostRuntime) {
+    all_right(&rt, rt.alloc(), ASSOCIATES);
 }
 
 const BRANCHES: &str = "\
@@ -479,8 +518,8 @@ none: SELECT CASE a
 none: SELECT ( a )";
 
 #[test]
-fn branches(rt: HostRuntime) -> Result<(), Fail> {
-    all_right(&rt, rt.alloc(), BRANCHES)
+fn branches(rt: HostRuntime) {
+    all_right(&rt, rt.alloc(), BRANCHES);
 }
 
 const CASES: &str = "\
@@ -498,8 +537,8 @@ case: CASE ( DEFAULT )
 none: CASE DEFAULT n";
 
 #[test]
-fn cases(rt: HostRuntime) -> Result<(), Fail> {
-    all_right(&rt, rt.alloc(), CASES)
+fn cases(rt: HostRuntime) {
+    all_right(&rt, rt.alloc(), CASES);
 }
 
 const LOOPS: &str = "\
@@ -517,8 +556,8 @@ none: DO WHILE ( )
 none: DO 10 i = 1 , 2";
 
 #[test]
-fn loops(rt: HostRuntime) -> Result<(), Fail> {
-    all_right(&rt, rt.alloc(), LOOPS)
+fn loops(rt: HostRuntime) {
+    all_right(&rt, rt.alloc(), LOOPS);
 }
 
 const RELATIONS: &str = "\
@@ -538,8 +577,8 @@ none: n = a .EQ. b .EQ. c
 none: n = a = b";
 
 #[test]
-fn relations(rt: HostRuntime) -> Result<(), Fail> {
-    all_right(&rt, rt.alloc(), RELATIONS)
+fn relations(rt: HostRuntime) {
+    all_right(&rt, rt.alloc(), RELATIONS);
 }
 
 const OPERATIONS: &str = "\
@@ -560,6 +599,6 @@ assign: n = a % b ( 1 : 2 : 1 ) % c
 none: n = a %";
 
 #[test]
-fn operations(rt: HostRuntime) -> Result<(), Fail> {
-    all_right(&rt, rt.alloc(), OPERATIONS)
+fn operations(rt: HostRuntime) {
+    all_right(&rt, rt.alloc(), OPERATIONS);
 }

@@ -1,89 +1,106 @@
 //! Statements of sources.
 
 use f3_places::source::{Place, Source};
+use f3_rules::rule::Rule;
 use f3_text::cut::{source_end, statements};
 use f3_text::statement::Cut;
-use std::alloc::{AllocError, Global};
-use std::test::Fail;
+use std::alloc::Global;
+use std::process::Abort;
 
-fn source(alloc: Global, bytes: Vec<u8>) -> Source {
-    Source {
-        name: String::new(alloc),
-        bytes,
+/// A place in a source by its number.
+fn at(file: usize, line: u32, column: u32) -> Place {
+    Place { file, line, column }
+}
+
+/// Adds a source without a name.
+fn add(rt: &impl Abort, alloc: Global, sources: &mut Vec<Source>, bytes: Vec<u8>) {
+    let name = String::new(alloc);
+    sources.push(Source { name, bytes }).expect(rt, "memory");
+}
+
+/// Adds a source of this text.
+fn add_text(rt: &impl Abort, alloc: Global, sources: &mut Vec<Source>, text: &[u8]) {
+    let bytes = Vec::from_slice(alloc, text).expect(rt, "memory");
+    add(rt, alloc, sources, bytes);
+}
+
+/// Adds the column of a statement's first byte, and a blank.
+fn add_column(rt: &impl Abort, text: &mut String, places: &[Place]) {
+    if let Some(place) = places.first() {
+        let column = place.column;
+        write!(text, "{column} ").expect(rt, "memory");
     }
 }
 
 /// Each statement as the column of its first byte, a blank, its bytes, and a bar.
-fn shown(alloc: Global, cut: &Cut) -> Result<Vec<u8>, AllocError> {
-    let mut text = Vec::new(alloc);
+fn shown(rt: &impl Abort, alloc: Global, cut: &Cut) -> String {
+    let mut text = String::new(alloc);
     for statement in &cut.statements {
-        if let Some(place) = statement.places.first() {
-            let column = place.column;
-            text.extend_from_slice(format!(in alloc; "{column} ")?.as_bytes())?;
+        add_column(rt, &mut text, &statement.places);
+        for byte in &statement.bytes {
+            text.push(*byte as char).expect(rt, "memory");
         }
-        text.extend_from_slice(statement.bytes.as_slice())?;
-        text.push(b'|')?;
+        text.push('|').expect(rt, "memory");
     }
-    Ok(text)
+    text
+}
+
+/// The rule and the place of a fault.
+fn fault_of(cut: &Cut) -> Option<(Rule, Place)> {
+    match &cut.fault {
+        Some(fault) => Some((fault.rule, fault.place)),
+        None => None,
+    }
+}
+
+/// The fault of sources.
+fn fault(rt: &impl Abort, alloc: Global, sources: &[Source]) -> Option<(Rule, Place)> {
+    let cut = statements(alloc, sources).expect(rt, "memory");
+    let fault = fault_of(&cut);
+    drop(cut);
+    fault
 }
 
 #[test]
-fn cuts_sources_with_ample_memory(rt: HostRuntime) -> Result<(), Fail> {
+fn cuts_sources_with_ample_memory(rt: HostRuntime) {
     let alloc = rt.alloc();
     let mut sources = Vec::new(alloc);
-    let mut first = Vec::new(alloc);
-    first.extend_from_slice(
+    add_text(
+        &rt,
+        alloc,
+        &mut sources,
         b"program p\r\n\tprint *, 12&\n&34, 'a&\n! two\n   & b'; ; end ! done\n",
-    )?;
-    sources.push(source(alloc, first))?;
-    let mut second = Vec::new(alloc);
-    second.extend_from_slice(b"module m; integer :: n = 1 # 2; end")?;
-    sources.push(source(alloc, second))?;
-    let cut = statements(alloc, sources.as_slice())?;
-    let text = shown(alloc, &cut)?;
-    assert_eq!(rt;
-        text.as_slice(),
-        b"1 program p|2 print *, 1234, 'a b'|12 end |1 module m|".as_slice()
     );
-    let fault = cut.fault.ok_or("no fault")?;
-    assert!(rt; fault.rule == f3_rules::rule::Rule::S1);
-    assert_eq!(rt;
-        fault.place,
-        Place {
-            file: 2,
-            line: 1,
-            column: 28
-        }
+    add_text(
+        &rt,
+        alloc,
+        &mut sources,
+        b"module m; integer :: n = 1 # 2; end",
     );
+    let cut = statements(alloc, &sources).expect(&rt, "memory");
+    drop(sources);
+    let text = shown(&rt, alloc, &cut);
+    assert_eq!(rt; fault_of(&cut), Some((Rule::S1, at(2, 1, 28))));
+    drop(cut);
     assert_eq!(rt;
-        source_end(1, b"a\nbc"),
-        Place {
-            file: 1,
-            line: 2,
-            column: 3
-        }
+        text.as_str(),
+        "1 program p|2 print *, 1234, 'a b'|12 end |1 module m|"
     );
-    Ok(())
 }
 
 #[test]
-fn examines_no_source_past_the_limit(rt: HostRuntime) -> Result<(), Fail> {
+fn a_source_ends_behind_its_last_byte(rt: HostRuntime) {
+    assert_eq!(rt; source_end(1, b"a\nbc"), at(1, 2, 3));
+}
+
+#[test]
+fn examines_no_source_past_the_limit(rt: HostRuntime) {
     let alloc = rt.alloc();
     let mut sources = Vec::new(alloc);
-    sources.push(source(alloc, vec![in alloc; b' '; 16_777_216]?))?;
-    assert!(rt; statements(alloc, sources.as_slice())?.fault.is_none());
-    sources.push(source(alloc, vec![in alloc; b'\n'; 1]?))?;
-    let fault = statements(alloc, sources.as_slice())?
-        .fault
-        .ok_or("no fault")?;
-    assert!(rt; fault.rule == f3_rules::rule::Rule::S8);
-    assert_eq!(rt;
-        fault.place,
-        Place {
-            file: 2,
-            line: 1,
-            column: 1
-        }
-    );
-    Ok(())
+    let blanks = Vec::from_elem(alloc, b' ', 16_777_216).expect(&rt, "memory");
+    add(&rt, alloc, &mut sources, blanks);
+    assert_eq!(rt; fault(&rt, alloc, &sources), None);
+    add_text(&rt, alloc, &mut sources, b"\n");
+    assert_eq!(rt; fault(&rt, alloc, &sources), Some((Rule::S8, at(2, 1, 1))));
+    drop(sources);
 }

@@ -8,7 +8,7 @@ use f3_tree::program::{Header, ProcedureKind, UnitKind};
 use f3_tree::statement::Action;
 use f3_units::builder::Builder;
 use std::alloc::Global;
-use std::test::Fail;
+use std::process::Abort;
 
 /// A place on this line.
 fn at(line: u32) -> Place {
@@ -26,15 +26,6 @@ fn name(symbol: usize) -> Name {
     }
 }
 
-/// A module behind CONTAINS.
-fn containing(alloc: Global) -> Result<Builder, StepError> {
-    let mut units = Builder::new(alloc);
-    units.step(alloc, at(1), Form::Unit(UnitKind::Module, name(0)))?;
-    units.step(alloc, at(2), Form::ImplicitNone)?;
-    units.step(alloc, at(3), Form::Contains)?;
-    Ok(units)
-}
-
 /// The statement of a subroutine without arguments.
 fn subroutine(alloc: Global) -> Form {
     Form::Procedure(Header {
@@ -47,32 +38,46 @@ fn subroutine(alloc: Global) -> Form {
     })
 }
 
-#[test]
-fn module_with_a_subroutine(rt: HostRuntime) -> Result<(), Fail> {
-    let alloc = rt.alloc();
-    let mut units = containing(alloc)?;
-    units.step(alloc, at(4), subroutine(alloc))?;
-    units.step(alloc, at(5), Form::Act(Action::Return))?;
-    units.step(
+/// A statement on this line goes on.
+fn step(rt: &impl Abort, alloc: Global, units: &mut Builder, line: u32, form: Form) {
+    units.step(alloc, at(line), form).expect(rt, "a statement");
+}
+
+/// A module with an open subroutine behind CONTAINS.
+fn containing(rt: &impl Abort, alloc: Global) -> Builder {
+    let mut units = Builder::new(alloc);
+    step(
+        rt,
         alloc,
-        at(6),
-        Form::End(Some(Ended::Subroutine), Some(name(1))),
-    )?;
-    units.step(alloc, at(7), Form::End(None, None))?;
-    assert_eq!(rt; units.units.len(), 1);
-    assert_eq!(rt; units.units[0].procedures.len(), 1);
-    assert_eq!(rt; units.units[0].end, at(7));
-    Ok(())
+        &mut units,
+        1,
+        Form::Unit(UnitKind::Module, name(0)),
+    );
+    step(rt, alloc, &mut units, 2, Form::ImplicitNone);
+    step(rt, alloc, &mut units, 3, Form::Contains);
+    step(rt, alloc, &mut units, 4, subroutine(alloc));
+    units
 }
 
 #[test]
-fn end_function_of_a_subroutine(rt: HostRuntime) -> Result<(), Fail> {
+fn module_with_a_subroutine(rt: HostRuntime) {
     let alloc = rt.alloc();
-    let mut units = containing(alloc)?;
-    units.step(alloc, at(4), subroutine(alloc))?;
-    match units.step(alloc, at(5), Form::End(Some(Ended::Function), None)) {
-        Ok(_) => assert!(rt; false),
-        Err(error) => assert_eq!(rt; error, StepError::OutOfPlace),
-    }
-    Ok(())
+    let mut units = containing(&rt, alloc);
+    let end = Form::End(Some(Ended::Subroutine), Some(name(1)));
+    step(&rt, alloc, &mut units, 5, Form::Act(Action::Return));
+    step(&rt, alloc, &mut units, 6, end);
+    step(&rt, alloc, &mut units, 7, Form::End(None, None));
+    assert_eq!(rt; units.units.len(), 1);
+    assert_eq!(rt; units.units[0].procedures.len(), 1);
+    assert_eq!(rt; units.units[0].end, at(7));
+    drop(units);
+}
+
+#[test]
+fn end_function_of_a_subroutine(rt: HostRuntime) {
+    let alloc = rt.alloc();
+    let mut units = containing(&rt, alloc);
+    let ended = units.step(alloc, at(5), Form::End(Some(Ended::Function), None));
+    assert_eq!(rt; ended.err(), Some(StepError::OutOfPlace));
+    drop(units);
 }

@@ -8,151 +8,173 @@ use f3_words::constant::characters;
 use f3_words::item::{Item, Keyword, Word};
 use f3_words::items::line;
 use f3_words::line::{Line, Tables};
-use std::alloc::{AllocError, Global};
-use std::test::Fail;
+use std::alloc::Global;
+use std::process::Abort;
 
 /// A statement of these bytes in the first line of the first source.
-fn statement(alloc: Global, bytes: &[u8]) -> Result<RawStatement, AllocError> {
+fn statement(rt: &impl Abort, alloc: Global, bytes: &[u8]) -> RawStatement {
     let mut places = Vec::new(alloc);
     let mut column = 0u32;
     for _ in bytes {
         column = column.saturating_add(1);
-        places.push(Place {
-            file: 1,
-            line: 1,
-            column,
-        })?;
+        places
+            .push(Place {
+                file: 1,
+                line: 1,
+                column,
+            })
+            .expect(rt, "memory");
     }
-    Ok(RawStatement {
-        bytes: Vec::from_slice(alloc, bytes)?,
-        places,
-    })
+    let bytes = Vec::from_slice(alloc, bytes).expect(rt, "memory");
+    RawStatement { bytes, places }
 }
 
-/// The words of items.
-fn words(alloc: Global, items: &[Item]) -> Result<Vec<Word>, AllocError> {
-    let mut all = Vec::new(alloc);
-    for item in items {
-        all.push(item.word)?;
+/// The statement of these bytes, as the grammar sees it.
+fn seen(rt: &impl Abort, alloc: Global, tables: &mut Tables, bytes: &[u8]) -> Line {
+    let raw = statement(rt, alloc, bytes);
+    let line = line(alloc, tables, &raw).expect(rt, "memory");
+    drop(raw);
+    line
+}
+
+/// The statement of these bytes, where nothing was seen before.
+fn first(rt: &impl Abort, alloc: Global, bytes: &[u8]) -> Line {
+    let mut tables = Tables::new(alloc);
+    let line = seen(rt, alloc, &mut tables, bytes);
+    drop(tables);
+    line
+}
+
+/// Whether items have these words.
+fn have_words(items: &[Item], words: &[Word]) -> bool {
+    if items.len() != words.len() {
+        return false;
     }
-    Ok(all)
+    for (item, word) in items.iter().zip(words) {
+        if item.word != *word {
+            return false;
+        }
+    }
+    true
 }
 
 /// The values of items that are not 0.
-fn values(alloc: Global, items: &[Item]) -> Result<Vec<IntegerLiteral>, AllocError> {
+fn values(rt: &impl Abort, alloc: Global, items: &[Item]) -> Vec<IntegerLiteral> {
     let mut all = Vec::new(alloc);
     for item in items {
         if item.value != IntegerLiteral::Four(0) {
-            all.push(item.value)?;
+            all.push(item.value).expect(rt, "memory");
         }
     }
-    Ok(all)
+    all
 }
 
-#[test]
-fn print_of_everything(rt: HostRuntime) -> Result<(), Fail> {
-    let alloc = rt.alloc();
-    let mut tables = Tables::new(alloc);
-    let raw = statement(alloc, b"Print *, 'it''s', .not. (N/=n .and. 3 .GE. 123456)")?;
-    let Line { items, fault } = line(alloc, &mut tables, &raw)?;
-    let found = words(alloc, &items)?;
-    let wanted = [
-        Word::Name(Keyword::Print),
-        Word::Operator(Operator::Multiply),
-        Word::Comma,
-        Word::Text,
-        Word::Comma,
-        Word::Not,
-        Word::Open,
-        Word::Name(Keyword::Plain),
-        Word::Relation(Relation::NotEqual),
-        Word::Name(Keyword::Plain),
-        Word::Operator(Operator::And),
-        Word::ShortInteger,
-        Word::Relation(Relation::GreaterOrEqual),
-        Word::LongInteger,
-        Word::Close,
-    ];
-    assert!(rt; found.as_slice() == wanted.as_slice());
-    assert!(rt; fault.is_none());
-    assert_eq!(rt; tables.names.set.len(), 2);
-    assert_eq!(rt; tables.texts.len(), 1);
+/// The sum of the symbols of items.
+fn symbols(items: &[Item]) -> usize {
     let mut symbols = 0usize;
-    for item in &items {
+    for item in items {
         symbols = symbols.saturating_add(item.symbol);
     }
-    assert_eq!(rt; symbols, 2);
-    Ok(())
+    symbols
 }
 
-#[test]
-fn kinds(rt: HostRuntime) -> Result<(), Fail> {
-    let alloc = rt.alloc();
-    let mut tables = Tables::new(alloc);
-    let raw = statement(alloc, b"Integer(Kind=8), 4, 04, 4_4, 2147483648_8")?;
-    let Line { items, fault } = line(alloc, &mut tables, &raw)?;
-    let found = words(alloc, &items)?;
-    let wanted = [
-        Word::Name(Keyword::Integer),
-        Word::Open,
-        Word::Name(Keyword::Kind),
-        Word::Equals,
-        Word::KindDigit(IntegerKind::Eight),
-        Word::Close,
-        Word::Comma,
-        Word::KindDigit(IntegerKind::Four),
-        Word::Comma,
-        Word::ShortInteger,
-        Word::Comma,
-        Word::LongInteger,
-        Word::Comma,
-        Word::LongInteger,
-    ];
-    assert!(rt; found.as_slice() == wanted.as_slice());
-    assert!(rt; fault.is_none());
-    let values = values(alloc, &items)?;
-    let wanted = [
-        IntegerLiteral::Four(8),
-        IntegerLiteral::Four(4),
-        IntegerLiteral::Four(4),
-        IntegerLiteral::Four(4),
-        IntegerLiteral::Eight(2147483648),
-    ];
-    assert!(rt; values.as_slice() == wanted.as_slice());
-    Ok(())
-}
-
-#[test]
-fn joined_words_and_faults(rt: HostRuntime) -> Result<(), Fail> {
-    let alloc = rt.alloc();
-    let mut tables = Tables::new(alloc);
-    let raw = statement(alloc, b"ENDIF selectcase == 2147483648 .foo.")?;
-    let Line { items, fault } = line(alloc, &mut tables, &raw)?;
-    let found = words(alloc, &items)?;
-    let wanted = [
-        Word::Name(Keyword::EndIf),
-        Word::Name(Keyword::SelectCase),
-        Word::Relation(Relation::Equal),
-        Word::LongInteger,
-        Word::Other,
-        Word::Name(Keyword::Plain),
-        Word::Other,
-    ];
-    assert!(rt; found.as_slice() == wanted.as_slice());
-    match fault {
-        Some(found) => {
-            assert_eq!(rt; found.rule, Rule::S4);
-            assert_eq!(rt; found.place.column, 21);
-        }
-        None => assert!(rt; false),
+/// The rule and the column of a statement's first break.
+fn fault_of(line: &Line) -> Option<(Rule, u32)> {
+    match &line.fault {
+        Some(fault) => Some((fault.rule, fault.place.column)),
+        None => None,
     }
-    Ok(())
+}
+
+const EVERYTHING: [Word; 15] = [
+    Word::Name(Keyword::Print),
+    Word::Operator(Operator::Multiply),
+    Word::Comma,
+    Word::Text,
+    Word::Comma,
+    Word::Not,
+    Word::Open,
+    Word::Name(Keyword::Plain),
+    Word::Relation(Relation::NotEqual),
+    Word::Name(Keyword::Plain),
+    Word::Operator(Operator::And),
+    Word::ShortInteger,
+    Word::Relation(Relation::GreaterOrEqual),
+    Word::LongInteger,
+    Word::Close,
+];
+
+#[test]
+fn print_of_everything(rt: HostRuntime) {
+    let mut tables = Tables::new(rt.alloc());
+    let text = b"Print *, 'it''s', .not. (N/=n .and. 3 .GE. 123456)";
+    let line = seen(&rt, rt.alloc(), &mut tables, text);
+    assert_eq!(rt; tables.names.set.len(), 2);
+    assert_eq!(rt; tables.texts.len(), 1);
+    drop(tables);
+    assert!(rt; have_words(&line.items, &EVERYTHING));
+    assert_eq!(rt; fault_of(&line), None);
+    assert_eq!(rt; symbols(&line.items), 2);
+    drop(line);
+}
+
+const KINDS: [Word; 14] = [
+    Word::Name(Keyword::Integer),
+    Word::Open,
+    Word::Name(Keyword::Kind),
+    Word::Equals,
+    Word::KindDigit(IntegerKind::Eight),
+    Word::Close,
+    Word::Comma,
+    Word::KindDigit(IntegerKind::Four),
+    Word::Comma,
+    Word::ShortInteger,
+    Word::Comma,
+    Word::LongInteger,
+    Word::Comma,
+    Word::LongInteger,
+];
+
+const VALUES: [IntegerLiteral; 5] = [
+    IntegerLiteral::Four(8),
+    IntegerLiteral::Four(4),
+    IntegerLiteral::Four(4),
+    IntegerLiteral::Four(4),
+    IntegerLiteral::Eight(2147483648),
+];
+
+#[test]
+fn kinds(rt: HostRuntime) {
+    let text = b"Integer(Kind=8), 4, 04, 4_4, 2147483648_8";
+    let line = first(&rt, rt.alloc(), text);
+    assert!(rt; have_words(&line.items, &KINDS));
+    assert_eq!(rt; fault_of(&line), None);
+    let values = values(&rt, rt.alloc(), &line.items);
+    drop(line);
+    assert!(rt; values.as_slice() == VALUES.as_slice());
+}
+
+const JOINED: [Word; 7] = [
+    Word::Name(Keyword::EndIf),
+    Word::Name(Keyword::SelectCase),
+    Word::Relation(Relation::Equal),
+    Word::LongInteger,
+    Word::Other,
+    Word::Name(Keyword::Plain),
+    Word::Other,
+];
+
+#[test]
+fn joined_words_and_faults(rt: HostRuntime) {
+    let text = b"ENDIF selectcase == 2147483648 .foo.";
+    let line = first(&rt, rt.alloc(), text);
+    assert!(rt; have_words(&line.items, &JOINED));
+    assert_eq!(rt; fault_of(&line), Some((Rule::S4, 21)));
+    drop(line);
 }
 
 #[test]
-fn constants(rt: HostRuntime) -> Result<(), Fail> {
-    let alloc = rt.alloc();
-    let found = characters(alloc, b"'a''b\"\"'")?;
+fn constants(rt: HostRuntime) {
+    let found = characters(rt.alloc(), b"'a''b\"\"'").expect(&rt, "memory");
     assert!(rt; found.as_slice() == b"a'b\"\"".as_slice());
-    Ok(())
 }
