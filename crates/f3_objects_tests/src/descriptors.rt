@@ -103,6 +103,18 @@ fn place(rt: &impl Abort, array: &Descriptor, subscripts: &[i64]) -> Result<usiz
     Ok(at)
 }
 
+/// That is the place of an element, or it is out of bounds.
+fn check_place(
+    rt: &impl Abort,
+    array: &Descriptor,
+    subscripts: &[i64],
+    wanted: Result<usize, Bounds>,
+)
+    requires { HasPlaces array.now }
+{
+    assert_eq!(rt; place(rt, array, subscripts), wanted, "at {subscripts:?}");
+}
+
 /// The section, or why there is none.
 fn cut(
     rt: &impl Abort,
@@ -114,6 +126,23 @@ fn cut(
 {
     assert_eq!(rt; triplets.len(), array.dims.len());
     array.section(triplets)
+}
+
+/// There is no section, for this reason.
+fn check_fault(rt: &impl Abort, array: &Descriptor, triplets: &[Triplet], wanted: SectionFault)
+    requires { HasPlaces array.now }
+{
+    assert_eq!(rt; cut(rt, array, triplets).err(), Some(wanted));
+}
+
+/// The section, which has these dimensions.
+fn section(rt: &impl Abort, array: &Descriptor, triplets: &[Triplet], dims: &[Dim]) -> Descriptor
+    requires { HasPlaces array.now }
+    ensures { HasPlaces result }
+{
+    let found = cut(rt, array, triplets).expect(rt, "a section");
+    assert_eq!(rt; found.dims.as_slice(), dims);
+    found
 }
 
 /// The dimension of a section from 1 on.
@@ -128,28 +157,25 @@ fn dim(extent: usize, stride: i64) -> Dim {
 #[test]
 fn elements_of_a_line(rt: HostRuntime) {
     let array = line(&rt, 10, 3, 5);
-    assert_eq!(rt; place(&rt, &array, &[3]), Ok(10));
-    assert_eq!(rt; place(&rt, &array, &[7]), Ok(14));
-    assert_eq!(rt; place(&rt, &array, &[2]), Err(Bounds));
-    assert_eq!(rt; place(&rt, &array, &[8]), Err(Bounds));
-    assert_eq!(rt; place(&rt, &array, &[i64::MIN]), Err(Bounds));
+    check_place(&rt, &array, &[3], Ok(10));
+    check_place(&rt, &array, &[7], Ok(14));
+    check_place(&rt, &array, &[2], Err(Bounds));
+    check_place(&rt, &array, &[8], Err(Bounds));
+    check_place(&rt, &array, &[i64::MIN], Err(Bounds));
 }
 
 #[test]
 fn sections_of_a_line(rt: HostRuntime) {
     let array = line(&rt, 10, 3, 5);
-    let down = cut(&rt, &array, &[Range(7, 3, -2)]).expect(&rt, "three elements");
-    assert_eq!(rt; down.dims.as_slice(), [dim(3, -2)].as_slice());
-    assert_eq!(rt; place(&rt, &down, &[1]), Ok(14));
-    assert_eq!(rt; place(&rt, &down, &[3]), Ok(10));
-    assert_eq!(rt; place(&rt, &down, &[4]), Err(Bounds));
-    assert_eq!(rt; place(&rt, &down, &[0]), Err(Bounds));
-    let up = cut(&rt, &down, &[Range(3, 1, -1)]).expect(&rt, "the other way");
-    assert_eq!(rt; up.dims.as_slice(), [dim(3, 2)].as_slice());
-    assert_eq!(rt; place(&rt, &up, &[2]), Ok(12));
-    let one = cut(&rt, &array, &[At(5)]).expect(&rt, "one element");
-    assert_eq!(rt; one.dims.len(), 0);
-    assert_eq!(rt; place(&rt, &one, &[]), Ok(12));
+    let down = section(&rt, &array, &[Range(7, 3, -2)], &[dim(3, -2)]);
+    check_place(&rt, &down, &[1], Ok(14));
+    check_place(&rt, &down, &[3], Ok(10));
+    check_place(&rt, &down, &[4], Err(Bounds));
+    check_place(&rt, &down, &[0], Err(Bounds));
+    let up = section(&rt, &down, &[Range(3, 1, -1)], &[dim(3, 2)]);
+    check_place(&rt, &up, &[2], Ok(12));
+    let one = section(&rt, &array, &[At(5)], &[]);
+    check_place(&rt, &one, &[], Ok(12));
 }
 
 /// How many subscripts the one triplet selects.
@@ -161,90 +187,87 @@ fn extent(rt: &impl Abort, array: &Descriptor, triplet: Triplet) -> Result<usize
     Ok(section.dims[0].extent)
 }
 
+/// So many subscripts does the one triplet select, or this is why there is no section.
+fn check_extent(
+    rt: &impl Abort,
+    array: &Descriptor,
+    triplet: Triplet,
+    wanted: Result<usize, SectionFault>,
+)
+    requires { HasPlaces array.now }
+{
+    assert_eq!(rt; extent(rt, array, triplet), wanted, "by {triplet:?}");
+}
+
 #[test]
 fn extents_and_faults(rt: HostRuntime) {
     let array = line(&rt, 10, 3, 5);
-    assert_eq!(rt; extent(&rt, &array, Range(3, 8, 2)), Ok(3));
-    assert_eq!(rt;
-        extent(&rt, &array, Range(3, 9, 2)),
-        Err(SectionFault::Bounds)
-    );
-    assert_eq!(rt;
-        extent(&rt, &array, Range(2, 7, 5)),
-        Err(SectionFault::Bounds)
-    );
-    assert_eq!(rt; extent(&rt, &array, Range(7, 3, -5)), Ok(1));
-    assert_eq!(rt; extent(&rt, &array, Range(100, 99, 1)), Ok(0));
-    assert_eq!(rt; extent(&rt, &array, Range(-5, 0, -1)), Ok(0));
-    assert_eq!(rt; extent(&rt, &array, Range(5, 5, i64::MIN)), Ok(1));
-    assert_eq!(rt;
-        extent(&rt, &array, Range(100, 99, 0)),
-        Err(SectionFault::StepZero)
-    );
-    assert_eq!(rt; extent(&rt, &array, At(8)), Err(SectionFault::Bounds));
+    check_extent(&rt, &array, Range(3, 8, 2), Ok(3));
+    check_extent(&rt, &array, Range(3, 9, 2), Err(SectionFault::Bounds));
+    check_extent(&rt, &array, Range(2, 7, 5), Err(SectionFault::Bounds));
+    check_extent(&rt, &array, Range(7, 3, -5), Ok(1));
+    check_extent(&rt, &array, Range(100, 99, 1), Ok(0));
+    check_extent(&rt, &array, Range(-5, 0, -1), Ok(0));
+    check_extent(&rt, &array, Range(5, 5, i64::MIN), Ok(1));
+    check_extent(&rt, &array, Range(100, 99, 0), Err(SectionFault::StepZero));
+    check_extent(&rt, &array, At(8), Err(SectionFault::Bounds));
 }
 
 #[test]
 fn a_table(rt: HostRuntime) {
     let array = table(&rt, 100);
-    assert_eq!(rt; place(&rt, &array, &[0, 1]), Ok(100));
-    assert_eq!(rt; place(&rt, &array, &[1, 3]), Ok(105));
-    assert_eq!(rt; place(&rt, &array, &[2, 1]), Err(Bounds));
-    assert_eq!(rt; place(&rt, &array, &[0, 4]), Err(Bounds));
-    let row = cut(&rt, &array, &[At(1), Range(1, 3, 1)]).expect(&rt, "a row");
-    assert_eq!(rt; row.dims.as_slice(), [dim(3, 2)].as_slice());
-    assert_eq!(rt; place(&rt, &row, &[3]), Ok(105));
-    let corners = cut(&rt, &array, &[Range(1, 0, -1), Range(3, 1, -2)]).expect(&rt, "corners");
-    assert_eq!(rt;
-        corners.dims.as_slice(),
-        [dim(2, -1), dim(2, -4)].as_slice()
-    );
-    assert_eq!(rt; place(&rt, &corners, &[2, 2]), Ok(100));
+    check_place(&rt, &array, &[0, 1], Ok(100));
+    check_place(&rt, &array, &[1, 3], Ok(105));
+    check_place(&rt, &array, &[2, 1], Err(Bounds));
+    check_place(&rt, &array, &[0, 4], Err(Bounds));
+    let row = section(&rt, &array, &[At(1), Range(1, 3, 1)], &[dim(3, 2)]);
+    check_place(&rt, &row, &[3], Ok(105));
+    let to = [Range(1, 0, -1), Range(3, 1, -2)];
+    let corners = section(&rt, &array, &to, &[dim(2, -1), dim(2, -4)]);
+    check_place(&rt, &corners, &[2, 2], Ok(100));
 }
 
 #[test]
 fn faults_of_a_table(rt: HostRuntime) {
     let array = table(&rt, 100);
-    let zero_after = cut(&rt, &array, &[Range(5, 5, 1), Range(1, 1, 0)]);
-    assert!(rt; matches!(zero_after, Err(SectionFault::StepZero)));
-    let out_beside_none = cut(&rt, &array, &[At(9), Range(1, 0, 1)]);
-    assert!(rt; matches!(out_beside_none, Err(SectionFault::Bounds)));
-    let empty = cut(&rt, &array, &[Range(5, 4, 1), Range(1, 3, 1)]).expect(&rt, "no element");
-    assert_eq!(rt; empty.dims.as_slice(), [dim(0, 1), dim(3, 2)].as_slice());
-    assert_eq!(rt; place(&rt, &empty, &[1, 1]), Err(Bounds));
+    let zero_after = [Range(5, 5, 1), Range(1, 1, 0)];
+    check_fault(&rt, &array, &zero_after, SectionFault::StepZero);
+    let out_beside_none = [At(9), Range(1, 0, 1)];
+    check_fault(&rt, &array, &out_beside_none, SectionFault::Bounds);
+    let none = [Range(5, 4, 1), Range(1, 3, 1)];
+    let empty = section(&rt, &array, &none, &[dim(0, 1), dim(3, 2)]);
+    check_place(&rt, &empty, &[1, 1], Err(Bounds));
 }
 
 #[test]
 fn least_and_greatest_numbers(rt: HostRuntime) {
     let array = spot(&rt, i64::MIN, usize::MAX);
-    assert_eq!(rt; place(&rt, &array, &[i64::MAX - 1]), Ok(5));
-    assert_eq!(rt; place(&rt, &array, &[i64::MAX]), Err(Bounds));
-    assert_eq!(rt;
-        extent(&rt, &array, Range(i64::MIN, i64::MAX, 1)),
-        Err(SectionFault::Bounds)
+    check_place(&rt, &array, &[i64::MAX - 1], Ok(5));
+    check_place(&rt, &array, &[i64::MAX], Err(Bounds));
+    check_extent(
+        &rt,
+        &array,
+        Range(i64::MIN, i64::MAX, 1),
+        Err(SectionFault::Bounds),
     );
-    assert_eq!(rt;
-        extent(&rt, &array, Range(i64::MIN, i64::MAX - 1, 1)),
-        Ok(usize::MAX)
+    check_extent(
+        &rt,
+        &array,
+        Range(i64::MIN, i64::MAX - 1, 1),
+        Ok(usize::MAX),
     );
-    assert_eq!(rt;
-        extent(&rt, &array, Range(i64::MAX - 1, i64::MIN, i64::MIN)),
-        Ok(2)
-    );
-    assert_eq!(rt;
-        extent(&rt, &array, Range(i64::MIN, i64::MAX, i64::MAX)),
-        Ok(3)
-    );
+    check_extent(&rt, &array, Range(i64::MAX - 1, i64::MIN, i64::MIN), Ok(2));
+    check_extent(&rt, &array, Range(i64::MIN, i64::MAX, i64::MAX), Ok(3));
 }
 
 #[test]
 fn strides_without_elements(rt: HostRuntime) {
     let array = nothing(&rt, i64::MIN);
-    assert_eq!(rt; place(&rt, &array, &[1, i64::MAX]), Err(Bounds));
+    check_place(&rt, &array, &[1, i64::MAX], Err(Bounds));
     let section = cut(&rt, &array, &[Range(1, 10, 3), Range(1, 0, 1)]).expect(&rt, "none");
     assert_eq!(rt; section.dims.len(), 2);
     assert_eq!(rt; section.dims[0].extent, 4);
     assert_eq!(rt; section.dims[1].extent, 0);
-    let out = cut(&rt, &array, &[At(3), Range(7, 7, 1)]);
-    assert!(rt; matches!(out, Err(SectionFault::Bounds)));
+    let out = [At(3), Range(7, 7, 1)];
+    check_fault(&rt, &array, &out, SectionFault::Bounds);
 }

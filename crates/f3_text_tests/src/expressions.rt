@@ -7,8 +7,59 @@ use f3_places::source::Place;
 use f3_tree::expression::{Argument, Expression, IntegerLiteral, Name, Operator, Relation, Sign};
 use f3_words::error::ReadError;
 use f3_words::item::{Item, Keyword, Word};
-use std::alloc::{AllocError, Global};
+use std::alloc::Global;
 use std::process::Abort;
+
+/// The token that a bracket of a test's text stands for.
+fn bracket(sign: char) -> Word {
+    match sign {
+        '(' => Word::Open,
+        ')' => Word::Close,
+        '{' => Word::OpenSlash,
+        '}' => Word::CloseSlash,
+        '[' => Word::OpenBracket,
+        ']' => Word::CloseBracket,
+        _ => Word::Other,
+    }
+}
+
+/// The token that a separator or a relation stands for.
+fn separator(sign: char) -> Word {
+    match sign {
+        '=' => Word::Relation(Relation::Equal),
+        '<' => Word::Relation(Relation::Less),
+        '!' => Word::Not,
+        '$' => Word::Equals,
+        ',' => Word::Comma,
+        ':' => Word::Colon,
+        '%' => Word::Percent,
+        _ => bracket(sign),
+    }
+}
+
+/// The operator that a sign stands for.
+fn operator(sign: char) -> Option<Operator> {
+    match sign {
+        '^' => Some(Operator::Power),
+        '*' => Some(Operator::Multiply),
+        '/' => Some(Operator::Divide),
+        '+' => Some(Operator::Add),
+        '-' => Some(Operator::Subtract),
+        '&' => Some(Operator::And),
+        '|' => Some(Operator::Or),
+        '~' => Some(Operator::Equivalent),
+        '#' => Some(Operator::NotEquivalent),
+        _ => None,
+    }
+}
+
+/// The token of an operator, a separator, a relation or a bracket.
+fn sign_word(sign: char) -> Word {
+    match operator(sign) {
+        Some(operator) => Word::Operator(operator),
+        None => separator(sign),
+    }
+}
 
 /// The token that a sign of a test's text stands for.
 fn word(sign: char) -> Word {
@@ -18,29 +69,7 @@ fn word(sign: char) -> Word {
         'T' => Word::Truth(true),
         'F' => Word::Truth(false),
         '"' => Word::Text,
-        '^' => Word::Operator(Operator::Power),
-        '*' => Word::Operator(Operator::Multiply),
-        '/' => Word::Operator(Operator::Divide),
-        '+' => Word::Operator(Operator::Add),
-        '-' => Word::Operator(Operator::Subtract),
-        '&' => Word::Operator(Operator::And),
-        '|' => Word::Operator(Operator::Or),
-        '~' => Word::Operator(Operator::Equivalent),
-        '#' => Word::Operator(Operator::NotEquivalent),
-        '=' => Word::Relation(Relation::Equal),
-        '<' => Word::Relation(Relation::Less),
-        '!' => Word::Not,
-        '$' => Word::Equals,
-        ',' => Word::Comma,
-        ':' => Word::Colon,
-        '%' => Word::Percent,
-        '(' => Word::Open,
-        ')' => Word::Close,
-        '{' => Word::OpenSlash,
-        '}' => Word::CloseSlash,
-        '[' => Word::OpenBracket,
-        ']' => Word::CloseBracket,
-        _ => Word::Other,
+        _ => sign_word(sign),
     }
 }
 
@@ -73,138 +102,144 @@ fn items(rt: &impl Abort, alloc: Global, text: &str) -> Vec<Item> {
 }
 
 /// The sign of an operator.
-fn operator_sign(operator: Operator) -> char {
+fn operator_sign(operator: Operator) -> &'static str {
     match operator {
-        Operator::Power => '^',
-        Operator::Multiply => '*',
-        Operator::Divide => '/',
-        Operator::Add => '+',
-        Operator::Subtract => '-',
-        Operator::And => '&',
-        Operator::Or => '|',
-        Operator::Equivalent => '~',
-        Operator::NotEquivalent => '#',
+        Operator::Power => "^",
+        Operator::Multiply => "*",
+        Operator::Divide => "/",
+        Operator::Add => "+",
+        Operator::Subtract => "-",
+        Operator::And => "&",
+        Operator::Or => "|",
+        Operator::Equivalent => "~",
+        Operator::NotEquivalent => "#",
     }
+}
+
+/// The sign of a relation.
+fn relation_sign(relation: Relation) -> &'static str {
+    if relation == Relation::Equal {
+        "="
+    } else {
+        "<"
+    }
+}
+
+/// Writes signs.
+fn put(rt: &impl Abort, out: &mut String, signs: &str) {
+    out.push_str(signs).expect(rt, "memory");
 }
 
 /// Writes an expression, each operation in braces, each literal as `0`.
 #[cycle(show)]
-fn show(out: &mut String, expression: &Expression) -> Result<(), AllocError> {
+fn show(rt: &impl Abort, out: &mut String, expression: &Expression) {
     match expression {
-        Expression::Integer(_, _) => out.push('0')?,
-        Expression::Truth(_, truth) => out.push(if *truth { 'T' } else { 'F' })?,
-        Expression::Text(_, _) => out.push('"')?,
-        Expression::Designator(parts) => show_parts(out, parts)?,
+        Expression::Integer(_, _) => put(rt, out, "0"),
+        Expression::Truth(_, truth) => put(rt, out, if *truth { "T" } else { "F" }),
+        Expression::Text(_, _) => put(rt, out, "\""),
+        Expression::Designator(parts) => show_parts(rt, out, parts),
         Expression::Group(_, inner) => {
-            out.push('(')?;
-            show(out, inner)?;
-            out.push(')')?;
+            put(rt, out, "(");
+            show(rt, out, inner);
+            put(rt, out, ")");
         }
         Expression::Array(_, elements) => {
-            out.push('[')?;
-            show_elements(out, elements)?;
-            out.push(']')?;
+            put(rt, out, "[");
+            show_elements(rt, out, elements);
+            put(rt, out, "]");
         }
         Expression::Signed(_, sign, term) => {
-            out.push_str(if *sign == Sign::Plus { "{+" } else { "{-" })?;
-            show(out, term)?;
-            out.push('}')?;
+            put(rt, out, if *sign == Sign::Plus { "{+" } else { "{-" });
+            show(rt, out, term);
+            put(rt, out, "}");
         }
         Expression::Not(_, operand) => {
-            out.push_str("{!")?;
-            show(out, operand)?;
-            out.push('}')?;
+            put(rt, out, "{!");
+            show(rt, out, operand);
+            put(rt, out, "}");
         }
         Expression::Comparison(left, relation, right) => {
-            out.push('{')?;
-            show(out, left)?;
-            out.push(if *relation == Relation::Equal {
-                '='
-            } else {
-                '<'
-            })?;
-            show(out, right)?;
-            out.push('}')?;
+            put(rt, out, "{");
+            show(rt, out, left);
+            put(rt, out, relation_sign(*relation));
+            show(rt, out, right);
+            put(rt, out, "}");
         }
         Expression::Chain(first, others) => {
-            out.push('{')?;
-            show(out, first)?;
-            show_operands(out, others)?;
-            out.push('}')?;
+            put(rt, out, "{");
+            show(rt, out, first);
+            show_operands(rt, out, others);
+            put(rt, out, "}");
         }
     }
-    Ok(())
 }
 
 /// Writes operators and their operands.
 #[cycle(show)]
-fn show_operands(out: &mut String, operands: &[(Operator, Expression)]) -> Result<(), AllocError> {
+fn show_operands(rt: &impl Abort, out: &mut String, operands: &[(Operator, Expression)]) {
     for (operator, operand) in operands {
-        out.push(operator_sign(*operator))?;
-        show(out, operand)?;
+        put(rt, out, operator_sign(*operator));
+        show(rt, out, operand);
     }
-    Ok(())
 }
 
 /// Writes elements, a comma behind each.
 #[cycle(show)]
-fn show_elements(out: &mut String, elements: &[Expression]) -> Result<(), AllocError> {
+fn show_elements(rt: &impl Abort, out: &mut String, elements: &[Expression]) {
     for element in elements {
-        show(out, element)?;
-        out.push(',')?;
+        show(rt, out, element);
+        put(rt, out, ",");
     }
-    Ok(())
 }
 
 /// Writes parts, a `%` before each.
 #[cycle(show)]
-fn show_parts(out: &mut String, parts: &[(Name, Option<Vec<Argument>>)]) -> Result<(), AllocError> {
+fn show_parts(rt: &impl Abort, out: &mut String, parts: &[(Name, Option<Vec<Argument>>)]) {
     for part in parts {
-        out.push_str("%n")?;
+        put(rt, out, "%n");
         match &part.1 {
-            Some(arguments) => show_arguments(out, arguments)?,
+            Some(arguments) => show_arguments(rt, out, arguments),
             None => (),
         }
     }
-    Ok(())
 }
 
 /// Writes arguments in parentheses, a comma behind each.
 #[cycle(show)]
-fn show_arguments(out: &mut String, arguments: &[Argument]) -> Result<(), AllocError> {
-    out.push('(')?;
+fn show_arguments(rt: &impl Abort, out: &mut String, arguments: &[Argument]) {
+    put(rt, out, "(");
     for argument in arguments {
-        show_argument(out, argument)?;
-        out.push(',')?;
+        show_argument(rt, out, argument);
+        put(rt, out, ",");
     }
-    out.push(')')
+    put(rt, out, ")");
 }
 
 /// Writes an argument, the parts of a triplet in `;`.
 #[cycle(show)]
-fn show_argument(out: &mut String, argument: &Argument) -> Result<(), AllocError> {
+fn show_argument(rt: &impl Abort, out: &mut String, argument: &Argument) {
     match argument {
-        Argument::Value(None, value) => show(out, value),
+        Argument::Value(None, value) => show(rt, out, value),
         Argument::Value(Some(_), value) => {
-            out.push_str("n$")?;
-            show(out, value)
+            put(rt, out, "n$");
+            show(rt, out, value);
         }
         Argument::Triplet(_, first, last, stride) => {
-            show_bound(out, first)?;
-            out.push(':')?;
-            show_bound(out, last)?;
-            out.push(':')?;
-            show_bound(out, stride)
+            show_bound(rt, out, first);
+            put(rt, out, ":");
+            show_bound(rt, out, last);
+            put(rt, out, ":");
+            show_bound(rt, out, stride);
         }
     }
 }
 
 /// Writes what is written of a bound.
 #[cycle(show)]
-fn show_bound(out: &mut String, bound: &Option<Expression>) -> Result<(), AllocError> {
+fn show_bound(rt: &impl Abort, out: &mut String, bound: &Option<Expression>) {
     match bound {
-        Some(bound) => show(out, bound),
-        None => Ok(()),
+        Some(bound) => show(rt, out, bound),
+        None => (),
     }
 }
 
@@ -212,10 +247,10 @@ fn show_bound(out: &mut String, bound: &Option<Expression>) -> Result<(), AllocE
 fn show_read(rt: &impl Abort, out: &mut String, read: &Result<(Expression, &[Item]), ReadError>) {
     match read {
         Ok((found, rest)) => {
-            show(out, found).expect(rt, "memory");
+            show(rt, out, found);
             show_number(rt, out, rest.len());
         }
-        Err(ReadError::NoForm) => out.push('-').expect(rt, "memory"),
+        Err(ReadError::NoForm) => put(rt, out, "-"),
         Err(ReadError::Memory) => panic!(rt; "memory"),
     }
 }

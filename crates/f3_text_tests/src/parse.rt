@@ -5,7 +5,7 @@ use f3_places::source::{Place, Source};
 use f3_rules::refusal::render;
 use f3_rules::rule::Rule;
 use f3_text::statement::TextFault;
-use f3_tree::program::{Program, UnitKind};
+use f3_tree::program::{Program, Unit, UnitKind};
 use std::alloc::Global;
 use std::process::Abort;
 
@@ -170,14 +170,24 @@ module m; integer :: n = 1; end
 program p; use m; print *, N, 'it''s'; endprogram P
 ";
 
+/// The units of these.
+fn are_units(rt: &impl Abort, units: &[Unit]) {
+    assert_eq!(rt; units.len(), 2);
+    assert_eq!(rt; units[1].kind, UnitKind::Program);
+    assert_eq!(rt; units[1].end, at(2, 40));
+}
+
+/// The character constants of these units.
+fn are_texts(rt: &impl Abort, texts: &[Vec<u8>]) {
+    assert_eq!(rt; texts.len(), 1);
+    assert_eq!(rt; texts[0].len(), 4);
+}
+
 /// The program of these units.
 fn has_units(rt: &impl Abort, program: &Program) {
-    assert_eq!(rt; program.units.len(), 2);
+    are_units(rt, &program.units);
+    are_texts(rt, &program.texts);
     assert_eq!(rt; program.names.len(), 10);
-    assert_eq!(rt; program.texts.len(), 1);
-    assert_eq!(rt; program.texts[0].len(), 4);
-    assert_eq!(rt; program.units[1].kind, UnitKind::Program);
-    assert_eq!(rt; program.units[1].end, at(2, 40));
     assert_eq!(rt; program.end, at(3, 1));
 }
 

@@ -4,7 +4,7 @@ use f3_blocks::error::StepError;
 use f3_form::form::{Ended, Form};
 use f3_places::source::Place;
 use f3_tree::expression::Name;
-use f3_tree::program::{Header, ProcedureKind, UnitKind};
+use f3_tree::program::{Header, ProcedureKind, Unit, UnitKind};
 use f3_tree::statement::Action;
 use f3_units::builder::Builder;
 use std::alloc::Global;
@@ -59,17 +59,26 @@ fn containing(rt: &impl Abort, alloc: Global) -> Builder {
     units
 }
 
+/// There is one unit, with one procedure, which ends on line 7.
+fn has_a_subroutine(rt: &impl Abort, units: &[Unit]) {
+    assert_eq!(rt; units.len(), 1);
+    assert_eq!(rt; units[0].procedures.len(), 1);
+    assert_eq!(rt; units[0].end, at(7));
+}
+
+/// The END statement of the subroutine.
+fn end_subroutine() -> Form {
+    Form::End(Some(Ended::Subroutine), Some(name(1)))
+}
+
 #[test]
 fn module_with_a_subroutine(rt: HostRuntime) {
     let alloc = rt.alloc();
     let mut units = containing(&rt, alloc);
-    let end = Form::End(Some(Ended::Subroutine), Some(name(1)));
     step(&rt, alloc, &mut units, 5, Form::Act(Action::Return));
-    step(&rt, alloc, &mut units, 6, end);
+    step(&rt, alloc, &mut units, 6, end_subroutine());
     step(&rt, alloc, &mut units, 7, Form::End(None, None));
-    assert_eq!(rt; units.units.len(), 1);
-    assert_eq!(rt; units.units[0].procedures.len(), 1);
-    assert_eq!(rt; units.units[0].end, at(7));
+    has_a_subroutine(&rt, &units.units);
     drop(units);
 }
 
