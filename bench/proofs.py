@@ -4,8 +4,6 @@
 usage: proofs.py NAME [--test]      (once the crates below are proved here, by bin/prove or rt lib)
 A function's seconds are those between the line before its own and that line, so the first has the loading of the libraries, and
 the first function that needs a module of these has the loading of that. Last come rattle's own stages, in seconds."""
-import importlib.machinery
-import importlib.util
 import os
 import re
 import shutil
@@ -14,16 +12,8 @@ import sys
 import tempfile
 import time
 
-ROOT = os.path.dirname(os.path.dirname(os.path.abspath(__file__)))
-KIT = os.path.dirname(os.path.dirname(os.path.realpath(shutil.which("rt"))))
-
-
-def rtlib():
-    loader = importlib.machinery.SourceFileLoader("rtlib", f"{KIT}/bin/rtlib.py")
-    made = importlib.util.module_from_spec(importlib.util.spec_from_loader("rtlib", loader))
-    sys.modules["rtlib"] = made
-    loader.exec_module(made)
-    return made
+sys.dont_write_bytecode = True
+from unproved import ROOT, rtlib
 
 
 def main(name, *flags):
