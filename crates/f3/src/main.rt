@@ -5,10 +5,14 @@ use f3_command::files::Disk;
 use f3_command::program;
 use f3_output::output::Output;
 use std::env;
-use std::io::{self, BufWriter, Write};
+use std::io::{self, BufWriter, ErrorKind, Write};
 use std::process::ExitCode;
 
-/// The status with which the program ends; an error where memory for its words or for its output was refused.
+/// What is said of words that are not UTF-8: what clap says of such.
+const NOT_TEXT: &[u8] =
+    b"error: invalid UTF-8 was detected in one or more arguments\n\nUsage: f3 <COMMAND>\n\nFor more information, try '--help'.\n";
+
+/// The status with which the program ends; an error where its words are not UTF-8, or memory for them or for its output was refused.
 fn status(rt: &HostRuntime) -> io::Result<u8> {
     let alloc = rt.alloc();
     let words: Vec<String> = env::args(rt)?.collect(alloc)?;
@@ -26,6 +30,10 @@ fn status(rt: &HostRuntime) -> io::Result<u8> {
 fn main(rt: HostRuntime) -> ExitCode {
     match status(&rt) {
         Ok(status) => ExitCode::from(status),
+        Err(error) if error.kind() == ErrorKind::InvalidData => {
+            let _ = rt.stderr().write_all(NOT_TEXT);
+            ExitCode::from(2)
+        }
         Err(_) => {
             let _ = rt.stderr().write_all(b"want of memory\n");
             ExitCode::from(5)
