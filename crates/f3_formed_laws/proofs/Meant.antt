@@ -28,7 +28,7 @@ use Rattle.f3_kinds.specs.Rows.{has_type, is_known, unless, computed}
 use Rattle.f3_kinds.specs.Operands.{type_in}
 use Rattle.f3_kinds.specs.Designators.{Part, reach_has, object_reach, object_rows, enter_rows, start, along_rows, step_selected_rows, select, count_is_right}
 use Rattle.f3_kinds.specs.Calls.{least_count, no_match, function_has, function_rows, are_right, is_complete, argument_rows, intrinsic_has, intrinsic_parts, actual_rows, typed_result}
-use Rattle.f3_kinds.specs.Calls.{intrinsic_rows, constructor_has, constructor_parts, constructor_rows, constructor_given, is_constructed, no_breaks, result_has}
+use Rattle.f3_kinds.specs.Calls.{intrinsic_rows, constructor_has, keeps_type, constructor_parts, constructor_rows, constructor_given, is_constructed, no_breaks, result_has}
 use Rattle.f3_kinds.specs.Typing.{called, sense_of, sense_has, sense_rows}
 use Rattle.f3_meaning_whole.specs.Formed.{of_kind, alike, found, valued}
 use Rattle.f3_elaboration.specs.Nodes as n
@@ -153,14 +153,14 @@ module _ (p : Program) (vs : List Declared) (ns : List Kind) (s : Surroundings) 
 
   construction_is : (e home : ℕ) (inside : Bool) (ks : List (ℕ × Component)) (f : Bool) (m : Name) (gs : List x.Given) (ys : List Given)
       → (s.context).nature e ≡ Some (derived home ks f) → AreGiven p vs ns s gs ys → constructor_rows (s.context).phase m inside ks f ys ≡ []
-      → IsOf p vs ns s (n.structure (s.type e) (components_for ks 0 gs)) (constructor_has e inside ks f ys)
+      → IsOf p vs ns s (n.structure (s.type e) (components_for ks 0 gs)) (constructor_has (s.context).phase e inside ks f ys)
   construction_is e home inside ks f m gs ys nature given rows =
       let own : constructor_given inside ks 0 ys ≡ [] = first _ _ rows in
       let parts : constructor_parts inside ks ys ≡ true = both _ _ (all_typed p vs ns s gs ys given) (no_break _ own) in
       let behind = if_parts (constructor_parts inside ks ys) _ parts (second (constructor_given inside ks 0 ys) _ rows) in
       let built : is_constructed ks ys ≡ true = holds _ _ (first _ _ behind) in
-      some_is (n.structure (s.type e) (components_for ks 0 gs)) (constructor_parts inside ks ys && is_constructed ks ys && not f) (computed (Derived e) 0)
-      (both _ _ (both _ _ parts built) (holds _ _ (second (unless (is_constructed ks ys) _) _ behind))) record {
+      some_is (n.structure (s.type e) (components_for ks 0 gs)) (constructor_parts inside ks ys && is_constructed ks ys && keeps_type (s.context).phase f) (computed (Derived e) 0)
+      (both _ _ (both _ _ parts built) (ap (λ b. b || not (nat_eq (s.context).phase 6)) (holds _ _ (second (unless (is_constructed ks ys) _) _ behind)))) record {
         typed = refl;
         of = base_is.Derived (s.type e);
         value = structure_is p vs ns s inside e ks (agrees.types e home ks f nature) gs ys (agrees.known.natures e (derived home ks f) nature) given own (left _ _ built);

@@ -267,6 +267,10 @@ constructor_rows phase n inside ks finalizable gs =
     constructor_given inside ks 0 gs
     ++ (if constructor_parts inside ks gs then unless (is_constructed ks gs) (at_name 6 T10 n) ++ unless (not finalizable) (at_name phase T12 n) else [])
 
-abbrev pub constructor_has : ℕ → Bool → List (ℕ × Component) → Bool → List Given → Option Has
-constructor_has t inside ks finalizable gs =
-    if constructor_parts inside ks gs && is_constructed ks gs && not finalizable then Some (computed (Derived t) 0) else None
+-- a break of phase 6 takes the type away, and one of phase 5 does not (own rule)
+abbrev pub keeps_type : ℕ → Bool → Bool
+keeps_type phase finalizable = not finalizable || not (nat_eq phase 6)
+
+abbrev pub constructor_has : ℕ → ℕ → Bool → List (ℕ × Component) → Bool → List Given → Option Has
+constructor_has phase t inside ks finalizable gs =
+    if constructor_parts inside ks gs && is_constructed ks gs && keeps_type phase finalizable then Some (computed (Derived t) 0) else None

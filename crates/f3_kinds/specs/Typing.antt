@@ -77,7 +77,7 @@ sense_has c u p ps (unmeant b) = None
 sense_has c u p ps (object form o) = reach_has form u (object_reach c u o p ps)
 sense_has c u p ps (reference ds o gs) = function_has ds o gs
 sense_has c u p ps (intrinsic_reference i gs) = intrinsic_has i gs
-sense_has c u p ps (construction t inside ks f gs) = constructor_has t inside ks f gs
+sense_has c u p ps (construction t inside ks f gs) = constructor_has c.phase t inside ks f gs
 
 -- whether the parts have types; of what has no meaning, where all that is given has
 abbrev pub sense_parts : Context → Role → Part → List Part → Sense → Bool

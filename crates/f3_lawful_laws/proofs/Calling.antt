@@ -22,7 +22,7 @@ use Rattle.f3_kinds.specs.Operands.{type_in}
 use Rattle.f3_kinds.specs.Designators.{is_typed}
 use Rattle.f3_kinds.specs.Calls.{Matched, match_next, no_match, argument_fits, argument_rows, all_fit, is_complete, are_right, function_rows, function_has, result_has}
 use Rattle.f3_kinds.specs.Calls.{least_count, is_within, actual_fits, actual_right, actual_rows, integer_type, no_breaks, intrinsic_parts}
-use Rattle.f3_kinds.specs.Calls.{intrinsic_rows, intrinsic_has, typed_result, constructor_given, constructor_parts, constructor_rows, constructor_has, is_constructed}
+use Rattle.f3_kinds.specs.Calls.{intrinsic_rows, intrinsic_has, typed_result, constructor_given, constructor_parts, constructor_rows, constructor_has, keeps_type, is_constructed}
 use Rattle.f3_lawful_laws.proofs.Facts.{no, not_nil, first, second, holds, both, left, right, negated_back, otherwise, when_true}
 
 -- ---- arguments
@@ -110,9 +110,9 @@ intrinsic_typed n r gs t e =
 -- ---- constructors
 
 pub constructor_typed : (phase : ℕ) (n : Name) (type : ℕ) (inside : Bool) (ks : List (ℕ × Component)) (f : Bool) (gs : List Given) → list_all is_typed gs ≡ true
-    → constructor_rows phase n inside ks f gs ≡ [] → has_type (constructor_has type inside ks f gs) ≡ true
+    → constructor_rows phase n inside ks f gs ≡ [] → has_type (constructor_has phase type inside ks f gs) ≡ true
 constructor_typed phase n type inside ks f gs t e =
     let parts : constructor_parts inside ks gs ≡ true = both _ _ t (no_break _ (first _ _ e)) in
     let behind = if_parts (constructor_parts inside ks gs) _ parts (second (constructor_given inside ks 0 gs) _ e) in
-    ap has_type (when_true (constructor_parts inside ks gs && is_constructed ks gs && not f) _ None
-    (both _ _ (both _ _ parts (holds _ _ (first _ _ behind))) (holds _ _ (second (unless (is_constructed ks gs) _) _ behind))))
+    ap has_type (when_true (constructor_parts inside ks gs && is_constructed ks gs && keeps_type phase f) _ None
+    (both _ _ (both _ _ parts (holds _ _ (first _ _ behind))) (ap (λ b. b || not (nat_eq phase 6)) (holds _ _ (second (unless (is_constructed ks gs) _) _ behind)))))

@@ -23,7 +23,7 @@ use Rattle.f3_kinds.specs.Things.{Nature, constant, variable, derived, subroutin
 use Rattle.f3_kinds.specs.Things.{look_here, map_or}
 use Rattle.f3_kinds.specs.Designators.{Part, role_fits, reach_has, object_reach, object_rows}
 use Rattle.f3_kinds.specs.Calls.{least_count, no_match, function_has, function_rows, are_right, is_complete, intrinsic_has, intrinsic_parts}
-use Rattle.f3_kinds.specs.Calls.{intrinsic_rows, constructor_has, constructor_parts, constructor_rows, is_constructed, result_has}
+use Rattle.f3_kinds.specs.Calls.{intrinsic_rows, constructor_has, keeps_type, constructor_parts, constructor_rows, is_constructed, result_has}
 use Rattle.f3_kinds.specs.Typing.{called, sense_of, sense_has, sense_rows}
 use Rattle.f3_meaning_whole.specs.Permitted.{Scope, Each, names_in}
 use Rattle.f3_elaboration.specs.Nodes as n
@@ -94,11 +94,11 @@ module _ (p : Program) (scope : Scope) (s : Surroundings) (agrees : Agrees p sco
 
   construction_is : (e : ℕ) (inside : Bool) (ks : List (ℕ × Component)) (f : Bool) (m : Name) (gs : List x.Given) (ys : List Given)
       → AreGiven p scope s gs ys → constructor_rows (s.context).phase m inside ks f ys ≡ []
-      → IsOf p scope s (n.structure (s.type e) (components_for ks 0 gs)) (constructor_has e inside ks f ys)
+      → IsOf p scope s (n.structure (s.type e) (components_for ks 0 gs)) (constructor_has (s.context).phase e inside ks f ys)
   construction_is e inside ks f m gs ys given rows =
-      plain p scope s (n.structure (s.type e) (components_for ks 0 gs)) (constructor_has e inside ks f ys) (components_may p scope s ks 0 gs (all_may p scope s gs ys given), tt)
+      plain p scope s (n.structure (s.type e) (components_for ks 0 gs)) (constructor_has (s.context).phase e inside ks f ys) (components_may p scope s ks 0 gs (all_may p scope s gs ys given), tt)
       (constructor_typed (s.context).phase m e inside ks f ys (all_typed p scope s gs ys given) rows)
-      (none_if (constructor_parts inside ks ys && is_constructed ks ys && not f) _ tt)
+      (none_if (constructor_parts inside ks ys && is_constructed ks ys && keeps_type (s.context).phase f) _ tt)
 
   intrinsic_is : (r : Intrinsic) (m : Name) (gs : List x.Given) (ys : List Given) → AreGiven p scope s gs ys → intrinsic_rows m r ys ≡ []
       → IsOf p scope s (x.intrinsic_value (base s of) r (map given_value gs)) (intrinsic_has r ys)

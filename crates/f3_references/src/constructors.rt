@@ -9,7 +9,7 @@ ghost use Rattle.f3_kinds.specs.Things.{map_or, at_place_of};
 ghost use Rattle.f3_kinds.specs.Rows.{unless, at_name, computed};
 ghost use Rattle.f3_kinds.specs.Designators.{is_triplet};
 ghost use Rattle.f3_kinds.specs.Calls.{given_place, is_keyed, place_for, type_takes, value_rows, lead_of, private_at, missing_rows, component_rows, given_rows};
-ghost use Rattle.f3_kinds.specs.Calls.{constructor_given, no_breaks, is_new, are_given, is_constructed, constructor_parts, constructor_rows, constructor_has};
+ghost use Rattle.f3_kinds.specs.Calls.{constructor_given, no_breaks, is_new, are_given, is_constructed, constructor_parts, constructor_rows, constructor_has, keeps_type};
 ghost use Rattle.f3_typed_parts.specs.Noted.{noted};
 
 use crate::arguments::{both, either, given_place, is_keyed, take, within_count};
@@ -278,6 +278,13 @@ fn made(
     }
 }
 
+/// Whether a value of a type that may be finalizable has that type: a break of phase 6 takes it away (own rule).
+fn keeps_type(phase: u32, finalizable: bool) -> bool
+    ensures { result ≡ keeps_type phase finalizable }
+{
+    !finalizable || phase != 6
+}
+
 fn constructed_has(right: bool, number: usize) -> Option<Has>
     ensures { result ≡ (if right then Some (computed (Derived number) 0) else None) }
 {
@@ -302,14 +309,14 @@ pub fn constructor(
     given: &[Given],
 ) -> Result<Judged, AllocError>
     ensures typed { IfOk result (λ j. j.are_parts_typed ≡ constructor_parts inside components.now.entries given.now) }
-    ensures has { IfOk result (λ j. j.has ≡ constructor_has number inside components.now.entries finalizable given.now) }
+    ensures has { IfOk result (λ j. j.has ≡ constructor_has phase number inside components.now.entries finalizable given.now) }
     ensures noted { OnOk result (first.new ≡ noted first.old (constructor_rows phase name inside components.now.entries finalizable given.now)) }
 {
     let fit = values_right(first, inside, components, given);
     let right = both(all_typed(given), fit);
     let constructed = is_constructed(alloc, components, given)?;
     made(first, phase, name, right, constructed, finalizable);
-    let whole = both(constructed, !finalizable);
+    let whole = both(constructed, keeps_type(phase, finalizable));
     Ok(Judged {
         are_parts_typed: right,
         has: constructed_has(both(right, whole), number),
