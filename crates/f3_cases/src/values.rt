@@ -63,7 +63,7 @@ fn may_speak(are_parts_typed: bool, has: Option<Has>) -> bool
     ensures { result ≡ may_speak are_parts_typed has }
 {
     match has {
-        Some(has) => has.data_type.is_some() || are_parts_typed,
+        Some(has) => has.data_type.is_some(),
         None => are_parts_typed,
     }
 }

@@ -28,12 +28,12 @@ fn may_speak(are_parts_typed: bool, has: Option<Has>) -> bool
     ensures { result ≡ may_speak are_parts_typed has }
 {
     match has {
-        Some(has) => has.data_type.is_some() || are_parts_typed,
+        Some(has) => has.data_type.is_some(),
         None => are_parts_typed,
     }
 }
 
-/// Whether a rule may speak of a whole expression: it has a type, or all its parts have one.
+/// Whether a rule may speak of a whole expression: it has a type, or breaks a rule itself where all its parts have one.
 pub fn speaks(said: &Said) -> bool
     ensures { result ≡ speaks said.now }
 {

@@ -9,10 +9,10 @@ use Rattle.f3_kinds.specs.Things.{Context}
 use Rattle.f3_kinds.specs.Rows.{at_place, unless, is_known}
 use Rattle.f3_kinds.specs.Typing.{said, breaks}
 
--- whether a rule may speak of the whole expression: it has a type, or all its parts have one
+-- whether a rule may speak of the whole expression: it has a type, or breaks a rule itself where all its parts have one
 abbrev pub may_speak : Bool → Option Has → Bool
 may_speak parts None = parts
-may_speak parts (Some h) = is_known h.data_type || parts
+may_speak parts (Some h) = is_known h.data_type
 
 abbrev pub speaks : Said → Bool
 speaks s = may_speak s.are_parts_typed s.has
