@@ -3,10 +3,11 @@
 //! A line `case NAME` begins a case; the lines behind it tell of it: `word W` for each word of the command line behind
 //! the program's name; `source NAME`, `output` and `errors` begin a text, whose lines follow, each behind a `|`, or
 //! behind a `:` where no line feed ends it; `errors some` wants a text, whatever it is; `status N`. A text that is not
-//! told of is empty, and a status is 0. `prefixes N` asks for more: each front of the first source of fewer than N bytes is
+//! told of is empty, and a status is 0. `acts` begins one more text: the acts by which registers run the sources, which are
+//! not looked at in a case that does not tell of them. `prefixes N` asks for more: each front of the first source of fewer than N bytes is
 //! refused. `room N`: the output has room for N bytes alone. `times N` writes the line of a text behind it N times, with the number of the time for each `#` and that of the
 //! time before for each `@`. `growths` is for bench/growths.py, which refuses each growth of the host's memory in turn. An empty
-//! line, or one that begins with `#`, says nothing.
+//! line, or one that begins with `#`, also between the lines of a text, says nothing.
 
 use std::alloc::{AllocError, Global};
 
@@ -27,6 +28,8 @@ pub struct Case {
     pub output: Text,
     pub errors: Text,
     pub status: u8,
+    /// The acts of the plan of the sources, where they are looked at.
+    pub acts: Option<Vec<u8>>,
     /// Each front of the first source of fewer bytes is refused.
     pub prefixes: usize,
     /// For how many bytes the output has room, if not for all.
@@ -40,6 +43,7 @@ enum Part {
     Source,
     Output,
     Errors,
+    Acts,
 }
 
 /// The cases of a text, in order. A line of no form is passed over.
@@ -70,6 +74,7 @@ fn begun(alloc: Global, name: &[u8]) -> Result<Case, AllocError> {
         output: Text::Is(Vec::new(alloc)),
         errors: Text::Is(Vec::new(alloc)),
         status: 0,
+        acts: None,
         prefixes: 0,
         room: None,
     })
@@ -105,6 +110,9 @@ fn more(
         add(alloc, case, part, text, times)?;
         return Ok(part);
     }
+    if line.starts_with(b"#") {
+        return Ok(part);
+    }
     told(alloc, case, line)
 }
 
@@ -129,6 +137,9 @@ fn told(alloc: Global, case: &mut Case, line: &[u8]) -> Result<Part, AllocError>
         return Ok(Part::Output);
     } else if line == b"errors".as_slice() {
         return Ok(Part::Errors);
+    } else if line == b"acts".as_slice() {
+        case.acts = Some(Vec::new(alloc));
+        return Ok(Part::Acts);
     }
     Ok(Part::Nothing)
 }
@@ -178,6 +189,10 @@ fn add_bytes(case: &mut Case, part: Part, bytes: &[u8]) -> Result<(), AllocError
         },
         Part::Output => add_to(&mut case.output, bytes),
         Part::Errors => add_to(&mut case.errors, bytes),
+        Part::Acts => match &mut case.acts {
+            Some(acts) => acts.extend_from_slice(bytes),
+            None => Ok(()),
+        },
     }
 }
 

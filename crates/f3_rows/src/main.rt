@@ -3,7 +3,9 @@
 
 mod cases;
 mod folder;
+mod planning;
 mod running;
+mod showing;
 
 use crate::cases::read;
 use crate::running::is_as_expected;

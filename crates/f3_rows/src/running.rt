@@ -2,6 +2,7 @@
 
 use crate::cases::{Case, Text};
 use crate::folder::Folder;
+use crate::planning::acts_of;
 use f3_command::program::f3;
 use f3_output::output::Output;
 use std::alloc::{AllocError, Global};
@@ -100,6 +101,15 @@ fn are_refused(alloc: Global, case: &Case) -> Result<bool, AllocError> {
     Ok(true)
 }
 
+/// Whether the plan of the case's sources has the acts that it tells of.
+fn are_planned(alloc: Global, case: &Case) -> Result<bool, AllocError> {
+    let Some(expected) = &case.acts else {
+        return Ok(true);
+    };
+    let acts = acts_of(alloc, case.sources.as_slice())?;
+    Ok(acts.as_str().as_bytes() == expected.as_slice())
+}
+
 /// Whether f3 writes and answers what is expected.
 pub fn is_as_expected(alloc: Global, case: &Case) -> Result<bool, AllocError> {
     let mut files = Vec::new(alloc);
@@ -115,6 +125,7 @@ pub fn is_as_expected(alloc: Global, case: &Case) -> Result<bool, AllocError> {
         answer.status == case.status
             && fits(&case.output, answer.output.as_slice())
             && fits(&case.errors, answer.errors.as_slice())
-            && are_refused(alloc, case)?,
+            && are_refused(alloc, case)?
+            && are_planned(alloc, case)?,
     )
 }

@@ -1,0 +1,74 @@
+//! The acts of the plan of a program.
+
+use crate::showing::listed;
+use f3_command::compile::compile;
+use f3_frames::layouts::Layouts;
+use f3_gen_laws::generate;
+use f3_gen_values::emission::Emission;
+use f3_places::source::Source;
+use f3_plans::planning::plan;
+use f3_program::program::Program;
+use std::alloc::{AllocError, Global};
+
+/// Sources of these names and bytes.
+fn given(alloc: Global, files: &[(String, Vec<u8>)]) -> Result<Vec<Source>, AllocError> {
+    let mut sources = Vec::new(alloc);
+    for (name, bytes) in files {
+        sources.push(Source {
+            name: name.clone()?,
+            bytes: Vec::from_slice(alloc, bytes)?,
+        })?;
+    }
+    Ok(sources)
+}
+
+/// The acts of the plan of a program whose variables have these layouts.
+fn planned_by(
+    alloc: Global,
+    layouts: &Layouts<'_>,
+    emission: &Emission,
+) -> Result<String, AllocError> {
+    let plan = plan(alloc, layouts, emission)?;
+    let text = match &plan {
+        Some(plan) => listed(alloc, &plan.code.acts),
+        None => String::from_str(alloc, "no plan\n"),
+    };
+    drop(plan);
+    text
+}
+
+/// The acts of the plan of a program by its code.
+fn planned_for(
+    alloc: Global,
+    program: &Program,
+    emission: &Emission,
+) -> Result<String, AllocError> {
+    let layouts = Layouts::new(alloc, program)?;
+    let text = match &layouts {
+        Some(layouts) => planned_by(alloc, layouts, emission),
+        None => String::from_str(alloc, "no layouts\n"),
+    };
+    drop(layouts);
+    text
+}
+
+/// The acts of the plan of a program.
+fn planned(alloc: Global, program: &Program) -> Result<String, AllocError> {
+    let emission = generate(alloc, program)?;
+    let text = planned_for(alloc, program, &emission);
+    drop(emission);
+    text
+}
+
+/// The acts of the plan of a program in these files, one a line, or why there is none.
+pub fn acts_of(alloc: Global, files: &[(String, Vec<u8>)]) -> Result<String, AllocError> {
+    let sources = given(alloc, files)?;
+    let compiled = compile(alloc, &sources);
+    drop(sources);
+    let text = match &compiled {
+        Ok(compiled) => planned(alloc, compiled.program()),
+        Err(_) => String::from_str(alloc, "refused\n"),
+    };
+    drop(compiled);
+    text
+}
