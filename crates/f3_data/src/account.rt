@@ -23,9 +23,9 @@ pub fn words(value: &Value) -> u64
     match value {
         Value::Number(_) | Value::Truth(_) | Value::Unallocated => 1,
         Value::Composite(values) => level_words(values),
-        Value::Array(spans, values) => {
-            let bounds = (spans.len() as u64).wrapping_mul(2);
-            bounds.wrapping_add(level_words(values))
+        Value::Array(elements) => {
+            let bounds = (elements.spans.len() as u64).wrapping_mul(2);
+            bounds.wrapping_add(level_words(&elements.values))
         }
         Value::Allocated(held) => block(words(held)).wrapping_add(1),
     }
@@ -65,7 +65,7 @@ pub fn objects(value: &Value) -> u64
     match value {
         Value::Number(_) | Value::Truth(_) | Value::Unallocated => 0,
         Value::Composite(values) => all_objects(values),
-        Value::Array(_, values) => all_objects(values),
+        Value::Array(elements) => all_objects(&elements.values),
         Value::Allocated(held) => block(words(held)),
     }
 }

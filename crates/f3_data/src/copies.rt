@@ -8,7 +8,7 @@ ghost use Rattle.f3_data.specs.References.{numbers_of, reach_in, reference_of, r
 
 use crate::reference::{Made, Numbers, Reach, Reference};
 use crate::store::{Path, Step};
-use crate::value::{Span, Value};
+use crate::value::{Span, Value, array};
 use std::alloc::{AllocError, Global};
 
 /// A copy of bounds.
@@ -34,9 +34,9 @@ pub fn value(alloc: Global, original: &Value) -> Result<Value, AllocError>
         Value::Number(number) => Ok(Value::Number(*number)),
         Value::Truth(truth) => Ok(Value::Truth(*truth)),
         Value::Composite(all) => Ok(Value::Composite(values(alloc, all)?)),
-        Value::Array(bounds, all) => {
-            let bounds = spans(alloc, bounds)?;
-            Ok(Value::Array(bounds, values(alloc, all)?))
+        Value::Array(elements) => {
+            let bounds = spans(alloc, &elements.spans)?;
+            array(alloc, bounds, values(alloc, &elements.values)?)
         }
         Value::Unallocated => Ok(Value::Unallocated),
         Value::Allocated(held) => {

@@ -16,7 +16,7 @@ use crate::elements::{element_path, go_to, length_of, place_at};
 use f3_data::copies;
 use f3_data::reference::{Numbers, Reach, Reference};
 use f3_data::store::{Path, Step, Store};
-use f3_data::value::Value;
+use f3_data::value::{Elements, Value, array};
 use std::alloc::{AllocError, Global};
 
 /// An object takes the first of these values, if there is one.
@@ -91,7 +91,7 @@ fn is_array(value: &Value) -> bool
     ensures { result ≡ is_array (value_of value.now) }
 {
     match value {
-        Value::Array(_, _) => true,
+        Value::Array(_) => true,
         _ => false,
     }
 }
@@ -102,7 +102,11 @@ fn elements_of(alloc: Global, value: Value) -> Vec<Value>
     ensures { is_array (value_of value) ≡ true → (n : ℕ) → values_of result.items ≡ spread n (value_of value) }
 {
     match value {
-        Value::Array(_, values) => values,
+        Value::Array(elements) => {
+            let Elements { spans, values } = Box::into_inner(elements);
+            drop(spans);
+            values
+        }
         other => {
             drop(other);
             Vec::new(alloc)
@@ -167,9 +171,9 @@ fn cleared(alloc: Global, value: &Value) -> Result<Value, AllocError>
         Value::Number(number) => Ok(Value::Number(*number)),
         Value::Truth(truth) => Ok(Value::Truth(*truth)),
         Value::Composite(values) => Ok(Value::Composite(all_cleared(alloc, values)?)),
-        Value::Array(bounds, values) => {
-            let bounds = copies::spans(alloc, bounds)?;
-            Ok(Value::Array(bounds, all_cleared(alloc, values)?))
+        Value::Array(elements) => {
+            let bounds = copies::spans(alloc, &elements.spans)?;
+            array(alloc, bounds, all_cleared(alloc, &elements.values)?)
         }
         Value::Unallocated => Ok(Value::Unallocated),
         Value::Allocated(_) => Ok(Value::Unallocated),

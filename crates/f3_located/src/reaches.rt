@@ -18,9 +18,9 @@ pub fn reach_of(alloc: Global, value: &Value) -> Result<Reach, AllocError>
     ensures { IfOk result (λ r. (p : s.Path) → reach_in p r ≡ m.reach_of p (value_of value.now)) }
 {
     match value {
-        Value::Array(spans, values) => Ok(Reach::Many(
-            Vec::from_slice(alloc, spans)?,
-            Numbers::First(values.len()),
+        Value::Array(elements) => Ok(Reach::Many(
+            Vec::from_slice(alloc, &elements.spans)?,
+            Numbers::First(elements.values.len()),
             Vec::new(alloc),
         )),
         _ => Ok(Reach::One),

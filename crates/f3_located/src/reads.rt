@@ -13,7 +13,7 @@ use crate::reaches::show;
 use f3_data::copies;
 use f3_data::reference::{Numbers, Reach, Reference};
 use f3_data::store::{Path, Step, Store};
-use f3_data::value::Value;
+use f3_data::value::{Value, array};
 use std::alloc::{AllocError, Global};
 
 /// A copy of what stands at a path.
@@ -58,7 +58,7 @@ pub fn read(alloc: Global, reference: &Reference, store: &Store) -> Result<Value
             let mut spans = copies::spans(alloc, spans)?;
             show(&mut spans);
             let values = copies_at(alloc, store, &reference.path, numbers, tail)?;
-            Ok(Value::Array(spans, values))
+            array(alloc, spans, values)
         }
     }
 }

@@ -8,4 +8,4 @@ all_objects-loop-value-preserved t c =
     omega arith
 
 pub objects-returns-in-Array : goal.objects-returns-in-Array
-objects-returns-in-Array t c = rw (c.in-Array.is, array_objects) (rw c.deref-in-Array.ensures.value at c.all_objects-in-Array.ensures)
+objects-returns-in-Array t c = rw (c.in-Array.is, array_objects) (rw (c.deref-in-Array-2.ensures.value, c.deref-in-Array.ensures) at c.all_objects-in-Array.ensures)
