@@ -59,8 +59,8 @@ fn shown_bounds(alloc: Global, object: &Reference) -> Result<Vec<Span>, AllocErr
 {
     match &object.reach {
         Reach::One => Ok(Vec::new(alloc)),
-        Reach::Many(spans, _, _) => {
-            let mut spans = copies::spans(alloc, spans)?;
+        Reach::Many(section) => {
+            let mut spans = copies::spans(alloc, &section.spans)?;
             show(&mut spans);
             Ok(spans)
         }

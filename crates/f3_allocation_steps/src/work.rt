@@ -124,8 +124,9 @@ fn path_at(alloc: Global, whole: &Reference, k: usize) -> Result<Path, AllocErro
 {
     match &whole.reach {
         Reach::One => copies::path(alloc, &whole.path),
-        Reach::Many(_, numbers, tail) => {
-            element_path(alloc, &whole.path, place_at(numbers, k), tail)
+        Reach::Many(section) => {
+            let place = place_at(&section.numbers, k);
+            element_path(alloc, &whole.path, place, &section.tail)
         }
     }
 }

@@ -11,7 +11,7 @@ use f3_arithmetic::turns::turns;
 use f3_cells::cell::{Cell, Chosen, Passed};
 use f3_cells::stacks::{pop_bound, pop_datum, pop_object};
 use f3_cells::state::{State, Stop};
-use f3_data::value::{Span, Value, constant, number_of};
+use f3_data::value::{Elements, Span, Value, constant, number_of};
 use f3_program::declarations::Constant;
 use f3_shaping::bounds::plain as with_plain_bounds;
 use std::alloc::Global;
@@ -66,8 +66,9 @@ fn bounds_taken(alloc: Global, value: Value) -> Vec<Span>
     ensures { view.spans_of result.items ≡ spans_of (value_of value) }
 {
     match value {
-        Value::Array(spans, elements) => {
-            drop(elements);
+        Value::Array(elements) => {
+            let Elements { spans, values } = Box::into_inner(elements);
+            drop(values);
             spans
         }
         other => {

@@ -71,7 +71,7 @@ fn has_rank(object: &Reference, rank: usize) -> bool
 {
     match &object.reach {
         Reach::One => rank == 0,
-        Reach::Many(bounds, _, _) => rank == bounds.len(),
+        Reach::Many(section) => rank == section.spans.len(),
     }
 }
 

@@ -1,11 +1,12 @@
 -- What values and levels in memory take.
-use Rattle.std.proofs.Common.{◌≡◌, ℕ, ◌+◌, ◌*◌, ◌-◌, ◌%◌, ◌^◌, ◌<◌, ℤ, Bool, ◌⊎◌, inl, inr, List, [], ◌∷◌, ◌++◌, length, take, drop, map, sym, ap, ◌∙◌, arith, Vec, Global, get_or}
+use Rattle.std.proofs.Common.{◌≡◌, ℕ, ◌+◌, ◌*◌, ◌-◌, ◌%◌, ◌^◌, ◌<◌, ℤ, Bool, ◌⊎◌, inl, inr, List, [], ◌∷◌, ◌++◌, length, take, drop, map, sym, ap, ◌∙◌, arith, Vec, Box, Global, get_or}
 use Rattle.std.proofs.lemmas.List.{map-set, map-append, take_more, length-map, length-drop, take_all, take-append-drop}
 use Rattle.std.specs.Prelude.{slice_set}
 use Rattle.f3_meaning_whole.specs.Value.{joined}
 use Rattle.f3_account.specs.Account.{block, words, row, objects, all_objects, level_words, levels_words}
 use Rattle.f3_account.proofs.Rows.{row_joined, level_words_append, all_objects_append, levels_words_append, level_words_set, levels_words_set}
 use Rattle.f3_data.specs.declared.value.Span.{Span}
+use Rattle.f3_data.specs.declared.value.Elements.{Elements}
 use Rattle.f3_data.specs.declared.value.Value as v
 use Rattle.f3_data.specs.Values.{value_of, values_of, span_of}
 use Rattle.f3_data.specs.Stores.{levels_of}
@@ -15,13 +16,15 @@ use Rattle.f3_data.proofs.Rows.{composite_is, array_is, object_stands, level_sta
 pub composite_words : (vs : Vec v.Value Global) → words (value_of (v.Composite vs)) ≡ level_words (values_of vs.items)
 composite_words vs = ap words (composite_is vs) ∙ row_joined (values_of vs.items)
 
-pub array_words : (ss : Vec Span Global) (vs : Vec v.Value Global) →
-    words (value_of (v.Array ss vs)) ≡ 2 * length ss.items + level_words (values_of vs.items)
-array_words ss vs = let e = row_joined (values_of vs.items) in let f = length-map ss.items span_of in ap words (array_is ss vs) ∙ omega arith
+pub array_words : (b : Box Elements Global) →
+    words (value_of (v.Array b)) ≡ 2 * length b.value.spans.items + level_words (values_of b.value.values.items)
+array_words b =
+    let e = row_joined (values_of b.value.values.items) in
+    let f = length-map b.value.spans.items span_of in
+    ap words (array_is b) ∙ omega arith
 
-pub array_objects : (ss : Vec Span Global) (vs : Vec v.Value Global) →
-    objects (value_of (v.Array ss vs)) ≡ all_objects (joined (values_of vs.items))
-array_objects ss vs = ap objects (array_is ss vs)
+pub array_objects : (b : Box Elements Global) → objects (value_of (v.Array b)) ≡ all_objects (joined (values_of b.value.values.items))
+array_objects b = ap objects (array_is b)
 
 -- a scalar takes one word
 pub one_word : (x : v.Value) → ((z : ℤ) × (x ≡ v.Number z)) ⊎ (((b : Bool) × (x ≡ v.Truth b)) ⊎ (x ≡ v.Unallocated)) → words (value_of x) ≡ 1
@@ -109,20 +112,25 @@ level_exchanged ls l a b d y h e f =
 
 -- what holds values has grown as much as these
 
-pub array_grown : (ss : Vec Span Global) (vs ws : Vec v.Value Global) (g : ℕ) →
-    (row (joined (values_of vs.items)) + g) % 2 ^ 64 ≡ row (joined (values_of ws.items)) % 2 ^ 64 →
-    (words (value_of (v.Array ss vs)) + g) % 2 ^ 64 ≡ words (value_of (v.Array ss ws)) % 2 ^ 64
-array_grown ss vs ws g h =
-    let a = ap words (array_is ss vs) in
-    let b = ap words (array_is ss ws) in
+array_row : (b : Box Elements Global) → words (value_of (v.Array b)) ≡ 2 * length b.value.spans.items + row (joined (values_of b.value.values.items))
+array_row b = let f = length-map b.value.spans.items span_of in ap words (array_is b) ∙ omega arith
+
+pub array_grown : (b d : Box Elements Global) (g : ℕ) → d.value.spans ≡ b.value.spans →
+    (row (joined (values_of b.value.values.items)) + g) % 2 ^ 64 ≡ row (joined (values_of d.value.values.items)) % 2 ^ 64 →
+    (words (value_of (v.Array b)) + g) % 2 ^ 64 ≡ words (value_of (v.Array d)) % 2 ^ 64
+array_grown b d g e h =
+    let s = array_row b in
+    let n = array_row d in
+    let f = ap (λ (ss : Vec Span Global). length ss.items) e in
     omega arith
 
-pub array_exchanged : (ss : Vec Span Global) (vs ws : Vec v.Value Global) (a b : ℕ) →
-    row (joined (values_of vs.items)) + a ≡ row (joined (values_of ws.items)) + b →
-    words (value_of (v.Array ss vs)) + a ≡ words (value_of (v.Array ss ws)) + b
-array_exchanged ss vs ws a b h =
-    let s = ap words (array_is ss vs) in
-    let n = ap words (array_is ss ws) in
+pub array_exchanged : (b d : Box Elements Global) (i o : ℕ) → d.value.spans ≡ b.value.spans →
+    row (joined (values_of b.value.values.items)) + i ≡ row (joined (values_of d.value.values.items)) + o →
+    words (value_of (v.Array b)) + i ≡ words (value_of (v.Array d)) + o
+array_exchanged b d i o e h =
+    let s = array_row b in
+    let n = array_row d in
+    let f = ap (λ (ss : Vec Span Global). length ss.items) e in
     omega arith
 
 -- levels that begin and end

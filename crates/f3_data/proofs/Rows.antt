@@ -1,11 +1,12 @@
 -- Components and elements in memory.
-use Rattle.std.proofs.Common.{◌≡◌, ℕ, zero, suc, ◌<◌, ◌≤◌, List, [], ◌∷◌, length, refl, sym, ap, ◌∙◌, rules, arith, Vec, Global, get_or}
+use Rattle.std.proofs.Common.{◌≡◌, ℕ, zero, suc, ◌<◌, ◌≤◌, List, [], ◌∷◌, length, refl, sym, ap, ◌∙◌, rules, arith, Vec, Box, Global, get_or}
 use Rattle.std.proofs.lemmas.List.{map-set}
 use Rattle.std.specs.Prelude.{slice_index_or, slice_set}
 use Rattle.f3_meaning_whole.specs.Value as m
 use Rattle.f3_meaning_whole.specs.Value.{joined}
 use Rattle.f3_meaning_whole.specs.Store.{Step, Element, part, part_at, with_part, with_part_at}
 use Rattle.f3_data.specs.declared.value.Span.{Span}
+use Rattle.f3_data.specs.declared.value.Elements.{Elements}
 use Rattle.f3_data.specs.declared.value.Value as v
 use Rattle.f3_data.specs.declared.store.Step as n
 use Rattle.f3_data.specs.declared.store.Step.TheVariants as step
@@ -19,8 +20,12 @@ row_is (v.more_of-Value x rest) = ap (m.more (value_of x)) (row_is rest)
 pub composite_is : (vs : Vec v.Value Global) → value_of (v.Composite vs) ≡ m.Composite (joined (values_of vs.items))
 composite_is vs = search (rules, v.the_lemmas, row_is)
 
-pub array_is : (ss : Vec Span Global) (vs : Vec v.Value Global) → value_of (v.Array ss vs) ≡ m.Array (spans_of ss.items) (joined (values_of vs.items))
-array_is ss vs = search (rules, v.the_lemmas, row_is)
+-- an array of the meaning with such bounds and elements
+abbrev pub array_of : Elements → m.Value
+array_of es = m.Array (spans_of es.spans.items) (joined (values_of es.values.items))
+
+pub array_is : (b : Box Elements Global) → value_of (v.Array b) ≡ array_of b.value
+array_is b = search (rules, v.the_lemmas, row_is)
 
 -- nothing stands past the last
 pub part_past : (vs : List v.Value) (i : ℕ) (way : List Step) → length vs ≤ i → part_at (joined (values_of vs)) i way ≡ m.Unallocated
@@ -54,16 +59,19 @@ with_part_within (z ∷ vs) zero way x d y h e = ap (λ u. m.more u (joined (val
 with_part_within (z ∷ vs) (suc i) way x d y h e = ap (m.more (value_of z)) (with_part_within vs i way x d y (omega arith) e)
 
 -- values in which parts of one component or element are others
-pub array_put : (ss : Vec Span Global) (vs ws : Vec v.Value Global) (k : ℕ) (s : n.Step) (rest steps : List n.Step) (x : m.Value) →
-    s ≡ step.Element k → steps ≡ s ∷ rest →
-    joined (values_of ws.items) ≡ with_part_at (joined (values_of vs.items)) k (steps_of rest) x →
-    value_of (v.Array ss ws) ≡ with_part (value_of (v.Array ss vs)) (steps_of steps) x
-array_put ss vs ws k s rest steps x e f h = rw (array_is, array_is, f, e) (ap (m.Array (spans_of ss.items)) h)
+pub array_put : (b d : Box Elements Global) (k : ℕ) (s : n.Step) (rest steps : List n.Step) (x : m.Value) →
+    s ≡ step.Element k → steps ≡ s ∷ rest → d.value.spans ≡ b.value.spans →
+    joined (values_of d.value.values.items) ≡ with_part_at (joined (values_of b.value.values.items)) k (steps_of rest) x →
+    value_of (v.Array d) ≡ with_part (value_of (v.Array b)) (steps_of steps) x
+array_put b d k s rest steps x e f g h = array_is d ∙ ap (λ (ss : Vec Span Global). m.Array (spans_of ss.items) (joined (values_of d.value.values.items))) g
+    ∙ ap (m.Array (spans_of b.value.spans.items)) h ∙ rw (f, e) (ap (λ u. with_part u (steps_of (step.Element k ∷ rest)) x) (sym (array_is b)))
 
 -- one element is another
-pub array_taken : (ss : Vec Span Global) (vs ws : Vec v.Value Global) (k : ℕ) (x : m.Value) →
-    joined (values_of ws.items) ≡ with_part_at (joined (values_of vs.items)) k [] x → value_of (v.Array ss ws) ≡ with_part (value_of (v.Array ss vs)) (Element k ∷ []) x
-array_taken ss vs ws k x h = array_is ss ws ∙ ap (m.Array (spans_of ss.items)) h ∙ ap (λ u. with_part u (Element k ∷ []) x) (sym (array_is ss vs))
+pub array_taken : (b d : Box Elements Global) (k : ℕ) (x : m.Value) → d.value.spans ≡ b.value.spans →
+    joined (values_of d.value.values.items) ≡ with_part_at (joined (values_of b.value.values.items)) k [] x →
+    value_of (v.Array d) ≡ with_part (value_of (v.Array b)) (Element k ∷ []) x
+array_taken b d k x g h = array_is d ∙ ap (λ (ss : Vec Span Global). m.Array (spans_of ss.items) (joined (values_of d.value.values.items))) g
+    ∙ ap (m.Array (spans_of b.value.spans.items)) h ∙ ap (λ u. with_part u (Element k ∷ []) x) (sym (array_is b))
 
 -- steps that lead nowhere
 
@@ -73,20 +81,20 @@ composite_stays vs (step.Component k) way x h = absurd (h k refl)
 composite_stays vs (step.Element k) way x h = refl
 composite_stays vs step.Contents way x h = refl
 
-array_stays : (ss : Vec Span Global) (vs : Vec v.Value Global) (s : n.Step) (way : List Step) (x : m.Value) → ((k : ℕ) → s ≡ step.Element k → ⊥) →
-    value_of (v.Array ss vs) ≡ with_part (value_of (v.Array ss vs)) (step_of s ∷ way) x
-array_stays ss vs (step.Component k) way x h = refl
-array_stays ss vs (step.Element k) way x h = absurd (h k refl)
-array_stays ss vs step.Contents way x h = refl
+array_stays : (b : Box Elements Global) (s : n.Step) (way : List Step) (x : m.Value) → ((k : ℕ) → s ≡ step.Element k → ⊥) →
+    value_of (v.Array b) ≡ with_part (value_of (v.Array b)) (step_of s ∷ way) x
+array_stays b (step.Component k) way x h = refl
+array_stays b (step.Element k) way x h = absurd (h k refl)
+array_stays b step.Contents way x h = refl
 
 pub composite_kept : (vs : Vec v.Value Global) (s : n.Step) (rest steps : List n.Step) (x : m.Value) → steps ≡ s ∷ rest → ((k : ℕ) → s ≡ step.Component k → ⊥) →
     value_of (v.Composite vs) ≡ with_part (value_of (v.Composite vs)) (steps_of steps) x
 composite_kept vs s rest steps x e h = rw e (composite_stays vs s (steps_of rest) x h)
 
-pub array_kept : (ss : Vec Span Global) (vs : Vec v.Value Global) (s : n.Step) (rest steps : List n.Step) (x : m.Value) → steps ≡ s ∷ rest →
+pub array_kept : (b : Box Elements Global) (s : n.Step) (rest steps : List n.Step) (x : m.Value) → steps ≡ s ∷ rest →
     ((k : ℕ) → s ≡ step.Element k → ⊥) →
-    value_of (v.Array ss vs) ≡ with_part (value_of (v.Array ss vs)) (steps_of steps) x
-array_kept ss vs s rest steps x e h = rw e (array_stays ss vs s (steps_of rest) x h)
+    value_of (v.Array b) ≡ with_part (value_of (v.Array b)) (steps_of steps) x
+array_kept b s rest steps x e h = rw e (array_stays b s (steps_of rest) x h)
 
 -- objects in levels
 
@@ -118,10 +126,9 @@ pub level_stands : (vs : List (Vec v.Value Global)) (i : ℕ) (x : Vec v.Value G
     values_of x.items ≡ slice_index_or (levels_of vs) i []
 level_stands vs i x h e = ap (λ (u : Vec v.Value Global). values_of u.items) e ∙ sym (level_within vs i x h)
 
-pub array_part : (x : v.Value) (ss : Vec Span Global) (vs : Vec v.Value Global) (s : n.Step) (k : ℕ) (way : List Step) → x ≡ v.Array ss vs →
-    s ≡ step.Element k →
-    part (value_of x) (step_of s ∷ way) ≡ part_at (joined (values_of vs.items)) k way
-array_part x ss vs s k way e f = rw (e, f, array_is) refl
+pub array_part : (x : v.Value) (b : Box Elements Global) (s : n.Step) (k : ℕ) (way : List Step) → x ≡ v.Array b → s ≡ step.Element k →
+    part (value_of x) (step_of s ∷ way) ≡ part_at (joined (values_of b.value.values.items)) k way
+array_part x b s k way e f = rw (e, f, array_is) refl
 
 -- one object of a list is another
 
@@ -138,9 +145,9 @@ level_put vs l i steps x d y h e f = map-set (λ (u : Vec v.Value Global). value
     ∙ ap (slice_set (levels_of vs) l) (f ∙ ap (λ u. slice_set u i (with_part (slice_index_or u i m.Unallocated) steps x)) (level_stands vs l d h e))
 
 -- a copy of an array
-pub array_copied : (x : v.Value) (ss ts : Vec Span Global) (vs ws : Vec v.Value Global) (bounds : List Span) (values : List v.Value) →
-    x ≡ v.Array ss vs → ts.items ≡ bounds → bounds ≡ ss.items → values_of ws.items ≡ values_of values → values ≡ vs.items →
-    value_of (v.Array ts ws) ≡ value_of x
-array_copied x ss ts vs ws bounds values e f g h i = rw (e, array_is, array_is, f, g, h, i) refl
+pub array_copied : (x : v.Value) (b : Box Elements Global) (y : m.Value) (ts : Vec Span Global) (ws : Vec v.Value Global) → x ≡ v.Array b →
+    y ≡ m.Array (spans_of ts.items) (joined (values_of ws.items)) → ts.items ≡ b.value.spans.items → values_of ws.items ≡ values_of b.value.values.items →
+    y ≡ value_of x
+array_copied x b y ts ws e f g h = rw (e, f, array_is, g, h) refl
 
 pub ruleset rows = (composite_is, array_is, part_past, part_stands, object_past, object_stands, level_past, level_stands)

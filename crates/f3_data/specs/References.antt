@@ -9,6 +9,7 @@ use Rattle.f3_data.specs.declared.reference.Maker.TheVariants as maker
 use Rattle.f3_data.specs.declared.reference.Made.{Made}
 use Rattle.f3_data.specs.declared.reference.Numbers.{Numbers}
 use Rattle.f3_data.specs.declared.reference.Numbers.TheVariants as numbers
+use Rattle.f3_data.specs.declared.reference.Section.{Section}
 use Rattle.f3_data.specs.declared.reference.Reach.{Reach}
 use Rattle.f3_data.specs.declared.reference.Reach.TheVariants as reach
 use Rattle.f3_data.specs.declared.reference.Reference.{Reference}
@@ -39,9 +40,12 @@ numbers_of (numbers.Listed ns) = ns.items
 abbrev pub element_path : s.Path → List s.Step → ℕ → s.Path
 element_path p tail n = record { root = p.root; steps = p.steps ++ s.Element n ∷ tail }
 
+abbrev pub section_in : s.Path → Section → m.Reach
+section_in p x = m.Many (spans_of x.spans.items) (map (element_path p (steps_of x.tail.items)) (numbers_of x.numbers))
+
 abbrev pub reach_in : s.Path → Reach → m.Reach
 reach_in p reach.One = m.One
-reach_in p (reach.Many ss ns tail) = m.Many (spans_of ss.items) (map (element_path p (steps_of tail.items)) (numbers_of ns))
+reach_in p (reach.Many b) = section_in p b.value
 
 abbrev pub reference_of : Reference → m.Reference
 reference_of r = record {

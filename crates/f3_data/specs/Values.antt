@@ -15,7 +15,7 @@ abbrev mutual
   value_of (v.Number z) = m.Number z
   value_of (v.Truth b) = m.Truth b
   value_of (v.Composite' k vs) = m.Composite (row_of vs)
-  value_of (v.Array' ss k vs) = m.Array (spans_of ss.items) (row_of vs)
+  value_of (v.Array' p ss k vs) = m.Array (spans_of ss.items) (row_of vs)
   value_of v.Unallocated = m.Unallocated
   value_of (v.Allocated' p x) = m.Allocated (value_of x)
 

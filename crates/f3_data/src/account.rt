@@ -1,6 +1,6 @@
 //! How many words of a heap values take, up to multiples of 2 ^ 64.
 
-ghost use Rattle.std.specs.Prelude.{◌≡◌, ◌%◌, ◌^◌};
+ghost use Rattle.std.specs.Prelude.{◌≡◌, true, ◌%◌, ◌^◌};
 ghost use Rattle.f3_meaning_whole.specs.Value.{joined};
 ghost use Rattle.f3_account.specs.Account.{block, words, objects, all_objects, level_words, levels_words};
 ghost use Rattle.f3_data.specs.Values.{value_of, values_of};
@@ -23,9 +23,9 @@ pub fn words(value: &Value) -> u64
     match value {
         Value::Number(_) | Value::Truth(_) | Value::Unallocated => 1,
         Value::Composite(values) => level_words(values),
-        Value::Array(spans, values) => {
-            let bounds = (spans.len() as u64).wrapping_mul(2);
-            bounds.wrapping_add(level_words(values))
+        Value::Array(elements) => {
+            let bounds = (elements.spans.len() as u64).wrapping_mul(2);
+            bounds.wrapping_add(level_words(&elements.values))
         }
         Value::Allocated(held) => block(words(held)).wrapping_add(1),
     }
@@ -57,6 +57,17 @@ pub fn levels_words(levels: &[Vec<Value>]) -> u64
     sum
 }
 
+/// Whether nothing is allocated in a value: a scalar, or an object that is unallocated.
+#[inline(always)]
+fn holds_nothing(value: &Value) -> bool
+    ensures { result ≡ true → objects (value_of value.now) ≡ 0 }
+{
+    match value {
+        Value::Number(_) | Value::Truth(_) | Value::Unallocated => true,
+        _ => false,
+    }
+}
+
 /// What the blocks of the objects take that are allocated in a value, and beneath these (own rule).
 #[cycle(holding)]
 pub fn objects(value: &Value) -> u64
@@ -65,7 +76,7 @@ pub fn objects(value: &Value) -> u64
     match value {
         Value::Number(_) | Value::Truth(_) | Value::Unallocated => 0,
         Value::Composite(values) => all_objects(values),
-        Value::Array(_, values) => all_objects(values),
+        Value::Array(elements) => all_objects(&elements.values),
         Value::Allocated(held) => block(words(held)),
     }
 }
@@ -77,7 +88,9 @@ pub fn all_objects(values: &[Value]) -> u64
 {
     let mut sum: u64 = 0;
     for value in values {
-        sum = sum.wrapping_add(objects(value));
+        if !holds_nothing(value) {
+            sum = sum.wrapping_add(objects(value));
+        }
     }
     sum
 }

@@ -4,11 +4,11 @@ ghost use Rattle.std.specs.Prelude.{◌≡◌, IfOk};
 ghost use Rattle.f3_meaning_whole.specs.Store as s;
 ghost use Rattle.f3_data.specs.Values.{value_of, values_of, spans_of};
 ghost use Rattle.f3_data.specs.Stores.{steps_of, path_of};
-ghost use Rattle.f3_data.specs.References.{numbers_of, reach_in, reference_of, references_of};
+ghost use Rattle.f3_data.specs.References.{numbers_of, section_in, reach_in, reference_of, references_of};
 
-use crate::reference::{Made, Numbers, Reach, Reference};
+use crate::reference::{Made, Numbers, Reach, Reference, Section};
 use crate::store::{Path, Step};
-use crate::value::{Span, Value};
+use crate::value::{Span, Value, array};
 use std::alloc::{AllocError, Global};
 
 /// A copy of bounds.
@@ -34,9 +34,9 @@ pub fn value(alloc: Global, original: &Value) -> Result<Value, AllocError>
         Value::Number(number) => Ok(Value::Number(*number)),
         Value::Truth(truth) => Ok(Value::Truth(*truth)),
         Value::Composite(all) => Ok(Value::Composite(values(alloc, all)?)),
-        Value::Array(bounds, all) => {
-            let bounds = spans(alloc, bounds)?;
-            Ok(Value::Array(bounds, values(alloc, all)?))
+        Value::Array(elements) => {
+            let bounds = spans(alloc, &elements.spans)?;
+            array(alloc, bounds, values(alloc, &elements.values)?)
         }
         Value::Unallocated => Ok(Value::Unallocated),
         Value::Allocated(held) => {
@@ -51,9 +51,13 @@ pub fn value(alloc: Global, original: &Value) -> Result<Value, AllocError>
 pub fn values(alloc: Global, originals: &[Value]) -> Result<Vec<Value>, AllocError>
     ensures { IfOk result (λ r. values_of r.items ≡ values_of originals.now) }
 {
-    let mut copies = Vec::new(alloc);
+    let mut copies = Vec::with_capacity(alloc, originals.len())?;
     for original in originals {
-        copies.push(value(alloc, original)?)?;
+        match original {
+            Value::Number(number) => copies.push(Value::Number(*number))?,
+            Value::Truth(truth) => copies.push(Value::Truth(*truth))?,
+            _ => copies.push(value(alloc, original)?)?,
+        }
     }
     Ok(copies)
 }
@@ -84,12 +88,25 @@ pub fn reach(alloc: Global, original: &Reach) -> Result<Reach, AllocError>
 {
     match original {
         Reach::One => Ok(Reach::One),
-        Reach::Many(bounds, places, tail) => {
-            let bounds = spans(alloc, bounds)?;
-            let places = numbers(alloc, places)?;
-            Ok(Reach::Many(bounds, places, steps(alloc, tail)?))
+        Reach::Many(original) => {
+            let copy = section(alloc, original)?;
+            Ok(Reach::Many(Box::new(alloc, copy)?))
         }
     }
+}
+
+/// A copy of a section.
+fn section(alloc: Global, original: &Section) -> Result<Section, AllocError>
+    ensures { IfOk result (λ r. (p : s.Path) → section_in p r ≡ section_in p original.now) }
+{
+    let bounds = spans(alloc, &original.spans)?;
+    let numbers = numbers(alloc, &original.numbers)?;
+    let tail = steps(alloc, &original.tail)?;
+    Ok(Section {
+        spans: bounds,
+        numbers,
+        tail,
+    })
 }
 
 /// A copy of a reference to an object that is part of no other, or of a part of one.

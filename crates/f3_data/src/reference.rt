@@ -38,7 +38,15 @@ pub enum Numbers {
 #[derive(Drop)]
 pub enum Reach {
     One,
-    Many(Vec<Span>, Numbers, Vec<Step>),
+    Many(Box<Section>),
+}
+
+/// Elements of an array with their bounds, and the steps from each to the part of it that is meant.
+#[derive(Drop)]
+pub struct Section {
+    pub spans: Vec<Span>,
+    pub numbers: Numbers,
+    pub tail: Vec<Step>,
 }
 
 /// An object, what of it is meant, its type by the declarations on the way from the root, what may be done to it, the unit

@@ -1,6 +1,6 @@
 //! Values.
 
-ghost use Rattle.std.specs.Prelude.{◌≡◌};
+ghost use Rattle.std.specs.Prelude.{◌≡◌, IfOk};
 ghost use Rattle.f3_meaning_whole.specs.Value as m;
 ghost use Rattle.f3_meaning_whole.specs.Value.{joined, number_of, truth_of, is_allocated, spans_of};
 ghost use Rattle.f3_meaning_whole.specs.Act.{needs_storage};
@@ -9,6 +9,7 @@ ghost use Rattle.f3_data.specs.Values as view;
 ghost use Rattle.f3_data.specs.Values.{value_of, values_of};
 
 use f3_program::declarations::Constant;
+use std::alloc::{AllocError, Global};
 
 /// A dimension of an array: its lower bound, and how many subscripts it has (ISO/IEC 1539-1:2004, 5.1.2.5).
 #[derive(Clone, Copy, PartialEq, Eq, Debug)]
@@ -19,14 +20,23 @@ pub struct Span {
 
 /// What an object holds: a whole number, a truth value, the components of a derived type in their order, the elements of an
 /// array in array element order (6.2.2.2), or, where it is allocatable, nothing or a value.
+#[cycle(value)]
 #[derive(Drop)]
 pub enum Value {
     Number(i64),
     Truth(bool),
     Composite(Vec<Value>),
-    Array(Vec<Span>, Vec<Value>),
+    Array(Box<Elements>),
     Unallocated,
     Allocated(Box<Value>),
+}
+
+/// The elements of an array in array element order (6.2.2.2), and its bounds.
+#[cycle(value)]
+#[derive(Drop)]
+pub struct Elements {
+    pub spans: Vec<Span>,
+    pub values: Vec<Value>,
 }
 
 /// The value of a derived type with these components.
@@ -37,10 +47,13 @@ pub fn composite(components: Vec<Value>) -> Value
 }
 
 /// An array of bounds with these elements.
-pub fn array(spans: Vec<Span>, elements: Vec<Value>) -> Value
-    ensures { value_of result ≡ m.Array (view.spans_of spans.items) (joined (values_of elements.items)) }
+///
+/// `AllocError` where the host has no memory for it.
+pub fn array(alloc: Global, spans: Vec<Span>, values: Vec<Value>) -> Result<Value, AllocError>
+    ensures { IfOk result (λ r. value_of r ≡ m.Array (view.spans_of spans.items) (joined (values_of values.items))) }
 {
-    Value::Array(spans, elements)
+    let elements = Box::new(alloc, Elements { spans, values })?;
+    Ok(Value::Array(elements))
 }
 
 /// The number that a value is, or 0.
@@ -78,7 +91,7 @@ pub fn needs_storage(value: &Value) -> bool
     ensures { result ≡ needs_storage (value_of value.now) }
 {
     match value {
-        Value::Composite(_) | Value::Array(_, _) | Value::Allocated(_) => true,
+        Value::Composite(_) | Value::Array(_) | Value::Allocated(_) => true,
         _ => false,
     }
 }
@@ -88,7 +101,7 @@ pub fn spans_of(value: &Value) -> &[Span]
     ensures { view.spans_of result.now ≡ spans_of (value_of value.now) }
 {
     match value {
-        Value::Array(spans, _) => spans,
+        Value::Array(elements) => &elements.spans,
         _ => &[],
     }
 }

@@ -1,11 +1,12 @@
 -- Elements of arrays, in memory and in the meaning.
-use Rattle.std.proofs.Common.{get_or, append_assoc, ◌≡◌, drop, ℕ, zero, suc, ◌+◌, ◌<◌, ◌≤◌, List, [], ◌∷◌, ◌++◌, length, refl, sym, ap, ◌∙◌, rules, arith, Vec, Global, map, None, Some}
+use Rattle.std.proofs.Common.{get_or, append_assoc, ◌≡◌, drop, ℕ, zero, suc, ◌+◌, ◌<◌, ◌≤◌, List, [], ◌∷◌, ◌++◌, length, refl, sym, ap, ◌∙◌, rules, arith, Vec, Box, Global, map, None, Some}
 use Rattle.std.specs.Prelude.{slice_get}
 use Rattle.f3_meaning_whole.specs.Value as m
 use Rattle.f3_meaning_whole.specs.Value.{joined}
 use Rattle.f3_meaning_whole.specs.Store.{Path, Element, within}
 use Rattle.f3_meaning_whole.specs.Reference as r
 use Rattle.f3_data.specs.declared.value.Span.{Span}
+use Rattle.f3_data.specs.declared.value.Elements.{Elements}
 use Rattle.f3_data.specs.declared.store.Step as t
 use Rattle.f3_data.specs.declared.value.Value as v
 use Rattle.f3_data.specs.Values.{value_of, values_of, row_of, spans_of}
@@ -22,8 +23,8 @@ row_is (v.more_of-Value x rest) = ap (m.more (value_of x)) (row_is rest)
 pub composite_is : (vs : Vec v.Value Global) → value_of (v.Composite vs) ≡ m.Composite (joined (values_of vs.items))
 composite_is vs = search (rules, v.the_lemmas, row_is)
 
-pub array_is : (ss : Vec Span Global) (vs : Vec v.Value Global) → value_of (v.Array ss vs) ≡ m.Array (spans_of ss.items) (joined (values_of vs.items))
-array_is ss vs = search (rules, v.the_lemmas, row_is)
+pub array_is : (b : Box Elements Global) → value_of (v.Array b) ≡ m.Array (spans_of b.value.spans.items) (joined (values_of b.value.values.items))
+array_is b = search (rules, v.the_lemmas, row_is)
 
 -- so many numbers
 pub counted_length : (i n : ℕ) → length (counted i n) ≡ n
@@ -55,13 +56,13 @@ pub elements_are : (i : ℕ) (p : Path) (vs : List v.Value) → map (element_pat
 elements_are i p [] = refl
 elements_are i p (x ∷ vs) = ap (λ ps. element_path p [] i ∷ ps) (elements_are (suc i) p vs)
 
-pub whole_array : (p : Path) (ss : Vec Span Global) (vs : Vec v.Value Global) → r.reach_of p (value_of (v.Array ss vs)) ≡ r.Many (spans_of ss.items) (map (element_path p []) (counted 0 (length vs.items)))
-whole_array p ss vs = ap (r.reach_of p) (array_is ss vs) ∙ ap (r.Many (spans_of ss.items)) (sym (elements_are 0 p vs.items))
+pub whole_array : (p : Path) (b : Box Elements Global) → r.reach_of p (value_of (v.Array b)) ≡ r.Many (spans_of b.value.spans.items) (map (element_path p []) (counted 0 (length b.value.values.items)))
+whole_array p b = ap (r.reach_of p) (array_is b) ∙ ap (r.Many (spans_of b.value.spans.items)) (sym (elements_are 0 p b.value.values.items))
 
 -- the same of lists that are equal to those
-pub whole_array_by : (p : Path) (value : v.Value) (ss : Vec Span Global) (vs : Vec v.Value Global) (spans : List Span) (tail : List t.Step) (n : ℕ) → value ≡ v.Array ss vs → spans ≡ ss.items → tail ≡ [] → n ≡ length vs.items →
+pub whole_array_by : (p : Path) (value : v.Value) (b : Box Elements Global) (spans : List Span) (tail : List t.Step) (n : ℕ) → value ≡ v.Array b → spans ≡ b.value.spans.items → tail ≡ [] → n ≡ length b.value.values.items →
     r.Many (spans_of spans) (map (element_path p (steps_of tail)) (counted 0 n)) ≡ r.reach_of p (value_of value)
-whole_array_by p value ss vs spans tail n a b t l = rw (a, b, t, l) (sym (whole_array p ss vs))
+whole_array_by p value b spans tail n a s t l = rw (a, s, t, l) (sym (whole_array p b))
 
 -- one of a list, and those behind it
 pub drop_at : (k : ℕ) (ns : List ℕ) (n : ℕ) → slice_get ns k ≡ Some n → drop k ns ≡ n ∷ drop (k + 1) ns

@@ -1,11 +1,12 @@
 -- Values for elements.
-use Rattle.std.proofs.Common.{append_assoc, ◌≡◌, ℕ, zero, suc, ◌+◌, ◌-◌, ◌<◌, ◌≤◌, false, List, [], ◌∷◌, ◌++◌, refl, sym, ap, ◌∙◌, arith, Vec, Global, map, Some, drop, length}
+use Rattle.std.proofs.Common.{append_assoc, ◌≡◌, ℕ, zero, suc, ◌+◌, ◌-◌, ◌<◌, ◌≤◌, false, List, [], ◌∷◌, ◌++◌, refl, sym, ap, ◌∙◌, arith, Vec, Box, Global, map, Some, drop, length}
 use Rattle.std.specs.Prelude.{replicate, slice_get}
 use Rattle.f3_meaning_whole.specs.Value as m
 use Rattle.f3_meaning_whole.specs.Value.{listed, joined, spread}
 use Rattle.f3_meaning_whole.specs.Store as s
 use Rattle.f3_meaning_whole.specs.Store.{put, put_all}
 use Rattle.f3_data.specs.declared.value.Span.{Span}
+use Rattle.f3_data.specs.declared.value.Elements.{Elements}
 use Rattle.f3_data.specs.declared.value.Value as v
 use Rattle.f3_data.specs.Values.{value_of, values_of, spans_of}
 use Rattle.f3_data.specs.References.{element_path}
@@ -16,8 +17,8 @@ pub listed_joined : (vs : List m.Value) → listed (joined vs) ≡ vs
 listed_joined [] = refl
 listed_joined (x ∷ vs) = ap (λ xs. x ∷ xs) (listed_joined vs)
 
-pub spread_elements : (n : ℕ) (ss : Vec Span Global) (vs : Vec v.Value Global) → spread n (value_of (v.Array ss vs)) ≡ values_of vs.items
-spread_elements n ss vs = ap (spread n) (array_is ss vs) ∙ listed_joined (values_of vs.items)
+pub spread_elements : (n : ℕ) (b : Box Elements Global) → spread n (value_of (v.Array b)) ≡ values_of b.value.values.items
+spread_elements n b = ap (spread n) (array_is b) ∙ listed_joined (values_of b.value.values.items)
 
 pub spread_scalar : (n : ℕ) (x : m.Value) → is_array x ≡ false → spread n x ≡ replicate n x
 spread_scalar n (m.Array ss vs) e = cc
@@ -68,11 +69,11 @@ pub composite_cleared : (x : v.Value) (vs xs : Vec v.Value Global) (ys : List v.
 composite_cleared x vs xs ys e a h = composite_is xs ∙ ap (λ zs. m.Composite (joined zs)) (h ∙ ap (λ zs. map m.cleared (values_of zs)) a)
     ∙ sym (ap (λ y. m.cleared (value_of y)) e ∙ ap m.cleared (composite_is vs) ∙ ap m.Composite (all_cleared_is (values_of vs.items)))
 
-pub array_cleared : (x : v.Value) (ss ts : Vec Span Global) (vs xs : Vec v.Value Global) (ys : List v.Value) → x ≡ v.Array ss vs → ys ≡ vs.items → ts.items ≡ ss.items → values_of xs.items ≡ map m.cleared (values_of ys) →
-    value_of (v.Array ts xs) ≡ m.cleared (value_of x)
-array_cleared x ss ts vs xs ys e a b h = array_is ts xs ∙ ap (λ us. m.Array (spans_of us) (joined (values_of xs.items))) b
-    ∙ ap (λ zs. m.Array (spans_of ss.items) (joined zs)) (h ∙ ap (λ zs. map m.cleared (values_of zs)) a)
-    ∙ sym (ap (λ y. m.cleared (value_of y)) e ∙ ap m.cleared (array_is ss vs) ∙ ap (m.Array (spans_of ss.items)) (all_cleared_is (values_of vs.items)))
+pub array_cleared : (x : v.Value) (b : Box Elements Global) (y : m.Value) (ts : List Span) (xs : List v.Value) → x ≡ v.Array b → y ≡ m.Array (spans_of ts) (joined (values_of xs)) → ts ≡ b.value.spans.items → values_of xs ≡ map m.cleared (values_of b.value.values.items) →
+    y ≡ m.cleared (value_of x)
+array_cleared x b y ts xs e f g h = f ∙ ap (λ us. m.Array (spans_of us) (joined (values_of xs))) g
+    ∙ ap (λ zs. m.Array (spans_of b.value.spans.items) (joined zs)) h
+    ∙ sym (ap (λ z. m.cleared (value_of z)) e ∙ ap m.cleared (array_is b) ∙ ap (m.Array (spans_of b.value.spans.items)) (all_cleared_is (values_of b.value.values.items)))
 
 -- one more copy
 pub copied_more : (f : s.Path → m.Value) (p : s.Path) (tail : List s.Step) (ns : List ℕ) (k n : ℕ) (vs ws : List v.Value) (x : v.Value) → slice_get ns k ≡ Some n → ws ≡ vs ++ x ∷ [] → value_of x ≡ f (element_path p tail n) →

@@ -4,7 +4,8 @@ ghost use Rattle.std.specs.Prelude.{◌≡◌, ℕ, ◌+◌, ◌<◌, List, ◌�
 ghost use Rattle.f3_meaning_whole.specs.Value as v;
 ghost use Rattle.f3_meaning_whole.specs.Value.{spread};
 ghost use Rattle.f3_meaning_whole.specs.Store as s;
-ghost use Rattle.f3_meaning_whole.specs.Store.{get, put_all};
+ghost use Rattle.f3_meaning_whole.specs.Store.{get, put, put_all};
+ghost use Rattle.f3_meaning_whole.specs.Arithmetic.{constant_value};
 ghost use Rattle.f3_meaning_whole.specs.Reference.{paths};
 ghost use Rattle.f3_located.specs.Kinds.{is_array};
 ghost use Rattle.f3_located.specs.Ways.{LeadsToElement};
@@ -14,9 +15,10 @@ ghost use Rattle.f3_data.specs.References.{element_path, numbers_of, reference_o
 
 use crate::elements::{element_path, go_to, length_of, place_at};
 use f3_data::copies;
-use f3_data::reference::{Numbers, Reach, Reference};
+use f3_data::reference::{Numbers, Reach, Reference, Section};
 use f3_data::store::{Path, Step, Store};
-use f3_data::value::Value;
+use f3_data::value::{Elements, Value, array};
+use f3_program::declarations::Constant;
 use std::alloc::{AllocError, Global};
 
 /// An object takes the first of these values, if there is one.
@@ -25,6 +27,25 @@ fn put_first(store: &mut Store, path: &Path, mut values: Vec<Value>)
 {
     if !values.is_empty() {
         store.put(path, values.swap_remove(0));
+    }
+}
+
+/// The part at a path becomes a scalar.
+#[inline(never)]
+fn set_scalar(store: &mut Store, path: &Path, scalar: Constant)
+    ensures { store_of store.new ≡ put (store_of store.old) (path_of path.now) (constant_value scalar) }
+{
+    store.set(path.root, &path.steps, scalar);
+}
+
+/// The part at a path takes a value, a scalar in place.
+fn put_value(store: &mut Store, path: &Path, value: Value)
+    ensures { store_of store.new ≡ put (store_of store.old) (path_of path.now) (value_of value) }
+{
+    match value {
+        Value::Number(number) => set_scalar(store, path, Constant::Number(number)),
+        Value::Truth(truth) => set_scalar(store, path, Constant::Truth(truth)),
+        other => store.put(path, other),
     }
 }
 
@@ -46,7 +67,7 @@ fn put_at(
 {
     if k < length_of(numbers) {
         go_to(path, array, place_at(numbers, k));
-        store.put(path, value);
+        put_value(store, path, value);
     } else {
         drop(value);
     }
@@ -58,16 +79,15 @@ fn put_each(
     alloc: Global,
     store: &mut Store,
     array: &Path,
-    numbers: &Numbers,
-    tail: &[Step],
+    section: &Section,
     values: Vec<Value>,
 ) -> Result<(), AllocError>
-    ensures { OnOk result (store_of store.new ≡ put_all (map (element_path (path_of array.now) (steps_of tail.now)) (numbers_of numbers.now)) (values_of values.items) (store_of store.old)) }
+    ensures { OnOk result (store_of store.new ≡ put_all (map (element_path (path_of array.now) (steps_of section.now.tail.items)) (numbers_of section.now.numbers)) (values_of values.items) (store_of store.old)) }
 {
-    let mut path = element_path(alloc, array, 0, tail)?;
+    let mut path = element_path(alloc, array, 0, &section.tail)?;
     let mut k = 0;
     for value in values {
-        put_at(store, &mut path, array, numbers, k, value);
+        put_at(store, &mut path, array, &section.numbers, k, value);
         k += 1;
     }
     Ok(())
@@ -91,7 +111,7 @@ fn is_array(value: &Value) -> bool
     ensures { result ≡ is_array (value_of value.now) }
 {
     match value {
-        Value::Array(_, _) => true,
+        Value::Array(_) => true,
         _ => false,
     }
 }
@@ -102,7 +122,11 @@ fn elements_of(alloc: Global, value: Value) -> Vec<Value>
     ensures { is_array (value_of value) ≡ true → (n : ℕ) → values_of result.items ≡ spread n (value_of value) }
 {
     match value {
-        Value::Array(_, values) => values,
+        Value::Array(elements) => {
+            let Elements { spans, values } = Box::into_inner(elements);
+            drop(spans);
+            values
+        }
         other => {
             drop(other);
             Vec::new(alloc)
@@ -151,9 +175,9 @@ pub fn set(
             set_one(alloc, store, &reference.path, value);
             Ok(())
         }
-        Reach::Many(_, numbers, tail) => {
-            let values = spread_over(alloc, value, length_of(numbers))?;
-            put_each(alloc, store, &reference.path, numbers, tail, values)
+        Reach::Many(section) => {
+            let values = spread_over(alloc, value, length_of(&section.numbers))?;
+            put_each(alloc, store, &reference.path, section, values)
         }
     }
 }
@@ -167,9 +191,9 @@ fn cleared(alloc: Global, value: &Value) -> Result<Value, AllocError>
         Value::Number(number) => Ok(Value::Number(*number)),
         Value::Truth(truth) => Ok(Value::Truth(*truth)),
         Value::Composite(values) => Ok(Value::Composite(all_cleared(alloc, values)?)),
-        Value::Array(bounds, values) => {
-            let bounds = copies::spans(alloc, bounds)?;
-            Ok(Value::Array(bounds, all_cleared(alloc, values)?))
+        Value::Array(elements) => {
+            let bounds = copies::spans(alloc, &elements.spans)?;
+            array(alloc, bounds, all_cleared(alloc, &elements.values)?)
         }
         Value::Unallocated => Ok(Value::Unallocated),
         Value::Allocated(_) => Ok(Value::Unallocated),
@@ -228,9 +252,15 @@ pub fn clear(alloc: Global, store: &mut Store, reference: &Reference) -> Result<
             store.put(&reference.path, value);
             Ok(())
         }
-        Reach::Many(_, numbers, tail) => {
-            let values = each_cleared(alloc, store, &reference.path, numbers, tail)?;
-            put_each(alloc, store, &reference.path, numbers, tail, values)
+        Reach::Many(section) => {
+            let values = each_cleared(
+                alloc,
+                store,
+                &reference.path,
+                &section.numbers,
+                &section.tail,
+            )?;
+            put_each(alloc, store, &reference.path, section, values)
         }
     }
 }

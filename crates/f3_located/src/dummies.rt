@@ -40,8 +40,8 @@ pub fn bind(reference: &mut Reference, dummy: &Dummy)
     ensures { reference_of reference.new ≡ bound dummy.now (reference_of reference.old) }
 {
     reference.right = right_to(dummy.intent, reference.right);
-    if let Reach::Many(spans, _, _) = &mut reference.reach {
-        base(spans, &dummy.lowers);
+    if let Reach::Many(section) = &mut reference.reach {
+        base(&mut section.spans, &dummy.lowers);
     }
 }
 
@@ -49,7 +49,7 @@ pub fn bind(reference: &mut Reference, dummy: &Dummy)
 pub fn associate(reference: &mut Reference)
     ensures { reference_of reference.new ≡ associated (reference_of reference.old) }
 {
-    if let Reach::Many(spans, _, _) = &mut reference.reach {
-        show(spans);
+    if let Reach::Many(section) = &mut reference.reach {
+        show(&mut section.spans);
     }
 }

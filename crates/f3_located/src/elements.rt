@@ -51,7 +51,7 @@ pub fn count(reference: &Reference) -> usize
 {
     match &reference.reach {
         Reach::One => 1,
-        Reach::Many(_, numbers, _) => length_of(numbers),
+        Reach::Many(section) => length_of(&section.numbers),
     }
 }
 

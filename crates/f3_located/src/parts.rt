@@ -1,6 +1,6 @@
 //! Parts of objects.
 
-ghost use Rattle.std.specs.Prelude.{◌≡◌, IfOk, MatchOption, false};
+ghost use Rattle.std.specs.Prelude.{◌≡◌, IfOk, OnOk, MatchOption, false};
 ghost use Rattle.f3_meaning_whole.specs.Value as v;
 ghost use Rattle.f3_meaning_whole.specs.Store as s;
 ghost use Rattle.f3_meaning_whole.specs.Store.{within};
@@ -10,11 +10,11 @@ ghost use Rattle.f3_meaning_whole.specs.Act.{Setting, Here, moved, component_pat
 ghost use Rattle.f3_meaning_whole.specs.declared.run_error.RunError.TheVariants.{NotAllocated};
 ghost use Rattle.f3_data.specs.Values.{value_of};
 ghost use Rattle.f3_data.specs.Stores.{path_of, store_of};
-ghost use Rattle.f3_data.specs.References.{maker_of, reach_in, reference_of};
+ghost use Rattle.f3_data.specs.References.{maker_of, section_in, reach_in, reference_of};
 ghost use Rattle.f3_located.specs.Finds.{Finds, FailsBy};
 
 use crate::reaches::{count_from_one, reach_at, reach_of};
-use f3_data::reference::{Made, Maker, Reach, Reference};
+use f3_data::reference::{Made, Maker, Reach, Reference, Section};
 use f3_data::store::{Path, Step, Store};
 use f3_data::value::Value;
 use f3_program::declarations::{Base, Derived};
@@ -36,6 +36,15 @@ pub fn component_type(types: &[Derived], of: Base, k: usize) -> Base
     }
 }
 
+/// A component of what is meant of each element.
+fn select_in_each(section: &mut Section, k: usize) -> Result<(), AllocError>
+    ensures { OnOk result ((p at : s.Path) (store : s.Store) → section_in p section.new ≡ component_reach (section_in p section.old) at k store) }
+{
+    count_from_one(&mut section.spans);
+    section.tail.push(Step::Component(k))?;
+    Ok(())
+}
+
 /// What a component of an object, or of each element of an array, reaches.
 fn reach_component(
     alloc: Global,
@@ -52,10 +61,9 @@ fn reach_component(
             path.steps.push(Step::Component(k))?;
             reach_at(alloc, store, path)
         }
-        Reach::Many(mut spans, numbers, mut tail) => {
-            count_from_one(&mut spans);
-            tail.push(Step::Component(k))?;
-            Ok(Reach::Many(spans, numbers, tail))
+        Reach::Many(mut section) => {
+            select_in_each(&mut section, k)?;
+            Ok(Reach::Many(section))
         }
     }
 }
@@ -150,7 +158,7 @@ pub fn contents(
 {
     match &reference.reach {
         Reach::One => (),
-        Reach::Many(_, _, _) => return Ok(None),
+        Reach::Many(_) => return Ok(None),
     }
     match held_at(store, &reference.path) {
         Some(held) => Ok(Some(opened(alloc, reference, held)?)),

@@ -8,7 +8,7 @@ ghost use Rattle.f3_data.specs.Values.{value_of, spans_of};
 ghost use Rattle.f3_data.specs.Stores.{path_of, store_of};
 ghost use Rattle.f3_data.specs.References.{reach_in};
 
-use f3_data::reference::{Numbers, Reach};
+use f3_data::reference::{Numbers, Reach, Section};
 use f3_data::store::{Path, Store};
 use f3_data::value::{Span, Value};
 use std::alloc::{AllocError, Global};
@@ -18,11 +18,14 @@ pub fn reach_of(alloc: Global, value: &Value) -> Result<Reach, AllocError>
     ensures { IfOk result (λ r. (p : s.Path) → reach_in p r ≡ m.reach_of p (value_of value.now)) }
 {
     match value {
-        Value::Array(spans, values) => Ok(Reach::Many(
-            Vec::from_slice(alloc, spans)?,
-            Numbers::First(values.len()),
-            Vec::new(alloc),
-        )),
+        Value::Array(elements) => {
+            let section = Section {
+                spans: Vec::from_slice(alloc, &elements.spans)?,
+                numbers: Numbers::First(elements.values.len()),
+                tail: Vec::new(alloc),
+            };
+            Ok(Reach::Many(Box::new(alloc, section)?))
+        }
         _ => Ok(Reach::One),
     }
 }

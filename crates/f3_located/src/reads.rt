@@ -1,6 +1,6 @@
 //! What stands at references.
 
-ghost use Rattle.std.specs.Prelude.{◌≡◌, ◌<◌, IfOk, length, map, Some, slice_get};
+ghost use Rattle.std.specs.Prelude.{◌≡◌, ℕ, ◌<◌, [], ◌∷◌, IfOk, IfSome, length, map, Some, slice_get, slice_index_or};
 ghost use Rattle.f3_meaning_whole.specs.Value as v;
 ghost use Rattle.f3_meaning_whole.specs.Store as s;
 ghost use Rattle.f3_meaning_whole.specs.Reference.{held_at};
@@ -11,9 +11,10 @@ ghost use Rattle.f3_data.specs.References.{element_path, numbers_of, reach_in};
 use crate::elements::{element_path, go_to, length_of, place_at};
 use crate::reaches::show;
 use f3_data::copies;
-use f3_data::reference::{Numbers, Reach, Reference};
+use f3_data::parts::object;
+use f3_data::reference::{Numbers, Reach, Reference, Section};
 use f3_data::store::{Path, Step, Store};
-use f3_data::value::Value;
+use f3_data::value::{Value, array};
 use std::alloc::{AllocError, Global};
 
 /// A copy of what stands at a path.
@@ -26,9 +27,68 @@ pub fn copy_at(alloc: Global, store: &Store, path: &Path) -> Result<Value, Alloc
     }
 }
 
-/// Copies of what stands in a part of elements of an array.
+/// A copy of a value, without a call where it is a number.
+#[inline(always)]
+fn copy_of(alloc: Global, value: &Value) -> Result<Value, AllocError>
+    ensures { IfOk result (λ x. value_of x ≡ value_of value.now) }
+{
+    match value {
+        Value::Number(number) => Ok(Value::Number(*number)),
+        _ => copies::value(alloc, value),
+    }
+}
+
+/// A copy of one of these values: nothing, where there is none of the number.
+#[inline(always)]
+fn copy_among(alloc: Global, values: &[Value], place: usize) -> Result<Value, AllocError>
+    ensures { IfOk result (λ x. value_of x ≡ slice_index_or (values_of values.now) place v.Unallocated) }
+{
+    match object(values, place) {
+        Some(value) => copy_of(alloc, value),
+        None => Ok(Value::Unallocated),
+    }
+}
+
+/// Copies of these values, by their numbers.
 #[tactic(auto, using(crate::proofs::Arrays::drop_at))]
-fn copies_at(
+fn copies_among(
+    alloc: Global,
+    values: &[Value],
+    numbers: &Numbers,
+) -> Result<Vec<Value>, AllocError>
+    ensures { IfOk result (λ xs. values_of xs.items ≡ map (λ n. slice_index_or (values_of values.now) n v.Unallocated) (numbers_of numbers.now)) }
+{
+    let count = length_of(numbers);
+    let mut copies = Vec::with_capacity(alloc, count)?;
+    for k in 0..count {
+        copies.push(copy_among(alloc, values, place_at(numbers, k))?)?;
+    }
+    Ok(copies)
+}
+
+/// The elements of an array.
+fn elements_in(value: &Value) -> Option<&[Value]>
+    ensures { IfSome result (λ vs. (n : ℕ) → slice_index_or (values_of vs.now) n v.Unallocated ≡ s.part (value_of value.now) (s.Element n ∷ [])) }
+{
+    match value {
+        Value::Array(elements) => Some(&elements.values),
+        _ => None,
+    }
+}
+
+/// The elements of the array at a path.
+fn elements_at<'a>(store: &'a Store, path: &Path) -> Option<&'a [Value]>
+    ensures { IfSome result (λ vs. (n : ℕ) → slice_index_or (values_of vs.now) n v.Unallocated ≡ s.get (store_of store.now) (element_path (path_of path.now) [] n)) }
+{
+    match store.get(path) {
+        Some(value) => elements_in(value),
+        None => None,
+    }
+}
+
+/// Copies of what stands in a part of elements of an array, found by its way from the root.
+#[tactic(auto, using(crate::proofs::Arrays::drop_at))]
+fn copies_in_each(
     alloc: Global,
     store: &Store,
     array: &Path,
@@ -47,6 +107,23 @@ fn copies_at(
     Ok(copies)
 }
 
+/// Copies of what a section means of the array at a path.
+fn copies_at(
+    alloc: Global,
+    store: &Store,
+    array: &Path,
+    section: &Section,
+) -> Result<Vec<Value>, AllocError>
+    ensures { IfOk result (λ xs. values_of xs.items ≡ map (s.get (store_of store.now)) (map (element_path (path_of array.now) (steps_of section.now.tail.items)) (numbers_of section.now.numbers))) }
+{
+    if section.tail.is_empty() {
+        if let Some(values) = elements_at(store, array) {
+            return copies_among(alloc, values, &section.numbers);
+        }
+    }
+    copies_in_each(alloc, store, array, &section.numbers, &section.tail)
+}
+
 /// A copy of what stands at a reference, with the bounds that LBOUND and UBOUND tell.
 #[tactic(auto, using(crate::proofs::Arrays::array_is))]
 pub fn read(alloc: Global, reference: &Reference, store: &Store) -> Result<Value, AllocError>
@@ -54,11 +131,11 @@ pub fn read(alloc: Global, reference: &Reference, store: &Store) -> Result<Value
 {
     match &reference.reach {
         Reach::One => copy_at(alloc, store, &reference.path),
-        Reach::Many(spans, numbers, tail) => {
-            let mut spans = copies::spans(alloc, spans)?;
+        Reach::Many(section) => {
+            let mut spans = copies::spans(alloc, &section.spans)?;
             show(&mut spans);
-            let values = copies_at(alloc, store, &reference.path, numbers, tail)?;
-            Ok(Value::Array(spans, values))
+            let values = copies_at(alloc, store, &reference.path, section)?;
+            array(alloc, spans, values)
         }
     }
 }

@@ -47,7 +47,7 @@ pub fn spans(object: &Reference) -> &[Span]
 {
     match &object.reach {
         Reach::One => &[],
-        Reach::Many(spans, _, _) => spans,
+        Reach::Many(section) => &section.spans,
     }
 }
 

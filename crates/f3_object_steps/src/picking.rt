@@ -3,6 +3,7 @@
 ghost use Rattle.std.specs.Prelude.{◌≡◌, true, false, IfOk, MatchResult, map, slice_get};
 ghost use Rattle.std.specs.List.{filter_map};
 ghost use Rattle.f3_meaning_whole.specs.Store as s;
+ghost use Rattle.f3_meaning_whole.specs.Reference.{Many};
 ghost use Rattle.f3_meaning_whole.specs.Act as a;
 ghost use Rattle.f3_meaning_whole.specs.Eval.{by_reach, spans_of_component};
 ghost use Rattle.f3_code.specs.Machine.{selects};
@@ -20,7 +21,7 @@ use crate::places::{Selected, place_of, selection};
 use crate::subscripts::{next_offset, walk_of};
 use f3_cells::cell::Chosen;
 use f3_cells::state::Stop;
-use f3_data::reference::{Numbers, Reach, Reference};
+use f3_data::reference::{Numbers, Reach, Reference, Section};
 use f3_data::store::{Path, Step, Store};
 use f3_data::value::Span;
 use f3_located::elements::{length_of, number_at};
@@ -91,7 +92,12 @@ fn tail_of(alloc: Global, reach: Reach) -> Vec<Step>
 {
     match reach {
         Reach::One => Vec::new(alloc),
-        Reach::Many(spans, numbers, tail) => {
+        Reach::Many(section) => {
+            let Section {
+                spans,
+                numbers,
+                tail,
+            } = Box::into_inner(section);
             drop(spans);
             drop(numbers);
             tail
@@ -99,14 +105,36 @@ fn tail_of(alloc: Global, reach: Reach) -> Vec<Step>
     }
 }
 
+/// A part of elements of these places, with bounds.
+fn section(
+    alloc: Global,
+    spans: Vec<Span>,
+    places: Vec<usize>,
+    tail: Vec<Step>,
+) -> Result<Reach, AllocError>
+    ensures { IfOk result (λ r. (p : s.Path) → reach_in p r ≡ Many (spans_of spans.items) (map (element_path p (steps_of tail.items)) places.items)) }
+{
+    let section = Section {
+        spans,
+        numbers: Numbers::Listed(places),
+        tail,
+    };
+    Ok(Reach::Many(Box::new(alloc, section)?))
+}
+
 /// One element, or a section, is meant.
-fn narrow(path: &mut Path, tail: Vec<Step>, selected: Selected) -> Result<Reach, AllocError>
+fn narrow(
+    alloc: Global,
+    path: &mut Path,
+    tail: Vec<Step>,
+    selected: Selected,
+) -> Result<Reach, AllocError>
     ensures path { IfOk result (λ r. path_of path.new ≡ narrowed_path (path_of path.old) (spans_of selected.spans.items) (map (element_path (path_of path.old) (steps_of tail.items)) selected.places.items)) }
     ensures reach { IfOk result (λ r. reach_in (path_of path.new) r ≡ narrowed_reach (spans_of selected.spans.items) (map (element_path (path_of path.old) (steps_of tail.items)) selected.places.items)) }
 {
     let Selected { places, spans } = selected;
     if !spans.is_empty() {
-        return Ok(Reach::Many(spans, Numbers::Listed(places), tail));
+        return section(alloc, spans, places, tail);
     }
     match places.first() {
         Some(place) => {
@@ -114,7 +142,7 @@ fn narrow(path: &mut Path, tail: Vec<Step>, selected: Selected) -> Result<Reach,
             path.steps.extend_from_slice(&tail)?;
             Ok(Reach::One)
         }
-        None => Ok(Reach::Many(spans, Numbers::Listed(places), tail)),
+        None => section(alloc, spans, places, tail),
     }
 }
 
@@ -124,7 +152,7 @@ fn picked_of(alloc: Global, reach: &Reach, chosen: &[Chosen]) -> Result<Option<S
 {
     match reach {
         Reach::One => Ok(None),
-        Reach::Many(spans, numbers, _) => match picked(alloc, spans, numbers, chosen) {
+        Reach::Many(section) => match picked(alloc, &section.spans, &section.numbers, chosen) {
             Ok(found) => Ok(Some(found)),
             Err(stop) => Err(stop),
         },
@@ -143,7 +171,7 @@ fn narrowed(alloc: Global, reference: Reference, selected: Selected) -> Result<R
         origin,
         makers,
     } = reference;
-    match narrow(&mut path, tail_of(alloc, reach), selected) {
+    match narrow(alloc, &mut path, tail_of(alloc, reach), selected) {
         Ok(reach) => Ok(Reference {
             path,
             reach,
@@ -261,9 +289,9 @@ fn element_of_each(reach: Reach, place: usize) -> Result<Reach, AllocError>
 {
     match reach {
         Reach::One => Ok(Reach::One),
-        Reach::Many(spans, numbers, mut tail) => {
-            tail.push(Step::Element(place))?;
-            Ok(Reach::Many(spans, numbers, tail))
+        Reach::Many(mut section) => {
+            section.tail.push(Step::Element(place))?;
+            Ok(Reach::Many(section))
         }
     }
 }
@@ -339,7 +367,7 @@ fn is_one(reach: &Reach) -> bool
 {
     match reach {
         Reach::One => true,
-        Reach::Many(_, _, _) => false,
+        Reach::Many(_) => false,
     }
 }
 

@@ -102,7 +102,7 @@ fn elements_of(value: &Value) -> Option<&Vec<Value>>
     ensures { MatchOption result (is_array (value_of value.now) ≡ false) (λ vs. HasElements (value_of value.now) (values_of vs.now.items)) }
 {
     match value {
-        Value::Array(_, elements) => Some(elements),
+        Value::Array(elements) => Some(&elements.values),
         _ => None,
     }
 }

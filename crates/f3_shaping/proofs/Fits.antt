@@ -1,10 +1,10 @@
 -- Elements one by one.
-use Rattle.std.proofs.Common.{◌≡◌, ℕ, zero, suc, ◌<◌, List, [], ◌∷◌, length, drop, refl, sym, ap, ◌∙◌, arith, Bool, true, false, get_or, Vec, Global}
+use Rattle.std.proofs.Common.{◌≡◌, ℕ, zero, suc, ◌<◌, List, [], ◌∷◌, length, drop, refl, sym, ap, ◌∙◌, arith, Bool, true, false, get_or, Box, Global}
 use Rattle.f3_program.specs.declared.declarations.Base.{Base}
 use Rattle.f3_meaning_whole.specs.Value as m
 use Rattle.f3_meaning_whole.specs.Value.{joined}
 use Rattle.f3_meaning_whole.specs.Arithmetic.{all_fit, value_fits}
-use Rattle.f3_data.specs.declared.value.Span.{Span}
+use Rattle.f3_data.specs.declared.value.Elements.{Elements}
 use Rattle.f3_data.specs.declared.value.Value as v
 use Rattle.f3_data.proofs.Rows.{array_is}
 use Rattle.f3_data.specs.Values.{value_of, values_of}
@@ -38,6 +38,6 @@ unfit_at t [] i x h e f = absurd (omega arith)
 unfit_at t (y ∷ xs) zero x h e f = unfit_one t (value_of y) _ (ap (λ u. element_fits t (value_of u)) (sym e) ∙ f)
 unfit_at t (y ∷ xs) (suc i) x h e f = unfit_at t xs i x (omega arith) e f
 
-pub array_fits : (t : Base) (x : v.Value) (ss : Vec Span Global) (vs : Vec v.Value Global) (ys : List v.Value) (b : Bool) → x ≡ v.Array ss vs →
-    ys ≡ vs.items → b ≡ all_fit t (joined (values_of ys)) → b ≡ value_fits t (value_of x)
-array_fits t x ss vs ys b e f h = h ∙ ap (λ us. all_fit t (joined (values_of us))) f ∙ sym (ap (value_fits t) (ap value_of e ∙ array_is ss vs))
+pub array_fits : (t : Base) (x : v.Value) (b : Box Elements Global) (ys : List v.Value) (fits : Bool) → x ≡ v.Array b →
+    ys ≡ b.value.values.items → fits ≡ all_fit t (joined (values_of ys)) → fits ≡ value_fits t (value_of x)
+array_fits t x b ys fits e f h = h ∙ ap (λ us. all_fit t (joined (values_of us))) f ∙ sym (ap (value_fits t) (ap value_of e ∙ array_is b))

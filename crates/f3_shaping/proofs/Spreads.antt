@@ -1,9 +1,9 @@
 -- One value for each element.
-use Rattle.std.proofs.Common.{◌≡◌, ℕ, zero, suc, List, [], ◌∷◌, refl, ap, ◌∙◌, false, Vec, Global}
+use Rattle.std.proofs.Common.{◌≡◌, ℕ, zero, suc, List, [], ◌∷◌, refl, ap, ◌∙◌, false, Box, Global}
 use Rattle.std.specs.Prelude.{replicate}
 use Rattle.f3_meaning_whole.specs.Value as m
 use Rattle.f3_meaning_whole.specs.Value.{joined, listed, spread}
-use Rattle.f3_data.specs.declared.value.Span.{Span}
+use Rattle.f3_data.specs.declared.value.Elements.{Elements}
 use Rattle.f3_data.specs.declared.value.Value as v
 use Rattle.f3_data.specs.Values.{value_of, values_of}
 use Rattle.f3_data.proofs.Rows.{array_is}
@@ -13,9 +13,9 @@ pub listed_joined : (vs : List m.Value) → listed (joined vs) ≡ vs
 listed_joined [] = refl
 listed_joined (v ∷ vs) = ap (λ us. v ∷ us) (listed_joined vs)
 
-pub spread_elements : (ss : Vec Span Global) (vs : Vec v.Value Global) (n : ℕ) → spread n (value_of (v.Array ss vs)) ≡ values_of vs.items
-spread_elements ss vs zero = ap (spread zero) (array_is ss vs) ∙ listed_joined (values_of vs.items)
-spread_elements ss vs (suc n) = ap (spread (suc n)) (array_is ss vs) ∙ listed_joined (values_of vs.items)
+pub spread_elements : (b : Box Elements Global) (n : ℕ) → spread n (value_of (v.Array b)) ≡ values_of b.value.values.items
+spread_elements b zero = ap (spread zero) (array_is b) ∙ listed_joined (values_of b.value.values.items)
+spread_elements b (suc n) = ap (spread (suc n)) (array_is b) ∙ listed_joined (values_of b.value.values.items)
 
 pub spread_single : (n : ℕ) (x : m.Value) → is_array x ≡ false → spread n x ≡ replicate n x
 spread_single n (m.Array ss vs) h = cc

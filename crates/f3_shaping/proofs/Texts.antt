@@ -1,11 +1,11 @@
 -- What PRINT writes of values.
 use Rattle.std.proofs.Common.{◌≡◌, ℕ, zero, suc, ◌<◌, List, [], ◌∷◌, ◌++◌, length, take, drop}
-use Rattle.std.proofs.Common.{sym, ap, ◌∙◌, arith, get_or, append_assoc, Vec, Global, OnErr, Result, Ok, Err}
+use Rattle.std.proofs.Common.{sym, ap, ◌∙◌, arith, get_or, append_assoc, Box, Global, OnErr, Result, Ok, Err}
 use Rattle.std.specs.Prelude.{flat_map}
 use Rattle.f3_meaning_whole.specs.Exec.{text_of}
 use Rattle.f3_output.specs.Output.{State, Wrote, Faulted}
 use Rattle.f3_output.proofs.Outputs.{faulted_before, faulted_behind}
-use Rattle.f3_data.specs.declared.value.Span.{Span}
+use Rattle.f3_data.specs.declared.value.Elements.{Elements}
 use Rattle.f3_data.specs.declared.value.Value as v
 use Rattle.f3_data.specs.Values.{value_of, values_of}
 use Rattle.f3_data.proofs.Rows.{array_is}
@@ -31,6 +31,6 @@ pub texts_fault : {a b c : State} {E : Type 0} (r : Result (Unit {0}) E) (xs : L
 texts_fault (Ok z) xs i x d h e w f = tt
 texts_fault {a} {b} {c} (Err z) xs i x d h e w f = rw (sym (texts_split xs i x d h e)) (faulted_before (texts (drop (suc i) xs)) (faulted_behind w f))
 
-pub text_is : (x : v.Value) (ss : Vec Span Global) (vs : Vec v.Value Global) (ys : List v.Value) → x ≡ v.Array ss vs → ys ≡ vs.items →
+pub text_is : (x : v.Value) (b : Box Elements Global) (ys : List v.Value) → x ≡ v.Array b → ys ≡ b.value.values.items →
     value_text (value_of x) ≡ texts ys
-text_is x ss vs ys e f = ap value_text (ap value_of e ∙ array_is ss vs) ∙ ap (flat_map text_of) (listed_joined (values_of vs.items)) ∙ ap texts (sym f)
+text_is x b ys e f = ap value_text (ap value_of e ∙ array_is b) ∙ ap (flat_map text_of) (listed_joined (values_of b.value.values.items)) ∙ ap texts (sym f)

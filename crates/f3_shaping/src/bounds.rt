@@ -65,7 +65,7 @@ pub fn conforms(spans: &[Span], value: &Value) -> bool
     ensures { result ≡ conforms (spans_of spans.now) (value_of value.now) }
 {
     match value {
-        Value::Array(others, _) => same_extents(spans, others),
+        Value::Array(others) => same_extents(spans, &others.spans),
         _ => true,
     }
 }
@@ -101,9 +101,9 @@ pub fn plain(value: Value) -> Value
     ensures { value_of result ≡ plain (value_of value) }
 {
     match value {
-        Value::Array(mut spans, values) => {
-            begin_at_one(&mut spans);
-            Value::Array(spans, values)
+        Value::Array(mut elements) => {
+            begin_at_one(&mut elements.spans);
+            Value::Array(elements)
         }
         other => other,
     }
@@ -114,9 +114,9 @@ pub fn shown(value: Value) -> Value
     ensures { value_of result ≡ shown_value (value_of value) }
 {
     match value {
-        Value::Array(mut spans, values) => {
-            show(&mut spans);
-            Value::Array(spans, values)
+        Value::Array(mut elements) => {
+            show(&mut elements.spans);
+            Value::Array(elements)
         }
         other => other,
     }

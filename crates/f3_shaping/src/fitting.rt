@@ -25,7 +25,7 @@ fn laid_out(alloc: Global, rank: usize, spans: Vec<Span>, value: Value) -> Resul
         return Ok(value);
     }
     let values = spread_over(alloc, &spans, value)?;
-    Ok(array(spans, values))
+    array(alloc, spans, values)
 }
 
 /// A value as what an allocatable of a type holds.

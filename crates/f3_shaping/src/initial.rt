@@ -68,7 +68,7 @@ fn array(
 {
     let spans = spans_declared(alloc, dimensions)?;
     let values = initialized(alloc, element_count(&spans)?, constants, element)?;
-    Ok(value::array(spans, values))
+    value::array(alloc, spans, values)
 }
 
 /// What is declared begins with this value, given that of an element (ISO/IEC 1539-1:2004, 4.5.3, 5.1; own rule for 16.5.6).
@@ -155,5 +155,5 @@ pub fn vacant(
         return copies::value(alloc, element);
     }
     let values = repeated(alloc, element_count(spans)?, element)?;
-    Ok(value::array(copies::spans(alloc, spans)?, values))
+    value::array(alloc, copies::spans(alloc, spans)?, values)
 }

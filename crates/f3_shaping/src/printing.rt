@@ -46,7 +46,7 @@ pub fn print_value<W: Write>(output: &mut Output<W>, value: &Value) -> Result<()
     ensures front { OnErr result (Faulted (state_of W.contents output.old) (state_of W.contents output.new) (value_text (value_of value.now))) }
 {
     match value {
-        Value::Array(_, values) => print_elements(output, values),
+        Value::Array(elements) => print_elements(output, &elements.values),
         _ => print_element(output, value),
     }
 }

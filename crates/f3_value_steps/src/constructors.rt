@@ -51,7 +51,7 @@ fn vector(alloc: Global, values: Vec<Value>) -> Result<Value, AllocError>
         lower: 1,
         extent: values.len() as u64,
     })?;
-    Ok(value::array(spans, values))
+    value::array(alloc, spans, values)
 }
 
 /// An array constructor with so many values (ISO/IEC 1539-1:2004, 4.7).

@@ -13,5 +13,6 @@ words-returns-in-Composite t c = rw (c.in-Composite.is, composite_words) (rw c.d
 
 pub words-returns-in-Array : goal.words-returns-in-Array
 words-returns-in-Array t c =
-    let inner = rw c.deref-in-Array.ensures.value at c.level_words-in-Array.ensures in
-    rw (c.in-Array.is, array_words) (omega arith)
+    let inner = rw (c.deref-in-Array-3.ensures.value, c.deref-in-Array-2.ensures) at c.level_words-in-Array.ensures in
+    let bounds = rw c.deref-in-Array.ensures at c.len.ensures in
+    rw (c.in-Array.is, array_words) (omega (arith, c.in-Array.elements.value.spans.ok.0))

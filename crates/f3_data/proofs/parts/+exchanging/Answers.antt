@@ -1,7 +1,9 @@
 use Rattle.std.proofs.Common.{◌≡◌, ◌∙◌, ap, sym, arith, rules}
+use Rattle.std.specs.Box.{with_value}
 use Rattle.f3_meaning_whole.specs.Store.{part, with_part}
 use Rattle.f3_account.specs.Account.{words}
 use Rattle.f3_data.specs.declared.value.Value as v
+use Rattle.f3_data.specs.declared.value.Elements.{Elements}
 use Rattle.f3_data.specs.Values.{value_of}
 use Rattle.f3_data.specs.Stores.{steps_of}
 use Rattle.f3_data.proofs.Rows.{composite_is, array_is, array_part, with_part_past, with_part_within, array_put}
@@ -12,9 +14,14 @@ use Rattle.f3_data.proofs.parts.+exchanging.Goals.{exchange-in-Composite-Compone
 pub exchange-returns-clause-value : goal.exchange-returns-clause-value
 exchange-returns-clause-value t c = elim c.match-value.branch [
   | exchange-in-Composite-Component w ↦ search (rules, composite_is, array_is)
-  | exchange-in-Array-Element w ↦ rw (w.value-is, w.in-Array-Element.is-0) (simp v.the_lemmas (array_put w.in-Array-Element.field-0-0
-      w.in-Array-Element.values w.exchange_at-in-Array-Element.new.values w.in-Array-Element.k c.in-Some.step.now c.in-Some.rest.now c.args.steps.now
-      (value_of c.args.other.now) w.in-Array-Element.is-1 c.in-Some.ensures.cases.0 (let e = w.exchange_at-in-Array-Element.ensures.values in search rules)))
+  | exchange-in-Array-Element w ↦
+      let h : w.deref_mut.result.now ≡ w.in-Array-Element.elements.value = search rules in
+      let e = w.exchange_at-in-Array-Element.ensures.values in
+      let all = array_put w.in-Array-Element.elements (with_value w.in-Array-Element.elements
+      record { spans = w.deref_mut.result.now.spans; values = w.exchange_at-in-Array-Element.new.values })
+      w.in-Array-Element.k c.in-Some.step.now c.in-Some.rest.now c.args.steps.now (value_of c.args.other.now)
+      w.in-Array-Element.is-1 c.in-Some.ensures.cases.0 (ap (λ (x : Elements). x.spans) h) (search rules) in
+      search (rules, v.the_lemmas)
   | exchange-in-Allocated-Contents w ↦ search (rules, composite_is, array_is)
 ]
 
@@ -22,12 +29,13 @@ pub exchange-returns-clause-other : goal.exchange-returns-clause-other
 exchange-returns-clause-other t c = λ u. elim c.match-value.branch [
   | exchange-in-Composite-Component w ↦ let e = w.exchange_at.ensures.other u in search (rules, composite_is, array_is)
   | exchange-in-Array-Element w ↦
+      let h : w.deref_mut.result.now ≡ w.in-Array-Element.elements.value = search rules in
       let e = w.exchange_at-in-Array-Element.ensures.other u in
-      let p = array_part c.args.value.now w.in-Array-Element.field-0-0 w.in-Array-Element.values c.in-Some.step.now w.in-Array-Element.k
+      let p = array_part c.args.value.now w.in-Array-Element.elements c.in-Some.step.now w.in-Array-Element.k
       (steps_of c.in-Some.rest.now) w.in-Array-Element.is-0 w.in-Array-Element.is-1 in
       rw (w.other-is, c.in-Some.ensures.cases.0) (search rules)
   | exchange-in-Allocated-Contents w ↦
-      let h : w.deref_mut.result.now ≡ w.in-Allocated-Contents.held.value = search rules in
+      let h : w.deref_mut-in-Allocated-Contents.result.now ≡ w.in-Allocated-Contents.held.value = search rules in
       rw (w.other-is, c.in-Some.ensures.cases.0, w.in-Allocated-Contents.is-0, w.in-Allocated-Contents.is-1)
       (w.exchange.ensures.other u ∙ ap (λ y. part (value_of y) (steps_of c.in-Some.rest.now)) h)
 ]
@@ -36,9 +44,11 @@ pub exchange-returns-clause-words : goal.exchange-returns-clause-words
 exchange-returns-clause-words t c = elim c.match-value.branch [
   | exchange-in-Composite-Component w ↦ search (rules, composite_is, array_is)
   | exchange-in-Array-Element w ↦
+      let h : w.deref_mut.result.now ≡ w.in-Array-Element.elements.value = search rules in
       let inner = w.exchange_at-in-Array-Element.ensures.words in
-      let all = array_exchanged w.in-Array-Element.field-0-0 w.in-Array-Element.values w.exchange_at-in-Array-Element.new.values
-      (words (value_of c.args.other.now)) (words (value_of w.exchange_at-in-Array-Element.new.other)) (search rules) in
+      let all = array_exchanged w.in-Array-Element.elements (with_value w.in-Array-Element.elements
+      record { spans = w.deref_mut.result.now.spans; values = w.exchange_at-in-Array-Element.new.values })
+      (words (value_of c.args.other.now)) (words (value_of w.exchange_at-in-Array-Element.new.other)) (ap (λ (x : Elements). x.spans) h) (search rules) in
       search (rules, v.the_lemmas)
   | exchange-in-Allocated-Contents w ↦ search (rules, arith)
 ]

@@ -10,5 +10,5 @@ pub returns-then-k-length_of-clause-put : goal.returns-then-k-length_of-clause-p
 returns-then-k-length_of-clause-put c = λ tail h xs.
     let went : path_of c.go_to.new.path ≡ element_path (path_of c.args.array.now) tail c.place_at.result = c.go_to.ensures tail h.0 h.1 in
     ap (put_all (map (element_path (path_of c.args.array.now) tail) (drop (c.args.k + 1) (numbers_of c.args.numbers.now))) xs)
-    (c.put.ensures ∙ ap (λ p. put (store_of c.args.store.now) p (value_of c.args.value)) went)
+    (c.put_value.ensures ∙ ap (λ p. put (store_of c.args.store.now) p (value_of c.args.value)) went)
     ∙ sym (put_more (path_of c.args.array.now) tail (numbers_of c.args.numbers.now) c.args.k c.place_at.result (value_of c.args.value) xs (store_of c.args.store.now) c.place_at.ensures)

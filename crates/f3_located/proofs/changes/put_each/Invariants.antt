@@ -9,7 +9,7 @@ use Rattle.f3_located.proofs.changes.put_each.Given as goal
 
 abbrev pub invariant-loop-value : goal.invariant-loop-value
 invariant-loop-value l =
-    (put_all (map (element_path (path_of l.array) (steps_of l.tail)) (drop l.k (numbers_of l.numbers))) (values_of (into_iter_items l.value-iterator)) (store_of l.store)
-    ≡ put_all (map (element_path (path_of l.array) (steps_of l.tail)) (numbers_of l.numbers)) (values_of l.fn.values.items) (store_of l.fn.store))
+    (put_all (map (element_path (path_of l.array) (steps_of l.section.tail.items)) (drop l.k (numbers_of l.section.numbers))) (values_of (into_iter_items l.value-iterator)) (store_of l.store)
+    ≡ put_all (map (element_path (path_of l.array) (steps_of l.section.tail.items)) (numbers_of l.section.numbers)) (values_of l.fn.values.items) (store_of l.fn.store))
     × (l.k + length (into_iter_items l.value-iterator) ≡ length l.fn.values.items)
-    × LeadsToElement (path_of l.array) (steps_of l.tail) (path_of l.path)
+    × LeadsToElement (path_of l.array) (steps_of l.section.tail.items) (path_of l.path)
