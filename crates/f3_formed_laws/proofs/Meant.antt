@@ -1,5 +1,5 @@
 -- A designator, a reference or a constructor in an expression is of the kind that is said, by what its first name means.
-use Rattle.std.proofs.Common.{◌≡◌, ℕ, Bool, true, false, ◌&&◌, not, List, [], ◌∷◌, length, map, Option, Some, None, refl, sym, ap, ◌∙◌, if◌then◌else◌, nat_lt}
+use Rattle.std.proofs.Common.{◌≡◌, ℕ, Bool, true, false, ◌&&◌, ◌||◌, not, nat_eq, List, [], ◌∷◌, length, map, Option, Some, None, refl, sym, ap, ◌∙◌, if◌then◌else◌, nat_lt}
 use Rattle.std.specs.Prelude.{◌==◌}
 use mathlib.Core.Path.{subst}
 use Rattle.f3_lookups.specs.declared.lookup.Lookup.{Lookup}
