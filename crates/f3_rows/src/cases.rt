@@ -9,6 +9,7 @@
 //! time before for each `@`. `growths` is for bench/growths.py, which refuses each growth of the host's memory in turn. An empty
 //! line, or one that begins with `#`, also between the lines of a text, says nothing.
 
+use f3_places::source::Source;
 use std::alloc::{AllocError, Global};
 
 /// What is expected of a writer.
@@ -24,7 +25,7 @@ pub enum Text {
 pub struct Case {
     pub name: String,
     pub words: Vec<String>,
-    pub sources: Vec<(String, Vec<u8>)>,
+    pub sources: Vec<Source>,
     pub output: Text,
     pub errors: Text,
     pub status: u8,
@@ -56,7 +57,7 @@ pub fn read(alloc: Global, bytes: &[u8]) -> Result<Vec<Case>, AllocError> {
             cases.push(begun(alloc, name)?)?;
             part = Part::Nothing;
         } else if let Some(number) = line.strip_prefix(b"times ") {
-            times = number_of(alloc, number)?;
+            times = number_of(number);
         } else if let Some(case) = cases.last_mut() {
             part = more(alloc, case, part, line, times)?;
             times = 1;
@@ -88,8 +89,19 @@ fn text_of(alloc: Global, bytes: &[u8]) -> Result<String, AllocError> {
 }
 
 /// A number, or 0 where there is none.
-fn number_of(alloc: Global, bytes: &[u8]) -> Result<usize, AllocError> {
-    Ok(text_of(alloc, bytes)?.as_str().parse().unwrap_or(0))
+fn number_of(bytes: &[u8]) -> usize {
+    match str::from_utf8(bytes) {
+        Ok(text) => text.parse().unwrap_or(0),
+        Err(_) => 0,
+    }
+}
+
+/// A source of this name, which has no bytes so far.
+fn source(alloc: Global, name: &[u8]) -> Result<Source, AllocError> {
+    Ok(Source {
+        name: text_of(alloc, name)?,
+        bytes: Vec::new(alloc),
+    })
 }
 
 /// Takes one more line of a case, or so many; answers to what the next line of text belongs.
@@ -121,14 +133,14 @@ fn told(alloc: Global, case: &mut Case, line: &[u8]) -> Result<Part, AllocError>
     if let Some(word) = line.strip_prefix(b"word ") {
         case.words.push(text_of(alloc, word)?)?;
     } else if let Some(name) = line.strip_prefix(b"source ") {
-        case.sources.push((text_of(alloc, name)?, Vec::new(alloc)))?;
+        case.sources.push(source(alloc, name)?)?;
         return Ok(Part::Source);
     } else if let Some(status) = line.strip_prefix(b"status ") {
-        case.status = text_of(alloc, status)?.as_str().parse().unwrap_or(255);
+        case.status = u8::try_from(number_of(status)).unwrap_or(255);
     } else if let Some(bytes) = line.strip_prefix(b"prefixes ") {
-        case.prefixes = number_of(alloc, bytes)?;
+        case.prefixes = number_of(bytes);
     } else if let Some(bytes) = line.strip_prefix(b"room ") {
-        case.room = Some(number_of(alloc, bytes)?);
+        case.room = Some(number_of(bytes));
     } else if line == b"errors some".as_slice() {
         case.errors = Text::Some;
     } else if line == b"output some".as_slice() {
@@ -184,7 +196,7 @@ fn add_bytes(case: &mut Case, part: Part, bytes: &[u8]) -> Result<(), AllocError
     match part {
         Part::Nothing => Ok(()),
         Part::Source => match case.sources.last_mut() {
-            Some((_, text)) => text.extend_from_slice(bytes),
+            Some(source) => source.bytes.extend_from_slice(bytes),
             None => Ok(()),
         },
         Part::Output => add_to(&mut case.output, bytes),

@@ -10,18 +10,6 @@ use f3_plans::planning::plan;
 use f3_program::program::Program;
 use std::alloc::{AllocError, Global};
 
-/// Sources of these names and bytes.
-fn given(alloc: Global, files: &[(String, Vec<u8>)]) -> Result<Vec<Source>, AllocError> {
-    let mut sources = Vec::new(alloc);
-    for (name, bytes) in files {
-        sources.push(Source {
-            name: name.clone()?,
-            bytes: Vec::from_slice(alloc, bytes)?,
-        })?;
-    }
-    Ok(sources)
-}
-
 /// The acts of the plan of a program whose variables have these layouts.
 fn planned_by(
     alloc: Global,
@@ -60,11 +48,9 @@ fn planned(alloc: Global, program: &Program) -> Result<String, AllocError> {
     text
 }
 
-/// The acts of the plan of a program in these files, one a line, or why there is none.
-pub fn acts_of(alloc: Global, files: &[(String, Vec<u8>)]) -> Result<String, AllocError> {
-    let sources = given(alloc, files)?;
-    let compiled = compile(alloc, &sources);
-    drop(sources);
+/// The acts of the plan of a program in these sources, one a line, or why there is none.
+pub fn acts_of(alloc: Global, sources: &[Source]) -> Result<String, AllocError> {
+    let compiled = compile(alloc, sources);
     let text = match &compiled {
         Ok(compiled) => planned(alloc, compiled.program()),
         Err(_) => String::from_str(alloc, "refused\n"),

@@ -16,27 +16,44 @@ struct Answer {
     status: u8,
 }
 
+/// The words of a command line, behind the program's name.
+fn line_of(alloc: Global, words: &[String]) -> Result<Vec<String>, AllocError> {
+    let mut line = Vec::new(alloc);
+    line.push(String::from_str(alloc, "f3")?)?;
+    for word in words {
+        line.push(word.clone()?)?;
+    }
+    Ok(line)
+}
+
 /// Runs f3 on these words and files.
 fn run<W: Write>(
     alloc: Global,
     words: &[String],
     files: &[(&str, &[u8])],
     output: &mut Output<W>,
-) -> Result<(Vec<u8>, u8), AllocError> {
-    let mut line = Vec::new(alloc);
-    line.push(String::from_str(alloc, "f3")?)?;
-    for word in words {
-        line.push(word.clone()?)?;
-    }
-    let mut errors = Output::new(Vec::<u8>::new(alloc));
-    let status = f3(
-        alloc,
-        line.as_slice(),
-        &Folder { files },
+    errors: &mut Output<Vec<u8>>,
+) -> Result<u8, AllocError> {
+    let line = line_of(alloc, words)?;
+    let status = f3(alloc, line.as_slice(), &Folder { files }, output, errors);
+    drop(line);
+    Ok(status)
+}
+
+/// What f3 wrote, and what it answered, if it was run.
+fn answered(
+    alloc: Global,
+    status: Result<u8, AllocError>,
+    output: &[u8],
+    errors: &[u8],
+) -> Result<Answer, AllocError> {
+    let status = status?;
+    let output = Vec::from_slice(alloc, output)?;
+    Ok(Answer {
         output,
-        &mut errors,
-    );
-    Ok((Vec::from_slice(alloc, errors.writer().as_slice())?, status))
+        errors: Vec::from_slice(alloc, errors)?,
+        status,
+    })
 }
 
 /// What f3 writes and answers on these words and files.
@@ -46,15 +63,36 @@ fn answer_of(
     files: &[(&str, &[u8])],
 ) -> Result<Answer, AllocError> {
     let mut output = Output::new(Vec::<u8>::new(alloc));
-    let (errors, status) = run(alloc, words, files, &mut output)?;
-    Ok(Answer {
-        output: Vec::from_slice(alloc, output.writer().as_slice())?,
-        errors,
+    let mut errors = Output::new(Vec::<u8>::new(alloc));
+    let status = run(alloc, words, files, &mut output, &mut errors);
+    let answer = answered(
+        alloc,
         status,
-    })
+        output.writer().as_slice(),
+        errors.writer().as_slice(),
+    );
+    drop(errors);
+    drop(output);
+    answer
 }
 
-/// The same where the output has room for so many bytes alone.
+/// The same where the output has room for so many bytes alone, which are given.
+fn answer_into(
+    alloc: Global,
+    words: &[String],
+    files: &[(&str, &[u8])],
+    bytes: &mut [u8],
+) -> Result<Answer, AllocError> {
+    let mut output = Output::new(&mut *bytes);
+    let mut errors = Output::new(Vec::<u8>::new(alloc));
+    let status = run(alloc, words, files, &mut output, &mut errors);
+    drop(output);
+    let answer = answered(alloc, status, bytes, errors.writer().as_slice());
+    drop(errors);
+    answer
+}
+
+/// The same where it has room for so many.
 fn answer_within(
     alloc: Global,
     words: &[String],
@@ -62,14 +100,9 @@ fn answer_within(
     room: usize,
 ) -> Result<Answer, AllocError> {
     let mut bytes = vec![in alloc; 0u8; room]?;
-    let mut output = Output::new(bytes.as_mut_slice());
-    let (errors, status) = run(alloc, words, files, &mut output)?;
-    drop(output);
-    Ok(Answer {
-        output: bytes,
-        errors,
-        status,
-    })
+    let answer = answer_into(alloc, words, files, bytes.as_mut_slice());
+    drop(bytes);
+    answer
 }
 
 fn fits(text: &Text, bytes: &[u8]) -> bool {
@@ -89,11 +122,11 @@ fn is_refused(answer: &Answer) -> bool {
 
 /// Whether f3 refuses each front of the case's first source that is to be tried.
 fn are_refused(alloc: Global, case: &Case) -> Result<bool, AllocError> {
-    let Some((name, bytes)) = case.sources.first() else {
+    let Some(first) = case.sources.first() else {
         return Ok(case.prefixes == 0);
     };
-    for length in 0..case.prefixes.min(bytes.len()) {
-        let files = [(name.as_str(), &bytes.as_slice()[..length])];
+    for length in 0..case.prefixes.min(first.bytes.len()) {
+        let files = [(first.name.as_str(), &first.bytes.as_slice()[..length])];
         if !is_refused(&answer_of(alloc, case.words.as_slice(), &files)?) {
             return Ok(false);
         }
@@ -113,8 +146,8 @@ fn are_planned(alloc: Global, case: &Case) -> Result<bool, AllocError> {
 /// Whether f3 writes and answers what is expected.
 pub fn is_as_expected(alloc: Global, case: &Case) -> Result<bool, AllocError> {
     let mut files = Vec::new(alloc);
-    for (name, bytes) in &case.sources {
-        files.push((name.as_str(), bytes.as_slice()))?;
+    for source in &case.sources {
+        files.push((source.name.as_str(), source.bytes.as_slice()))?;
     }
     let words = case.words.as_slice();
     let answer = match case.room {
