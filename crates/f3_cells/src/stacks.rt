@@ -25,6 +25,7 @@ pub fn pop_any(stack: &mut Vec<Cell>) -> Option<Cell>
 }
 
 /// One more cell on top.
+#[inline(always)]
 pub fn push(stack: &mut Vec<Cell>, cell: Cell) -> Result<(), Stop>
     ensures { MatchResult result (λ done. Pushed cell stack.old.items stack.new.items) (λ e. e ≡ Stop.Memory) }
 {
@@ -80,6 +81,7 @@ pub fn pop_datum(stack: &mut Vec<Cell>) -> Option<Value>
 }
 
 /// The object on top, which is taken.
+#[inline(always)]
 pub fn pop_object(stack: &mut Vec<Cell>) -> Option<Reference>
     ensures { Popped (λ x. s.Object (reference_of x)) on_object result stack.old.items stack.new.items }
 {
@@ -150,6 +152,7 @@ pub fn pop_bounds(stack: &mut Vec<Cell>) -> Option<Vec<Span>>
 }
 
 /// The objects that are left, the next one at the end, which are taken.
+#[inline(always)]
 pub fn pop_objects(stack: &mut Vec<Cell>) -> Option<Vec<Reference>>
     ensures { Popped (λ rs. s.Objects (references_of (reverse rs.items))) on_objects result stack.old.items stack.new.items }
 {

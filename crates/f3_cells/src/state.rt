@@ -93,6 +93,7 @@ impl State {
     }
 
     /// One more cell on top, and so far on from the next line, where there are so many lines. `Stop::Lost` where no line is there.
+    #[inline(always)]
     pub fn ahead_with(&mut self, cell: Cell, distance: usize, total: usize) -> Result<(), Stop>
         requires { self.old.pc < 2 ^ 63 }
         ensures { WentAheadWith cell distance total result self.old self.new }
@@ -102,6 +103,7 @@ impl State {
     }
 
     /// One more cell on top, and the next line comes after this one.
+    #[inline(always)]
     pub fn go_on_with(&mut self, cell: Cell) -> Result<(), Stop>
         requires { self.old.pc < 2 ^ 63 }
         ensures { WentOn cell result self.old self.new }
