@@ -3,8 +3,6 @@
 //! The calls on a heap stand in a text: in each line a call, and behind `-> ` its answer. Behind
 //! `write AT -> ` stands the word that is written.
 
-ghost use Rattle.f3_heap_tests.specs.LiveOnce.{LiveOnce};
-
 use crate::calls::{Call, answer};
 use f3_heap::{BlockId, Blocks, FullAt, PlainBlocks, RawHeap};
 use std::alloc::Global;

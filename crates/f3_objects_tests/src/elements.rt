@@ -1,8 +1,8 @@
 //! Objects of known words, copied, moved and given back: a word, allocatables whose number is known at run time, and an object
 //! that is all of a block.
 
-ghost use Rattle.std.specs.Prelude.{◌≡◌, ◌<◌, ℕ, [], ◌∷◌, pos, length, IfOk, IsTrue, slice_index_or};
-ghost use Rattle.f3_heap_laws.specs.Blocks.{IsLive, words_of};
+ghost use Rattle.std.specs.Prelude.{◌≡◌, [], ◌∷◌, IfOk, IsTrue};
+ghost use Rattle.f3_heap_laws.specs.Blocks.{IsLive};
 ghost use Rattle.f3_desc.specs.Layout.{pieces_of};
 ghost use Rattle.f3_desc.specs.declared.piece.Piece.TheVariants.{Word, Allocatable};
 ghost use Rattle.f3_objects_tests.specs.Lists.{AreLists, AreReady, IsHead};
