@@ -2,13 +2,15 @@
 #![tactic(auto)]
 
 #[cfg(test)]
+mod calls;
+#[cfg(test)]
 mod heap;
+#[cfg(test)]
 mod notes;
 #[cfg(test)]
 mod raw;
 #[cfg(test)]
-mod tests;
+mod rooms;
 mod turns;
 
-pub use notes::{answers, turn_front};
-pub use turns::{give_front, longest, mark, pin_front, take_back, unpin_front};
+pub use turns::{give_front, take_back, turn_front};

@@ -1,29 +1,14 @@
-//! The answers of a heap to a list of calls, written down. Its blocks stand in a queue.
+//! The answers of both heaps to a long list of calls, written down.
 
-ghost use Rattle.std.specs.Prelude.{◌≢◌, ℕ, IfOk, IfSome};
 ghost use Rattle.f3_heap_laws.specs.Blocks.{IsLive};
 ghost use Rattle.f3_heap_tests.specs.LiveOnce.{LiveOnce};
 
-use crate::turns::{give_front, pin_front, take_back, unpin_front};
-use f3_heap::{BlockId, Blocks};
+use crate::calls::{Call, answer};
+use crate::turns::turn_front;
+use f3_heap::{BlockId, Blocks, PlainBlocks, RawHeap};
 use std::alloc::{AllocError, Global};
 use std::collections::VecDeque;
-
-/// The first block of the queue, which is put last.
-pub fn turn_front<B: Blocks>(
-    heap: &B,
-    queue: &mut VecDeque<BlockId>,
-) -> Result<Option<BlockId>, AllocError>
-    requires { LiveOnce (B.blocks heap.now) queue.old.items }
-    ensures live { IfOk result (λ o. IfSome o (λ b. IsLive (B.blocks heap.now) b)) }
-    ensures queue { LiveOnce (B.blocks heap.now) queue.new.items }
-{
-    let Some(block) = queue.pop_front() else {
-        return Ok(None);
-    };
-    queue.push_back(block)?;
-    Ok(Some(block))
-}
+use std::process::Abort;
 
 /// Writes the length, the pins and the words of a block down.
 fn note_block<B: Blocks>(heap: &B, block: BlockId, notes: &mut Vec<i64>) -> Result<(), AllocError>
@@ -56,127 +41,45 @@ fn note_front<B: Blocks>(
     Ok(())
 }
 
-/// Writes a word of a block that has that many.
-fn write_word<B: Blocks>(heap: &mut B, block: BlockId, at: usize, value: i64)
-    requires { IsLive (B.blocks heap.old) block }
-    ensures { (q : ℕ) → IsLive (B.blocks heap.old) q → IsLive (B.blocks heap.new) q }
-{
-    if at < heap.length(block) {
-        heap.write(block, at, value);
-    }
-}
-
-/// Copies the first words of a block to another.
-fn copy_words<B: Blocks>(heap: &mut B, from: BlockId, to: BlockId)
-    requires from_live { IsLive (B.blocks heap.old) from }
-    requires to_live { IsLive (B.blocks heap.old) to }
-    requires different { from ≢ to }
-    ensures { (q : ℕ) → IsLive (B.blocks heap.old) q → IsLive (B.blocks heap.new) q }
-{
-    let (source, target) = heap.pair(from, to);
-    let n = source.len().min(target.len());
-    target[..n].copy_from_slice(&source[..n]);
-}
-
-/// Takes a block, and tells whether there was room.
-fn take_answer<B: Blocks>(
-    heap: &mut B,
-    queue: &mut VecDeque<BlockId>,
-    words: usize,
-) -> Result<i64, AllocError>
-    requires { LiveOnce (B.blocks heap.old) queue.old.items }
-    ensures { LiveOnce (B.blocks heap.new) queue.new.items }
-{
-    if queue.len() >= 64 {
-        return Ok(-1);
-    }
-    let taken = take_back(heap, queue, words)?;
-    Ok(i64::from(taken.is_some()))
-}
-
-/// Gives the first block back, and tells its length, or -1 where it is pinned or there is none.
-fn give_answer<B: Blocks>(heap: &mut B, queue: &mut VecDeque<BlockId>) -> Result<i64, AllocError>
-    requires { LiveOnce (B.blocks heap.old) queue.old.items }
-    ensures { LiveOnce (B.blocks heap.new) queue.new.items }
-{
-    match give_front(heap, queue)? {
-        Some((_, length)) => Ok((length as u64).cast_signed()),
-        None => Ok(-1),
-    }
-}
-
-/// Writes a word of the first block.
-fn write_answer<B: Blocks>(
-    heap: &mut B,
-    queue: &mut VecDeque<BlockId>,
-    at: usize,
-    value: i64,
-) -> Result<i64, AllocError>
-    requires { LiveOnce (B.blocks heap.old) queue.old.items }
-    ensures { LiveOnce (B.blocks heap.new) queue.new.items }
-{
-    if let Some(block) = turn_front(heap, queue)? {
-        write_word(heap, block, at, value);
-    }
-    Ok(value)
-}
-
-/// Copies words of the first block to the second.
-fn copy_answer<B: Blocks>(heap: &mut B, queue: &mut VecDeque<BlockId>) -> Result<i64, AllocError>
-    requires { LiveOnce (B.blocks heap.old) queue.old.items }
-    ensures { LiveOnce (B.blocks heap.new) queue.new.items }
-{
-    let from = turn_front(heap, queue)?;
-    let to = turn_front(heap, queue)?;
-    if let (Some(from), Some(to)) = (from, to)
-        && from != to
-    {
-        copy_words(heap, from, to);
-    }
-    Ok(0)
-}
-
-/// Makes the call that a number stands for, and tells its answer.
-fn call<B: Blocks>(
-    heap: &mut B,
-    queue: &mut VecDeque<BlockId>,
-    number: u32,
-) -> Result<i64, AllocError>
-    requires { LiveOnce (B.blocks heap.old) queue.old.items }
-    ensures { LiveOnce (B.blocks heap.new) queue.new.items }
-{
+/// The call that a number stands for.
+fn call_of(number: u32) -> Call {
     let words = (number >> 8 & 63) as usize;
     match number >> 28 {
-        0..5 => take_answer(heap, queue, words),
-        5..9 => give_answer(heap, queue),
-        9 => take_answer(heap, queue, 16384),
-        10 => {
-            pin_front(heap, queue)?;
-            Ok(0)
-        }
-        11 | 12 => {
-            unpin_front(heap, queue)?;
-            Ok(0)
-        }
-        13 => copy_answer(heap, queue),
-        _ => write_answer(heap, queue, words, i64::from(number)),
+        0..5 => Call::Take(words),
+        5..9 => Call::Give,
+        9 => Call::Take(16384),
+        10 => Call::Pin,
+        11 | 12 => Call::Unpin,
+        13 => Call::Copy(0),
+        _ => Call::Write(words, i64::from(number)),
     }
 }
 
-/// The answers to so many calls, with what the heap tells after each.
-pub fn answers<B: Blocks>(
-    alloc: Global,
-    heap: &mut B,
-    calls: usize,
-) -> Result<Vec<i64>, AllocError> {
+/// The answers to 10,000 calls, with what the heap tells after each.
+fn answers<B: Blocks>(rt: &impl Abort, alloc: Global, heap: &mut B) -> Vec<i64> {
     let mut queue = VecDeque::new(alloc);
     let mut notes = Vec::new(alloc);
     let mut number: u32 = 12345;
-    for _ in 0..calls {
+    for _ in 0..10000 {
         number = number.wrapping_mul(1664525).wrapping_add(1013904223);
-        let answer = call(heap, &mut queue, number)?;
-        notes.push(answer)?;
-        note_front(heap, &mut queue, (number & 127) as usize, &mut notes)?;
+        let answer = answer(rt, heap, &mut queue, call_of(number));
+        notes.push(answer).expect(rt, "memory");
+        note_front(heap, &mut queue, (number & 127) as usize, &mut notes).expect(rt, "memory");
     }
-    Ok(notes)
+    drop(queue);
+    notes
+}
+
+// At most 64 blocks of at most 68 words each live in 16,384 words, so one of the at most 65 gaps has
+// 132 words, the most that is asked for below the whole: both heaps owe the same answers.
+#[test]
+fn both_heaps_answer_alike(rt: HostRuntime) {
+    let mut plain = PlainBlocks::new(rt.alloc(), 16384);
+    let expected = answers(&rt, rt.alloc(), &mut plain);
+    drop(plain);
+    let mut raw = RawHeap::new(rt.alloc(), 16384).expect(&rt, "memory");
+    let found = answers(&rt, rt.alloc(), &mut raw);
+    drop(raw);
+    assert!(rt; expected.len() > 100000);
+    assert!(rt; found == expected);
 }

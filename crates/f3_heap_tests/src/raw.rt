@@ -29,10 +29,15 @@ fn holds(region: &Region, words: &[i64]) -> bool {
     true
 }
 
+// The region has this size, and no word.
+fn has_size(region: &Region, words: usize) -> bool {
+    region.words() == words && region.frontier() == 0
+}
+
 #[test]
 fn a_new_region_has_its_size_and_no_word(rt: HostRuntime) {
     let region = Region::new(rt.alloc(), 64).expect(&rt, "memory");
-    assert_eq!(rt; (region.words(), region.frontier()), (64, 0));
+    assert!(rt; has_size(&region, 64));
     drop(region);
 }
 
@@ -48,8 +53,8 @@ fn a_region_of_no_word_takes_every_call(rt: HostRuntime) {
     region.clear(0, 0);
     region.copy(0, 0, 0);
     let (from, to) = region.pair(0, 0, 0, 0);
-    assert_eq!(rt; (from.len(), to.len()), (0, 0));
-    assert_eq!(rt; (region.words(), region.frontier()), (0, 0));
+    assert!(rt; from.is_empty() && to.is_empty());
+    assert!(rt; has_size(&region, 0));
     drop(region);
 }
 
@@ -113,7 +118,7 @@ fn a_region_gives_its_memory_back(rt: HostRuntime) {
     for _ in 0..200000 {
         let mut region = Region::new(rt.alloc(), 134217728).expect(&rt, "memory");
         region.clear(0, 512);
-        assert_eq!(rt; region.frontier(), 512);
+        assert!(rt; region.frontier() == 512);
         drop(region);
     }
 }

@@ -24,9 +24,9 @@ fills_none old now b words fresh e = record {
   kept = λ q l. ap (λ (m : Live). get m q) e ∙ get-insert_other old b _ q (λ i. not_dead old q l (ap (get old) i ∙ fresh));
 }
 
-pub fills_more : (old mid new : Live) (b : ℕ) (words : List ℤ) (i : ℕ) → get old b ≡ None → Fills old mid b words i → i < length words → new ≡ with_words mid b (set (words_of mid b) i (get_or words i (pos 0))) → Fills old new b words (i + 1)
-fills_more old mid new b words i fresh f l e =
-    let there : words_of new b ≡ set (words_of mid b) i (get_or words i (pos 0)) = ap (λ (m : Live). words_of m b) e ∙ words-with mid b _ in
+pub fills_more : (old mid new : Live) (b : ℕ) (words : List ℤ) (i : ℕ) (z : ℤ) → get old b ≡ None → Fills old mid b words i → i < length words → z ≡ get_or words i (pos 0) → new ≡ with_words mid b (set (words_of mid b) i z) → Fills old new b words (i + 1)
+fills_more old mid new b words i z fresh f l same e =
+    let there : words_of new b ≡ set (words_of mid b) i (get_or words i (pos 0)) = ap (λ (m : Live). words_of m b) e ∙ (words-with mid b _ ∙ ap (set (words_of mid b) i) same) in
     let P : Live → Type 0 = λ m. IsLive m b in
     let size = f.size in
     record {

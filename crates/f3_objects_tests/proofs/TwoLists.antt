@@ -1,5 +1,5 @@
 -- Laws on two allocatables in a block, and on places for them.
-use Rattle.std.proofs.Common.{rules, ◌≡◌, ◌≢◌, ℕ, ℤ, pos, ◌+◌, ◌<◌, ◌≤◌, inl, inr, List, [], ◌∷◌, ◌++◌, length, take, drop, refl, ap, sym, subst, ◌∙◌, arith}
+use Rattle.std.proofs.Common.{rules, ◌≡◌, ◌≢◌, ℕ, ℤ, pos, ◌+◌, ◌≤◌, inl, inr, List, [], ◌∷◌, ◌++◌, length, take, drop, refl, ap, sym, subst, ◌∙◌, arith}
 use Rattle.std.specs.Prelude.{None, slice_index_or}
 use Rattle.std.specs.FinMap.{get}
 use Rattle.std.proofs.Math.Seq.{take-length}
@@ -15,7 +15,7 @@ use Rattle.f3_objects.specs.Holds.{Held, Holds}
 use Rattle.f3_objects.specs.Copies.{Ready, Copies}
 use Rattle.f3_objects.proofs.Changes.{not_dead, same_live, same_words}
 use Rattle.f3_objects.proofs.Blanks.{blank-fits, blank-bare, held-bare}
-use Rattle.f3_objects_tests.specs.Lists.{AreLists}
+use Rattle.f3_objects_tests.specs.Lists.{AreLists, AreReady, IsHead}
 
 -- two allocatables of rank 1
 abbrev pub pair : Shape
@@ -104,6 +104,25 @@ lists_kept m n a b h kept = record {
 pub new_apart : (m : Live) (b q : ℕ) → get m b ≡ None → IsLive m q → b ≢ q
 new_apart m b q fresh live e = not_dead m q live (ap (get m) (sym e) ∙ fresh)
 
+-- a new block of zeros is there for their copy
+pub are_ready : (m n : Live) (a b c : ℕ) → AreLists m a b → get m c ≡ None → IsLive n c → words_of n c ≡ pos 0 ∷ pos 0 ∷ pos 0 ∷ pos 0 ∷ pos 0 ∷ pos 0 ∷ [] → ((q : ℕ) → IsLive m q → get n q ≡ get m q) → AreReady n a b c
+are_ready m n a b c h fresh live zeros kept = record {
+  known = lists_kept m n a b h kept;
+  live = live;
+  apart = new_apart m c b fresh h.live;
+  beneath = new_apart m c a fresh h.beneath;
+  zeros = zeros;
+}
+
+pub ready_for : (m : Live) (a b c : ℕ) → AreReady m a b c → Ready m b 0 c 0 pair (two a) (blank pair)
+ready_for m a b c h = record {
+  source = two_hold m a b h.known;
+  target = blank_holds m c 0 pair h.live (let n = ap length h.zeros in omega arith) (ap (λ (xs : List ℤ). take 6 (drop 0 xs)) h.zeros);
+  apart = h.apart;
+  beneath = two-apart a c h.beneath;
+  bare = blank-bare pair;
+}
+
 -- a new block is ready for a copy of the two
 pub two_ready : (m n : Live) (a b c at : ℕ) → AreLists m a b → get m c ≡ None → ((q : ℕ) → IsLive m q → get n q ≡ get m q) → Holds n c at pair (blank pair) → Ready n b 0 c at pair (two a) (blank pair)
 two_ready m n a b c at h fresh kept target = record {
@@ -113,12 +132,6 @@ two_ready m n a b c at h fresh kept target = record {
   beneath = two-apart a c (new_apart m c a fresh h.beneath);
   bare = blank-bare pair;
 }
-
--- the first word of a block names a live block
-pub record IsHead (m : Live) (b : ℕ) : Type 0 where
-  pub live : IsLive m b
-  pub within : 0 < length (words_of m b)
-  pub beneath : (q : ℕ) → slice_index_or (words_of m b) 0 (pos 0) ≡ pos q → IsLive m q
 
 head : (m : Live) (b : ℕ) (t : Tree) (rest : List ℤ) (d : List ℤ) (v w : Value) → value t ≡ Present d v w → IsLive m b → words_of m b ≡ words t ++ rest → Held m t → IsHead m b
 head m b End rest d v w e live f h = cc

@@ -1,4 +1,4 @@
-//! Places and sections worked by hand.
+//! Places and sections worked by hand, in tables of texts.
 
 ghost use Rattle.std.specs.Prelude.{◌+◌, ◌^◌, ◌<◌, IfOk};
 ghost use Rattle.f3_desc.specs.Descriptor.{HasPlaces};
@@ -7,6 +7,7 @@ use Triplet::{At, Range};
 use arrayvec::ArrayVec;
 use f3_desc::descriptor::{Bounds, Descriptor, Dim, SectionFault, Triplet};
 use f3_heap::BlockId;
+use std::alloc::Global;
 use std::process::Abort;
 
 /// An array of one dimension whose elements have one word each.
@@ -93,181 +94,231 @@ fn nothing(rt: &impl Abort, stride: i64) -> Descriptor
     }
 }
 
-/// The place of an element, if its subscripts are within bounds.
-fn place(rt: &impl Abort, array: &Descriptor, subscripts: &[i64]) -> Result<usize, Bounds>
-    requires { HasPlaces array.now }
-{
-    assert_eq!(rt; subscripts.len(), array.dims.len());
-    let (block, at) = array.element(subscripts)?;
-    assert!(rt; block == array.block);
-    Ok(at)
+/// The number that a word tells.
+fn number(rt: &impl Abort, word: &str) -> i64 {
+    word.parse::<i64>().ok().expect(rt, "a number")
 }
 
-/// That is the place of an element, or it is out of bounds.
-fn check_place(
-    rt: &impl Abort,
-    array: &Descriptor,
-    subscripts: &[i64],
-    wanted: Result<usize, Bounds>,
-)
+/// The numbers between blanks.
+fn numbers(rt: &impl Abort, alloc: Global, text: &str) -> Vec<i64> {
+    let mut found = Vec::new(alloc);
+    for word in text.split_whitespace() {
+        found.push(number(rt, word)).expect(rt, "memory");
+    }
+    found
+}
+
+/// A triplet of three numbers, or a single subscript.
+fn triplet(rt: &impl Abort, numbers: &[i64]) -> Triplet {
+    match numbers {
+        [from, to, step] => Range(*from, *to, *step),
+        [subscript] => At(*subscript),
+        _ => panic!(rt; "no triplet"),
+    }
+}
+
+/// The triplets between commas.
+fn triplets(rt: &impl Abort, alloc: Global, text: &str) -> Vec<Triplet> {
+    let mut found = Vec::new(alloc);
+    for part in text.split(", ") {
+        let numbers = numbers(rt, alloc, part);
+        let triplet = triplet(rt, &numbers);
+        drop(numbers);
+        found.push(triplet).expect(rt, "memory");
+    }
+    found
+}
+
+/// What a line asks, and behind the arrow what is wanted.
+fn parts<'a>(rt: &impl Abort, line: &'a str) -> (&'a str, &'a str) {
+    line.split_once(" -> ").expect(rt, "an arrow")
+}
+
+/// The place of an element, if its subscripts are within bounds.
+fn place(rt: &impl Abort, array: &Descriptor, subscripts: &[i64]) -> Option<usize>
     requires { HasPlaces array.now }
 {
-    assert_eq!(rt; place(rt, array, subscripts), wanted, "at {subscripts:?}");
+    assert!(rt; subscripts.len() == array.dims.len());
+    match array.element(subscripts) {
+        Ok((block, at)) => {
+            assert!(rt; block == array.block);
+            Some(at)
+        }
+        Err(Bounds) => None,
+    }
+}
+
+/// Each line of a table is the subscripts of an element and its place, or `bounds`.
+fn check_places(rt: &impl Abort, alloc: Global, array: &Descriptor, table: &str)
+    requires { HasPlaces array.now }
+{
+    for line in table.lines() {
+        let (asked, wanted) = parts(rt, line);
+        let subscripts = numbers(rt, alloc, asked);
+        let came = place(rt, array, &subscripts);
+        drop(subscripts);
+        assert!(rt; came == wanted.parse::<usize>().ok(), "{line}");
+    }
 }
 
 /// The section, or why there is none.
 fn cut(
     rt: &impl Abort,
+    alloc: Global,
     array: &Descriptor,
-    triplets: &[Triplet],
+    text: &str,
 ) -> Result<Descriptor, SectionFault>
     requires { HasPlaces array.now }
     ensures { IfOk result (λ s. HasPlaces s) }
 {
-    assert_eq!(rt; triplets.len(), array.dims.len());
-    array.section(triplets)
-}
-
-/// There is no section, for this reason.
-fn check_fault(rt: &impl Abort, array: &Descriptor, triplets: &[Triplet], wanted: SectionFault)
-    requires { HasPlaces array.now }
-{
-    assert_eq!(rt; cut(rt, array, triplets).err(), Some(wanted));
-}
-
-/// The section, which has these dimensions.
-fn section(rt: &impl Abort, array: &Descriptor, triplets: &[Triplet], dims: &[Dim]) -> Descriptor
-    requires { HasPlaces array.now }
-    ensures { HasPlaces result }
-{
-    let found = cut(rt, array, triplets).expect(rt, "a section");
-    assert_eq!(rt; found.dims.as_slice(), dims);
+    let triplets = triplets(rt, alloc, text);
+    assert!(rt; triplets.len() == array.dims.len());
+    let found = array.section(&triplets);
+    drop(triplets);
     found
 }
 
-/// The dimension of a section from 1 on.
-fn dim(extent: usize, stride: i64) -> Dim {
-    Dim {
-        lower: 1,
-        extent,
-        stride,
+/// Whether a dimension begins with 1 and has this extent and this stride, with a star between them.
+fn is_dim(rt: &impl Abort, dim: &Dim, word: &str) -> bool {
+    let (extent, stride) = word.split_once("*").expect(rt, "a star");
+    let extent = extent.parse::<usize>().ok();
+    dim.lower == 1 && extent == Some(dim.extent) && number(rt, stride) == dim.stride
+}
+
+/// Whether these are the dimensions, with blanks between them.
+fn has_dims(rt: &impl Abort, dims: &[Dim], wanted: &str) -> bool {
+    let mut at = 0;
+    for word in wanted.split_whitespace() {
+        if at >= dims.len() || !is_dim(rt, &dims[at], word) {
+            return false;
+        }
+        at += 1;
+    }
+    at == dims.len()
+}
+
+/// Whether the section has these dimensions, or there is none for this reason.
+fn is_section(rt: &impl Abort, found: &Result<Descriptor, SectionFault>, wanted: &str) -> bool {
+    match found {
+        Ok(section) => has_dims(rt, section.dims.as_slice(), wanted),
+        Err(SectionFault::Bounds) => wanted == "bounds",
+        Err(SectionFault::StepZero) => wanted == "step zero",
     }
 }
 
-#[test]
-fn elements_of_a_line(rt: HostRuntime) {
-    let array = line(&rt, 10, 3, 5);
-    check_place(&rt, &array, &[3], Ok(10));
-    check_place(&rt, &array, &[7], Ok(14));
-    check_place(&rt, &array, &[2], Err(Bounds));
-    check_place(&rt, &array, &[8], Err(Bounds));
-    check_place(&rt, &array, &[i64::MIN], Err(Bounds));
-}
-
-#[test]
-fn sections_of_a_line(rt: HostRuntime) {
-    let array = line(&rt, 10, 3, 5);
-    let down = section(&rt, &array, &[Range(7, 3, -2)], &[dim(3, -2)]);
-    check_place(&rt, &down, &[1], Ok(14));
-    check_place(&rt, &down, &[3], Ok(10));
-    check_place(&rt, &down, &[4], Err(Bounds));
-    check_place(&rt, &down, &[0], Err(Bounds));
-    let up = section(&rt, &down, &[Range(3, 1, -1)], &[dim(3, 2)]);
-    check_place(&rt, &up, &[2], Ok(12));
-    let one = section(&rt, &array, &[At(5)], &[]);
-    check_place(&rt, &one, &[], Ok(12));
-}
-
-/// How many subscripts the one triplet selects.
-fn extent(rt: &impl Abort, array: &Descriptor, triplet: Triplet) -> Result<usize, SectionFault>
+/// Each line of a table is the triplets of a section and its dimensions, or why there is none.
+fn check_sections(rt: &impl Abort, alloc: Global, array: &Descriptor, table: &str)
     requires { HasPlaces array.now }
 {
-    let section = cut(rt, array, &[triplet])?;
-    assert_eq!(rt; section.dims.len(), 1);
-    Ok(section.dims[0].extent)
+    for line in table.lines() {
+        let (asked, wanted) = parts(rt, line);
+        let found = cut(rt, alloc, array, asked);
+        let is_wanted = is_section(rt, &found, wanted);
+        drop(found);
+        assert!(rt; is_wanted, "{line}");
+    }
 }
 
-/// So many subscripts does the one triplet select, or this is why there is no section.
-fn check_extent(
-    rt: &impl Abort,
-    array: &Descriptor,
-    triplet: Triplet,
-    wanted: Result<usize, SectionFault>,
-)
+/// The places in a section.
+fn check_within(rt: &impl Abort, alloc: Global, array: &Descriptor, text: &str, table: &str)
     requires { HasPlaces array.now }
 {
-    assert_eq!(rt; extent(rt, array, triplet), wanted, "by {triplet:?}");
+    let section = cut(rt, alloc, array, text).expect(rt, "a section");
+    check_places(rt, alloc, &section, table);
+    drop(section);
 }
 
+const LINE: &str = "\
+3 -> 10
+7 -> 14
+2 -> bounds
+8 -> bounds
+-9223372036854775808 -> bounds";
+
+const PARTS_OF_A_LINE: &str = "\
+7 3 -2 -> 3*-2
+3 8 2 -> 3*2
+3 9 2 -> bounds
+2 7 5 -> bounds
+7 3 -5 -> 1*-5
+100 99 1 -> 0*1
+-5 0 -1 -> 0*-1
+5 5 -9223372036854775808 -> 1*-9223372036854775808
+100 99 0 -> step zero
+8 -> bounds";
+
+const DOWN: &str = "\
+1 -> 14
+3 -> 10
+4 -> bounds
+0 -> bounds";
+
 #[test]
-fn extents_and_faults(rt: HostRuntime) {
+fn a_line(rt: HostRuntime) {
     let array = line(&rt, 10, 3, 5);
-    check_extent(&rt, &array, Range(3, 8, 2), Ok(3));
-    check_extent(&rt, &array, Range(3, 9, 2), Err(SectionFault::Bounds));
-    check_extent(&rt, &array, Range(2, 7, 5), Err(SectionFault::Bounds));
-    check_extent(&rt, &array, Range(7, 3, -5), Ok(1));
-    check_extent(&rt, &array, Range(100, 99, 1), Ok(0));
-    check_extent(&rt, &array, Range(-5, 0, -1), Ok(0));
-    check_extent(&rt, &array, Range(5, 5, i64::MIN), Ok(1));
-    check_extent(&rt, &array, Range(100, 99, 0), Err(SectionFault::StepZero));
-    check_extent(&rt, &array, At(8), Err(SectionFault::Bounds));
+    check_places(&rt, rt.alloc(), &array, LINE);
+    check_sections(&rt, rt.alloc(), &array, PARTS_OF_A_LINE);
+    check_within(&rt, rt.alloc(), &array, "7 3 -2", DOWN);
+    check_within(&rt, rt.alloc(), &array, "5", " -> 12");
+    let down = cut(&rt, rt.alloc(), &array, "7 3 -2").expect(&rt, "a section");
+    drop(array);
+    check_sections(&rt, rt.alloc(), &down, "3 1 -1 -> 3*2");
+    check_within(&rt, rt.alloc(), &down, "3 1 -1", "2 -> 12");
+    drop(down);
 }
+
+const TABLE: &str = "\
+0 1 -> 100
+1 3 -> 105
+2 1 -> bounds
+0 4 -> bounds";
+
+// A step of zero is found before a subscript out of bounds, and this beside a triplet that selects nothing.
+const PARTS_OF_A_TABLE: &str = "\
+1, 1 3 1 -> 3*2
+1 0 -1, 3 1 -2 -> 2*-1 2*-4
+5 5 1, 1 1 0 -> step zero
+9, 1 0 1 -> bounds
+5 4 1, 1 3 1 -> 0*1 3*2";
 
 #[test]
 fn a_table(rt: HostRuntime) {
     let array = table(&rt, 100);
-    check_place(&rt, &array, &[0, 1], Ok(100));
-    check_place(&rt, &array, &[1, 3], Ok(105));
-    check_place(&rt, &array, &[2, 1], Err(Bounds));
-    check_place(&rt, &array, &[0, 4], Err(Bounds));
-    let row = section(&rt, &array, &[At(1), Range(1, 3, 1)], &[dim(3, 2)]);
-    check_place(&rt, &row, &[3], Ok(105));
-    let to = [Range(1, 0, -1), Range(3, 1, -2)];
-    let corners = section(&rt, &array, &to, &[dim(2, -1), dim(2, -4)]);
-    check_place(&rt, &corners, &[2, 2], Ok(100));
+    check_places(&rt, rt.alloc(), &array, TABLE);
+    check_sections(&rt, rt.alloc(), &array, PARTS_OF_A_TABLE);
+    check_within(&rt, rt.alloc(), &array, "1, 1 3 1", "3 -> 105");
+    check_within(&rt, rt.alloc(), &array, "1 0 -1, 3 1 -2", "2 2 -> 100");
+    check_within(&rt, rt.alloc(), &array, "5 4 1, 1 3 1", "1 1 -> bounds");
+    drop(array);
 }
 
-#[test]
-fn faults_of_a_table(rt: HostRuntime) {
-    let array = table(&rt, 100);
-    let zero_after = [Range(5, 5, 1), Range(1, 1, 0)];
-    check_fault(&rt, &array, &zero_after, SectionFault::StepZero);
-    let out_beside_none = [At(9), Range(1, 0, 1)];
-    check_fault(&rt, &array, &out_beside_none, SectionFault::Bounds);
-    let none = [Range(5, 4, 1), Range(1, 3, 1)];
-    let empty = section(&rt, &array, &none, &[dim(0, 1), dim(3, 2)]);
-    check_place(&rt, &empty, &[1, 1], Err(Bounds));
-}
+const SPOT: &str = "\
+9223372036854775806 -> 5
+9223372036854775807 -> bounds";
+
+const PARTS_OF_A_SPOT: &str = "\
+-9223372036854775808 9223372036854775807 1 -> bounds
+-9223372036854775808 9223372036854775806 1 -> 18446744073709551615*0
+9223372036854775806 -9223372036854775808 -9223372036854775808 -> 2*0
+-9223372036854775808 9223372036854775807 9223372036854775807 -> 3*0";
 
 #[test]
 fn least_and_greatest_numbers(rt: HostRuntime) {
     let array = spot(&rt, i64::MIN, usize::MAX);
-    check_place(&rt, &array, &[i64::MAX - 1], Ok(5));
-    check_place(&rt, &array, &[i64::MAX], Err(Bounds));
-    check_extent(
-        &rt,
-        &array,
-        Range(i64::MIN, i64::MAX, 1),
-        Err(SectionFault::Bounds),
-    );
-    check_extent(
-        &rt,
-        &array,
-        Range(i64::MIN, i64::MAX - 1, 1),
-        Ok(usize::MAX),
-    );
-    check_extent(&rt, &array, Range(i64::MAX - 1, i64::MIN, i64::MIN), Ok(2));
-    check_extent(&rt, &array, Range(i64::MIN, i64::MAX, i64::MAX), Ok(3));
+    check_places(&rt, rt.alloc(), &array, SPOT);
+    check_sections(&rt, rt.alloc(), &array, PARTS_OF_A_SPOT);
+    drop(array);
 }
+
+// Three times the least number is the least number, up to 2 ^ 64.
+const PARTS_OF_NOTHING: &str = "\
+1 10 3, 1 0 1 -> 4*-9223372036854775808 0*-9223372036854775808
+3, 7 7 1 -> bounds";
 
 #[test]
 fn strides_without_elements(rt: HostRuntime) {
     let array = nothing(&rt, i64::MIN);
-    check_place(&rt, &array, &[1, i64::MAX], Err(Bounds));
-    let section = cut(&rt, &array, &[Range(1, 10, 3), Range(1, 0, 1)]).expect(&rt, "none");
-    assert_eq!(rt; section.dims.len(), 2);
-    assert_eq!(rt; section.dims[0].extent, 4);
-    assert_eq!(rt; section.dims[1].extent, 0);
-    let out = [At(3), Range(7, 7, 1)];
-    check_fault(&rt, &array, &out, SectionFault::Bounds);
+    check_places(&rt, rt.alloc(), &array, "1 9223372036854775807 -> bounds");
+    check_sections(&rt, rt.alloc(), &array, PARTS_OF_NOTHING);
+    drop(array);
 }

@@ -3,7 +3,7 @@
 ghost use Rattle.std.specs.Prelude.{◌<◌};
 
 /// A row of random numbers, which the seed tells.
-#[derive(Debug, Drop)]
+#[derive(Clone, Copy)]
 pub struct Dice {
     seed: u32,
 }

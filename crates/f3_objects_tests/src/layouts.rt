@@ -7,9 +7,9 @@ use f3_desc::{Layout, Piece};
 fn one_word(rt: HostRuntime) {
     let pieces = vec![in rt.alloc(); Piece::Word].expect(&rt, "memory");
     let layout = Layout::new(rt.alloc(), pieces).expect(&rt, "memory");
-    assert_eq!(rt; layout.words(), 1);
-    assert_eq!(rt; layout.last(), 0);
-    assert!(rt; !layout.holds_allocatable(0));
+    let is_well = layout.words() == 1 && layout.last() == 0 && !layout.holds_allocatable(0);
+    drop(layout);
+    assert!(rt; is_well);
 }
 
 /// An integer and an allocatable of rank 2, three times over.
@@ -24,8 +24,8 @@ fn three_records(rt: HostRuntime) {
     ]
     .expect(&rt, "memory");
     let layout = Layout::new(rt.alloc(), pieces).expect(&rt, "memory");
-    assert_eq!(rt; layout.words(), 18);
-    assert_eq!(rt; layout.words_of(1), 5);
-    assert_eq!(rt; layout.words_of(2), 6);
-    assert!(rt; layout.holds_allocatable(3));
+    let is_wide = layout.words() == 18 && layout.words_of(1) == 5 && layout.words_of(2) == 6;
+    let holds = layout.holds_allocatable(3);
+    drop(layout);
+    assert!(rt; is_wide && holds);
 }

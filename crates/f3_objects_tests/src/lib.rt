@@ -2,26 +2,24 @@
 #![tactic(auto)]
 
 #[cfg(test)]
-mod copies;
-#[cfg(test)]
 mod descriptors;
+#[cfg(test)]
 mod dice;
 #[cfg(test)]
 mod elements;
+#[cfg(test)]
 mod growth;
+#[cfg(test)]
 mod holders;
 #[cfg(test)]
 mod layouts;
+#[cfg(test)]
 mod object;
 #[cfg(test)]
 mod rounds;
 #[cfg(test)]
 mod tests;
+#[cfg(test)]
 mod towers;
 #[cfg(test)]
 mod written;
-
-pub use dice::Dice;
-pub use growth::grow;
-pub use object::{blank_object, free_object, random_object};
-pub use towers::tower;

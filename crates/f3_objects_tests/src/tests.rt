@@ -1,19 +1,20 @@
 //! Random objects in both heaps, and in heaps that refuse once.
 #![tactic(auto)]
 
+use crate::dice::Dice;
 use crate::rounds::round;
-use crate::{Dice, tower};
+use crate::towers::tower;
 use f3_desc::{Layout, Piece};
 use f3_heap::{FullAt, PlainBlocks, RawHeap};
 use f3_objects::TreeFault;
-use std::alloc::{AllocError, Global};
+use std::alloc::Global;
 use std::process::Abort;
 
 /// An integer, an array of objects of an integer and an allocatable of integers, and an
 /// allocatable array of such objects.
-fn nested(alloc: Global) -> Result<Layout, AllocError> {
-    let leaf = vec![in alloc; 0, 1]?;
-    let whole = vec![in alloc; 0, 3, 4, 5]?;
+fn nested(rt: &impl Abort, alloc: Global) -> Layout {
+    let leaf = vec![in alloc; 0, 1].expect(rt, "memory");
+    let whole = vec![in alloc; 0, 3, 4, 5].expect(rt, "memory");
     let pieces = vec![in alloc;
         Piece::Word,
         Piece::Allocatable { rank: 1, of: 0 },
@@ -22,13 +23,14 @@ fn nested(alloc: Global) -> Result<Layout, AllocError> {
         Piece::Allocatable { rank: 1, of: 2 },
         Piece::Allocatable { rank: 0, of: 3 },
         Piece::Record(whole),
-    ]?;
-    Layout::new(alloc, pieces)
+    ]
+    .expect(rt, "memory");
+    Layout::new(alloc, pieces).expect(rt, "memory")
 }
 
 #[test]
 fn both_heaps_agree(rt: HostRuntime) {
-    let layout = nested(rt.alloc()).expect(&rt, "memory");
+    let layout = nested(&rt, rt.alloc());
     assert_eq!(rt; layout.words(), 17);
     for seed in 0..40 {
         let mut raw = RawHeap::new(rt.alloc(), 4096).expect(&rt, "memory");
@@ -50,7 +52,10 @@ fn refused_round(
 ) -> Option<Result<usize, TreeFault>> {
     let raw = RawHeap::new(alloc, 4096).expect(rt, "memory");
     let mut heap = FullAt::new(raw, at);
-    round(rt, &mut heap, layout, &mut Dice::new(seed))
+    let mut dice = Dice::new(seed);
+    let came = round(rt, &mut heap, layout, &mut dice);
+    drop(heap);
+    came
 }
 
 /// What a round must give where take number `at` is refused, if take number `own` is that of the
@@ -71,7 +76,7 @@ fn is_due(
 
 #[test]
 fn each_take_refused_in_turn(rt: HostRuntime) {
-    let layout = nested(rt.alloc()).expect(&rt, "memory");
+    let layout = nested(&rt, rt.alloc());
     for seed in 0..8 {
         let ample = refused_round(&rt, rt.alloc(), &layout, seed, 0);
         assert!(rt; matches!(ample, Some(Ok(_))));

@@ -1,8 +1,8 @@
-use Rattle.std.proofs.Common.{rules, ◌≡◌, ◌∙◌, ap, ℤ, pos, set, get_or, to_z, of_z, w64, length}
+use Rattle.std.proofs.Common.{rules, ◌≡◌, pos, get_or, to_z, of_z, w64, length}
 use Rattle.std.proofs.lemmas.Int.{to_z-of_z}
 use Rattle.std.specs.Prelude.{None}
 use Rattle.std.specs.FinMap.{get}
-use Rattle.f3_heap_laws.specs.Blocks.{words_of, with_taken, with_words}
+use Rattle.f3_heap_laws.specs.Blocks.{with_taken}
 use Rattle.f3_objects_tests.proofs.Filling.{if_ok, fills_none, fills_more}
 use Rattle.f3_objects_tests.proofs.written.block_with.Goals as goal
 
@@ -18,6 +18,6 @@ pub loop-at-preserved : goal.loop-at-preserved
 loop-at-preserved g c =
     let m = g.B.Blocks.blocks c.args.heap.now in
     let same : to_z w64 (of_z w64 (get_or c.args.words.now c.loop-at.at (pos 0))) ≡ get_or c.args.words.now c.loop-at.at (pos 0) = to_z-of_z w64 _ (search rules) in
-    fills_more m (g.B.Blocks.blocks c.loop-at.heap) (g.B.Blocks.blocks c.write.new.self) c.expect-block.result c.args.words.now c.loop-at.at
+    fills_more m (g.B.Blocks.blocks c.loop-at.heap) (g.B.Blocks.blocks c.write.new.self) c.expect-block.result c.args.words.now c.loop-at.at _
     (if_ok c.take.result c.expect-block.result (λ b. get m b ≡ None) c.expect-block.ensures c.take.ensures.fresh)
-    c.loop-at.invariant c.loop-at-test.true (c.write.ensures.written ∙ ap (λ (z : ℤ). with_words (g.B.Blocks.blocks c.loop-at.heap) c.expect-block.result (set (words_of (g.B.Blocks.blocks c.loop-at.heap) c.expect-block.result) c.loop-at.at z)) same)
+    c.loop-at.invariant c.loop-at-test.true same c.write.ensures.written

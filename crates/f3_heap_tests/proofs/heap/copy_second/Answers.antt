@@ -1,8 +1,0 @@
--- A change of words leaves every block live.
-use Rattle.std.proofs.Common.{sym, subst}
-use Rattle.f3_heap_laws.specs.Blocks.{Live, IsLive}
-use Rattle.f3_heap_laws.proofs.Laws.{live-insert}
-use Rattle.f3_heap_tests.proofs.heap.copy_second.Goals as goal
-
-pub returns : goal.returns
-returns g c = λ q h. subst (λ (m : Live). IsLive m q) (sym (g.met.B.Blocks.pair_writes c.args.heap.now c.args.b _)) (live-insert (g.B.Blocks.blocks c.args.heap.now) c.args.b _ q h)
