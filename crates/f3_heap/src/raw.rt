@@ -143,11 +143,11 @@ impl Blocks for RawHeap {
     }
 
     fn read(&self, block: BlockId, at: usize) -> i64 {
-        self.arena.region.get(block.place() + 2 + at)
+        self.arena.region.get_from(block.place() + 2, at)
     }
 
     fn write(&mut self, block: BlockId, at: usize, value: i64) {
-        self.arena.region.put(block.place() + 2 + at, value);
+        self.arena.region.put_from(block.place() + 2, at, value);
     }
 
     fn pair(&mut self, from: BlockId, to: BlockId) -> (&[i64], &mut [i64]) {

@@ -3,3 +3,4 @@ mod Rows
 mod Parts
 mod Values
 mod Walks
+mod Places

@@ -110,6 +110,27 @@ impl Region {
         run[0] = word;
     }
 
+    /// The word at `i` of the run from `base` on, below the frontier. Where `base` stays the same in a loop, LLVM makes the place of the
+    /// run once, and reads a word by `i` alone.
+    #[inline]
+    pub fn get_from(&self, base: usize, i: usize) -> i64
+        requires { base + i < length (region_words self.now) }
+        ensures { result ≡ slice_index_or (region_words self.now) (base + i) (pos 0) }
+    {
+        self.memory.words(self.frontier)[base..][i]
+    }
+
+    /// Puts `word` at `i` of the run from `base` on, below the frontier.
+    #[inline]
+    pub fn put_from(&mut self, base: usize, i: usize, word: i64)
+        requires { base + i < length (region_words self.old) }
+        ensures words { region_words self.new ≡ written (region_words self.old) (base + i) (word ∷ []) }
+        ensures size { region_size self.new ≡ region_size self.old }
+    {
+        let (_, run) = self.memory.pair(0, 0, base, self.frontier - base);
+        run[i] = word;
+    }
+
     /// Puts `word` at the frontier, which rises by one.
     #[inline]
     fn append(&mut self, word: i64)
