@@ -1,4 +1,4 @@
-//! What passes make, as text.
+//! Orders, scopes and names, as text.
 
 use f3_access::{module, used};
 use f3_graph::{UnitId, UnitOrder};

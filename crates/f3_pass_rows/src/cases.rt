@@ -1,0 +1,73 @@
+//! Cases, and how they are written.
+//!
+//! Blocks stand apart by an empty line. The first line of a block is a question, and the lines behind it are one case: a
+//! text, and behind `-> ` its answer. In a block that begins with `each QUESTION` each line is a case. In a text and in an answer
+//! `` `N:PIECE` `` is N times the piece, with the number of the time, from 0, for each `@` in it, the next number for each `#`, and how many times are left for each `~`.
+//! A blank before `-> ` is no part of the text. A block that begins with `#` says nothing.
+
+use crate::answers::answer;
+use std::alloc::{AllocError, Global};
+
+/// The question of a block, its cases, and what stands between these.
+pub fn parts(block: &str) -> (&str, &str, &str) {
+    let (question, cases) = block.split_once('\n').unwrap_or((block, ""));
+    match question.strip_prefix("each ") {
+        Some(question) => (question, cases, "\n"),
+        None => (question, cases, "\n\n"),
+    }
+}
+
+/// Whether the text of a case has the case's answer.
+pub fn is_right(alloc: Global, question: &str, case: &str) -> Result<bool, AllocError> {
+    let Some((text, wanted)) = case.split_once("-> ") else {
+        return Ok(false);
+    };
+    let text = expanded(alloc, text.strip_suffix(' ').unwrap_or(text))?;
+    let wanted = expanded(alloc, wanted)?;
+    let answer = answer(alloc, question, text.as_str())?;
+    let answer = answer.as_str();
+    Ok(answer.strip_suffix('\n').unwrap_or(answer) == wanted.as_str())
+}
+
+/// A text with its pieces as often as it says.
+fn expanded(alloc: Global, text: &str) -> Result<String, AllocError> {
+    let mut all = String::new(alloc);
+    let mut is_piece = false;
+    for part in text.split('`') {
+        if is_piece {
+            add_piece(&mut all, part)?;
+        } else {
+            all.push_str(part)?;
+        }
+        is_piece = !is_piece;
+    }
+    Ok(all)
+}
+
+/// Adds a piece as often as is said before it.
+fn add_piece(all: &mut String, part: &str) -> Result<(), AllocError> {
+    let (times, piece) = part.split_once(':').unwrap_or(("", ""));
+    let times = times.parse::<usize>().unwrap_or(0);
+    for number in 0..times {
+        add_numbered(all, piece, number, times)?;
+    }
+    Ok(())
+}
+
+/// Adds a piece with its numbers.
+fn add_numbered(
+    all: &mut String,
+    piece: &str,
+    number: usize,
+    times: usize,
+) -> Result<(), AllocError> {
+    for sign in piece.chars() {
+        match sign {
+            '@' => write!(all, "{number}")?,
+            '#' => write!(all, "{}", number.saturating_add(1))?,
+            '~' => write!(all, "{}", times.saturating_sub(number).saturating_sub(1))?,
+            _ => all.push(sign)?,
+        }
+    }
+    Ok(())
+}
