@@ -259,18 +259,26 @@ fn cases(
     let mut found = Vec::new(alloc);
     let mut otherwise = nothing_done(alloc);
     for (_, selector, body) in list {
-        let (nodes, behind) = block(alloc, state, next, body)?;
-        let site = &state.site;
-        otherwise = add_case(
-            alloc,
-            &site.known,
-            site.at,
-            &mut found,
-            selector,
-            many(nodes),
-            otherwise,
-        )?;
-        next = behind;
+        match block(alloc, state, next, body) {
+            Ok((nodes, behind)) => {
+                let site = &state.site;
+                otherwise = add_case(
+                    alloc,
+                    &site.known,
+                    site.at,
+                    &mut found,
+                    selector,
+                    many(nodes),
+                    otherwise,
+                )?;
+                next = behind;
+            }
+            Err(error) => {
+                drop(otherwise);
+                drop(found);
+                return Err(error);
+            }
+        }
     }
     let node = chosen(alloc, found, otherwise)?;
     Ok((node, next))
