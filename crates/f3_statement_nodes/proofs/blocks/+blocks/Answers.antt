@@ -205,17 +205,17 @@ branches-loop-place-preserved t c =
     let s = state_of c.args.state.now in
     let x = c.loop-place-item.result in
     let b = held x.2 c.deref.result.now c.deref.ensures.value in
-    let m = c.in_ok-nodes.ensures.next ∙ ap (λ y. c.loop-place.next + count_of_block y) b in
+    let m = c.in-Ok.ensures.next ∙ ap (λ y. c.loop-place.next + count_of_block y) b in
     let known = same_state c.loop-place.state c.args.state.now c.loop-place.invariant.same in
     record {
-      nodes = pushed (branch_at s) branch_count branch_of c.args.list.now c.loop-place.place-index x c.loop-place.next c.in_ok-nodes.behind c.loop-place.found.items c.push.new.self.items
-          (record { place = x.0; condition = c.in_ok-condition.condition; block = c.many.result }) _ c.loop-place-test.true c.loop-place-item.is c.in_ok-push.ensures.items
+      nodes = pushed (branch_at s) branch_count branch_of c.args.list.now c.loop-place.place-index x c.loop-place.next c.in-Ok.behind c.loop-place.found.items c.push.new.self.items
+          (record { place = x.0; condition = c.in_ok-condition.condition; block = c.many.result }) _ c.loop-place-test.true c.loop-place-item.is c.in_ok-push-in-Ok.ensures.items
           (branch_is x.0 _ _ _ _ (c.in_ok-condition.ensures ∙ ap (λ (y : Surroundings). expression y (expression_view x.1)) (c.surroundings.ensures ∙ known))
-          (body_is s (state_of c.loop-place.state) c.loop-place.next (block_view x.2) (block_of (map tree.statement_view c.deref.result.now)) (statement_view c.many.result) _ c.many.ensures c.in_ok-nodes.ensures.nodes known b))
+          (body_is s (state_of c.loop-place.state) c.loop-place.next (block_view x.2) (block_of (map tree.statement_view c.deref.result.now)) (statement_view c.many.result) _ c.many.ensures c.in-Ok.ensures.nodes known b))
           m c.loop-place.invariant.nodes;
-      numbers = numbered branch_count counted_branches branches_sum c.args.list.now c.loop-place.place-index x c.loop-place.next c.in_ok-nodes.behind
+      numbers = numbered branch_count counted_branches branches_sum c.args.list.now c.loop-place.place-index x c.loop-place.next c.in-Ok.behind
           (c.args.next + counted_branches c.args.list.now) c.loop-place-test.true c.loop-place-item.is m c.loop-place.invariant.numbers;
-      same = same_trans c.block.new.state c.loop-place.state c.args.state.now c.in_ok-nodes.ensures.same c.loop-place.invariant.same;
+      same = same_trans c.block.new.state c.loop-place.state c.args.state.now c.in-Ok.ensures.same c.loop-place.invariant.same;
     }
 
 pub branches-returns : goal.branches-returns
