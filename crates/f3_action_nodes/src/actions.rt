@@ -30,10 +30,15 @@ fn assignment(
 ) -> Result<Statement, AllocError>
     ensures { IfOk result (λ s. statement_view s ≡ elaborated.assignment (surroundings_of from.entry) (tree.parts_list (map tree.part_view list.now)) (tree.expression_view e.now)) }
 {
-    let object = variable(alloc, from, list)?;
     let kind = variable_kind(alloc, from, list)?;
-    let value = expression(alloc, from, e)?;
-    Ok(Statement::Assign(itself(object), kind, value))
+    let object = variable(alloc, from, list)?;
+    match expression(alloc, from, e) {
+        Ok(value) => Ok(Statement::Assign(itself(object), kind, value)),
+        Err(error) => {
+            drop(object);
+            Err(error)
+        }
+    }
 }
 
 /// An ALLOCATE (6.3.1).
@@ -46,8 +51,13 @@ fn allocation(
     ensures { IfOk result (λ s. statement_view s ≡ nodes.allocate (map (elaborated.request (surroundings_of from.entry)) (map tree.designator_view list.now)) (option_map (elaborated.variable (surroundings_of from.entry)) (option_map tree.designator_view written.now))) }
 {
     let objects = requests(alloc, from, list)?;
-    let status = status(alloc, from, written)?;
-    Ok(Statement::Allocate(objects, status))
+    match status(alloc, from, written) {
+        Ok(status) => Ok(Statement::Allocate(objects, status)),
+        Err(error) => {
+            drop(objects);
+            Err(error)
+        }
+    }
 }
 
 /// A DEALLOCATE (6.3.3).
@@ -60,8 +70,13 @@ fn deallocation(
     ensures { IfOk result (λ s. statement_view s ≡ nodes.deallocate (map (elaborated.request (surroundings_of from.entry)) (map tree.designator_view list.now)) (option_map (elaborated.variable (surroundings_of from.entry)) (option_map tree.designator_view written.now))) }
 {
     let objects = requests(alloc, from, list)?;
-    let status = status(alloc, from, written)?;
-    Ok(Statement::Deallocate(objects, status))
+    match status(alloc, from, written) {
+        Ok(status) => Ok(Statement::Deallocate(objects, status)),
+        Err(error) => {
+            drop(objects);
+            Err(error)
+        }
+    }
 }
 
 /// A PRINT (9.5).

@@ -62,9 +62,15 @@ fn moved(
     ensures { IfOk result (λ s. statement_view s ≡ nodes.move_alloc (elaborated.kind (surroundings_of from.entry) (tree.expression_view e.now)) (elaborated.is_from from.entry.known.now.moving keyword) (elaborated.allocatable (surroundings_of from.entry) (tree.expression_view e.now)) (elaborated.allocatable (surroundings_of from.entry) (tree.expression_view f.now))) }
 {
     let kind = kind(alloc, from, e)?;
+    let is_from = is_from(from.known, keyword);
     let first = allocatable(alloc, from, e)?;
-    let second = allocatable(alloc, from, f)?;
-    Ok(Statement::MoveAlloc(kind, is_from(from.known, keyword), first, second))
+    match allocatable(alloc, from, f) {
+        Ok(second) => Ok(Statement::MoveAlloc(kind, is_from, first, second)),
+        Err(error) => {
+            drop(first);
+            Err(error)
+        }
+    }
 }
 
 fn pair(

@@ -125,6 +125,20 @@ fn alone(alloc: Global, name: Name) -> Result<Vec<(Name, Option<Vec<Argument>>)>
     Ok(list)
 }
 
+/// A variable, and of what kind it is as the variable of a loop (8.1.6.4.1).
+fn counting(
+    alloc: Global,
+    from: Surroundings<'_>,
+    list: &[(Name, Option<Vec<Argument>>)],
+) -> Result<(Designator, Kind), AllocError>
+    ensures variable { IfOk result (λ p. designator_view p.0 ≡ actions.variable (surroundings_of from.entry) (tree.parts_list (map tree.part_view list.now))) }
+    ensures kind { IfOk result (λ p. p.1 ≡ actions.held_kind (actions.kind (surroundings_of from.entry) (tree.designator (tree.parts_list (map tree.part_view list.now))))) }
+{
+    let kind = variable_kind(alloc, from, list)?;
+    let object = variable(alloc, from, list)?;
+    Ok((object, held_kind(kind)))
+}
+
 /// The variable of a loop, and of what kind it is (8.1.6.4.1).
 fn counter(
     alloc: Global,
@@ -135,9 +149,9 @@ fn counter(
     ensures kind { IfOk result (λ p. p.1 ≡ actions.held_kind (actions.kind (surroundings_of from.entry) (tree.designator (rules.variable_of name)))) }
 {
     let list = alone(alloc, name)?;
-    let object = variable(alloc, from, &list)?;
-    let kind = variable_kind(alloc, from, &list)?;
-    Ok((object, held_kind(kind)))
+    let found = counting(alloc, from, &list);
+    drop(list);
+    found
 }
 
 /// The step of a loop; 1 where it is not written.
@@ -149,11 +163,37 @@ fn step_of(
     ensures { IfOk result (λ x. expression_view x ≡ map_or (expressions.number (pos 1)) (expressions.expression (surroundings_of from.entry)) (option_map tree.expression_view written.now)) }
 {
     match written {
-        Some(e) => {
-            let found = expression(alloc, from, e)?;
-            Ok(found)
-        }
+        Some(e) => expression(alloc, from, e),
         None => Ok(one()),
+    }
+}
+
+/// The bounds and the step of a loop.
+fn limits(
+    alloc: Global,
+    from: Surroundings<'_>,
+    first: &tree::Expression,
+    last: &tree::Expression,
+    step: &Option<tree::Expression>,
+) -> Result<(Expression, Expression, Expression), AllocError>
+    ensures first { IfOk result (λ p. expression_view p.0 ≡ expressions.expression (surroundings_of from.entry) (tree.expression_view first.now)) }
+    ensures last { IfOk result (λ p. expression_view p.1 ≡ expressions.expression (surroundings_of from.entry) (tree.expression_view last.now)) }
+    ensures step { IfOk result (λ p. expression_view p.2 ≡ map_or (expressions.number (pos 1)) (expressions.expression (surroundings_of from.entry)) (option_map tree.expression_view step.now)) }
+{
+    let first = expression(alloc, from, first)?;
+    match expression(alloc, from, last) {
+        Ok(last) => match step_of(alloc, from, step) {
+            Ok(step) => Ok((first, last, step)),
+            Err(error) => {
+                drop(first);
+                drop(last);
+                Err(error)
+            }
+        },
+        Err(error) => {
+            drop(first);
+            Err(error)
+        }
     }
 }
 
@@ -169,19 +209,36 @@ fn counted(
 ) -> Result<Statement, AllocError>
     ensures { IfOk result (λ s. statement_view s ≡ elaborated.loop (surroundings_of from.entry) (counted_control name (tree.expression_view first.now) (tree.expression_view last.now) (option_map tree.expression_view step.now)) (statement_view body)) }
 {
-    let (object, kind) = counter(alloc, from, name)?;
-    let first = expression(alloc, from, first)?;
-    let last = expression(alloc, from, last)?;
-    let step = step_of(alloc, from, step)?;
     let body = Box::new(alloc, body)?;
-    Ok(Statement::Count(object, kind, first, last, step, body))
+    match counter(alloc, from, name) {
+        Ok((object, kind)) => match limits(alloc, from, first, last, step) {
+            Ok((first, last, step)) => {
+                Ok(Statement::Count(object, kind, first, last, step, body))
+            }
+            Err(error) => {
+                drop(object);
+                drop(body);
+                Err(error)
+            }
+        },
+        Err(error) => {
+            drop(body);
+            Err(error)
+        }
+    }
 }
 
 /// A DO while a condition holds (8.1.6.4).
 fn repeated(alloc: Global, condition: Expression, body: Statement) -> Result<Statement, AllocError>
     ensures { IfOk result (λ s. statement_view s ≡ nodes.while (expression_view condition) (statement_view body)) }
 {
-    Ok(Statement::While(condition, Box::new(alloc, body)?))
+    match Box::new(alloc, body) {
+        Ok(body) => Ok(Statement::While(condition, body)),
+        Err(error) => {
+            drop(condition);
+            Err(error.into())
+        }
+    }
 }
 
 /// A DO WHILE (8.1.6.4).

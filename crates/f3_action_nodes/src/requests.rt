@@ -96,8 +96,9 @@ fn unbounded_has(
 {
     let list = unbounded_parts(alloc, known, at, list)?;
     let mut first = None;
-    let said = designator(alloc, known, at, &mut first, Role::Expression, &list)?;
-    Ok(said.has)
+    let said = designator(alloc, known, at, &mut first, Role::Expression, &list);
+    drop(list);
+    Ok(said?.has)
 }
 
 /// The parts without what is given behind the last, and what was given there.

@@ -60,8 +60,7 @@ fn acts_if(
     match action(alloc, from, act) {
         Ok(node) => {
             let inner = branch(alloc, condition, node, nothing_done(alloc))?;
-            let found = at(alloc, place, true, inner)?;
-            Ok(found)
+            at(alloc, place, true, inner)
         }
         Err(error) => {
             drop(condition);
@@ -186,13 +185,21 @@ fn branches(
     let mut found = Vec::new(alloc);
     for (place, e, body) in list {
         let condition = expression(alloc, surroundings(state), e)?;
-        let (nodes, behind) = block(alloc, state, next, body)?;
-        found.push(Branch {
-            place: *place,
-            condition,
-            block: many(nodes),
-        })?;
-        next = behind;
+        match block(alloc, state, next, body) {
+            Ok((nodes, behind)) => {
+                found.push(Branch {
+                    place: *place,
+                    condition,
+                    block: many(nodes),
+                })?;
+                next = behind;
+            }
+            Err(error) => {
+                drop(condition);
+                drop(found);
+                return Err(error);
+            }
+        }
     }
     Ok((found, next))
 }
@@ -237,9 +244,16 @@ fn selection(
     ensures same { OnOk result (IsSame state.new state.old) }
 {
     let value = expression(alloc, surroundings(state), e)?;
-    let (found, behind) = cases(alloc, state, next, list)?;
-    let node = select(alloc, place, value, found)?;
-    Ok((node, behind))
+    match cases(alloc, state, next, list) {
+        Ok((found, behind)) => {
+            let node = select(alloc, place, value, found)?;
+            Ok((node, behind))
+        }
+        Err(error) => {
+            drop(value);
+            Err(error)
+        }
+    }
 }
 
 /// The cases of a CASE construct, each with the next one where its values are not met, DEFAULT behind the last.
@@ -259,18 +273,26 @@ fn cases(
     let mut found = Vec::new(alloc);
     let mut otherwise = nothing_done(alloc);
     for (_, selector, body) in list {
-        let (nodes, behind) = block(alloc, state, next, body)?;
-        let site = &state.site;
-        otherwise = add_case(
-            alloc,
-            &site.known,
-            site.at,
-            &mut found,
-            selector,
-            many(nodes),
-            otherwise,
-        )?;
-        next = behind;
+        match block(alloc, state, next, body) {
+            Ok((nodes, behind)) => {
+                let site = &state.site;
+                otherwise = add_case(
+                    alloc,
+                    &site.known,
+                    site.at,
+                    &mut found,
+                    selector,
+                    many(nodes),
+                    otherwise,
+                )?;
+                next = behind;
+            }
+            Err(error) => {
+                drop(otherwise);
+                drop(found);
+                return Err(error);
+            }
+        }
     }
     let node = chosen(alloc, found, otherwise)?;
     Ok((node, next))

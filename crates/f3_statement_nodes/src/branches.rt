@@ -1,6 +1,7 @@
 //! Branches of an IF construct.
 
 ghost use Rattle.std.specs.Prelude.{◌≡◌, true, map, IfOk};
+ghost use Rattle.f3_elaboration.specs.Nodes as n;
 ghost use Rattle.f3_elaboration.specs.Views.{statement_view};
 ghost use Rattle.f3_statement_nodes.specs.Inner.Nested.{branch_of, branched};
 
@@ -18,6 +19,19 @@ pub struct Branch {
     pub block: Statement,
 }
 
+/// A branch at its place, and what is done where its condition does not hold.
+fn placed(
+    alloc: Global,
+    begins: bool,
+    last: Branch,
+    otherwise: Statement,
+) -> Result<Statement, AllocError>
+    ensures { IfOk result (λ s. statement_view s ≡ n.at last.place begins (n.branch (branch_of last).condition (branch_of last).block (statement_view otherwise))) }
+{
+    let inner = branch(alloc, last.condition, last.block, otherwise)?;
+    at(alloc, last.place, begins, inner)
+}
+
 /// Branches, of which the first begins the construct, and what is done where no condition holds.
 pub fn branched(
     alloc: Global,
@@ -28,8 +42,14 @@ pub fn branched(
 {
     let mut node = otherwise;
     while let Some(last) = list.pop() {
-        let inner = branch(alloc, last.condition, last.block, node)?;
-        node = at(alloc, last.place, list.is_empty(), inner)?;
+        let begins = list.is_empty();
+        match placed(alloc, begins, last, node) {
+            Ok(made) => node = made,
+            Err(error) => {
+                drop(list);
+                return Err(error);
+            }
+        }
     }
     Ok(node)
 }

@@ -88,7 +88,13 @@ pub fn chosen(
 {
     let mut node = otherwise;
     while let Some(last) = list.pop() {
-        node = case(alloc, last.ranges, last.block, node)?;
+        match case(alloc, last.ranges, last.block, node) {
+            Ok(made) => node = made,
+            Err(error) => {
+                drop(list);
+                return Err(error);
+            }
+        }
     }
     Ok(node)
 }

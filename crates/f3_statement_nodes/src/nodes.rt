@@ -98,9 +98,13 @@ pub fn select(
 ) -> Result<Statement, AllocError>
     ensures { IfOk result (λ s. statement_view s ≡ n.at place true (n.select (expression_view value) (statement_view cases))) }
 {
-    let inner = Box::new(alloc, cases)?;
-    let node = at(alloc, place, true, Statement::Select(value, inner))?;
-    Ok(node)
+    match Box::new(alloc, cases) {
+        Ok(inner) => at(alloc, place, true, Statement::Select(value, inner)),
+        Err(error) => {
+            drop(value);
+            Err(error.into())
+        }
+    }
 }
 
 /// An ASSOCIATE at a place (8.1.4).
@@ -112,7 +116,11 @@ pub fn associate(
 ) -> Result<Statement, AllocError>
     ensures { IfOk result (λ s. statement_view s ≡ n.at place true (n.associate (map selector_view selectors.items) (statement_view body))) }
 {
-    let inner = Box::new(alloc, body)?;
-    let node = at(alloc, place, true, Statement::Associate(selectors, inner))?;
-    Ok(node)
+    match Box::new(alloc, body) {
+        Ok(inner) => at(alloc, place, true, Statement::Associate(selectors, inner)),
+        Err(error) => {
+            drop(selectors);
+            Err(error.into())
+        }
+    }
 }

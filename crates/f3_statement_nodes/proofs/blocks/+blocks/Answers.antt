@@ -205,17 +205,17 @@ branches-loop-place-preserved t c =
     let s = state_of c.args.state.now in
     let x = c.loop-place-item.result in
     let b = held x.2 c.deref.result.now c.deref.ensures.value in
-    let m = c.in_ok-nodes.ensures.next ∙ ap (λ y. c.loop-place.next + count_of_block y) b in
+    let m = c.in-Ok.ensures.next ∙ ap (λ y. c.loop-place.next + count_of_block y) b in
     let known = same_state c.loop-place.state c.args.state.now c.loop-place.invariant.same in
     record {
-      nodes = pushed (branch_at s) branch_count branch_of c.args.list.now c.loop-place.place-index x c.loop-place.next c.in_ok-nodes.behind c.loop-place.found.items c.push.new.self.items
-          (record { place = x.0; condition = c.in_ok-condition.condition; block = c.many.result }) _ c.loop-place-test.true c.loop-place-item.is c.in_ok-push.ensures.items
+      nodes = pushed (branch_at s) branch_count branch_of c.args.list.now c.loop-place.place-index x c.loop-place.next c.in-Ok.behind c.loop-place.found.items c.push.new.self.items
+          (record { place = x.0; condition = c.in_ok-condition.condition; block = c.many.result }) _ c.loop-place-test.true c.loop-place-item.is c.in_ok-push-in-Ok.ensures.items
           (branch_is x.0 _ _ _ _ (c.in_ok-condition.ensures ∙ ap (λ (y : Surroundings). expression y (expression_view x.1)) (c.surroundings.ensures ∙ known))
-          (body_is s (state_of c.loop-place.state) c.loop-place.next (block_view x.2) (block_of (map tree.statement_view c.deref.result.now)) (statement_view c.many.result) _ c.many.ensures c.in_ok-nodes.ensures.nodes known b))
+          (body_is s (state_of c.loop-place.state) c.loop-place.next (block_view x.2) (block_of (map tree.statement_view c.deref.result.now)) (statement_view c.many.result) _ c.many.ensures c.in-Ok.ensures.nodes known b))
           m c.loop-place.invariant.nodes;
-      numbers = numbered branch_count counted_branches branches_sum c.args.list.now c.loop-place.place-index x c.loop-place.next c.in_ok-nodes.behind
+      numbers = numbered branch_count counted_branches branches_sum c.args.list.now c.loop-place.place-index x c.loop-place.next c.in-Ok.behind
           (c.args.next + counted_branches c.args.list.now) c.loop-place-test.true c.loop-place-item.is m c.loop-place.invariant.numbers;
-      same = same_trans c.block.new.state c.loop-place.state c.args.state.now c.in_ok-nodes.ensures.same c.loop-place.invariant.same;
+      same = same_trans c.block.new.state c.loop-place.state c.args.state.now c.in-Ok.ensures.same c.loop-place.invariant.same;
     }
 
 pub branches-returns : goal.branches-returns
@@ -262,16 +262,16 @@ cases-loop-selector-preserved t c =
     let s = state_of c.args.state.now in
     let x = c.loop-selector-item.result in
     let b = held x.2 c.deref.result.now c.deref.ensures.value in
-    let m = c.in_ok-nodes.ensures.next ∙ ap (λ y. c.loop-selector.next + count_of_block y) b in
+    let m = c.in-Ok.ensures.next ∙ ap (λ y. c.loop-selector.next + count_of_block y) b in
     let known = same_state c.loop-selector.state c.args.state.now c.loop-selector.invariant.same in
-    let behind = same_trans c.block.new.state c.loop-selector.state c.args.state.now c.in_ok-nodes.ensures.same c.loop-selector.invariant.same in
+    let behind = same_trans c.block.new.state c.loop-selector.state c.args.state.now c.in-Ok.ensures.same c.loop-selector.invariant.same in
     record {
-      nodes = case_walked s c.args.list.now c.loop-selector.selector-index x c.loop-selector.next c.in_ok-nodes.behind (map case_of c.loop-selector.found.items) (map case_of c.add_case.new.found.items)
-          (state_of c.block.new.state).context (statement_view c.many.result) (statement_view c.loop-selector.otherwise) (statement_view c.in_ok-otherwise.otherwise) _
+      nodes = case_walked s c.args.list.now c.loop-selector.selector-index x c.loop-selector.next c.in-Ok.behind (map case_of c.loop-selector.found.items) (map case_of c.add_case.new.found.items)
+          (state_of c.block.new.state).context (statement_view c.many.result) (statement_view c.loop-selector.otherwise) (statement_view c.in_ok-otherwise-in-Ok.otherwise) _
           c.loop-selector-test.true c.loop-selector-item.is (ap (λ (y : Surroundings). y.context) (same_state c.block.new.state c.args.state.now behind))
-          (body_is s (state_of c.loop-selector.state) c.loop-selector.next (block_view x.2) (block_of (map tree.statement_view c.deref.result.now)) (statement_view c.many.result) _ c.many.ensures c.in_ok-nodes.ensures.nodes known b)
-          m c.in_ok-otherwise.ensures c.loop-selector.invariant.nodes;
-      numbers = numbered case_count counted_cases cases_sum c.args.list.now c.loop-selector.selector-index x c.loop-selector.next c.in_ok-nodes.behind
+          (body_is s (state_of c.loop-selector.state) c.loop-selector.next (block_view x.2) (block_of (map tree.statement_view c.deref.result.now)) (statement_view c.many.result) _ c.many.ensures c.in-Ok.ensures.nodes known b)
+          m c.in_ok-otherwise-in-Ok.ensures c.loop-selector.invariant.nodes;
+      numbers = numbered case_count counted_cases cases_sum c.args.list.now c.loop-selector.selector-index x c.loop-selector.next c.in-Ok.behind
           (c.args.next + counted_cases c.args.list.now) c.loop-selector-test.true c.loop-selector-item.is m c.loop-selector.invariant.numbers;
       same = behind;
     }
