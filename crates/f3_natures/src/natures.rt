@@ -8,6 +8,7 @@ ghost use Rattle.f3_tree.specs.Tree.{header_view, procedure_view, unit_view, vie
 ghost use Rattle.f3_scopes.specs.Scopes.{declared_in, scopes_of};
 ghost use Rattle.f3_access.specs.Access.{entities_of};
 ghost use Rattle.f3_kinds.specs.Things.{variable};
+ghost use Rattle.f3_type_rules.specs.Associates.{constructs_of_block};
 ghost use Rattle.f3_type_rules.specs.Names.{undeclared};
 ghost use Rattle.f3_type_rules.specs.Natures.{object_nature, declared_nature, typed_natures};
 ghost use Rattle.f3_typed_parts.specs.Known.{nature_of};
@@ -326,6 +327,46 @@ fn behind_declared(first: usize, list: &[Specification]) -> usize
     next
 }
 
+/// Adds what a unit declares, what its procedures are, and what these declare. What is found of the procedures stands in
+/// lists that are empty before. The answer is the number of the scope behind all of these.
+fn add_all(
+    alloc: Global,
+    names: &Names<'_>,
+    scope: usize,
+    constructs: &[usize],
+    finals: &mut Vec<Option<usize>>,
+    made: &mut Vec<Thing>,
+    inner: &mut Vec<Thing>,
+    things: &mut Vec<Thing>,
+    unit: &Unit,
+) -> Result<usize, AllocError>
+    requires scopes { unit_end scope (unit_view unit.now) < 2 ^ 64 }
+    requires entities { length things.old.items + own_count (unit_view unit.now) < 2 ^ 64 }
+    requires constructs { constructs.now ≡ map length (constructs_of_block (unit_view unit.now).body) }
+    requires finals { finals.old.items ≡ [] }
+    requires made { made.old.items ≡ [] }
+    requires inner { inner.old.items ≡ [] }
+    ensures next { IfOk result (λ n. n ≡ unit_end scope (unit_view unit.now)) }
+    ensures things { OnOk result (map nature_of things.new.items ≡ map nature_of things.old.items ++ unit_made (names_view names.now) (length things.old.items) scope (unit_view unit.now)) }
+{
+    let start = scope + 1 + constructs.len();
+    let next = add_procedures(alloc, names, start, finals, made, inner, &unit.procedures)?;
+    let first = behind_declared(things.len(), &unit.part.specifications);
+    add_specifications(
+        alloc,
+        names,
+        scope,
+        first,
+        finals,
+        things,
+        &unit.part.specifications,
+    )?;
+    things.append(made)?;
+    add_associates(things, constructs)?;
+    things.append(inner)?;
+    Ok(next)
+}
+
 /// A unit: what it declares, what its procedures are, and what these declare. The answer is the number of the scope
 /// behind all of these.
 fn add_unit(
@@ -341,33 +382,25 @@ fn add_unit(
     ensures things { OnOk result (map nature_of things.new.items ≡ map nature_of things.old.items ++ unit_made (names_view names.now) (length things.old.items) scope (unit_view unit.now)) }
 {
     let constructs = constructs(alloc, &unit.body)?;
-    let start = scope + 1 + constructs.len();
     let mut finals = Vec::new(alloc);
     let mut made = Vec::new(alloc);
     let mut inner = Vec::new(alloc);
-    let next = add_procedures(
-        alloc,
-        names,
-        start,
-        &mut finals,
-        &mut made,
-        &mut inner,
-        &unit.procedures,
-    )?;
-    let first = behind_declared(things.len(), &unit.part.specifications);
-    add_specifications(
+    let added = add_all(
         alloc,
         names,
         scope,
-        first,
-        &finals,
+        &constructs,
+        &mut finals,
+        &mut made,
+        &mut inner,
         things,
-        &unit.part.specifications,
-    )?;
-    things.append(&mut made)?;
-    add_associates(things, &constructs)?;
-    things.append(&mut inner)?;
-    Ok(next)
+        unit,
+    );
+    drop(inner);
+    drop(made);
+    drop(finals);
+    drop(constructs);
+    added
 }
 
 /// The units of a program.
@@ -379,7 +412,13 @@ fn units(alloc: Global, names: &Names<'_>, list: &[Unit]) -> Result<Vec<Thing>, 
     let mut things = Vec::new(alloc);
     let mut scope = 0;
     for unit in list {
-        scope = add_unit(alloc, names, scope, &mut things, unit)?;
+        match add_unit(alloc, names, scope, &mut things, unit) {
+            Ok(next) => scope = next,
+            Err(error) => {
+                drop(things);
+                return Err(error);
+            }
+        }
     }
     Ok(things)
 }

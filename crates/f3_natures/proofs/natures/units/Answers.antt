@@ -13,6 +13,6 @@ add_unit-requires-clause-entities c =
 
 pub loop-unit-preserved : goal.loop-unit-preserved
 loop-unit-preserved c = record {
-  scopes = units_more c.args.list.now c.loop-unit.unit-index c.unit-item.result c.loop-unit.scope c.in_ok-scope.scope _ c.loop-unit-test.true c.unit-item.is (search rules) c.loop-unit.invariant.scopes;
-  things = made_more (names_view c.args.names.now) c.args.list.now c.loop-unit.unit-index c.unit-item.result c.loop-unit.scope c.in_ok-scope.scope c.loop-unit.things.items c.add_unit.new.things.items _ c.loop-unit-test.true c.unit-item.is (search rules) (search rules) c.loop-unit.invariant.things;
+  scopes = units_more c.args.list.now c.loop-unit.unit-index c.unit-item.result c.loop-unit.scope c.in-Ok.next _ c.loop-unit-test.true c.unit-item.is (search rules) c.loop-unit.invariant.scopes;
+  things = made_more (names_view c.args.names.now) c.args.list.now c.loop-unit.unit-index c.unit-item.result c.loop-unit.scope c.in-Ok.next c.loop-unit.things.items c.add_unit.new.things.items _ c.loop-unit-test.true c.unit-item.is (search rules) (search rules) c.loop-unit.invariant.things;
 }
