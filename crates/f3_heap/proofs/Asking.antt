@@ -1,5 +1,5 @@
 -- One call of `take`, as takes in turn, for all who call heaps.
-use Rattle.std.proofs.Common.{◌≡◌, ℕ, List, [], ◌∷◌}
+use Rattle.std.proofs.Common.{◌≡◌, ℕ, [], ◌∷◌}
 use Rattle.std.specs.Prelude.{Result, Ok, Err, None, IfOk, OnErr}
 use Rattle.std.specs.FinMap.{get}
 use Rattle.f3_heap.specs.declared.blocks.TakeFault.{TakeFault}

@@ -7,6 +7,7 @@ ghost use Rattle.f3_heap_laws.specs.Account.{r};
 ghost use Rattle.f3_heap_laws.specs.Blocks.{with_taken};
 ghost use Rattle.f3_heap_laws.specs.Gaps.{gaps, places, is_wide, first_wide};
 ghost use Rattle.f3_heap_laws.specs.Segments.{UsedAt, FitsAt, NoneFits};
+ghost use Rattle.f3_heap_laws.specs.Hints.{classes, width};
 ghost use Rattle.f3_heap.specs.Arena.{IsArena, segments_in, live_in};
 
 use crate::arena::Arena;
@@ -73,7 +74,8 @@ fn take_at(arena: &mut Arena, words: usize, at: usize)
     write_used(&mut arena.region, at, words, taken);
 }
 
-/// The first free block of `size` words or more, or the heap's size. The hint of its width moves on.
+/// The first free block of `size` words or more, or the heap's size. Where its width has no hint, none is as wide: so a block of the words
+/// behind all others is taken without a search.
 #[inline(always)]
 fn find_room(arena: &mut Arena, size: usize) -> usize
     requires arena { IsArena arena.old }
@@ -85,6 +87,24 @@ fn find_room(arena: &mut Arena, size: usize) -> usize
     ensures size { arena.new.size ≡ arena.old.size }
 {
     let class = class_of(size);
+    if arena.hints[class] == arena.size {
+        return arena.size;
+    }
+    search(arena, class, size)
+}
+
+/// The same by the list of free blocks, from the hint of a width on that is not above `size`. That moves on.
+#[inline(never)]
+fn search(arena: &mut Arena, class: usize, size: usize) -> usize
+    requires arena { IsArena arena.old }
+    requires class { class < classes }
+    requires wide { width class ≤ size }
+    ensures arena { IsArena arena.new }
+    ensures fits { result ≢ arena.new.size → FitsAt size (segments_in arena.new) result }
+    ensures lacking { result ≡ arena.new.size → NoneFits size (segments_in arena.new) }
+    ensures same { live_in arena.new ≡ live_in arena.old }
+    ensures size { arena.new.size ≡ arena.old.size }
+{
     let from = first_fit(
         &arena.region,
         arena.hints[class],

@@ -70,7 +70,45 @@ pub(crate) fn link_prev(region: &mut Region, none: usize, next: usize, prev: usi
     }
 }
 
+/// Writes 0 to `size` words where all of them were written before.
+#[inline]
+fn clear_below(region: &mut Region, at: usize, size: usize)
+    requires { at + size ≤ length (region_words region.old) }
+    ensures words { region_words region.new ≡ written (region_words region.old) at (replicate size (pos 0)) }
+    ensures size { region_size region.new ≡ region_size region.old }
+{
+    let (_, run) = region.pair(0, 0, at, size);
+    run.fill(0);
+}
+
+/// The same where some were not.
+#[inline(never)]
+fn clear_above(region: &mut Region, at: usize, size: usize)
+    requires reached { at ≤ length (region_words region.old) }
+    requires inside { at + size ≤ region_size region.old }
+    ensures words { region_words region.new ≡ written (region_words region.old) at (replicate size (pos 0)) }
+    ensures size { region_size region.new ≡ region_size region.old }
+{
+    region.clear(at, size);
+}
+
+/// Writes 0 to `size` words, up to the region's frontier or beyond it.
+#[inline]
+fn clear(region: &mut Region, at: usize, size: usize)
+    requires reached { at ≤ length (region_words region.old) }
+    requires inside { at + size ≤ region_size region.old }
+    ensures words { region_words region.new ≡ written (region_words region.old) at (replicate size (pos 0)) }
+    ensures size { region_size region.new ≡ region_size region.old }
+{
+    if size <= region.frontier() - at {
+        clear_below(region, at, size);
+    } else {
+        clear_above(region, at, size);
+    }
+}
+
 /// Writes a live block of so many zeros, with no pins, over `size` words.
+#[inline]
 pub(crate) fn write_used(region: &mut Region, at: usize, words: usize, size: usize)
     requires reached { at ≤ length (region_words region.old) }
     requires inside { at + size ≤ region_size region.old }
@@ -79,7 +117,7 @@ pub(crate) fn write_used(region: &mut Region, at: usize, words: usize, size: usi
     ensures words { region_words region.new ≡ written (region_words region.old) at (used_words (replicate words (pos 0)) 0) }
     ensures size { region_size region.new ≡ region_size region.old }
 {
-    region.clear(at, size);
+    clear(region, at, size);
     region.put(at, words as i64);
     region.put(at + size - 1, words as i64);
 }

@@ -1,16 +1,15 @@
 -- The first fit, or the words behind all blocks.
 use Rattle.std.proofs.Common.{◌+◌, ◌∙◌, ℕ, ap, sym, subst, refl, arith}
 use Rattle.f3_raw.specs.Region.{region_words, region_size}
-use Rattle.f3_heap_laws.specs.Segments.{segments, live_segments, Cuts}
-use Rattle.f3_heap_laws.proofs.HeapLaws.{cut-heap, cut-live, cut-fresh, end-heap, end-live, end-fresh, room-fits, first-fits, first-lacking}
-use Rattle.f3_heap_laws.proofs.BlockLaws.{heap-at, heap-words, heap-used, room-large, room-full, room-behind, fits-within, cut-used}
+use Rattle.f3_heap_laws.specs.Segments.{segments, live_segments}
+use Rattle.f3_heap_laws.proofs.HeapLaws.{end-heap, end-live, end-fresh, room-fits, first-fits, first-lacking}
+use Rattle.f3_heap_laws.proofs.BlockLaws.{heap-at, heap-words, heap-used, room-large, room-full, room-behind, fits-within}
 use Rattle.f3_heap_laws.specs.Segments.{NoneFits, FitsAt}
-use Rattle.f3_heap_laws.specs.Hints.{CutsTo}
 use Rattle.f3_heap_laws.specs.Blocks.{with_taken}
 use Rattle.f3_heap_laws.specs.Gaps.{gaps, places, is_wide, first_wide}
 use Rattle.std.specs.List.{list_any}
 use Rattle.std.specs.FinMap.{get}
-use Rattle.f3_heap_laws.proofs.HintHeaps.{hints-at, end-hints, cut-hints}
+use Rattle.f3_heap_laws.proofs.HintHeaps.{hints-at, end-hints}
 use Rattle.f3_heap.proofs.heap_blocks.take_block.Goals as goal
 
 pub returns-then-not-fits-clause-none : goal.returns-then-not-fits-clause-none

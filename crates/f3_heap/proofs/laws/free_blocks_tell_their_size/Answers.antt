@@ -1,4 +1,4 @@
-use Rattle.std.proofs.Common.{◌≡◌, ℕ, ℤ, pos, ◌+◌, ◌-◌, List, length, get_or, ap, sym, ◌∙◌, arith}
+use Rattle.std.proofs.Common.{◌≡◌, ℕ, pos, ◌+◌, ◌-◌, length, get_or, ap, ◌∙◌, arith}
 use Rattle.f3_heap_laws.specs.Segments.{free_size_of, segments}
 use Rattle.f3_heap_laws.proofs.BlockReads.{free-head, free-tail}
 use Rattle.f3_heap.proofs.laws.free_blocks_tell_their_size.Goals as goal
