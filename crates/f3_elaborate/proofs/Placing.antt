@@ -33,8 +33,8 @@ use Rattle.f3_elaboration.specs.Context.{Surroundings}
 use Rattle.f3_elaboration.specs.Declarations.{Whole, context}
 use Rattle.f3_elaboration.specs.Numbers.{Numbers, Inner, name_by, name_of, numbers_in_main, numbers_in_member}
 use Rattle.f3_elaboration.specs.Units.{in_main, in_member, surroundings}
-use Rattle.f3_statement_nodes.specs.declared.state.State.{State}
-use Rattle.f3_statement_nodes.specs.Standing.{state_of}
+use Rattle.f3_inside.specs.declared.state.State.{State}
+use Rattle.f3_inside.specs.Standing.{state_of}
 use Rattle.f3_elaborate.specs.Knows.{Knows}
 
 -- ---- what is known is the same where a site is

@@ -26,7 +26,7 @@ use Rattle.f3_elaboration.specs.Nodes.{DerivedNode, StaticNode, ProcedureNode, P
 use Rattle.f3_elaboration.specs.Numbers.{definitions, numbers_of, unit_statics}
 use Rattle.f3_elaboration.specs.Program.{main_unit, nothing_done, program_along, whole_along}
 use Rattle.f3_elaboration.specs.Units.{main}
-use Rattle.f3_statement_nodes.specs.declared.state.State.{State}
+use Rattle.f3_inside.specs.declared.state.State.{State}
 use Rattle.f3_elaborate.specs.Knows.{Knows}
 use Rattle.f3_elaborate.specs.Units.{procedures_in}
 

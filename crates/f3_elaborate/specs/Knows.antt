@@ -7,7 +7,7 @@ use Rattle.f3_declared.specs.declared.scenery.Scenery.{Scenery}
 use Rattle.f3_declared.specs.Scenery.{scene_in}
 use Rattle.f3_numbers.specs.Agrees.{Agrees, nothing_inside}
 use Rattle.f3_elaboration.specs.Declarations.{Whole}
-use Rattle.f3_statement_nodes.specs.declared.state.State.{State}
+use Rattle.f3_inside.specs.declared.state.State.{State}
 
 pub record Knows (scenery : Scenery) (s : State) (w : Whole) : Type 0 where
   pub scene : w.scene ≡ scene_in s.site.known scenery

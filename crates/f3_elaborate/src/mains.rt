@@ -22,10 +22,10 @@ ghost use Rattle.f3_elaborate.specs.Units.{main_place};
 
 use crate::procedures::main_program;
 use crate::units::Walk;
+use f3_inside::state::State;
 use f3_places::source::Place;
 use f3_program::program::Procedure;
 use f3_program::statement::Statement;
-use f3_statement_nodes::state::State;
 use f3_tree::program as tree;
 use f3_tree::program::UnitKind;
 use std::alloc::{AllocError, Global};

@@ -19,9 +19,9 @@ ghost use Rattle.f3_elaborate.specs.Units.{procedures_in};
 
 use crate::procedures::{Home, procedure};
 use f3_declared::scenery::Scenery;
+use f3_inside::state::State;
 use f3_natures::constructs::constructs;
 use f3_program::program::Procedure;
-use f3_statement_nodes::state::State;
 use f3_tree::program as tree;
 use std::alloc::{AllocError, Global};
 

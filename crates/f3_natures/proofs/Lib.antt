@@ -8,5 +8,3 @@ pub mod Looked
 pub mod Same
 pub mod Standing
 pub mod Distinct
-pub mod Held
-pub mod Symbols

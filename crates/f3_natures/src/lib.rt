@@ -3,9 +3,6 @@
 
 pub mod constructs;
 pub mod entries;
-pub mod holders;
-pub mod intrinsics;
-pub mod kinds;
 pub mod names;
 pub mod natures;
 pub mod objects;

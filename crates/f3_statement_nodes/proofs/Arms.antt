@@ -26,7 +26,7 @@ use Rattle.f3_elaboration.specs.Statements.{statement}
 use Rattle.f3_elaboration.specs.Views.{statements_of}
 use Rattle.f3_statement_nodes.specs.Inner.Along.{statements_at, branches_at}
 use Rattle.f3_statement_nodes.specs.Inner.Counts.{count_of, count_of_block, count_of_branches, count_of_other, count_of_cases}
-use Rattle.f3_statement_nodes.specs.Inner.Nested.{BranchNode, CaseNode, branched, chosen, case_before}
+use Rattle.f3_construct_nodes.specs.Nested.{BranchNode, CaseNode, branched, chosen, case_before}
 use Rattle.f3_statement_nodes.specs.Inner.Weights.{weight, weight_of_block, weight_of_branches, weight_of_other, weight_of_cases}
 
 -- ---- statements in memory, as trees

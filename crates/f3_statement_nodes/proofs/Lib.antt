@@ -1,6 +1,2 @@
 mod Arms
-mod Entered
-mod Exchanged
-mod Folds
-mod Same
 mod Walk

@@ -2,9 +2,3 @@
 #![tactic(auto)]
 
 pub mod blocks;
-mod branches;
-mod cases;
-mod inside;
-mod names;
-mod nodes;
-pub mod state;

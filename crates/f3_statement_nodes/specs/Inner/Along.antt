@@ -12,7 +12,7 @@ use Rattle.f3_elaboration.specs.Context.{Surroundings}
 use Rattle.f3_elaboration.specs.Expressions.{expression}
 use Rattle.f3_elaboration.specs.Statements.{statement, block}
 use Rattle.f3_statement_nodes.specs.Inner.Counts.{count_of, count_of_block}
-use Rattle.f3_statement_nodes.specs.Inner.Nested.{BranchNode}
+use Rattle.f3_construct_nodes.specs.Nested.{BranchNode}
 
 abbrev pub along : {X Y : Type 0} → (row : ℕ → X → Y) → (count : X → ℕ) → (next : ℕ) → List X → List Y
 along row count next [] = []

@@ -10,7 +10,7 @@ use Rattle.f3_elaboration.specs.Nodes as n
 use Rattle.f3_elaboration.specs.Numbers.{Inner, numbers_in_main}
 use Rattle.f3_elaboration.specs.Statements.{block}
 use Rattle.f3_elaboration.specs.Views.{statement_view}
-use Rattle.f3_statement_nodes.specs.Standing.{state_of}
+use Rattle.f3_inside.specs.Standing.{state_of}
 use Rattle.f3_elaborate.proofs.Nodes.{made, of_main}
 use Rattle.f3_elaborate.proofs.Placing.{entered, knows_still, main_placed, stands_inside, still_agrees}
 use Rattle.f3_elaborate.proofs.procedures.main_program.Goals as goal

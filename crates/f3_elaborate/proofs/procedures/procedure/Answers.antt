@@ -8,7 +8,7 @@ use Rattle.f3_numbers.specs.Agrees.{Agrees}
 use Rattle.f3_elaboration.specs.Nodes as n
 use Rattle.f3_elaboration.specs.Numbers.{Inner, numbers_in_member}
 use Rattle.f3_elaboration.specs.Statements.{block}
-use Rattle.f3_statement_nodes.specs.Standing.{state_of}
+use Rattle.f3_inside.specs.Standing.{state_of}
 use Rattle.f3_elaborate.proofs.Nodes.{of_member}
 use Rattle.f3_elaborate.proofs.Placing.{entered, knows_still, member_placed, stands_inside, still_agrees}
 use Rattle.f3_elaborate.proofs.procedures.procedure.Goals as goal

@@ -15,15 +15,15 @@ use Rattle.f3_elaboration.specs.Expressions.{expression}
 use Rattle.f3_elaboration.specs.Nodes as n
 use Rattle.f3_elaboration.specs.Statements as e
 use Rattle.f3_elaboration.specs.Views.{statement_view, statements_of}
-use Rattle.f3_statement_nodes.specs.Standing.{state_of}
+use Rattle.f3_inside.specs.Standing.{state_of}
 use Rattle.f3_statement_nodes.specs.Inner.Along.{statement_at, statement_count, branch_at, branch_count, branches_at}
 use Rattle.f3_statement_nodes.specs.Inner.Counts.{count_of, count_of_block, count_of_branches, count_of_other, count_of_cases}
-use Rattle.f3_statement_nodes.specs.Inner.Nested.{branch_of, branched, case_of, chosen}
+use Rattle.f3_construct_nodes.specs.Nested.{branch_of, branched, case_of, chosen}
 use Rattle.f3_statement_nodes.specs.Inner.Weights.{weight, weight_of_block, weight_of_branches, weight_of_other, weight_of_cases}
 use Rattle.f3_statement_nodes.proofs.Arms.{action_is, logical_is, if_is, select_is, do_is, associate_is, held, else_is, branches_count, if_weight, select_weight, do_weight, associate_weight}
 use Rattle.f3_statement_nodes.proofs.Arms.{statements_sum, branches_sum, cases_sum, block_made, branches_made, body_is, branch_is, case_walked}
-use Rattle.f3_statement_nodes.proofs.Entered.{left_same, room_left}
-use Rattle.f3_statement_nodes.proofs.Same.{same, same_state, same_settled, same_trans}
+use Rattle.f3_inside.proofs.Entered.{left_same, room_left}
+use Rattle.f3_inside.proofs.Same.{same, same_state, same_settled, same_trans}
 use Rattle.f3_statement_nodes.proofs.Walk.{pushed, pushed_all, numbered, within, ended, lighter}
 use Rattle.f3_statement_nodes.proofs.blocks.+blocks.Goals as goal
 

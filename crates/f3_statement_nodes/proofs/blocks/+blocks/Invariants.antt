@@ -4,10 +4,10 @@ use Rattle.f3_scopes.specs.Inner.Blocks.{branches_view, alternative_view, cases_
 use Rattle.f3_elaboration.specs.Actions.{nothing_done}
 use Rattle.f3_elaboration.specs.Statements as e
 use Rattle.f3_elaboration.specs.Views.{statement_view}
-use Rattle.f3_statement_nodes.specs.Standing.{state_of, IsSame}
+use Rattle.f3_inside.specs.Standing.{state_of, IsSame}
 use Rattle.f3_statement_nodes.specs.Inner.Along.{statements_at, branches_at}
 use Rattle.f3_statement_nodes.specs.Inner.Counts.{count_of_block, count_of_branches, count_of_cases}
-use Rattle.f3_statement_nodes.specs.Inner.Nested.{branch_of, case_of, chosen}
+use Rattle.f3_construct_nodes.specs.Nested.{branch_of, case_of, chosen}
 use Rattle.f3_statement_nodes.specs.Inner.Weights.{weight, weight_of_block, weight_of_branches, weight_of_other, weight_of_cases}
 use Rattle.f3_statement_nodes.proofs.blocks.+blocks.Given as goal
 

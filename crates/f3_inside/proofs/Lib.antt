@@ -1,0 +1,3 @@
+pub mod Entered
+mod Exchanged
+pub mod Same

@@ -1,0 +1,4 @@
+pub mod Entities
+pub mod Exchanged
+pub mod Outside
+pub mod Standing
