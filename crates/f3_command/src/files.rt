@@ -13,7 +13,7 @@ use std::rt::Files;
 pub const MOST_BYTES: usize = 16_777_217;
 
 /// The bytes that are asked for at a time.
-const PART: usize = 65_536;
+const PART: usize = 8_192;
 
 /// Opens files by their names.
 pub trait Opener {

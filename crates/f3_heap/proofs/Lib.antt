@@ -1,3 +1,5 @@
 pub mod Slots
 pub mod Asking
+mod Ends
+mod Hinted
 mod Sizes

@@ -13,13 +13,42 @@ ghost use Rattle.f3_heap.specs.Arena.{IsArena, segments_in, live_in};
 use crate::arena::Arena;
 use crate::hints::{class_of, lower_hints, move_hints, width_of};
 use crate::segments::{
-    carve, first_fit, free_left, link, link_next, link_prev, run_around, write_free, write_used,
+    SMALL_BLOCK, carve, first_fit, free_left, link, link_next, link_prev, run_around, write_free,
+    write_small, write_used,
 };
 use f3_heap_laws::{fits, size_of_block};
 
-/// Takes a block of so many words from the first run that has room for it, and tells its place.
+/// Takes a block of so many words from the first run that has room for it, and tells its place. A small one behind all others, in words
+/// that were written before, is taken without a call.
 #[inline(always)]
 pub(crate) fn take_block(arena: &mut Arena, words: usize) -> Option<usize>
+    requires { IsArena arena.old }
+    ensures arena { IsArena arena.new }
+    ensures taken { IfSome result (λ at. live_in arena.new ≡ with_taken (live_in arena.old) (at + 1) words) }
+    ensures fresh { IfSome result (λ at. get (live_in arena.old) (at + 1) ≡ None) }
+    ensures first { IfSome result (λ at. first_wide words (gaps (places (live_in arena.old)) arena.old.size) ≡ Some at) }
+    ensures small { IfSome result (λ at. at + 1 < 2 ^ 63) }
+    ensures some { IfSome result (λ at. list_any (is_wide words) (gaps (places (live_in arena.old)) arena.old.size) ≡ true) }
+    ensures none { IfNone result (list_any (is_wide words) (gaps (places (live_in arena.old)) arena.old.size) ≡ false) }
+    ensures same { IfNone result (live_in arena.new ≡ live_in arena.old) }
+    ensures size { arena.new.size ≡ arena.old.size }
+{
+    if words <= SMALL_BLOCK {
+        let taken = size_of_block(words);
+        let at = arena.end;
+        if arena.hints[class_of(taken)] == arena.size && taken <= arena.region.frontier() - at {
+            arena.end += taken;
+            arena.used += taken;
+            write_small(&mut arena.region, at, words, taken);
+            return Some(at);
+        }
+    }
+    take_any(arena, words)
+}
+
+/// The same for any block, wherever it comes to lie.
+#[inline(never)]
+fn take_any(arena: &mut Arena, words: usize) -> Option<usize>
     requires { IsArena arena.old }
     ensures arena { IsArena arena.new }
     ensures taken { IfSome result (λ at. live_in arena.new ≡ with_taken (live_in arena.old) (at + 1) words) }

@@ -60,8 +60,8 @@ impl RawHeap {
     pub fn new(alloc: Global, words: usize) -> Result<RawHeap, AllocError>
         ensures { IfOk result (λ h. h ≡ record { blocks = empty; size = words / 4 * 4 }) }
     {
-        let region = Region::new(alloc, words)?;
         let size = words / 4 * 4;
+        let region = Region::new(alloc, size)?;
         Ok(RawHeap {
             arena: Arena {
                 region,

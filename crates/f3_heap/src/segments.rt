@@ -23,6 +23,9 @@ ghost use Rattle.f3_heap_laws.specs.Segments.{Lays, segments, free_size_of, with
 use f3_heap_laws::size_of_block;
 use f3_raw::Region;
 
+/// The most words of a small block.
+pub(crate) const SMALL_BLOCK: usize = 29;
+
 /// The size that a free block's first or last word tells, or 0 for a live block's.
 #[inline]
 pub(crate) fn free_size(region: &Region, at: usize) -> usize
@@ -120,6 +123,50 @@ pub(crate) fn write_used(region: &mut Region, at: usize, words: usize, size: usi
     clear(region, at, size);
     region.put(at, words as i64);
     region.put(at + size - 1, words as i64);
+}
+
+/// Writes 0 to `size` words by the first `part` ones and the last, which meet or overlap.
+#[inline(always)]
+fn clear_ends(region: &mut Region, at: usize, size: usize, part: usize)
+    requires inside { at + size ≤ length (region_words region.old) }
+    requires meet { (part ≤ size) × (size ≤ part + part) }
+    ensures words { region_words region.new ≡ written (region_words region.old) at (replicate size (pos 0)) }
+    ensures size { region_size region.new ≡ region_size region.old }
+{
+    clear_below(region, at, part);
+    clear_below(region, at + size - part, part);
+}
+
+/// Writes 0 to the words of a small block. Runs of a length that is known are written in line.
+#[inline(always)]
+fn clear_small(region: &mut Region, at: usize, size: usize)
+    requires inside { at + size ≤ length (region_words region.old) }
+    requires small { (4 ≤ size) × (size ≤ 32) }
+    ensures words { region_words region.new ≡ written (region_words region.old) at (replicate size (pos 0)) }
+    ensures size { region_size region.new ≡ region_size region.old }
+{
+    if size <= 8 {
+        clear_ends(region, at, size, 4);
+    } else if size <= 16 {
+        clear_ends(region, at, size, 8);
+    } else {
+        clear_ends(region, at, size, 16);
+    }
+}
+
+/// The same as `write_used` for a small block, where all its words were written before.
+#[inline(always)]
+pub(crate) fn write_small(region: &mut Region, at: usize, words: usize, size: usize)
+    requires inside { at + size ≤ length (region_words region.old) }
+    requires sized { size ≡ r words }
+    requires small { words ≤ 29 }
+    ensures words { region_words region.new ≡ written (region_words region.old) at (used_words (replicate words (pos 0)) 0) }
+    ensures size { region_size region.new ≡ region_size region.old }
+{
+    clear_small(region, at, size);
+    let length = words as i64;
+    region.put(at, length);
+    region.put(at + size - 1, length);
 }
 
 /// Writes a free block of `size` words, with its links.

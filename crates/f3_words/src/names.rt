@@ -1,6 +1,6 @@
 //! Names and their numbers.
 
-ghost use Rattle.std.specs.Prelude.{◌≡◌, true, map, string_bytes};
+ghost use Rattle.std.specs.Prelude.{◌≡◌, ◌<◌, true, map, string_bytes};
 ghost use Rattle.f3_lex.specs.Tokens.{lower};
 ghost use Rattle.f3_words.specs.Keywords.{keyword_of};
 
@@ -16,15 +16,26 @@ pub struct Names {
     pub set: IndexSet<String>,
     /// The keyword that each of them may be.
     pub(crate) keywords: Vec<Keyword>,
-    /// For each hash of a name, the number of one that may have it. Nothing is known of them.
+    /// For each hash of a name, the number of one that may have it. Nothing is known of them. There are 0, `FEW_HINTS` or `HINTS`.
     pub(crate) hints: Vec<usize>,
     ghost paired: { keywords.items ≡ map keyword_of (map string_bytes set.keys) },
 }
 
-/// How many hints there are.
-const HINTS: usize = 16384;
+/// How many hints there are: a power of two.
+const HINTS: usize = 16_384;
 
-/// Where the hint of a name stands: a hash of 14 bits, letters without case.
+/// How many there are where there are no more names: a power of two too. To clear those of a large program takes a small one as long as
+/// all its names do.
+const FEW_HINTS: usize = 512;
+
+/// How many hints there are for so many names.
+fn hints_for(names: usize) -> usize
+    ensures { 0 < result }
+{
+    if names > FEW_HINTS { HINTS } else { FEW_HINTS }
+}
+
+/// Where the hint of a name stands, modulo the number of hints: a hash of 14 bits, letters without case.
 pub(crate) fn slot_of(name: &[u8]) -> usize {
     let mut hash = 0u32;
     for byte in name {
@@ -71,7 +82,8 @@ impl Names {
     pub(crate) fn hinted(&self, slot: usize, written: &[u8]) -> Option<(usize, Keyword)>
         ensures { IfSome result (λ x. (list_any (bytes_eq (lower written.now)) (names_of self.now) ≡ true) × IsNumbered (names_of self.now) (lower written.now) x) }
     {
-        let symbol = *self.hints.get(slot)?;
+        let last = self.hints.len().wrapping_sub(1);
+        let symbol = *self.hints.get(slot & last)?;
         let name = self.set.as_slice().get(symbol)?;
         if is_lower_of(name.as_bytes(), written) {
             Some((symbol, self.keywords[symbol]))
@@ -84,11 +96,14 @@ impl Names {
     pub(crate) fn hint(&mut self, slot: usize, symbol: usize) -> Result<(), AllocError>
         ensures { names_of self.new ≡ names_of self.old }
     {
-        if self.hints.is_empty() {
-            self.hints.resize(HINTS, 0)?;
+        let count = hints_for(self.keywords.len());
+        if self.hints.len() != count {
+            self.hints.clear();
+            self.hints.resize(count, 0)?;
         }
-        if slot < self.hints.len() {
-            self.hints[slot] = symbol;
+        let at = slot & (count - 1);
+        if at < self.hints.len() {
+            self.hints[at] = symbol;
         }
         Ok(())
     }

@@ -38,6 +38,7 @@ returns-then-free_left-eq0-clause-arena c =
       heap = heap-at _ _ _ _ c.args.arena.now.size _ _ _ _ _ _ (last-heap (region_words c.args.arena.now.region) (region_size c.args.arena.now.region) c.args.arena.now.size c.args.arena.now.first c.args.arena.now.end c.args.arena.now.used c.args.at c.requires.arena.heap c.requires.block (omega (arith, given_is (region_words c.args.arena.now.region) c.args.arena.now.size c.args.arena.now.first c.args.arena.now.end c.args.at c.requires.arena.heap.lays c.requires.block c.size_of_block-given.result c.link.result c.size_of_block-given.ensures c.link.ensures, c.if-at-given.true)) c.free_left.result c.free_left.ensures.start c.free_left.ensures.tag c.if-free_left-eq0.true)
           refl refl refl refl (ap (λ n. c.args.arena.now.used - n) (given_is (region_words c.args.arena.now.region) c.args.arena.now.size c.args.arena.now.first c.args.arena.now.end c.args.at c.requires.arena.heap.lays c.requires.block c.size_of_block-given.result c.link.result c.size_of_block-given.ensures c.link.ensures));
       hints = last-hints (region_words c.args.arena.now.region) (region_size c.args.arena.now.region) c.args.arena.now.size c.args.arena.now.first c.args.arena.now.end c.args.arena.now.used c.requires.arena.heap c.args.arena.now.hints c.requires.arena.hints c.args.at c.requires.block (omega (arith, given_is (region_words c.args.arena.now.region) c.args.arena.now.size c.args.arena.now.first c.args.arena.now.end c.args.at c.requires.arena.heap.lays c.requires.block c.size_of_block-given.result c.link.result c.size_of_block-given.ensures c.link.ensures, c.if-at-given.true));
+      room = c.requires.arena.room;
     }
 
 pub returns-then-free_left-eq0-clause-given : goal.returns-then-free_left-eq0-clause-given

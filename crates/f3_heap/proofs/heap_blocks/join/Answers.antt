@@ -66,6 +66,7 @@ returns-then-run-arena-clause-arena c =
       heap = heap-at _ _ _ _ c.args.arena.now.size _ _ _ _ _ _ (close-heap (region_words c.args.arena.now.region) (region_size c.args.arena.now.region) c.args.arena.now.size c.args.arena.now.first c.args.arena.now.end c.args.arena.now.used c.args.at c.run_around-run.result.at c.run_around-run.result.size c.run_around-run.result.prev c.run_around-run.result.next c.requires.arena.heap c.run_around-run.ensures c.if-run-arena.true)
           c.link_next.ensures.words c.link_next.ensures.size c.link_next.ensures.first refl (ap (λ n. c.args.arena.now.used - n) (size_is (goal.at.returns-then-run-arena-clause-arena c).After-run_around-run));
       hints = hints-at _ _ c.args.arena.now.size _ _ c.move_hints.new.hints (close-hints (region_words c.args.arena.now.region) (region_size c.args.arena.now.region) c.args.arena.now.size c.args.arena.now.first c.args.arena.now.end c.args.arena.now.used c.requires.arena.heap c.args.arena.now.hints c.requires.arena.hints c.args.at c.run_around-run.result.at c.run_around-run.result.size c.run_around-run.result.prev c.run_around-run.result.next c.run_around-run.ensures c.move_hints.new.hints c.if-run-arena.true c.move_hints.ensures.moved) c.link_next.ensures.words refl;
+      room = c.link_next.ensures.size ∙ c.requires.arena.room;
     }
 
 pub returns-then-run-arena-clause-given : goal.returns-then-run-arena-clause-given
@@ -78,6 +79,7 @@ returns-else-run-arena-clause-arena c =
       heap = heap-at _ _ _ _ c.args.arena.now.size _ _ _ _ _ _ (free-heap (region_words c.args.arena.now.region) (region_size c.args.arena.now.region) c.args.arena.now.size c.args.arena.now.first c.args.arena.now.end c.args.arena.now.used c.args.at c.run_around-run.result.at c.run_around-run.result.size c.run_around-run.result.prev c.run_around-run.result.next c.requires.arena.heap c.run_around-run.ensures c.if-run-arena.false)
           (c.link_prev.ensures.words ∙ ap (λ z. with_prev z c.args.arena.now.size c.run_around-run.result.next c.run_around-run.result.at) (c.link_next-else-run-arena.ensures.words ∙ ap (λ z. with_next z c.args.arena.now.size c.run_around-run.result.prev c.run_around-run.result.at) c.write_free.ensures.words)) (c.link_prev.ensures.size ∙ c.link_next-else-run-arena.ensures.size ∙ c.write_free.ensures.size) c.link_next-else-run-arena.ensures.first refl (ap (λ n. c.args.arena.now.used - n) (size_is (goal.at.returns-else-run-arena-clause-arena c).After-run_around-run));
       hints = hints-at _ _ c.args.arena.now.size _ _ c.lower_hints.new.hints (free-hints (region_words c.args.arena.now.region) (region_size c.args.arena.now.region) c.args.arena.now.size c.args.arena.now.first c.args.arena.now.end c.args.arena.now.used c.requires.arena.heap c.args.arena.now.hints c.requires.arena.hints c.args.at c.run_around-run.result.at c.run_around-run.result.size c.run_around-run.result.prev c.run_around-run.result.next c.run_around-run.ensures c.lower_hints.new.hints c.if-run-arena.false c.lower_hints.ensures.lowered) (c.link_prev.ensures.words ∙ ap (λ z. with_prev z c.args.arena.now.size c.run_around-run.result.next c.run_around-run.result.at) (c.link_next-else-run-arena.ensures.words ∙ ap (λ z. with_next z c.args.arena.now.size c.run_around-run.result.prev c.run_around-run.result.at) c.write_free.ensures.words)) refl;
+      room = c.link_prev.ensures.size ∙ c.link_next-else-run-arena.ensures.size ∙ c.write_free.ensures.size ∙ c.requires.arena.room;
     }
 
 pub returns-else-run-arena-clause-given : goal.returns-else-run-arena-clause-given

@@ -19,4 +19,5 @@ returns-clause-arena c =
       hints = set-hints c.args.arena.now.size c.first_fit-from.result c.args.class (segments_in c.args.arena.now) c.args.arena.now.hints len c.requires.class c.requires.arena.hints
           (subst (λ (n : ℕ). HintFrom c.args.arena.now.size n c.first_fit-from.result 0 (segments_in c.args.arena.now)) c.width_of.ensures
           (found-hint c.args.arena.now.size _ c.first_fit-from.result (segments_in c.args.arena.now) c.first_fit-from.ensures.fits c.first_fit-from.ensures.lacking));
+      room = c.requires.arena.room;
     }

@@ -30,6 +30,7 @@ returns-clause-arena c =
       heap = heap-at _ _ _ _ c.args.arena.now.size _ _ _ _ _ _ (cut-heap (region_words c.args.arena.now.region) (region_size c.args.arena.now.region) c.args.arena.now.size c.args.arena.now.first c.args.arena.now.end c.args.arena.now.used c.args.words c.args.at c.carve-next.new.first c.requires.arena.heap (region_words c.carve-next.new.region) (subst (λ (m : ℕ). Cuts c.args.arena.now.size m (segments (region_words c.args.arena.now.region) c.args.arena.now.end) c.args.at c.carve-next.new.first c.args.arena.now.end (region_words c.carve-next.new.region)) c.size_of_block-taken.ensures c.carve-next.ensures.cuts.cuts))
           c.write_used.ensures.words (c.write_used.ensures.size ∙ c.carve-next.ensures.size) refl refl (ap (λ n. c.args.arena.now.used + n) c.size_of_block-taken.ensures);
       hints = hints-at _ _ c.args.arena.now.size _ _ c.move_hints.new.hints (cut-hints (region_words c.args.arena.now.region) (region_size c.args.arena.now.region) c.args.arena.now.size c.args.arena.now.first c.args.arena.now.end c.args.arena.now.used c.requires.arena.heap c.args.arena.now.hints c.requires.arena.hints c.args.words c.args.at c.carve-next.result c.carve-next.new.first (region_words c.carve-next.new.region) (subst (λ (m : ℕ). CutsTo c.args.arena.now.size m (segments (region_words c.args.arena.now.region) c.args.arena.now.end) c.args.at c.carve-next.result c.carve-next.new.first c.args.arena.now.end (region_words c.carve-next.new.region)) c.size_of_block-taken.ensures c.carve-next.ensures.cuts) c.move_hints.new.hints c.move_hints.ensures.moved) c.write_used.ensures.words refl;
+      room = c.write_used.ensures.size ∙ c.carve-next.ensures.size ∙ c.requires.arena.room;
     }
 
 pub returns-clause-taken : goal.returns-clause-taken

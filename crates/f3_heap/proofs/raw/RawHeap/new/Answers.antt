@@ -10,10 +10,11 @@ use Rattle.f3_heap.proofs.raw.RawHeap.new.Goals as goal
 
 pub invariant_of-result : goal.invariant_of-result
 invariant_of-result c =
-    let small : c.args.words * 8 < 2 ^ 63 = elim (dec_lt (c.args.words * 8) (2 ^ 63)) [ yes l ↦ l | no k ↦ absurd (let z = c.in_ok-region.ensures.too_large (omega arith) in cc) ] in
+    let small : c.args.words / 4 * 4 * 8 < 2 ^ 63 = elim (dec_lt (c.args.words / 4 * 4 * 8) (2 ^ 63)) [ yes l ↦ l | no k ↦ absurd (let z = c.in_ok-region.ensures.too_large (omega arith) in cc) ] in
     record {
       heap = new-heap (region_words c.in_ok-region.region) (region_size c.in_ok-region.region) (c.args.words / 4 * 4) c.in_ok-region.ensures.words (omega arith) (let e = c.in_ok-region.ensures.size in omega arith) (omega arith);
       hints = new-hints (region_words c.in_ok-region.region) (c.args.words / 4 * 4) (replicate 32 (c.args.words / 4 * 4)) (λ i lt. get_or-replicate 32 i (c.args.words / 4 * 4) 0 lt);
+      room = c.in_ok-region.ensures.size;
     }
 
 pub returns : goal.returns

@@ -11,6 +11,7 @@ invariant_of-result c =
     record {
       heap = new-heap (region_words c.in-Ok.region) (region_size c.in-Ok.region) 0 c.in-Ok.ensures.words (omega arith) (let e = c.in-Ok.ensures.size in omega arith) (omega arith);
       hints = new-hints (region_words c.in-Ok.region) 0 (replicate 32 0) (λ i lt. get_or-replicate 32 i 0 0 lt);
+      room = c.in-Ok.ensures.size;
     }
 
 pub returns : goal.returns

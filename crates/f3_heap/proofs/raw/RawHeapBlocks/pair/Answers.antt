@@ -20,6 +20,7 @@ pub invariant_of-self-lent : goal.invariant_of-self-lent
 invariant_of-self-lent c = λ w. record {
   heap = pair-heap (region_words c.self.inside.arena.region) (region_size c.self.inside.arena.region) c.self.inside.arena.size c.self.inside.arena.first c.self.inside.arena.end c.self.inside.arena.used c.self.invariant.heap c.args.self.now c.self.view_is c.place-2.result c.args.to c.place-2.ensures c.requires.to_live c.length-m.result w (c.length-m.ensures ∙ ap (λ (h : Heap). length (words_of h.blocks c.args.to)) c.self.view_is);
   hints = pair-hints (region_words c.self.inside.arena.region) (region_size c.self.inside.arena.region) c.self.inside.arena.size c.self.inside.arena.first c.self.inside.arena.end c.self.inside.arena.used c.self.invariant.heap c.args.self.now c.self.view_is c.place-2.result c.args.to c.place-2.ensures c.requires.to_live c.length-m.result w (c.length-m.ensures ∙ ap (λ (h : Heap). length (words_of h.blocks c.args.to)) c.self.view_is) c.self.inside.arena.hints c.self.invariant.hints;
+  room = c.self.invariant.room;
 }
 
 pub returns : goal.returns

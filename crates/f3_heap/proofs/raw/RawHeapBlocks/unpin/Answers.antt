@@ -32,6 +32,7 @@ pub invariant_of-self : goal.invariant_of-self
 invariant_of-self c = record {
   heap = heap-at _ _ _ _ c.self.inside.arena.size _ _ _ _ _ _ (pin-heap (region_words c.self.inside.arena.region) (region_size c.self.inside.arena.region) c.self.inside.arena.size c.self.inside.arena.first c.self.inside.arena.end c.self.inside.arena.used c.self.invariant.heap c.args.self.now c.self.view_is c.place-2.result c.args.block c.place-2.ensures c.requires.live (c.pin_count-count.result - 1) (fits_count c) _ refl) c.put_pin_count.ensures.words c.put_pin_count.ensures.size refl refl refl;
   hints = hints-at _ _ c.self.inside.arena.size _ _ c.self.inside.arena.hints (pin-hints (region_words c.self.inside.arena.region) (region_size c.self.inside.arena.region) c.self.inside.arena.size c.self.inside.arena.first c.self.inside.arena.end c.self.inside.arena.used c.self.invariant.heap c.args.self.now c.self.view_is c.place-2.result c.args.block c.place-2.ensures c.requires.live (c.pin_count-count.result - 1) (fits_count c) _ refl c.self.inside.arena.hints c.self.invariant.hints) c.put_pin_count.ensures.words refl;
+  room = c.put_pin_count.ensures.size ∙ c.self.invariant.room;
 }
 
 pub returns-clause-counted : goal.returns-clause-counted

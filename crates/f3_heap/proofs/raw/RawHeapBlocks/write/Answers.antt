@@ -29,6 +29,7 @@ invariant_of-self c = record {
       heap-at _ _ _ _ c.self.inside.arena.size _ _ _ _ _ _ (write-heap (region_words c.self.inside.arena.region) (region_size c.self.inside.arena.region) c.self.inside.arena.size c.self.inside.arena.first c.self.inside.arena.end c.self.inside.arena.used c.self.invariant.heap c.args.self.now c.self.view_is c.place.result c.args.block c.place.ensures c.requires.live c.args.at c.args.value c.requires.within _ refl)
       (put_word c) c.put_from.ensures.size refl refl refl;
   hints = hints-at _ _ c.self.inside.arena.size _ _ c.self.inside.arena.hints (write-hints (region_words c.self.inside.arena.region) (region_size c.self.inside.arena.region) c.self.inside.arena.size c.self.inside.arena.first c.self.inside.arena.end c.self.inside.arena.used c.self.invariant.heap c.args.self.now c.self.view_is c.place.result c.args.block c.place.ensures c.requires.live c.args.at c.args.value c.requires.within _ refl c.self.inside.arena.hints c.self.invariant.hints) (put_word c) refl;
+  room = c.put_from.ensures.size ∙ c.self.invariant.room;
 }
 
 pub returns-clause-written : goal.returns-clause-written
