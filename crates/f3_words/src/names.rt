@@ -24,8 +24,8 @@ pub struct Names {
 /// How many hints there are: a power of two.
 const HINTS: usize = 16_384;
 
-/// How many there are where there are no more names: a power of two too. To clear those of a large program takes a small one as long as
-/// all its names do.
+/// How many there are where there are no more names than that, so that a small program need not clear as many as a large one: a power of
+/// two too.
 const FEW_HINTS: usize = 512;
 
 /// How many hints there are for so many names.
