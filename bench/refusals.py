@@ -8,7 +8,7 @@ goes or is another, a list of USE is another, a line goes, comes again or change
 What only one of the two accepts is told by gfortran's words, or by f3's rule, with how many there are, and the first of each stays as
 refusals-NUMBER.f90. Most come from f3's own rules (a dummy argument without INTENT, operators on arrays) or from what a program of
 constants would do when it is run (a stride of zero); each other one is a fault of f3 or of gfortran, and is to be looked at.
-The last line is 'N alike, M accepted by f3 alone, K by gfortran alone'."""
+The last line is 'N accepted by both, L refused by both, M accepted by f3 alone, K by gfortran alone'."""
 import collections
 import glob
 import os
@@ -30,11 +30,12 @@ WORDS = set(
     " return stop print allocate deallocate stat final associate allocated size lbound ubound mod modulo abs min max move_alloc".split()
 )
 ATTRIBUTES = (
-    "private", "public", "protected", "allocatable", "save", "parameter", "intent(in)", "intent(out)", "intent(inout)", "dimension(:)", "dimension(3)"
+    *("private", "public", "protected", "allocatable", "save", "parameter"),
+    *("intent(in)", "intent(out)", "intent(inout)", "dimension(:)", "dimension(3)"),
 )
 LITERALS = ("0", "1", "2", "7", ".true.", ".false.", "5_8", "1_4", "(-1)", "[1, 2]")
 OPERATORS = ("+", "-", "*", "/", "==", "<", ".and.", ".or.", ".eqv.", "**")
-PREFIXES = ("pure", "recursive", "public", "private", "protected", "exit", "cycle", "return", "integer", "logical", "integer(8)", "stop", "")
+HEADS = ("pure", "recursive", "public", "private", "protected", "exit", "cycle", "return", "integer", "logical")
 
 
 def f3_says(text, folder):
@@ -91,9 +92,12 @@ class Change:
         self.chance = chance
 
     def of(self, text):
-        """The program with one change, or as it is where there is no place for it."""
+        """The program with one change."""
         ways = [*[self.name] * 3, self.intent, self.less, self.more, self.lines, *[self.token] * 2, self.use]
-        return self.chance.choice(ways)(text)
+        changed = text
+        while changed == text:
+            changed = self.chance.choice(ways)(text)
+        return changed
 
     def names(self, parts):
         return [at for at, part in enumerate(parts) if re.fullmatch(r"[A-Za-z_]\w*", part) and part.lower() not in WORDS]
@@ -140,7 +144,7 @@ class Change:
         kinds = (
             (r"\b\d+\b|\.true\.|\.false\.", LITERALS),
             (r"[-+*/<>]|==|/=|\.\w+\.", OPERATORS),
-            (r"\b(" + "|".join(PREFIXES[:10]) + r")\b", PREFIXES),
+            (r"\b(" + "|".join(HEADS) + r")\b", (*HEADS, "integer(8)", "stop", "")),
         )
         pattern, others = self.chance.choice(kinds)
         return self.put(text, list(re.finditer(pattern, text, re.I)), lambda one: self.chance.choice(others))
@@ -153,20 +157,21 @@ class Change:
         some = [self.chance.choice(names) for _ in range(self.chance.randrange(3))]
         renamed = ", ".join(f"{self.chance.choice(names)} => {name}" for name in some)
         lists = ["", ", only: " + ", ".join(some), ", only: " + renamed, f", {renamed}" if some else ""]
-        return self.put(text, list(re.finditer(r"^(\s*use\s+\w+)[^;\n]*", text, re.I | re.M)), lambda one: one[1] + self.chance.choice(lists))
+        found = list(re.finditer(r"^(\s*use\s+\w+)[^;\n]*", text, re.I | re.M))
+        return self.put(text, found, lambda one: one[1] + self.chance.choice(lists))
 
 
 def main(words):
     count = int(words[0]) if words else 1000
     change = Change(random.Random(int(words[1]) if len(words) > 1 else 1))
-    alike, apart = 0, collections.defaultdict(list)
+    alike, apart = collections.Counter(), collections.defaultdict(list)
     with tempfile.TemporaryDirectory() as folder:
         texts = programs(folder)
         for _ in range(count):
             text = change.of(change.chance.choice(texts))
             own, other = f3_says(text, folder), gfortran_says(text, folder)
             if bool(own) == bool(other):
-                alike += 1
+                alike["refused" if own else "accepted"] += 1
             else:
                 apart[("gfortran", own.split(": ", 1)[-1][:3]) if own else ("f3", other)].append(text)
     for number, ((who, why), found) in enumerate(sorted(apart.items(), key=lambda it: (it[0][0], -len(it[1]), it[0][1])), 1):
@@ -174,7 +179,8 @@ def main(words):
         with open(f"refusals-{number}.f90", "w") as file:
             file.write(found[0])
     alone = {who: sum(len(found) for (one, _), found in apart.items() if one == who) for who in ("f3", "gfortran")}
-    print(f"{alike} alike, {alone['f3']} accepted by f3 alone, {alone['gfortran']} by gfortran alone")
+    both = f"{alike['accepted']} accepted by both, {alike['refused']} refused by both"
+    print(f"{both}, {alone['f3']} accepted by f3 alone, {alone['gfortran']} by gfortran alone")
 
 
 if __name__ == "__main__":
