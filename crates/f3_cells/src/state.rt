@@ -70,6 +70,11 @@ impl<T: Drop> From<AllocFailed<T>> for Stop {
 }
 
 impl State {
+    /// Drops the state: a crate that drops it by itself proves once more how all that it holds is dropped.
+    pub fn release(self) {
+        drop(self);
+    }
+
     /// The next line comes after this one.
     pub fn advance(&mut self)
         requires { self.old.pc < 2 ^ 63 }
