@@ -1,8 +1,8 @@
 //! f3 checks, compiles and runs libraries of Fortran modules.
 #![tactic(auto)]
 
-use f3_command::files::Disk;
 use f3_command::program;
+use f3_files::files::Disk;
 use f3_output::output::Output;
 use std::env;
 use std::io::{self, BufWriter, ErrorKind, Write};

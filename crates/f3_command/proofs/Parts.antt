@@ -1,5 +1,5 @@
 -- Outputs and files, part by part.
-use Rattle.std.proofs.Common.{◌≡◌, ℕ, Bool, List, [], ◌∷◌, ◌++◌, Option, refl, sym, ap, subst, inl, inr, ◌∙◌, append-nil}
+use Rattle.std.proofs.Common.{◌≡◌, ℕ, Bool, List, [], ◌∷◌, ◌++◌, refl, sym, ap, subst, inl, inr, ◌∙◌, append-nil}
 use Rattle.std.specs.Prelude.{Result, Ok, Err, OnOk, OnErr, String, string_bytes}
 use Rattle.std.specs.Global.{Global}
 use Rattle.std.specs.Io.KnownBytes.{Appends}
@@ -15,14 +15,14 @@ use Rattle.f3_program.specs.declared.program.Program.{Program}
 use Rattle.f3_machine_laws.specs.RunAnswers.{Cut, Refuses}
 use Rattle.f3_output.specs.Output.{State, Wrote, Faulted}
 use Rattle.f3_output.proofs.Outputs.{wrote_none, wrote_more, faulted_behind, faulted_before}
+use Rattle.f3_compile.specs.Compiles.{Means, ChecksAndLists}
 use Rattle.f3_run.specs.declared.end.End.{End}
 use Rattle.f3_run.specs.declared.end.End.TheVariants.{Done, Stopped, Error, StepLimit, WriteFault, Memory}
 use Rattle.f3_run.specs.declared.end.Limits.{Limits}
 use Rattle.f3_run.specs.Answers.{Answers}
-use Rattle.f3_run.specs.Compiles.{Means, ChecksAndRuns, ChecksAndLists}
+use Rattle.f3_run.specs.Runs.{ChecksAndRuns}
 use Rattle.f3_command.specs.declared.report.Outcome.TheVariants.{Ended}
 use Rattle.f3_command.specs.Work.{AreAccepted, Accepts, Ran, Runs, Shows, Lists, Shown, outcome_of}
-use Rattle.f3_command.specs.Reading.{IsOf, AreOf}
 
 pub on_ok : {T E : Type 0} {P Q : Type 0} (r : Result T E) → (P → Q) → OnOk r P → OnOk r Q
 on_ok (Ok x) f p = f p
@@ -38,13 +38,6 @@ wrote_on {x = x} p q = rw (sym (append-nil x)) (wrote_more p q)
 
 pub faulted_on : {a b c : State} {x : List ℕ} → Wrote a b x → Faulted b c [] → Faulted a c x
 faulted_on {x = x} p q = rw (sym (append-nil x)) (faulted_behind p q)
-
--- one source more
-pub one_more : {contents : List ℕ → Option (List ℕ)} (names : List (List ℕ)) (sources : List Source) (name : List ℕ) (source : Source) → AreOf contents names sources → IsOf contents name source → AreOf contents (names ++ name ∷ []) (sources ++ source ∷ [])
-one_more [] [] name source are is = (is, tt)
-one_more [] (s ∷ ss) name source are is = absurd are
-one_more (n ∷ ns) [] name source are is = absurd are
-one_more (n ∷ ns) (s ∷ ss) name source are is = (are.0, one_more ns ss name source are.1 is)
 
 -- a writer that has refused before
 faulted_kept : {a b c : State} {x : List ℕ} → Faulted a b x → Wrote b c [] → Faulted a c x

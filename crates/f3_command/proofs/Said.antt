@@ -15,10 +15,10 @@ use Rattle.clap.specs.declared.parser.matches.ArgMatches.TheViews.{out-ArgMatche
 use Rattle.clap.proofs.CallerLemmas.{subcommand_required}
 use Rattle.clap.proofs.OnLiterals.{clap_on_literals}
 use Rattle.f3_output.specs.Output.{State, Wrote, Faulted}
-use Rattle.f3_command.specs.Command.{f3_app}
+use Rattle.f3_command_line.specs.Command.{f3_app}
 use Rattle.f3_command.specs.Program.{faults_of, asked_of, Refuses, Informs, Says}
 use Rattle.f3_command.specs.Report.{Told}
-use Rattle.f3_command.proofs.CommandLine.{has_no_globals}
+use Rattle.f3_command_line.proofs.CommandLine.{has_no_globals}
 
 f3_is_simple : is_simple f3_app ≡ true
 unfolding clap_on_literals

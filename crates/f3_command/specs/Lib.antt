@@ -1,6 +1,4 @@
 pub mod Report
-pub mod Reading
 pub mod Work
 pub mod Task
-pub mod Command
 pub mod Program

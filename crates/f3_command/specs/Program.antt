@@ -9,11 +9,11 @@ use Rattle.clap.specs.Walk.{Row, Text, all_of, one_of}
 use Rattle.clap.specs.declared.error.kind.ErrorKind.{ErrorKind}
 use Rattle.clap.specs.declared.error.kind.ErrorKind.TheVariants.{OutOfMemory, DisplayHelp, DisplayVersion}
 use Rattle.f3_output.specs.Output.{State}
+use Rattle.f3_command_line.specs.Command.{f3_app}
 use Rattle.f3_run.specs.declared.end.End.{End}
 use Rattle.f3_command.specs.declared.report.Outcome.TheVariants.{Ended}
 use Rattle.f3_command.specs.declared.work.Task.{Task}
 use Rattle.f3_command.specs.declared.work.Task.TheVariants.{Check, Names, Code, Run}
-use Rattle.f3_command.specs.Command.{f3_app}
 use Rattle.f3_command.specs.Report.{Told, Finishes, as_line}
 use Rattle.f3_command.specs.Work.{Shown, Performs}
 

@@ -9,19 +9,19 @@ use Rattle.f3_graph.specs.declared.CheckFault.TheVariants as fault
 use Rattle.f3_name_table.specs.Answers as table
 use Rattle.f3_program.specs.declared.program.Program.{Program}
 use Rattle.f3_output.specs.Output.{State, Wrote, Faulted}
+use Rattle.f3_compile.specs.Compiles.{Means, IsRefused}
+use Rattle.f3_compile.specs.Listings.{IsListing}
+use Rattle.f3_files.specs.Reading.{AreOf}
 use Rattle.f3_run.specs.declared.end.End.{End}
 use Rattle.f3_run.specs.declared.end.End.TheVariants.{Done, WriteFault, Memory}
 use Rattle.f3_run.specs.declared.end.Limits.{Limits}
 use Rattle.f3_run.specs.Answers.{Answers}
-use Rattle.f3_run.specs.Compiles.{Means, IsRefused}
-use Rattle.f3_run.specs.Listings.{IsListing}
 use Rattle.f3_accepted.specs.Accepted.{Accepted}
 use Rattle.f3_accepted.specs.Refusals.{First}
 use Rattle.f3_command.specs.declared.report.Outcome.{Outcome}
 use Rattle.f3_command.specs.declared.report.Outcome.TheVariants.{Ended, Refused, Unreadable}
 use Rattle.f3_command.specs.declared.work.Task.{Task}
 use Rattle.f3_command.specs.declared.work.Task.TheVariants as task
-use Rattle.f3_command.specs.Reading.{AreOf}
 use Rattle.f3_command.specs.Report.{Finishes}
 
 -- what becomes of a fault

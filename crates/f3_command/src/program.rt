@@ -6,12 +6,12 @@ ghost use Rattle.f3_output.specs.Output.{state_of};
 ghost use Rattle.f3_command.specs.Program.{faults_of, asked_of, task_of, WantsMemory, Says, Acts, Obeys};
 ghost use Rattle.f3_command.specs.Task.{IsTask, OfRun};
 
-use crate::command::command;
-use crate::files::Opener;
 use crate::report::{Outcome, USAGE, finish, want_of_memory};
 use crate::work::{Task, perform, shown};
 use clap::ArgMatches;
 use clap::error::ErrorKind;
+use f3_command_line::command::command;
+use f3_files::files::Opener;
 use f3_output::output::Output;
 use f3_run::end::Limits;
 use std::alloc::Global;

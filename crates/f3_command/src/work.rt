@@ -7,15 +7,15 @@ ghost use Rattle.f3_output.specs.Output.{State, state_of, Wrote, Faulted};
 ghost use Rattle.f3_run.specs.Answers.{Answers};
 ghost use Rattle.f3_command.specs.Work.{outcome_of, AreAccepted, Accepts, Checks, Shown, Shows, Lists, Runs, Works, Performs};
 
-use crate::files::{Opener, ReadFault, read_sources};
 use crate::report::{Outcome, finish};
+use f3_compile::code::check_and_code;
+use f3_files::files::{Opener, ReadFault, read_sources};
 use f3_graph::CheckFault;
 use f3_name_table::name_table;
 use f3_output::output::{Output, Refused};
 use f3_places::source::Source;
-use f3_run::code::check_and_code;
-use f3_run::compile::check_and_run;
 use f3_run::end::{End, Limits};
+use f3_run::run::check_and_run;
 use std::alloc::Global;
 use std::io::Write;
 

@@ -12,7 +12,7 @@ use Rattle.f3_meaning_whole.specs.Act.{whole, derived_of}
 use Rattle.f3_meaning_whole.specs.Run.{run_of, changes}
 use Rattle.f3_meaning_whole.specs.Permitted.{Each, Permitted, IsLawful}
 use Rattle.f3_meaning_laws.specs.Laws.{AreStages, along, IsNotOwn, IsNotAbove, IsNotBy}
-use Rattle.f3_run.specs.Compiles.{Means}
+use Rattle.f3_compile.specs.Compiles.{Means}
 
 -- the program that accepted sources spell is lawful
 abbrev pub AcceptedIsLawful : Type 0

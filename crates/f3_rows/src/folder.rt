@@ -2,7 +2,7 @@
 
 ghost use Rattle.std.specs.Prelude.{None};
 
-use f3_command::files::Opener;
+use f3_files::files::Opener;
 use std::io;
 
 /// Files in memory, by their names.

@@ -1,14 +1,12 @@
 //! What users see of f3, case by case: runs the cases of standard input, and compares.
 #![tactic(auto)]
 
-mod cases;
 mod folder;
 mod planning;
 mod running;
-mod showing;
 
-use crate::cases::read;
 use crate::running::is_as_expected;
+use f3_row_cases::cases::read;
 use std::io::{self, Read, Write};
 
 fn main(rt: HostRuntime) -> io::Result<()> {

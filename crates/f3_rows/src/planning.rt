@@ -1,13 +1,13 @@
 //! The acts of the plan of a program.
 
-use crate::showing::listed;
-use f3_command::compile::compile;
+use f3_compile::compile::compile;
 use f3_frames::layouts::Layouts;
 use f3_gen_laws::generate;
 use f3_gen_values::emission::Emission;
 use f3_places::source::Source;
 use f3_plans::planning::plan;
 use f3_program::program::Program;
+use f3_row_cases::showing::listed;
 use std::alloc::{AllocError, Global};
 
 /// The acts of the plan of a program whose variables have these layouts.

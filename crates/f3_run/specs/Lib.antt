@@ -1,4 +1,2 @@
-pub mod Compiled
 pub mod Answers
-pub mod Compiles
-pub mod Listings
+pub mod Runs

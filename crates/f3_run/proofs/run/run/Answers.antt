@@ -1,5 +1,5 @@
 use Rattle.f3_output.specs.Output.{state_of}
-use Rattle.f3_run.specs.Compiled.{program_of}
+use Rattle.f3_compile.specs.Compiled.{program_of}
 use Rattle.f3_run.proofs.Beginning.{none_yet}
 use Rattle.f3_run.proofs.run.run.Goals as goal
 

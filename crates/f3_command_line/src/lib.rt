@@ -1,0 +1,4 @@
+//! The command line of f3, as clap reads it.
+#![tactic(auto)]
+
+pub mod command;
