@@ -14,7 +14,6 @@ sys.dont_write_bytecode = True
 import terms
 
 TOP = terms.TOP
-MODULE = "planning.rt"
 
 
 def main():
@@ -23,7 +22,6 @@ def main():
     target = os.path.abspath(sys.argv[1])
     with tempfile.TemporaryDirectory() as folder:
         terms.lay(folder)
-        shutil.copy(f"{TOP}/crates/f3_rows/src/{MODULE}", f"{folder}/crates/f3_act_lines/src/{MODULE}")
         os.makedirs(f"{folder}/bench")
         shutil.copy(f"{TOP}/bench/unproved.py", f"{folder}/bench")
         sys.exit(subprocess.run([sys.executable, f"{folder}/bench/unproved.py", target, "f3_act_lines"], check=False).returncode)

@@ -1,5 +1,6 @@
-//! Cases of what users see of f3, as they are written, and acts as lines: what the program that compares them needs, proved before f3 is.
+//! What f3_rows needs and stands on no command line: cases of what users see of f3, as they are written, and the acts of a plan as lines.
 #![tactic(auto)]
 
 pub mod cases;
-pub mod showing;
+pub mod planning;
+mod showing;

@@ -2,7 +2,6 @@
 #![tactic(auto)]
 
 mod folder;
-mod planning;
 mod running;
 
 use crate::running::is_as_expected;

@@ -33,11 +33,10 @@ pub fn run<W: Write>(
 ) -> End
     ensures { Answers (program_of compiled.now) limits (state_of W.contents output.old) (state_of W.contents output.new) result }
 {
-    let program = compiled.program();
-    let Ok(emission) = generate(alloc, program) else {
+    let Ok(emission) = generate(alloc, &compiled.program) else {
         return End::Memory;
     };
-    let end = run_code(alloc, program, &emission, limits, output);
+    let end = run_code(alloc, &compiled.program, &emission, limits, output);
     drop(emission);
     end
 }

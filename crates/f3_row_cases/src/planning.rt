@@ -1,5 +1,6 @@
 //! The acts of the plan of a program.
 
+use crate::showing::listed;
 use f3_compile::compile::compile;
 use f3_frames::layouts::Layouts;
 use f3_gen_laws::generate;
@@ -7,7 +8,6 @@ use f3_gen_values::emission::Emission;
 use f3_places::source::Source;
 use f3_plans::planning::plan;
 use f3_program::program::Program;
-use f3_row_cases::showing::listed;
 use std::alloc::{AllocError, Global};
 
 /// The acts of the plan of a program whose variables have these layouts.
@@ -52,7 +52,7 @@ fn planned(alloc: Global, program: &Program) -> Result<String, AllocError> {
 pub fn acts_of(alloc: Global, sources: &[Source]) -> Result<String, AllocError> {
     let compiled = compile(alloc, sources);
     let text = match &compiled {
-        Ok(compiled) => planned(alloc, compiled.program()),
+        Ok(compiled) => planned(alloc, &compiled.program),
         Err(_) => String::from_str(alloc, "refused\n"),
     };
     drop(compiled);
