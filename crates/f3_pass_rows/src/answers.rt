@@ -1,40 +1,14 @@
 //! What is answered on a text, by the question.
 
 use crate::programs::{fronts, of_sources, refusal_line};
-use crate::statements::{cut, of_first};
 use crate::steps::stepped;
 use f3_lex::value::{integer, lower_case};
 use f3_name_rules::is_intrinsic;
-use f3_places::source::Source;
+use f3_pass_texts::statements::{cut, of_first};
 use f3_text::cut::source_end;
 use f3_text::reader::Statements;
 use f3_words::constant::characters;
 use std::alloc::{AllocError, Global};
-
-/// Adds a source to a list.
-fn add_source(
-    alloc: Global,
-    sources: &mut Vec<Source>,
-    name: &str,
-    text: &str,
-) -> Result<(), AllocError> {
-    sources.push(Source {
-        name: String::from_str(alloc, name)?,
-        bytes: Vec::from_slice(alloc, text.as_bytes())?,
-    })?;
-    Ok(())
-}
-
-/// The sources of a text: a.f90, and behind a line `b.f90:` a second one.
-pub fn sources(alloc: Global, text: &str) -> Result<Vec<Source>, AllocError> {
-    let (first, second) = text.split_once("b.f90:\n").unwrap_or((text, ""));
-    let mut sources = Vec::new(alloc);
-    add_source(alloc, &mut sources, "a.f90", first)?;
-    if !second.is_empty() {
-        add_source(alloc, &mut sources, "b.f90", second)?;
-    }
-    Ok(sources)
-}
 
 /// What is answered on a text.
 pub fn answer(alloc: Global, question: &str, text: &str) -> Result<String, AllocError> {

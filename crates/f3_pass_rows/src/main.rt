@@ -3,10 +3,7 @@
 
 mod answers;
 mod cases;
-mod expressions;
-mod names;
 mod programs;
-mod statements;
 mod steps;
 
 use crate::cases::{is_right, parts};

@@ -1,12 +1,12 @@
 //! What is made of whole sources.
 
-use crate::answers::sources;
-use crate::names::{names_text, order_text, scopes_text};
 use f3_graph::{CheckFault, order, refusal_of};
 use f3_name_table::name_table;
 use f3_names::names;
 use f3_names::table::Names;
 use f3_parse::parser::parse;
+use f3_pass_texts::names::{names_text, order_text, scopes_text};
+use f3_pass_texts::sources::sources;
 use f3_places::source::{Place, Source};
 use f3_rules::breaks::Break;
 use f3_rules::refusal::{Refusal, render};

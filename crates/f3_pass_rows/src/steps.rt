@@ -1,11 +1,11 @@
 //! Blocks and units that take the statements of a text one by one.
 
-use crate::answers::sources;
 use crate::programs::units_text;
 use f3_blocks::builder::BlockBuilder;
 use f3_blocks::error::StepError;
 use f3_form::form::Form;
 use f3_forms::statements::statement;
+use f3_pass_texts::sources::sources;
 use f3_places::source::Place;
 use f3_text::cut::statements;
 use f3_text::statement::RawStatement;

@@ -1,7 +1,7 @@
 //! What is made of a statement: its tokens, its words, its form, or an expression at its front.
 
-use crate::answers::sources;
 use crate::expressions::of_items;
+use crate::sources::sources;
 use f3_form::form::{Ended, Form};
 use f3_forms::statements::statement;
 use f3_lex::scanner::{text, tokens};

@@ -1,5 +1,5 @@
 use Rattle.std.proofs.Common.{◌+◌, ◌*◌}
-use Rattle.f3_pass_rows.proofs.expressions.+show.Given as goal
+use Rattle.f3_pass_texts.proofs.expressions.+show.Given as goal
 
 abbrev pub decreases-show : goal.decreases-show
 decreases-show l = 4 * goal.size-show l + 0
