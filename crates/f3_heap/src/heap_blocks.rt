@@ -1,4 +1,4 @@
-//! Taking and giving blocks in a region, over the heap's fields.
+//! Taking and giving blocks in a region, with the book of it.
 
 ghost use Rattle.std.specs.Prelude.{◌≡◌, ◌≢◌, ◌+◌, ◌^◌, ◌<◌, ◌≤◌, true, false, None, Some, IfSome, IfNone};
 ghost use Rattle.std.specs.List.{list_any};
@@ -10,192 +10,187 @@ ghost use Rattle.f3_heap_laws.specs.Segments.{UsedAt, FitsAt, NoneFits};
 ghost use Rattle.f3_heap_laws.specs.Hints.{classes, width};
 ghost use Rattle.f3_heap.specs.Arena.{IsArena, segments_in, live_in};
 
-use crate::arena::Arena;
+use crate::arena::Book;
 use crate::hints::{class_of, lower_hints, move_hints, width_of};
 use crate::segments::{
     SMALL_BLOCK, carve, first_fit, free_left, link, link_next, link_prev, run_around, write_free,
     write_small, write_used,
 };
 use f3_heap_laws::{fits, size_of_block};
+use f3_raw::Region;
 
 /// Takes a block of so many words from the first run that has room for it, and tells its place. A small one behind all others, in words
 /// that were written before, is taken without a call.
 #[inline(always)]
-pub(crate) fn take_block(arena: &mut Arena, words: usize) -> Option<usize>
-    requires { IsArena arena.old }
-    ensures arena { IsArena arena.new }
-    ensures taken { IfSome result (λ at. live_in arena.new ≡ with_taken (live_in arena.old) (at + 1) words) }
-    ensures fresh { IfSome result (λ at. get (live_in arena.old) (at + 1) ≡ None) }
-    ensures first { IfSome result (λ at. first_wide words (gaps (places (live_in arena.old)) arena.old.size) ≡ Some at) }
+pub(crate) fn take_block(region: &mut Region, book: &mut Book, words: usize) -> Option<usize>
+    requires { IsArena region.old book.old }
+    ensures arena { IsArena region.new book.new }
+    ensures taken { IfSome result (λ at. live_in region.new book.new ≡ with_taken (live_in region.old book.old) (at + 1) words) }
+    ensures fresh { IfSome result (λ at. get (live_in region.old book.old) (at + 1) ≡ None) }
+    ensures first { IfSome result (λ at. first_wide words (gaps (places (live_in region.old book.old)) book.old.size) ≡ Some at) }
     ensures small { IfSome result (λ at. at + 1 < 2 ^ 63) }
-    ensures some { IfSome result (λ at. list_any (is_wide words) (gaps (places (live_in arena.old)) arena.old.size) ≡ true) }
-    ensures none { IfNone result (list_any (is_wide words) (gaps (places (live_in arena.old)) arena.old.size) ≡ false) }
-    ensures same { IfNone result (live_in arena.new ≡ live_in arena.old) }
-    ensures size { arena.new.size ≡ arena.old.size }
+    ensures some { IfSome result (λ at. list_any (is_wide words) (gaps (places (live_in region.old book.old)) book.old.size) ≡ true) }
+    ensures none { IfNone result (list_any (is_wide words) (gaps (places (live_in region.old book.old)) book.old.size) ≡ false) }
+    ensures same { IfNone result (live_in region.new book.new ≡ live_in region.old book.old) }
+    ensures size { book.new.size ≡ book.old.size }
 {
     if words <= SMALL_BLOCK {
         let taken = size_of_block(words);
-        let at = arena.end;
-        if arena.hints[class_of(taken)] == arena.size && taken <= arena.region.frontier() - at {
-            arena.end += taken;
-            arena.used += taken;
-            write_small(&mut arena.region, at, words, taken);
+        let at = book.end;
+        if book.hints[class_of(taken)] == book.size && taken <= region.frontier() - at {
+            book.end += taken;
+            book.used += taken;
+            write_small(region, at, words, taken);
             return Some(at);
         }
     }
-    take_any(arena, words)
+    take_any(region, book, words)
 }
 
 /// The same for any block, wherever it comes to lie.
 #[inline(never)]
-fn take_any(arena: &mut Arena, words: usize) -> Option<usize>
-    requires { IsArena arena.old }
-    ensures arena { IsArena arena.new }
-    ensures taken { IfSome result (λ at. live_in arena.new ≡ with_taken (live_in arena.old) (at + 1) words) }
-    ensures fresh { IfSome result (λ at. get (live_in arena.old) (at + 1) ≡ None) }
-    ensures first { IfSome result (λ at. first_wide words (gaps (places (live_in arena.old)) arena.old.size) ≡ Some at) }
+fn take_any(region: &mut Region, book: &mut Book, words: usize) -> Option<usize>
+    requires { IsArena region.old book.old }
+    ensures arena { IsArena region.new book.new }
+    ensures taken { IfSome result (λ at. live_in region.new book.new ≡ with_taken (live_in region.old book.old) (at + 1) words) }
+    ensures fresh { IfSome result (λ at. get (live_in region.old book.old) (at + 1) ≡ None) }
+    ensures first { IfSome result (λ at. first_wide words (gaps (places (live_in region.old book.old)) book.old.size) ≡ Some at) }
     ensures small { IfSome result (λ at. at + 1 < 2 ^ 63) }
-    ensures some { IfSome result (λ at. list_any (is_wide words) (gaps (places (live_in arena.old)) arena.old.size) ≡ true) }
-    ensures none { IfNone result (list_any (is_wide words) (gaps (places (live_in arena.old)) arena.old.size) ≡ false) }
-    ensures same { IfNone result (live_in arena.new ≡ live_in arena.old) }
-    ensures size { arena.new.size ≡ arena.old.size }
+    ensures some { IfSome result (λ at. list_any (is_wide words) (gaps (places (live_in region.old book.old)) book.old.size) ≡ true) }
+    ensures none { IfNone result (list_any (is_wide words) (gaps (places (live_in region.old book.old)) book.old.size) ≡ false) }
+    ensures same { IfNone result (live_in region.new book.new ≡ live_in region.old book.old) }
+    ensures size { book.new.size ≡ book.old.size }
 {
-    if !fits(words, arena.size) {
+    if !fits(words, book.size) {
         return None;
     }
     let taken = size_of_block(words);
-    let at = find_room(arena, taken);
-    if at == arena.size {
-        if arena.size - arena.end < taken {
+    let at = find_room(region, book, taken);
+    if at == book.size {
+        if book.size - book.end < taken {
             return None;
         }
-        let at = arena.end;
-        arena.end += taken;
-        arena.used += taken;
-        write_used(&mut arena.region, at, words, taken);
+        let at = book.end;
+        book.end += taken;
+        book.used += taken;
+        write_used(region, at, words, taken);
         return Some(at);
     }
-    take_at(arena, words, at);
+    take_at(region, book, words, at);
     Some(at)
 }
 
 /// Takes a block of so many words from the front of the free block at a place, which is the first that has room for it.
 #[inline(never)]
-fn take_at(arena: &mut Arena, words: usize, at: usize)
-    requires arena { IsArena arena.old }
-    requires fits { FitsAt (r words) (segments_in arena.old) at }
-    ensures arena { IsArena arena.new }
-    ensures taken { live_in arena.new ≡ with_taken (live_in arena.old) (at + 1) words }
-    ensures fresh { get (live_in arena.old) (at + 1) ≡ None }
-    ensures size { arena.new.size ≡ arena.old.size }
+fn take_at(region: &mut Region, book: &mut Book, words: usize, at: usize)
+    requires arena { IsArena region.old book.old }
+    requires fits { FitsAt (r words) (segments_in region.old book.old) at }
+    ensures arena { IsArena region.new book.new }
+    ensures taken { live_in region.new book.new ≡ with_taken (live_in region.old book.old) (at + 1) words }
+    ensures fresh { get (live_in region.old book.old) (at + 1) ≡ None }
+    ensures size { book.new.size ≡ book.old.size }
 {
     let taken = size_of_block(words);
-    let next = carve(
-        &mut arena.region,
-        &mut arena.first,
-        arena.size,
-        arena.end,
-        at,
-        taken,
-    );
-    move_hints(&mut arena.hints, at, at + 1, next);
-    arena.used += taken;
-    write_used(&mut arena.region, at, words, taken);
+    let next = carve(region, &mut book.first, book.size, book.end, at, taken);
+    move_hints(&mut book.hints, at, at + 1, next);
+    book.used += taken;
+    write_used(region, at, words, taken);
 }
 
 /// The first free block of `size` words or more, or the heap's size. Where its width has no hint, none is as wide: so a block of the words
 /// behind all others is taken without a search.
 #[inline(always)]
-fn find_room(arena: &mut Arena, size: usize) -> usize
-    requires arena { IsArena arena.old }
+fn find_room(region: &Region, book: &mut Book, size: usize) -> usize
+    requires arena { IsArena region.now book.old }
     requires wide { 4 ≤ size }
-    ensures arena { IsArena arena.new }
-    ensures fits { result ≢ arena.new.size → FitsAt size (segments_in arena.new) result }
-    ensures lacking { result ≡ arena.new.size → NoneFits size (segments_in arena.new) }
-    ensures same { live_in arena.new ≡ live_in arena.old }
-    ensures size { arena.new.size ≡ arena.old.size }
+    ensures arena { IsArena region.now book.new }
+    ensures fits { result ≢ book.new.size → FitsAt size (segments_in region.now book.new) result }
+    ensures lacking { result ≡ book.new.size → NoneFits size (segments_in region.now book.new) }
+    ensures same { live_in region.now book.new ≡ live_in region.now book.old }
+    ensures size { book.new.size ≡ book.old.size }
 {
     let class = class_of(size);
-    if arena.hints[class] == arena.size {
-        return arena.size;
+    if book.hints[class] == book.size {
+        return book.size;
     }
-    search(arena, class, size)
+    search(region, book, class, size)
 }
 
 /// The same by the list of free blocks, from the hint of a width on that is not above `size`. That moves on.
 #[inline(never)]
-fn search(arena: &mut Arena, class: usize, size: usize) -> usize
-    requires arena { IsArena arena.old }
+fn search(region: &Region, book: &mut Book, class: usize, size: usize) -> usize
+    requires arena { IsArena region.now book.old }
     requires class { class < classes }
     requires wide { width class ≤ size }
-    ensures arena { IsArena arena.new }
-    ensures fits { result ≢ arena.new.size → FitsAt size (segments_in arena.new) result }
-    ensures lacking { result ≡ arena.new.size → NoneFits size (segments_in arena.new) }
-    ensures same { live_in arena.new ≡ live_in arena.old }
-    ensures size { arena.new.size ≡ arena.old.size }
+    ensures arena { IsArena region.now book.new }
+    ensures fits { result ≢ book.new.size → FitsAt size (segments_in region.now book.new) result }
+    ensures lacking { result ≡ book.new.size → NoneFits size (segments_in region.now book.new) }
+    ensures same { live_in region.now book.new ≡ live_in region.now book.old }
+    ensures size { book.new.size ≡ book.old.size }
 {
     let from = first_fit(
-        &arena.region,
-        arena.hints[class],
-        arena.size,
-        arena.end,
+        region,
+        book.hints[class],
+        book.size,
+        book.end,
         width_of(class),
     );
-    arena.hints[class] = from;
-    first_fit(&arena.region, from, arena.size, arena.end, size)
+    book.hints[class] = from;
+    first_fit(region, from, book.size, book.end, size)
+}
+
+/// Whether a block of so many words can be taken.
+pub(crate) fn has_room(region: &Region, book: &Book, words: usize) -> bool
+    requires { IsArena region.now book.now }
+    ensures { result ≡ list_any (is_wide words) (gaps (places (live_in region.now book.now)) book.now.size) }
+{
+    if !fits(words, book.size) {
+        return false;
+    }
+    let size = size_of_block(words);
+    let from = book.hints[class_of(size)];
+    size <= book.size - book.end || first_fit(region, from, book.size, book.end, size) != book.size
 }
 
 /// Gives the live block at a place back, and joins it to the free words on both its sides. Behind it there may be no block: then no free
 /// block changes, where none stands before it.
 #[inline(always)]
-pub(crate) fn give_block(arena: &mut Arena, at: usize)
-    requires arena { IsArena arena.old }
-    requires block { UsedAt (segments_in arena.old) at }
-    ensures arena { IsArena arena.new }
-    ensures given { live_in arena.new ≡ remove (live_in arena.old) (at + 1) }
-    ensures size { arena.new.size ≡ arena.old.size }
+pub(crate) fn give_block(region: &mut Region, book: &mut Book, at: usize)
+    requires arena { IsArena region.old book.old }
+    requires block { UsedAt (segments_in region.old book.old) at }
+    ensures arena { IsArena region.new book.new }
+    ensures given { live_in region.new book.new ≡ remove (live_in region.old book.old) (at + 1) }
+    ensures size { book.new.size ≡ book.old.size }
 {
-    let given = size_of_block(link(&arena.region, at));
-    if at + given == arena.end && free_left(&arena.region, at) == 0 {
-        arena.used -= given;
-        arena.end = at;
+    let given = size_of_block(link(region, at));
+    if at + given == book.end && free_left(region, at) == 0 {
+        book.used -= given;
+        book.end = at;
         return;
     }
-    join(arena, at);
+    join(region, book, at);
 }
 
 /// The same where a free block or a live one stands beside it.
 #[inline(never)]
-fn join(arena: &mut Arena, at: usize)
-    requires arena { IsArena arena.old }
-    requires block { UsedAt (segments_in arena.old) at }
-    ensures arena { IsArena arena.new }
-    ensures given { live_in arena.new ≡ remove (live_in arena.old) (at + 1) }
-    ensures size { arena.new.size ≡ arena.old.size }
+fn join(region: &mut Region, book: &mut Book, at: usize)
+    requires arena { IsArena region.old book.old }
+    requires block { UsedAt (segments_in region.old book.old) at }
+    ensures arena { IsArena region.new book.new }
+    ensures given { live_in region.new book.new ≡ remove (live_in region.old book.old) (at + 1) }
+    ensures size { book.new.size ≡ book.old.size }
 {
-    let freed = size_of_block(link(&arena.region, at));
-    arena.used -= freed;
-    let run = run_around(&arena.region, arena.first, arena.size, arena.end, at, freed);
-    if run.at + run.size == arena.end {
-        arena.end = run.at;
-        link_next(
-            &mut arena.region,
-            &mut arena.first,
-            arena.size,
-            run.prev,
-            arena.size,
-        );
-        move_hints(&mut arena.hints, run.at, arena.size, arena.size);
+    let freed = size_of_block(link(region, at));
+    book.used -= freed;
+    let run = run_around(region, book.first, book.size, book.end, at, freed);
+    if run.at + run.size == book.end {
+        book.end = run.at;
+        link_next(region, &mut book.first, book.size, run.prev, book.size);
+        move_hints(&mut book.hints, run.at, book.size, book.size);
     } else {
-        write_free(&mut arena.region, run.at, run.size, run.next, run.prev);
-        link_next(
-            &mut arena.region,
-            &mut arena.first,
-            arena.size,
-            run.prev,
-            run.at,
-        );
-        link_prev(&mut arena.region, arena.size, run.next, run.at);
-        lower_hints(&mut arena.hints, run.at, run.size);
+        write_free(region, run.at, run.size, run.next, run.prev);
+        link_next(region, &mut book.first, book.size, run.prev, run.at);
+        link_prev(region, book.size, run.next, run.at);
+        lower_hints(&mut book.hints, run.at, run.size);
     }
 }

@@ -13,13 +13,12 @@ ghost use Rattle.f3_heap_laws.specs.Rules.{raw_allows};
 ghost use Rattle.f3_heap_laws.proofs.Refusals.{raw_refuses};
 ghost use Rattle.f3_heap.specs.Answers.{answer_of};
 
-use crate::arena::Arena;
+use crate::arena::{Arena, Book};
 use crate::block_id::BlockId;
 use crate::blocks::{Blocks, Pinned, TakeFault};
-use crate::heap_blocks::{give_block, take_block};
-use crate::hints::{CLASSES, class_of};
-use crate::segments::{first_fit, link, pin_count, put_pin_count};
-use f3_heap_laws::{fits, size_of_block};
+use crate::heap_blocks::{give_block, has_room, take_block};
+use crate::hints::CLASSES;
+use crate::segments::{link, pin_count, put_pin_count};
 use f3_raw::Region;
 use std::alloc::{AllocError, Global};
 use std::marker::Model;
@@ -46,9 +45,9 @@ impl Model for RawHeap {
 
     ghost use Rattle.f3_heap.specs.Arena.{IsArena, live_in};
 
-    ghost view = { λ s. record { blocks = live_in s.arena; size = s.arena.size } };
+    ghost view = { λ s. record { blocks = live_in s.arena.region s.arena.book.value; size = s.arena.book.value.size } };
 
-    ghost invariant = { λ s. IsArena s.arena };
+    ghost invariant = { λ s. IsArena s.arena.region s.arena.book.value };
 }
 
 impl RawHeap {
@@ -56,43 +55,23 @@ impl RawHeap {
     ///
     /// # Errors
     ///
-    /// `AllocError` where the host refused the memory.
+    /// `AllocError` where the host refused memory, for the region or for what is known of its blocks.
     pub fn new(alloc: Global, words: usize) -> Result<RawHeap, AllocError>
         ensures { IfOk result (λ h. h ≡ record { blocks = empty; size = words / 4 * 4 }) }
     {
         let size = words / 4 * 4;
         let region = Region::new(alloc, size)?;
-        Ok(RawHeap {
-            arena: Arena {
-                region,
-                size,
-                first: size,
-                hints: [size; CLASSES],
-                end: 0,
-                used: 0,
-            },
-        })
-    }
-}
-
-impl RawHeap {
-    /// A heap of no words, which takes no memory.
-    pub fn none(alloc: Global) -> RawHeap
-        ensures { result ≡ record { blocks = empty; size = 0 } }
-    {
-        let Ok(region) = Region::new(alloc, 0) else {
-            unreachable!();
+        let book = Book {
+            size,
+            first: size,
+            hints: [size; CLASSES],
+            end: 0,
+            used: 0,
         };
-        RawHeap {
-            arena: Arena {
-                region,
-                size: 0,
-                first: 0,
-                hints: [0; CLASSES],
-                end: 0,
-                used: 0,
-            },
-        }
+        let book = Box::new(alloc, book)?;
+        Ok(RawHeap {
+            arena: Arena { region, book },
+        })
     }
 }
 
@@ -122,7 +101,7 @@ impl Blocks for RawHeap {
         ensures first { IfOk result (λ b. first_wide words (gaps (places self.old.blocks) self.old.size) ≡ Some (b - 1)) }
         ensures without_memory { result ≢ Err TakeFault.Memory }
     {
-        match take_block(&mut self.arena, words) {
+        match take_block(&mut self.arena.region, &mut self.arena.book, words) {
             Some(at) => Ok(BlockId::at(at)),
             None => Err(TakeFault::Full),
         }
@@ -134,7 +113,7 @@ impl Blocks for RawHeap {
         if pin_count(&self.arena.region, at + 1) != 0 {
             return Err(Pinned);
         }
-        give_block(&mut self.arena, at);
+        give_block(&mut self.arena.region, &mut self.arena.book, at);
         Ok(())
     }
 
@@ -173,18 +152,11 @@ impl Blocks for RawHeap {
     }
 
     fn used(&self) -> usize {
-        self.arena.used
+        self.arena.book.used
     }
 
     fn room(&self, words: usize) -> bool {
-        let arena = &self.arena;
-        if !fits(words, arena.size) {
-            return false;
-        }
-        let size = size_of_block(words);
-        let from = arena.hints[class_of(size)];
-        size <= arena.size - arena.end
-            || first_fit(&arena.region, from, arena.size, arena.end, size) != arena.size
+        has_room(&self.arena.region, &self.arena.book, words)
     }
 
     ghost refuses = { λ h w. raw_refuses h.size h.blocks w };

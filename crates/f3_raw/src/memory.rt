@@ -39,16 +39,6 @@ impl<A: Allocator> Model for Lease<A> {
 impl Memory {
     ghost use Rattle.f3_raw.specs.Memory.{lends_words};
 
-    /// Memory for no word, which nothing gave.
-    pub(crate) fn none() -> Memory
-        ensures { (result.size ≡ 0) × (result.content ≡ []) }
-    {
-        let nothing: [i64; 0] = [];
-        Memory {
-            start: &raw const nothing as *mut i64,
-        }
-    }
-
     pub(crate) fn new<A: Allocator>(alloc: &A, words: usize) -> Option<(Memory, Lease<A>)>
         requires { words * 8 < 2 ^ 63 }
         ensures { IfSome result (λ m. (m.0.size ≡ words) × (m.0.content ≡ []) × (m.1.alloc ≡ alloc.now) × (m.1.start ≡ m.0.start) × (m.1.size ≡ words)) }

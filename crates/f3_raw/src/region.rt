@@ -1,12 +1,10 @@
 //! The region: a list of words below a frontier, and a size.
-ghost use Rattle.std.specs.Prelude.{◌≡◌, ◌+◌, ◌-◌, ◌*◌, ◌^◌, ◌<◌, ◌≤◌, ℤ, pos, [], ◌∷◌, ◌++◌, length, replicate, slice_index_or, slice_range, IfOk, IsOk, IsErr};
-ghost use Rattle.std.specs.Option.{ForSome, ForNone};
+ghost use Rattle.std.specs.Prelude.{◌≡◌, ◌+◌, ◌-◌, ◌*◌, ◌^◌, ◌<◌, ◌≤◌, ℤ, pos, [], ◌∷◌, ◌++◌, length, replicate, slice_index_or, slice_range, IfOk, IsErr};
 ghost use Rattle.std.specs.Borrow.{sem};
 ghost use Rattle.f3_raw.specs.Words.{written, Apart};
 
 use crate::memory::{Lease, Memory};
 use std::alloc::{AllocError, Global};
-use std::mem::ManuallyDrop;
 
 /// One allocation of 64-bit words, given back when it is dropped. The words below the frontier
 /// are written, those at and above it are uninitialized. Places, runs and sizes count words from 0.
@@ -14,35 +12,24 @@ pub struct Region {
     memory: Memory,
     frontier: usize,
     size: usize,
-    // None for a size of 0, which takes no memory.
-    lease: Option<Lease<Global>>,
+    lease: Lease<Global>,
     alloc: Global,
     ghost ok: { (frontier ≡ length memory.content) × (size ≡ memory.size) },
-    ghost leased: { ForSome lease (λ l. (l.alloc ≡ alloc) × (l.start ≡ memory.start) × (l.size ≡ size)) × ForNone lease (size ≡ 0) },
+    ghost leased: { (lease.alloc ≡ alloc) × (lease.start ≡ memory.start) × (lease.size ≡ size) },
 }
 
 impl Region {
     ghost use Rattle.f3_raw.specs.Region.{region_words, region_size, lends_run};
 
-    /// A region of `words` words, none of them written. A size of 0 takes no memory.
+    /// A region of `words` words, none of them written.
     ///
     /// # Errors
     /// `AllocError` where the memory was refused, and for a size that no allocation can have.
     pub fn new(alloc: Global, words: usize) -> Result<Region, AllocError>
         ensures size { IfOk result (λ r. region_size r ≡ words) }
         ensures words { IfOk result (λ r. region_words r ≡ []) }
-        ensures empty { words ≡ 0 → IsOk result }
         ensures too_large { 2 ^ 63 ≤ words * 8 → IsErr result }
     {
-        if words == 0 {
-            return Ok(Region {
-                memory: Memory::none(),
-                frontier: 0,
-                size: 0,
-                lease: None,
-                alloc,
-            });
-        }
         if words > isize::MAX as usize / 8 {
             return Err(AllocError);
         }
@@ -53,7 +40,7 @@ impl Region {
             memory,
             frontier: 0,
             size: words,
-            lease: Some(lease),
+            lease,
             alloc,
         })
     }
@@ -235,12 +222,6 @@ impl Drop for Region {
             lease,
             alloc,
         } = self;
-        match lease {
-            Some(lease) => memory.free(lease, &alloc, size),
-            // Memory for no word, which nothing gave.
-            None => {
-                let _nothing = unsafe { ManuallyDrop::new_unchecked(memory) };
-            }
-        }
+        memory.free(lease, &alloc, size)
     }
 }

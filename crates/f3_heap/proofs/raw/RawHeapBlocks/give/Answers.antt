@@ -1,21 +1,24 @@
 -- A live block without pins is given.
-use Rattle.std.proofs.Common.{◌∙◌, sym, refl, arith}
+use Rattle.std.proofs.Common.{◌∙◌, sym, subst, refl, arith}
 use Rattle.f3_raw.specs.Region.{region_words, region_size}
 use Rattle.f3_heap_laws.proofs.RawReads.{block, block-room, pin-count}
+use Rattle.f3_heap_laws.specs.Segments.{UsedAt}
+use Rattle.f3_heap.specs.declared.arena.Book.{Book}
+use Rattle.f3_heap.specs.Arena.{segments_in}
 use Rattle.f3_heap.proofs.raw.RawHeapBlocks.give.Goals as goal
 
 pub pin_count-requires : goal.pin_count-requires
-pin_count-requires c = omega (arith, block-room (region_words c.self.inside.arena.region) (region_size c.self.inside.arena.region) c.self.inside.arena.size c.self.inside.arena.first c.self.inside.arena.end c.self.inside.arena.used c.self.invariant.heap c.args.self.now c.self.view_is c.place-at.result c.args.block c.place-at.ensures c.requires)
+pin_count-requires c = omega (arith, block-room (region_words c.self.inside.arena.region) (region_size c.self.inside.arena.region) c.self.inside.arena.book.value.size c.self.inside.arena.book.value.first c.self.inside.arena.book.value.end c.self.inside.arena.book.value.used c.self.invariant.heap c.args.self.now c.self.view_is c.place-at.result c.args.block c.place-at.ensures c.requires)
 
 pub returns-then-pin_count-ne0-clause-unpinned : goal.returns-then-pin_count-ne0-clause-unpinned
 returns-then-pin_count-ne0-clause-unpinned c =
-    let n = c.pin_count.ensures ∙ pin-count (region_words c.self.inside.arena.region) (region_size c.self.inside.arena.region) c.self.inside.arena.size c.self.inside.arena.first c.self.inside.arena.end c.self.inside.arena.used c.self.invariant.heap c.args.self.now c.self.view_is c.place-at.result c.args.block c.place-at.ensures c.requires in
+    let n = c.pin_count.ensures ∙ pin-count (region_words c.self.inside.arena.region) (region_size c.self.inside.arena.region) c.self.inside.arena.book.value.size c.self.inside.arena.book.value.first c.self.inside.arena.book.value.end c.self.inside.arena.book.value.used c.self.invariant.heap c.args.self.now c.self.view_is c.place-at.result c.args.block c.place-at.ensures c.requires in
     (λ e. cc, λ e. absurd (c.if-pin_count-ne0.true (n ∙ e)))
 
 pub give_block-requires-clause-block : goal.give_block-requires-clause-block
-give_block-requires-clause-block c = block (region_words c.self.inside.arena.region) (region_size c.self.inside.arena.region) c.self.inside.arena.size c.self.inside.arena.first c.self.inside.arena.end c.self.inside.arena.used c.self.invariant.heap c.args.self.now c.self.view_is c.place-at.result c.args.block c.place-at.ensures c.requires
+give_block-requires-clause-block c = subst (λ (b : Book). UsedAt (segments_in c.self.inside.arena.region b) c.place-at.result) (sym c.deref_mut.ensures.value) (block (region_words c.self.inside.arena.region) (region_size c.self.inside.arena.region) c.self.inside.arena.book.value.size c.self.inside.arena.book.value.first c.self.inside.arena.book.value.end c.self.inside.arena.book.value.used c.self.invariant.heap c.args.self.now c.self.view_is c.place-at.result c.args.block c.place-at.ensures c.requires)
 
 pub returns-clause-unpinned : goal.returns-clause-unpinned
 returns-clause-unpinned c =
-    let n = c.pin_count.ensures ∙ pin-count (region_words c.self.inside.arena.region) (region_size c.self.inside.arena.region) c.self.inside.arena.size c.self.inside.arena.first c.self.inside.arena.end c.self.inside.arena.used c.self.invariant.heap c.args.self.now c.self.view_is c.place-at.result c.args.block c.place-at.ensures c.requires in
+    let n = c.pin_count.ensures ∙ pin-count (region_words c.self.inside.arena.region) (region_size c.self.inside.arena.region) c.self.inside.arena.book.value.size c.self.inside.arena.book.value.first c.self.inside.arena.book.value.end c.self.inside.arena.book.value.used c.self.invariant.heap c.args.self.now c.self.view_is c.place-at.result c.args.block c.place-at.ensures c.requires in
     (λ e. sym n ∙ c.if-pin_count-ne0.false, λ e. refl)

@@ -15,23 +15,23 @@ use Rattle.f3_heap_laws.proofs.RawWrites.{write-heap, write-hints, write-view}
 put_word : (c : After-put_from) → region_words c.put_from.new.self ≡ set (region_words c.self.inside.arena.region) (c.place.result + 2 + c.args.at) c.args.value
 put_word c =
     let fits : SFits w64 c.args.value = c.ranges.value in
-    c.put_from.ensures.words ∙ put-set (region_words c.self.inside.arena.region) (c.place.result + 2 + c.args.at) _ (word-in (region_words c.self.inside.arena.region) (region_size c.self.inside.arena.region) c.self.inside.arena.size c.self.inside.arena.first c.self.inside.arena.end c.self.inside.arena.used c.self.invariant.heap c.args.self.now c.self.view_is c.place.result c.args.block c.place.ensures c.requires.live c.args.at c.requires.within) ∙ ap (set (region_words c.self.inside.arena.region) (c.place.result + 2 + c.args.at)) (to_z-of_z w64 c.args.value fits)
+    c.put_from.ensures.words ∙ put-set (region_words c.self.inside.arena.region) (c.place.result + 2 + c.args.at) _ (word-in (region_words c.self.inside.arena.region) (region_size c.self.inside.arena.region) c.self.inside.arena.book.value.size c.self.inside.arena.book.value.first c.self.inside.arena.book.value.end c.self.inside.arena.book.value.used c.self.invariant.heap c.args.self.now c.self.view_is c.place.result c.args.block c.place.ensures c.requires.live c.args.at c.requires.within) ∙ ap (set (region_words c.self.inside.arena.region) (c.place.result + 2 + c.args.at)) (to_z-of_z w64 c.args.value fits)
 
 pub overflow_add-place : goal.overflow_add-place
-overflow_add-place c = let w = block-small (region_words c.self.inside.arena.region) (region_size c.self.inside.arena.region) c.self.inside.arena.size c.self.inside.arena.first c.self.inside.arena.end c.self.inside.arena.used c.self.invariant.heap c.args.self.now c.self.view_is c.place.result c.args.block c.place.ensures c.requires.live in record { fits = omega (arith, w) }
+overflow_add-place c = let w = block-small (region_words c.self.inside.arena.region) (region_size c.self.inside.arena.region) c.self.inside.arena.book.value.size c.self.inside.arena.book.value.first c.self.inside.arena.book.value.end c.self.inside.arena.book.value.used c.self.invariant.heap c.args.self.now c.self.view_is c.place.result c.args.block c.place.ensures c.requires.live in record { fits = omega (arith, w) }
 
 pub put_from-requires : goal.put_from-requires
-put_from-requires c = word-in (region_words c.self.inside.arena.region) (region_size c.self.inside.arena.region) c.self.inside.arena.size c.self.inside.arena.first c.self.inside.arena.end c.self.inside.arena.used c.self.invariant.heap c.args.self.now c.self.view_is c.place.result c.args.block c.place.ensures c.requires.live c.args.at c.requires.within
+put_from-requires c = word-in (region_words c.self.inside.arena.region) (region_size c.self.inside.arena.region) c.self.inside.arena.book.value.size c.self.inside.arena.book.value.first c.self.inside.arena.book.value.end c.self.inside.arena.book.value.used c.self.invariant.heap c.args.self.now c.self.view_is c.place.result c.args.block c.place.ensures c.requires.live c.args.at c.requires.within
 
 pub invariant_of-self : goal.invariant_of-self
 invariant_of-self c = record {
   heap = let fits : SFits w64 c.args.value = c.ranges.value in
-      heap-at _ _ _ _ c.self.inside.arena.size _ _ _ _ _ _ (write-heap (region_words c.self.inside.arena.region) (region_size c.self.inside.arena.region) c.self.inside.arena.size c.self.inside.arena.first c.self.inside.arena.end c.self.inside.arena.used c.self.invariant.heap c.args.self.now c.self.view_is c.place.result c.args.block c.place.ensures c.requires.live c.args.at c.args.value c.requires.within _ refl)
+      heap-at _ _ _ _ c.self.inside.arena.book.value.size _ _ _ _ _ _ (write-heap (region_words c.self.inside.arena.region) (region_size c.self.inside.arena.region) c.self.inside.arena.book.value.size c.self.inside.arena.book.value.first c.self.inside.arena.book.value.end c.self.inside.arena.book.value.used c.self.invariant.heap c.args.self.now c.self.view_is c.place.result c.args.block c.place.ensures c.requires.live c.args.at c.args.value c.requires.within _ refl)
       (put_word c) c.put_from.ensures.size refl refl refl;
-  hints = hints-at _ _ c.self.inside.arena.size _ _ c.self.inside.arena.hints (write-hints (region_words c.self.inside.arena.region) (region_size c.self.inside.arena.region) c.self.inside.arena.size c.self.inside.arena.first c.self.inside.arena.end c.self.inside.arena.used c.self.invariant.heap c.args.self.now c.self.view_is c.place.result c.args.block c.place.ensures c.requires.live c.args.at c.args.value c.requires.within _ refl c.self.inside.arena.hints c.self.invariant.hints) (put_word c) refl;
+  hints = hints-at _ _ c.self.inside.arena.book.value.size _ _ c.self.inside.arena.book.value.hints (write-hints (region_words c.self.inside.arena.region) (region_size c.self.inside.arena.region) c.self.inside.arena.book.value.size c.self.inside.arena.book.value.first c.self.inside.arena.book.value.end c.self.inside.arena.book.value.used c.self.invariant.heap c.args.self.now c.self.view_is c.place.result c.args.block c.place.ensures c.requires.live c.args.at c.args.value c.requires.within _ refl c.self.inside.arena.book.value.hints c.self.invariant.hints) (put_word c) refl;
   room = c.put_from.ensures.size ∙ c.self.invariant.room;
 }
 
 pub returns-clause-written : goal.returns-clause-written
 returns-clause-written c =
-    ap (λ z. live_segments (segments z c.self.inside.arena.end)) (put_word c) ∙ write-view (region_words c.self.inside.arena.region) (region_size c.self.inside.arena.region) c.self.inside.arena.size c.self.inside.arena.first c.self.inside.arena.end c.self.inside.arena.used c.self.invariant.heap c.args.self.now c.self.view_is c.place.result c.args.block c.place.ensures c.requires.live c.args.at c.args.value c.requires.within _ refl
+    ap (λ z. live_segments (segments z c.self.inside.arena.book.value.end)) (put_word c) ∙ write-view (region_words c.self.inside.arena.region) (region_size c.self.inside.arena.region) c.self.inside.arena.book.value.size c.self.inside.arena.book.value.first c.self.inside.arena.book.value.end c.self.inside.arena.book.value.used c.self.invariant.heap c.args.self.now c.self.view_is c.place.result c.args.block c.place.ensures c.requires.live c.args.at c.args.value c.requires.within _ refl

@@ -1,0 +1,5 @@
+//! Which acts are one op together.
+#![tactic(auto)]
+
+#[cfg(test)]
+mod tests;
