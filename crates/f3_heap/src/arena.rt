@@ -19,7 +19,7 @@ pub(crate) struct Book {
 
 /// A region of words with the places of its free blocks.
 ///
-/// The book lies in memory of its own, so an arena is a few words wide and can be moved at no cost.
+/// The book lies in memory of its own, so an arena has four words, and is soon moved.
 #[derive(Drop)]
 pub(crate) struct Arena {
     pub(crate) region: Region,
