@@ -1,12 +1,12 @@
 //! What a heap of blocks is.
 
-ghost use Rattle.std.specs.Prelude.{◌≡◌, ◌≢◌, ◌↔◌, ◌<◌, ◌+◌, ◌-◌, ℕ, ℤ, pos, Bool, false, List, length};
-ghost use Rattle.std.specs.Prelude.{IfOk, OnOk, OnErr, IsOk, slice_set, slice_index_or};
+ghost use Rattle.std.specs.Prelude.{◌≡◌, ◌≢◌, ◌↔◌, ◌<◌, ◌+◌, ◌-◌, ℕ, ℤ, pos, Bool, true, false, List, length};
+ghost use Rattle.std.specs.Prelude.{IfOk, IfSome, IfNone, OnOk, OnErr, IsOk, slice_set, slice_index_or};
 ghost use Rattle.std.specs.FinMap.{get, remove};
 ghost use Rattle.std.specs.Borrow.{sem, Lends, Array, i64 as word_type};
 ghost use Rattle.f3_heap_laws.specs.Blocks.{Live, IsLive, words_of, pins_of, with_taken, with_words, with_pins, written_over};
 ghost use Rattle.f3_heap_laws.specs.Account.{used_by};
-ghost use Rattle.f3_heap_laws.specs.Answers.{Answer, Full, Sizes, sizes};
+ghost use Rattle.f3_heap_laws.specs.Answers.{Answer, Full, Taken, Sizes, sizes};
 ghost use Rattle.f3_heap.specs.Answers.{answer_of};
 
 use crate::block_id::BlockId;
@@ -64,6 +64,17 @@ pub trait Blocks {
         ensures allowed { allows (kept self.old) (sizes (blocks self.old)) words (answer_of result) }
         ensures kept { kept self.new ≡ spent (kept self.old) };
 
+    /// Takes a new block as `take` does, where that is soon done: a heap may do so where it asks for no search and no call.
+    ///
+    /// `None` does not say that there is no room. The heap is then unchanged, and `take` tells.
+    fn take_at_once(&mut self, words: usize) -> Option<BlockId>
+        ensures room { IfSome result (λ b. has_room self.old words ≡ true) }
+        ensures fresh { IfSome result (λ b. get (blocks self.old) b ≡ None) }
+        ensures taken { IfSome result (λ b. blocks self.new ≡ with_taken (blocks self.old) b words) }
+        ensures allowed { IfSome result (λ b. allows (kept self.old) (sizes (blocks self.old)) words (Taken b)) }
+        ensures kept { IfSome result (λ b. kept self.new ≡ spent (kept self.old)) }
+        ensures same { IfNone result (self.new ≡ self.old) };
+
     /// Gives a block back.
     ///
     /// # Errors
@@ -75,6 +86,16 @@ pub trait Blocks {
         ensures given { OnOk result (blocks self.new ≡ remove (blocks self.old) block) }
         ensures refused { OnErr result (blocks self.new ≡ blocks self.old) }
         ensures kept { kept self.new ≡ kept self.old };
+
+    /// Gives a block back as `give` does, where that is soon done, and tells whether it did.
+    ///
+    /// `false` does not say that the block has pins. The heap is then unchanged, and `give` tells.
+    fn give_at_once(&mut self, block: BlockId) -> bool
+        requires { IsLive (blocks self.old) block }
+        ensures unpinned { result ≡ true → pins_of (blocks self.old) block ≡ 0 }
+        ensures given { result ≡ true → blocks self.new ≡ remove (blocks self.old) block }
+        ensures kept { result ≡ true → kept self.new ≡ kept self.old }
+        ensures same { result ≡ false → self.new ≡ self.old };
 
     /// The number of words of a block.
     fn length(&self, block: BlockId) -> usize

@@ -65,6 +65,14 @@ impl<B: Blocks> Blocks for FullAt<B> {
         self.blocks.take(words)
     }
 
+    fn take_at_once(&mut self, _: usize) -> Option<BlockId> {
+        None
+    }
+
+    fn give_at_once(&mut self, _: BlockId) -> bool {
+        false
+    }
+
     fn give(&mut self, block: BlockId) -> Result<(), Pinned> {
         self.blocks.give(block)
     }

@@ -19,6 +19,33 @@ use crate::segments::{
 use f3_heap_laws::{fits, size_of_block};
 use f3_raw::Region;
 
+/// Takes a small block behind all others, in words that were written before, and tells its place. `None` says nothing of any other.
+#[inline(always)]
+pub(crate) fn take_last(region: &mut Region, book: &mut Book, words: usize) -> Option<usize>
+    requires { IsArena region.old book.old }
+    ensures arena { IsArena region.new book.new }
+    ensures taken { IfSome result (λ at. live_in region.new book.new ≡ with_taken (live_in region.old book.old) (at + 1) words) }
+    ensures fresh { IfSome result (λ at. get (live_in region.old book.old) (at + 1) ≡ None) }
+    ensures first { IfSome result (λ at. first_wide words (gaps (places (live_in region.old book.old)) book.old.size) ≡ Some at) }
+    ensures small { IfSome result (λ at. at + 1 < 2 ^ 63) }
+    ensures some { IfSome result (λ at. list_any (is_wide words) (gaps (places (live_in region.old book.old)) book.old.size) ≡ true) }
+    ensures same { IfNone result ((region.new ≡ region.old) × (book.new ≡ book.old)) }
+    ensures size { book.new.size ≡ book.old.size }
+{
+    if words > SMALL_BLOCK {
+        return None;
+    }
+    let taken = size_of_block(words);
+    let at = book.end;
+    if book.hints[class_of(taken)] == book.size && taken <= region.frontier() - at {
+        book.end += taken;
+        book.used += taken;
+        write_small(region, at, words, taken);
+        return Some(at);
+    }
+    None
+}
+
 /// Takes a block of so many words from the first run that has room for it, and tells its place. A small one behind all others, in words
 /// that were written before, is taken without a call.
 #[inline(always)]
@@ -34,17 +61,10 @@ pub(crate) fn take_block(region: &mut Region, book: &mut Book, words: usize) -> 
     ensures same { IfNone result (live_in region.new book.new ≡ live_in region.old book.old) }
     ensures size { book.new.size ≡ book.old.size }
 {
-    if words <= SMALL_BLOCK {
-        let taken = size_of_block(words);
-        let at = book.end;
-        if book.hints[class_of(taken)] == book.size && taken <= region.frontier() - at {
-            book.end += taken;
-            book.used += taken;
-            write_small(region, at, words, taken);
-            return Some(at);
-        }
+    match take_last(region, book, words) {
+        Some(at) => Some(at),
+        None => take_any(region, book, words),
     }
-    take_any(region, book, words)
 }
 
 /// The same for any block, wherever it comes to lie.
@@ -152,8 +172,27 @@ pub(crate) fn has_room(region: &Region, book: &Book, words: usize) -> bool
     size <= book.size - book.end || first_fit(region, from, book.size, book.end, size) != book.size
 }
 
-/// Gives the live block at a place back, and joins it to the free words on both its sides. Behind it there may be no block: then no free
-/// block changes, where none stands before it.
+/// Gives the live block at a place back, where neither a block nor a free run stands beside it, and tells whether it did: then no free
+/// block changes.
+#[inline(always)]
+pub(crate) fn give_last(region: &Region, book: &mut Book, at: usize) -> bool
+    requires arena { IsArena region.now book.old }
+    requires block { UsedAt (segments_in region.now book.old) at }
+    ensures arena { IsArena region.now book.new }
+    ensures given { result ≡ true → live_in region.now book.new ≡ remove (live_in region.now book.old) (at + 1) }
+    ensures same { result ≡ false → book.new ≡ book.old }
+    ensures size { book.new.size ≡ book.old.size }
+{
+    let given = size_of_block(link(region, at));
+    if at + given == book.end && free_left(region, at) == 0 {
+        book.used -= given;
+        book.end = at;
+        return true;
+    }
+    false
+}
+
+/// Gives the live block at a place back, and joins it to the free words on both its sides. The last one may need no call.
 #[inline(always)]
 pub(crate) fn give_block(region: &mut Region, book: &mut Book, at: usize)
     requires arena { IsArena region.old book.old }
@@ -162,13 +201,9 @@ pub(crate) fn give_block(region: &mut Region, book: &mut Book, at: usize)
     ensures given { live_in region.new book.new ≡ remove (live_in region.old book.old) (at + 1) }
     ensures size { book.new.size ≡ book.old.size }
 {
-    let given = size_of_block(link(region, at));
-    if at + given == book.end && free_left(region, at) == 0 {
-        book.used -= given;
-        book.end = at;
-        return;
+    if !give_last(region, book, at) {
+        join(region, book, at);
     }
-    join(region, book, at);
 }
 
 /// The same where a free block or a live one stands beside it.

@@ -166,6 +166,14 @@ impl Blocks for PlainBlocks {
         Ok(BlockId::at(at))
     }
 
+    fn take_at_once(&mut self, _: usize) -> Option<BlockId> {
+        None
+    }
+
+    fn give_at_once(&mut self, _: BlockId) -> bool {
+        false
+    }
+
     fn give(&mut self, block: BlockId) -> Result<(), Pinned> {
         let slot = slot_of(&self.slots, block);
         if slot.pins > 0 {

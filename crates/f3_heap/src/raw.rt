@@ -2,13 +2,13 @@
 
 #![tactic(auto)]
 
-ghost use Rattle.std.specs.Prelude.{◌≡◌, ◌≢◌, ◌↔◌, ℕ, ◌-◌, ◌*◌, ◌/◌, Some, None, false, IfOk, OnErr, IsOk};
+ghost use Rattle.std.specs.Prelude.{◌≡◌, ◌≢◌, ◌↔◌, ℕ, ◌-◌, ◌*◌, ◌/◌, Some, None, true, false, IfOk, IfSome, IfNone, OnErr, IsOk};
 ghost use Rattle.std.specs.List.{list_any};
 ghost use Rattle.std.specs.FinMap.{get, empty};
 ghost use Rattle.f3_heap_laws.specs.Blocks.{with_taken, with_words, words_of, written_over};
 ghost use Rattle.std.proofs.Common.{refl};
 ghost use Rattle.f3_heap_laws.specs.Gaps.{gaps, places, is_wide, first_wide};
-ghost use Rattle.f3_heap_laws.specs.Answers.{sizes};
+ghost use Rattle.f3_heap_laws.specs.Answers.{Taken, sizes};
 ghost use Rattle.f3_heap_laws.specs.Rules.{raw_allows};
 ghost use Rattle.f3_heap_laws.proofs.Refusals.{raw_refuses};
 ghost use Rattle.f3_heap.specs.Answers.{answer_of};
@@ -16,7 +16,7 @@ ghost use Rattle.f3_heap.specs.Answers.{answer_of};
 use crate::arena::{Arena, Book};
 use crate::block_id::BlockId;
 use crate::blocks::{Blocks, Pinned, TakeFault};
-use crate::heap_blocks::{give_block, has_room, take_block};
+use crate::heap_blocks::{give_block, give_last, has_room, take_block, take_last};
 use crate::hints::CLASSES;
 use crate::segments::{link, pin_count, put_pin_count};
 use f3_raw::Region;
@@ -105,6 +105,30 @@ impl Blocks for RawHeap {
             Some(at) => Ok(BlockId::at(at)),
             None => Err(TakeFault::Full),
         }
+    }
+
+    #[inline(always)]
+    fn take_at_once(&mut self, words: usize) -> Option<BlockId>
+        ensures room { IfSome result (λ b. list_any (is_wide words) (gaps (places self.old.blocks) self.old.size) ≡ true) }
+        ensures fresh { IfSome result (λ b. get self.old.blocks b ≡ None) }
+        ensures taken { IfSome result (λ b. self.new.blocks ≡ with_taken self.old.blocks b words) }
+        ensures allowed { IfSome result (λ b. raw_allows self.old.size (sizes self.old.blocks) words (Taken b)) }
+        ensures kept { IfSome result (λ b. self.new.size ≡ self.old.size) }
+        ensures same { IfNone result (self.new ≡ self.old) }
+    {
+        match take_last(&mut self.arena.region, &mut self.arena.book, words) {
+            Some(at) => Some(BlockId::at(at)),
+            None => None,
+        }
+    }
+
+    #[inline(always)]
+    fn give_at_once(&mut self, block: BlockId) -> bool {
+        let at = block.place();
+        if pin_count(&self.arena.region, at + 1) != 0 {
+            return false;
+        }
+        give_last(&self.arena.region, &mut self.arena.book, at)
     }
 
     #[inline(always)]

@@ -8,6 +8,8 @@ mod heap;
 #[cfg(test)]
 mod notes;
 #[cfg(test)]
+mod once;
+#[cfg(test)]
 mod raw;
 #[cfg(test)]
 mod rooms;

@@ -6,7 +6,7 @@ use Rattle.f3_heap_laws.proofs.HeapLaws.{end-heap, end-live, end-fresh, first-la
 use Rattle.f3_heap_laws.proofs.BlockLaws.{heap-at, heap-words, heap-used, room-behind}
 use Rattle.f3_heap_laws.proofs.HintHeaps.{hints-at, end-hints}
 use Rattle.f3_heap.proofs.Hinted.{none_fits}
-use Rattle.f3_heap.proofs.heap_blocks.take_block.Goals as goal
+use Rattle.f3_heap.proofs.heap_blocks.take_last.Goals as goal
 
 pub overflow_sub-frontier : goal.overflow_sub-frontier
 overflow_sub-frontier c = omega (arith, c.frontier.ensures.value, heap-words (region_words c.args.region.now) (region_size c.args.region.now) c.args.book.now.size c.args.book.now.first c.args.book.now.end c.args.book.now.used c.requires.heap)

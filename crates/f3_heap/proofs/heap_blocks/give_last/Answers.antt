@@ -11,7 +11,7 @@ use Rattle.f3_heap_laws.proofs.EndBlock.{used-above, last-heap, last-live}
 use Rattle.f3_heap_laws.proofs.BlockReads.{used-within, used-head}
 use Rattle.f3_heap_laws.proofs.BlockLaws.{heap-at, heap-words}
 use Rattle.f3_heap.proofs.Sizes.{given_is}
-use Rattle.f3_heap.proofs.heap_blocks.give_block.Goals as goal
+use Rattle.f3_heap.proofs.heap_blocks.give_last.Goals as goal
 
 pub link-requires : goal.link-requires
 link-requires c = let u = c.requires.block in omega (arith, heap-words (region_words c.args.region.now) (region_size c.args.region.now) c.args.book.now.size c.args.book.now.first c.args.book.now.end c.args.book.now.used c.requires.arena.heap, r-above (length u.content), used-within c.args.book.now.size (segments (region_words c.args.region.now) c.args.book.now.end) (region_words c.args.region.now) c.args.book.now.first c.args.book.now.end c.requires.arena.heap.lays u.front u.content u.pins u.back c.args.at u.split u.place)
@@ -42,4 +42,4 @@ returns-then-free_left-eq0-clause-arena c =
     }
 
 pub returns-then-free_left-eq0-clause-given : goal.returns-then-free_left-eq0-clause-given
-returns-then-free_left-eq0-clause-given c = last-live (region_words c.args.region.now) (region_size c.args.region.now) c.args.book.now.size c.args.book.now.first c.args.book.now.end c.args.book.now.used c.args.at c.requires.arena.heap c.requires.block (omega (arith, given_is (region_words c.args.region.now) c.args.book.now.size c.args.book.now.first c.args.book.now.end c.args.at c.requires.arena.heap.lays c.requires.block c.size_of_block-given.result c.link.result c.size_of_block-given.ensures c.link.ensures, c.if-at-given.true)) c.free_left.result c.free_left.ensures.start c.free_left.ensures.tag c.if-free_left-eq0.true
+returns-then-free_left-eq0-clause-given c = λ e. last-live (region_words c.args.region.now) (region_size c.args.region.now) c.args.book.now.size c.args.book.now.first c.args.book.now.end c.args.book.now.used c.args.at c.requires.arena.heap c.requires.block (omega (arith, given_is (region_words c.args.region.now) c.args.book.now.size c.args.book.now.first c.args.book.now.end c.args.at c.requires.arena.heap.lays c.requires.block c.size_of_block-given.result c.link.result c.size_of_block-given.ensures c.link.ensures, c.if-at-given.true)) c.free_left.result c.free_left.ensures.start c.free_left.ensures.tag c.if-free_left-eq0.true
