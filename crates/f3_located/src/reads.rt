@@ -1,6 +1,6 @@
 //! What stands at references.
 
-ghost use Rattle.std.specs.Prelude.{◌≡◌, ℕ, ◌<◌, [], ◌∷◌, IfOk, IfSome, length, map, Some, slice_get, slice_index_or};
+ghost use Rattle.std.specs.Prelude.{◌≡◌, ℕ, ◌<◌, [], ◌∷◌, ◌++◌, IfOk, IfSome, OnOk, length, map, Some, slice_get, slice_index_or};
 ghost use Rattle.f3_meaning_whole.specs.Value as v;
 ghost use Rattle.f3_meaning_whole.specs.Store as s;
 ghost use Rattle.f3_meaning_whole.specs.Reference.{held_at};
@@ -27,26 +27,38 @@ pub fn copy_at(alloc: Global, store: &Store, path: &Path) -> Result<Value, Alloc
     }
 }
 
-/// A copy of a value, without a call where it is a number.
+/// A copy of a value joins others, without a call where it is a scalar.
 #[inline(always)]
-fn copy_of(alloc: Global, value: &Value) -> Result<Value, AllocError>
-    ensures { IfOk result (λ x. value_of x ≡ value_of value.now) }
+pub(crate) fn push_copy(
+    alloc: Global,
+    copies: &mut Vec<Value>,
+    value: &Value,
+) -> Result<(), AllocError>
+    ensures { OnOk result (values_of copies.new.items ≡ values_of copies.old.items ++ value_of value.now ∷ []) }
 {
     match value {
-        Value::Number(number) => Ok(Value::Number(*number)),
-        _ => copies::value(alloc, value),
+        Value::Number(number) => copies.push(Value::Number(*number))?,
+        Value::Truth(truth) => copies.push(Value::Truth(*truth))?,
+        _ => copies.push(copies::value(alloc, value)?)?,
     }
+    Ok(())
 }
 
-/// A copy of one of these values: nothing, where there is none of the number.
+/// A copy of one of these values joins others: nothing, where there is none of the number.
 #[inline(always)]
-fn copy_among(alloc: Global, values: &[Value], place: usize) -> Result<Value, AllocError>
-    ensures { IfOk result (λ x. value_of x ≡ slice_index_or (values_of values.now) place v.Unallocated) }
+fn push_copy_among(
+    alloc: Global,
+    copies: &mut Vec<Value>,
+    values: &[Value],
+    place: usize,
+) -> Result<(), AllocError>
+    ensures { OnOk result (values_of copies.new.items ≡ values_of copies.old.items ++ slice_index_or (values_of values.now) place v.Unallocated ∷ []) }
 {
     match object(values, place) {
-        Some(value) => copy_of(alloc, value),
-        None => Ok(Value::Unallocated),
+        Some(value) => push_copy(alloc, copies, value)?,
+        None => copies.push(Value::Unallocated)?,
     }
+    Ok(())
 }
 
 /// Copies of these values, by their numbers.
@@ -61,7 +73,7 @@ fn copies_among(
     let count = length_of(numbers);
     let mut copies = Vec::with_capacity(alloc, count)?;
     for k in 0..count {
-        copies.push(copy_among(alloc, values, place_at(numbers, k))?)?;
+        push_copy_among(alloc, &mut copies, values, place_at(numbers, k))?;
     }
     Ok(copies)
 }

@@ -9,5 +9,5 @@ use Rattle.f3_located.proofs.reads.copies_among.Goals as goal
 pub loop-k-preserved : goal.loop-k-preserved
 loop-k-preserved c =
     copied_next (λ n. slice_index_or (values_of c.args.values.now) n v.Unallocated) (numbers_of c.args.numbers.now) c.loop-k.k c.place_at.result
-    c.loop-k.copies.items c.push.new.self.items c.in_ok-copy_among.field-0 c.place_at.ensures c.in_ok-push.ensures.items c.in_ok-copy_among.ensures
+    (values_of c.loop-k.copies.items) (values_of c.push_copy_among.new.copies.items) c.place_at.ensures c.in_ok-push_copy_among.ensures
     ∙ c.loop-k.invariant
