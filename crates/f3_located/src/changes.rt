@@ -13,7 +13,7 @@ ghost use Rattle.f3_data.specs.Values.{value_of, values_of};
 ghost use Rattle.f3_data.specs.Stores.{steps_of, path_of, store_of};
 ghost use Rattle.f3_data.specs.References.{element_path, numbers_of, reference_of};
 
-use crate::elements::{element_path, go_to, length_of, place_at};
+use crate::elements::{element_path, go_to, length_of, number_at, place_at};
 use crate::reads::push_copy;
 use f3_data::copies;
 use f3_data::reference::{Numbers, Reach, Reference, Section};
@@ -124,7 +124,6 @@ fn put_in(
 ///
 /// The path is one to that part of an element, whatever element, before and after.
 #[inline(always)]
-#[tactic(auto, using(crate::proofs::Spreading::put_more, crate::proofs::Spreading::put_past))]
 fn put_at(
     store: &mut Store,
     path: &mut Path,
@@ -138,10 +137,9 @@ fn put_at(
     ensures leads { (tail : List s.Step) → LeadsToElement (path_of array.now) tail (path_of path.old) → LeadsToElement (path_of array.now) tail (path_of path.new) }
     ensures put { (tail : List s.Step) → LeadsToElement (path_of array.now) tail (path_of path.old) → IsShort (path_of array.now) tail opening → (xs : List v.Value) → put_all (map (element_path (path_of array.now) tail) (drop (k + 1) (numbers_of numbers.now))) xs (store_of store.new) ≡ put_all (map (element_path (path_of array.now) tail) (drop k (numbers_of numbers.now))) (value_of value ∷ xs) (store_of store.old) }
 {
-    if k < length_of(numbers) {
-        put_in(store, path, array, opening, place_at(numbers, k), value);
-    } else {
-        drop(value);
+    match number_at(numbers, k) {
+        Some(place) => put_in(store, path, array, opening, place, value),
+        None => drop(value),
     }
 }
 
