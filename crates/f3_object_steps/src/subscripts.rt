@@ -133,9 +133,10 @@ fn offset_behind(span: Span, offset: u64, walk: Walk) -> Option<u64>
     if walk.step < 0 {
         return offset.checked_sub(distance);
     }
-    match offset.checked_add(distance) {
-        Some(next) if next < span.extent => Some(next),
-        _ => None,
+    if distance < span.extent - offset {
+        Some(offset + distance)
+    } else {
+        None
     }
 }
 
