@@ -1,5 +1,5 @@
 -- Values for elements.
-use Rattle.std.proofs.Common.{append_assoc, ◌≡◌, ℕ, zero, suc, ◌+◌, ◌-◌, ◌<◌, ◌≤◌, false, List, [], ◌∷◌, ◌++◌, refl, sym, ap, ◌∙◌, arith, Vec, Box, Global, map, Some, drop, length}
+use Rattle.std.proofs.Common.{append_assoc, ◌≡◌, ℕ, zero, suc, ◌+◌, ◌-◌, ◌<◌, ◌≤◌, false, List, [], ◌∷◌, ◌++◌, refl, sym, ap, ◌∙◌, arith, Vec, Box, Global, map, None, Some, drop, length}
 use Rattle.std.specs.Prelude.{replicate, slice_get}
 use Rattle.f3_meaning_whole.specs.Value as m
 use Rattle.f3_meaning_whole.specs.Value.{listed, joined, spread}
@@ -55,10 +55,20 @@ put_none : (vs ws : List m.Value) (store : s.Store) → put_all [] vs store ≡ 
 put_none vs ws store = refl
 
 -- no element is left
-pub put_past : (p : s.Path) (tail : List s.Step) (ns : List ℕ) (k : ℕ) (vs ws : List m.Value) (store : s.Store) → length ns ≤ k →
+put_past : (p : s.Path) (tail : List s.Step) (ns : List ℕ) (k : ℕ) (vs ws : List m.Value) (store : s.Store) → length ns ≤ k →
     put_all (map (element_path p tail) (drop k ns)) vs store ≡ put_all (map (element_path p tail) (drop (k + 1) ns)) ws store
 put_past p tail ns k vs ws store h = ap (λ ms. put_all (map (element_path p tail) ms) vs store) (drop_past k ns h) ∙ put_none vs ws store
     ∙ sym (ap (λ ms. put_all (map (element_path p tail) ms) ws store) (drop_past (k + 1) ns (omega arith)))
+
+past_of : (ns : List ℕ) (k : ℕ) → None ≡ slice_get ns k → length ns ≤ k
+past_of [] k h = omega arith
+past_of (n ∷ ns) zero h = cc
+past_of (n ∷ ns) (suc k) h = let p = past_of ns k h in omega arith
+
+-- no element has the number
+pub put_missing : (p : s.Path) (tail : List s.Step) (ns : List ℕ) (k : ℕ) (vs ws : List m.Value) (store : s.Store) → None ≡ slice_get ns k →
+    put_all (map (element_path p tail) (drop (k + 1) ns)) ws store ≡ put_all (map (element_path p tail) (drop k ns)) vs store
+put_missing p tail ns k vs ws store h = sym (put_past p tail ns k vs ws store (past_of ns k h))
 
 all_cleared_is : (vs : List m.Value) → m.all_cleared (joined vs) ≡ joined (map m.cleared vs)
 all_cleared_is [] = refl

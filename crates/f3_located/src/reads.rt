@@ -1,12 +1,12 @@
 //! What stands at references.
 
-ghost use Rattle.std.specs.Prelude.{◌≡◌, ℕ, ◌<◌, [], ◌∷◌, IfOk, IfSome, length, map, Some, slice_get, slice_index_or};
+ghost use Rattle.std.specs.Prelude.{◌≡◌, ℕ, ◌<◌, [], ◌∷◌, ◌++◌, IfOk, IfSome, OnOk, length, map, Some, slice_get, slice_index_or};
 ghost use Rattle.f3_meaning_whole.specs.Value as v;
 ghost use Rattle.f3_meaning_whole.specs.Store as s;
 ghost use Rattle.f3_meaning_whole.specs.Reference.{held_at};
 ghost use Rattle.f3_data.specs.Values.{value_of, values_of};
 ghost use Rattle.f3_data.specs.Stores.{steps_of, path_of, store_of};
-ghost use Rattle.f3_data.specs.References.{element_path, numbers_of, reach_in};
+ghost use Rattle.f3_data.specs.References.{counted, element_path, numbers_of, reach_in};
 
 use crate::elements::{element_path, go_to, length_of, place_at};
 use crate::reaches::show;
@@ -27,30 +27,75 @@ pub fn copy_at(alloc: Global, store: &Store, path: &Path) -> Result<Value, Alloc
     }
 }
 
-/// A copy of a value, without a call where it is a number.
-#[inline(always)]
-fn copy_of(alloc: Global, value: &Value) -> Result<Value, AllocError>
-    ensures { IfOk result (λ x. value_of x ≡ value_of value.now) }
+/// A copy of a value of any kind joins others.
+#[inline(never)]
+fn push_any(alloc: Global, copies: &mut Vec<Value>, value: &Value) -> Result<(), AllocError>
+    ensures { OnOk result (values_of copies.new.items ≡ values_of copies.old.items ++ value_of value.now ∷ []) }
 {
-    match value {
-        Value::Number(number) => Ok(Value::Number(*number)),
-        _ => copies::value(alloc, value),
-    }
+    copies.push(copies::value(alloc, value)?)?;
+    Ok(())
 }
 
-/// A copy of one of these values: nothing, where there is none of the number.
+/// A copy of a value joins others, without a call where it is a number.
 #[inline(always)]
-fn copy_among(alloc: Global, values: &[Value], place: usize) -> Result<Value, AllocError>
-    ensures { IfOk result (λ x. value_of x ≡ slice_index_or (values_of values.now) place v.Unallocated) }
+pub(crate) fn push_copy(
+    alloc: Global,
+    copies: &mut Vec<Value>,
+    value: &Value,
+) -> Result<(), AllocError>
+    ensures { OnOk result (values_of copies.new.items ≡ values_of copies.old.items ++ value_of value.now ∷ []) }
+{
+    match value {
+        Value::Number(number) => copies.push(Value::Number(*number))?,
+        _ => push_any(alloc, copies, value)?,
+    }
+    Ok(())
+}
+
+/// A copy of one of these values joins others: nothing, where there is none of the number.
+#[inline(always)]
+fn push_copy_among(
+    alloc: Global,
+    copies: &mut Vec<Value>,
+    values: &[Value],
+    place: usize,
+) -> Result<(), AllocError>
+    ensures { OnOk result (values_of copies.new.items ≡ values_of copies.old.items ++ slice_index_or (values_of values.now) place v.Unallocated ∷ []) }
 {
     match object(values, place) {
-        Some(value) => copy_of(alloc, value),
-        None => Ok(Value::Unallocated),
+        Some(value) => push_copy(alloc, copies, value)?,
+        None => copies.push(Value::Unallocated)?,
     }
+    Ok(())
+}
+
+/// Copies of those of these values that are listed by their numbers.
+fn copies_listed(
+    alloc: Global,
+    values: &[Value],
+    places: &[usize],
+) -> Result<Vec<Value>, AllocError>
+    ensures { IfOk result (λ xs. values_of xs.items ≡ map (λ n. slice_index_or (values_of values.now) n v.Unallocated) places.now) }
+{
+    let mut copies = Vec::with_capacity(alloc, places.len())?;
+    for place in places {
+        push_copy_among(alloc, &mut copies, values, *place)?;
+    }
+    Ok(copies)
+}
+
+/// Copies of so many of these values, from the first on.
+fn copies_of_first(alloc: Global, values: &[Value], count: usize) -> Result<Vec<Value>, AllocError>
+    ensures { IfOk result (λ xs. values_of xs.items ≡ map (λ n. slice_index_or (values_of values.now) n v.Unallocated) (counted 0 count)) }
+{
+    let mut copies = Vec::with_capacity(alloc, count)?;
+    for place in 0..count {
+        push_copy_among(alloc, &mut copies, values, place)?;
+    }
+    Ok(copies)
 }
 
 /// Copies of these values, by their numbers.
-#[tactic(auto, using(crate::proofs::Arrays::drop_at))]
 fn copies_among(
     alloc: Global,
     values: &[Value],
@@ -58,12 +103,10 @@ fn copies_among(
 ) -> Result<Vec<Value>, AllocError>
     ensures { IfOk result (λ xs. values_of xs.items ≡ map (λ n. slice_index_or (values_of values.now) n v.Unallocated) (numbers_of numbers.now)) }
 {
-    let count = length_of(numbers);
-    let mut copies = Vec::with_capacity(alloc, count)?;
-    for k in 0..count {
-        copies.push(copy_among(alloc, values, place_at(numbers, k))?)?;
+    match numbers {
+        Numbers::First(count) => copies_of_first(alloc, values, *count),
+        Numbers::Listed(places) => copies_listed(alloc, values, places),
     }
-    Ok(copies)
 }
 
 /// The elements of an array.

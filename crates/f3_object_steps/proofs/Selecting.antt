@@ -1,7 +1,7 @@
 -- Elements that are selected, by their places.
 use Rattle.std.proofs.Common.{◌≡◌, length, ℕ, zero, suc, ◌+◌, ◌*◌, ◌≤◌, ℤ, Bool, true, false, List, [], ◌∷◌, ◌++◌, refl, sym, ap, ◌∙◌, arith, map, cond}
 use Rattle.std.proofs.Common.{subst, T}
-use Rattle.std.proofs.lemmas.Bool.{ltb-false, le-ltb}
+use Rattle.std.proofs.lemmas.Bool.{ltb-false, ltb-true, le-ltb, lt-ltb}
 use Rattle.std.proofs.lemmas.Int.{ints}
 use Rattle.std.proofs.lemmas.Simd.{map-map}
 use Rattle.std.specs.Prelude.{nat_lt, ◌-ℤ◌, ◌<ℤ◌, ◌≤ℤ◌, int_le, int_lt, nat_abs, ◌&&◌}
@@ -9,7 +9,12 @@ use Rattle.std.specs.Prelude.{None, slice_get}
 use Rattle.std.specs.List.{flat_map, filter_map, cons_option}
 use Rattle.f3_meaning_whole.specs.Value.{Span}
 use Rattle.f3_meaning_whole.specs.Act.{Chosen, At, Range, end_of, is_inside, subscripts_in, spans_in, all_inside}
-use Rattle.f3_object_steps.specs.Selections.{kept, row_of, rows_of, spans_with}
+use Rattle.f3_data.specs.declared.reference.Numbers.{Numbers}
+use Rattle.f3_data.specs.declared.reference.Numbers.TheVariants as numbers
+use Rattle.f3_data.specs.References.{counted, numbers_of}
+use Rattle.f3_located.proofs.Arrays.{counted_at, counted_length}
+use Rattle.f3_object_steps.proofs.Stepping.{below_extent}
+use Rattle.f3_object_steps.specs.Selections.{kept, row_of, rows_of, spans_with, AreBelow}
 
 kept_by : (b : Bool) (k : ℕ) (ks : List ℕ) → b ≡ true → cond b (k ∷ ks) ks ≡ k ∷ ks
 kept_by true k ks e = refl
@@ -124,3 +129,48 @@ numbers_by ns k ks before false e = ap (filter_map (slice_get ns)) (leaves (leng
 pub kept_numbers : (ns ks : List ℕ) → filter_map (slice_get ns) (kept (length ns) ks) ≡ filter_map (slice_get ns) ks
 kept_numbers ns [] = refl
 kept_numbers ns (k ∷ ks) = numbers_by ns k ks (kept_numbers ns ks) (nat_lt k (length ns)) refl
+
+-- ---- numbers below a limit
+
+below_by : (limit k : ℕ) (ks : List ℕ) → AreBelow limit (kept limit ks) → (b : Bool) → nat_lt k limit ≡ b → AreBelow limit (kept limit (k ∷ ks))
+below_by limit k ks behind true e = subst (AreBelow limit) (sym (keeps limit k ks e)) (ltb-true k limit e, behind)
+below_by limit k ks behind false e = subst (AreBelow limit) (sym (leaves limit k ks e)) behind
+
+pub kept_below : (limit : ℕ) (ks : List ℕ) → AreBelow limit (kept limit ks)
+kept_below limit [] = tt
+kept_below limit (k ∷ ks) = below_by limit k ks (kept_below limit ks) (nat_lt k limit) refl
+
+first_numbers : (n : ℕ) (ks : List ℕ) → AreBelow n ks → ks ≡ filter_map (slice_get (counted 0 n)) ks
+first_numbers n [] h = refl
+first_numbers n (k ∷ ks) h = ap (λ xs. k ∷ xs) (first_numbers n ks h.1) ∙ sym (ap (λ o. cons_option o (filter_map (slice_get (counted 0 n)) ks)) (counted_at n k h.0))
+
+pub first_numbers_by : (ns : Numbers) (n : ℕ) (ks : List ℕ) → ns ≡ numbers.First n → AreBelow (length (numbers_of ns)) ks → ks ≡ filter_map (slice_get (numbers_of ns)) ks
+first_numbers_by ns n ks e = subst (λ (x : Numbers). AreBelow (length (numbers_of x)) ks → ks ≡ filter_map (slice_get (numbers_of x)) ks) (sym e)
+    (λ h. first_numbers n ks (subst (λ m. AreBelow m ks) (counted_length 0 n) h))
+
+all_kept : (extent limit : ℕ) (os : List ℕ) → extent ≤ limit → AreBelow extent os → os ≡ kept limit (row_of os extent 0)
+all_kept extent limit [] le h = refl
+all_kept extent limit (o ∷ os) le h =
+    let e : o + extent * 0 ≡ o = omega arith in
+    ap (λ xs. o ∷ xs) (all_kept extent limit os le h.1)
+    ∙ ap (λ k. k ∷ kept limit (row_of os extent 0)) (sym e)
+    ∙ sym (keeps limit (o + extent * 0) (row_of os extent 0) (lt-ltb (o + extent * 0) limit (omega (arith, h.0))))
+
+append_none : (xs : List ℕ) → xs ++ [] ≡ xs
+append_none [] = refl
+append_none (x ∷ xs) = ap (λ ys. x ∷ ys) (append_none xs)
+
+-- the offsets are the places in the first row
+pub first_row : (extent limit : ℕ) (os ks : List ℕ) → extent ≤ limit → AreBelow extent os → ks ≡ 0 ∷ [] → os ≡ kept limit (flat_map (row_of os extent) ks)
+first_row extent limit os ks le h e = all_kept extent limit os le h
+    ∙ sym (ap (λ rows. kept limit (flat_map (row_of os extent) rows)) e ∙ ap (kept limit) (append_none (row_of os extent 0)))
+
+pub offsets_below : (s : Span) (zs : List ℤ) (os : List ℕ) → is_inside s zs ≡ true → os ≡ map (λ z. nat_abs (z -ℤ s.lower)) zs → AreBelow s.extent os
+offsets_below s zs os i e = subst (AreBelow s.extent) (sym e) (all zs i)
+  where
+    all : (zs : List ℤ) → is_inside s zs ≡ true → AreBelow s.extent (map (λ z. nat_abs (z -ℤ s.lower)) zs)
+    all [] i = tt
+    all (z ∷ zs) i =
+        let low : int_le s.lower z ≡ true = first_true (int_le s.lower z) _ i in
+        let more : (int_lt z (end_of s) && is_inside s zs) ≡ true = second_true (int_le s.lower z) _ i in
+        (below_extent s z (ap (λ b. b && int_lt z (end_of s)) low ∙ first_true (int_lt z (end_of s)) _ more), all zs (second_true (int_lt z (end_of s)) _ more))

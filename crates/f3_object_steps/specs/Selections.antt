@@ -1,5 +1,5 @@
 -- Elements that are selected, by their places.
-use Rattle.std.specs.Prelude.{ℕ, ◌+◌, ◌*◌, ◌-ℤ◌, pos, nat_abs, nat_lt, filter, map, length, true, ◌≡◌, List, ◌∷◌}
+use Rattle.std.specs.Prelude.{⊤, ℕ, ◌<◌, [], ◌+◌, ◌*◌, ◌-ℤ◌, pos, nat_abs, nat_lt, filter, map, length, true, ◌≡◌, List, ◌∷◌}
 use Rattle.std.specs.List.{flat_map}
 use Rattle.f3_meaning_whole.specs.Value.{Span}
 use Rattle.f3_meaning_whole.specs.Act.{Chosen, At, Range, is_inside, all_inside, places_in, spans_in, subscripts_in}
@@ -32,3 +32,8 @@ Widened s c old limit new = (is_inside s (subscripts_in s c) ≡ true)
 -- the elements and bounds of what is selected of an array, of elements before a limit
 abbrev pub AreSelected : List Span → List Chosen → ℕ → Selected → Type 0
 AreSelected ss cs limit x = (all_inside ss cs ≡ true) × (x.places.items ≡ kept limit (places_in ss cs)) × (spans_of x.spans.items ≡ spans_in ss cs)
+
+-- all are below a number
+abbrev pub AreBelow : ℕ → List ℕ → Type 0
+AreBelow n [] = ⊤
+AreBelow n (k ∷ ks) = (k < n) × AreBelow n ks

@@ -1,5 +1,5 @@
 -- Subscripts, one after another.
-use Rattle.std.specs.Prelude.{◌≡◌, ◌∷◌, ◌^◌, ℤ, pos, neg_ℤ, ◌≤ℤ◌, List}
+use Rattle.std.specs.Prelude.{ℕ, suc, ◌^◌, ℤ, pos, neg_ℤ, ◌+ℤ◌, ◌≤ℤ◌, List}
 use Rattle.f3_meaning_whole.specs.Act.{stepped}
 use Rattle.f3_object_steps.specs.declared.subscripts.Walk.{Walk}
 
@@ -10,6 +10,6 @@ IsNear z = (neg_ℤ (pos (2 ^ 66)) ≤ℤ z) × (z ≤ℤ pos (2 ^ 66))
 abbrev pub subscripts_of : Walk → List ℤ
 subscripts_of w = stepped w.left w.next w.step
 
--- the next subscript has gone by
-abbrev pub Stepped : Walk → Walk → Type 0
-Stepped old new = subscripts_of old ≡ old.next ∷ subscripts_of new
+-- the subscript that is so far from a lower bound, and so many behind it
+abbrev pub subscripts_from : ℤ → ℕ → ℕ → ℤ → List ℤ
+subscripts_from lower offset behind step = stepped (suc behind) (lower +ℤ pos offset) step

@@ -1,6 +1,6 @@
 //! Elements and sections of arrays.
 
-ghost use Rattle.std.specs.Prelude.{◌≡◌, true, false, IfOk, MatchResult, map, slice_get};
+ghost use Rattle.std.specs.Prelude.{◌≡◌, true, false, IfOk, MatchResult, length, map, slice_get};
 ghost use Rattle.std.specs.List.{filter_map};
 ghost use Rattle.f3_meaning_whole.specs.Store as s;
 ghost use Rattle.f3_meaning_whole.specs.Reference.{Many};
@@ -9,7 +9,7 @@ ghost use Rattle.f3_meaning_whole.specs.Eval.{by_reach, spans_of_component};
 ghost use Rattle.f3_code.specs.Machine.{selects};
 ghost use Rattle.f3_data.specs.declared.store.Store as d;
 ghost use Rattle.f3_data.specs.Values.{span_of, spans_of};
-ghost use Rattle.f3_object_steps.specs.Selections.{rows_of};
+ghost use Rattle.f3_object_steps.specs.Selections.{rows_of, AreBelow};
 ghost use Rattle.f3_data.specs.Stores.{path_of, steps_of};
 ghost use Rattle.f3_data.specs.References.{element_path, numbers_of, reach_in, reference_of};
 ghost use Rattle.f3_cells.specs.Cells.{chosen_of};
@@ -63,10 +63,25 @@ fn numbers_at(alloc: Global, numbers: &Numbers, places: &[usize]) -> Result<Vec<
     Ok(found)
 }
 
+/// The numbers of elements by their places, where there is an element at each: all numbers from 0 on are their own places.
+fn numbered(alloc: Global, numbers: &Numbers, places: Vec<usize>) -> Result<Vec<usize>, AllocError>
+    requires { AreBelow (length (numbers_of numbers.now)) places.items }
+    ensures { IfOk result (λ v. v.items ≡ filter_map (slice_get (numbers_of numbers.now)) places.items) }
+{
+    match numbers {
+        Numbers::First(_) => Ok(places),
+        Numbers::Listed(_) => {
+            let found = numbers_at(alloc, numbers, &places)?;
+            drop(places);
+            Ok(found)
+        }
+    }
+}
+
 /// What is selected of an array: the elements by their numbers.
 ///
 /// `StepIsZero`, before `SubscriptOutOfBounds` (own rules).
-#[tactic(auto, using(crate::proofs::Selecting::kept_numbers))]
+#[tactic(auto, using(crate::proofs::Selecting::kept_numbers, crate::proofs::Selecting::kept_below))]
 fn picked(
     alloc: Global,
     spans: &[Span],
@@ -82,7 +97,7 @@ fn picked(
         return Err(Stop::Failed(RunError::SubscriptOutOfBounds));
     };
     let Selected { places, spans } = found;
-    let places = numbers_at(alloc, numbers, &places)?;
+    let places = numbered(alloc, numbers, places)?;
     Ok(Selected { places, spans })
 }
 

@@ -5,7 +5,7 @@ ghost use Rattle.std.specs.List.{flat_map};
 ghost use Rattle.f3_meaning_whole.specs.Act.{all_inside, is_inside, places_in, some_zero_step, spans_in, steps_by_zero, subscripts_in};
 ghost use Rattle.f3_data.specs.Values.{span_of, spans_of};
 ghost use Rattle.f3_cells.specs.Cells.{chosen_of};
-ghost use Rattle.f3_object_steps.specs.Selections.{kept, row_of, spans_with, AreSelected, Widened};
+ghost use Rattle.f3_object_steps.specs.Selections.{kept, row_of, spans_with, AreBelow, AreSelected, Widened};
 
 use crate::subscripts::offsets;
 use f3_cells::cell::Chosen;
@@ -40,7 +40,7 @@ pub fn place_of(offset: u64, extent: u64, row: usize, limit: usize) -> Option<us
 #[tactic(auto, using(crate::proofs::Selecting::keeps, crate::proofs::Selecting::leaves))]
 fn add_row(
     places: &mut Vec<usize>,
-    offsets: &[u64],
+    offsets: &[usize],
     extent: u64,
     row: usize,
     limit: usize,
@@ -48,7 +48,7 @@ fn add_row(
     ensures { OnOk result (places.new.items ≡ places.old.items ++ kept limit (row_of offsets.now extent row)) }
 {
     for offset in offsets {
-        if let Some(place) = place_of(*offset, extent, row, limit) {
+        if let Some(place) = place_of(*offset as u64, extent, row, limit) {
             places.push(place)?;
         }
     }
@@ -59,7 +59,7 @@ fn add_row(
 #[tactic(auto, using(crate::proofs::Selecting::kept_append))]
 fn rows(
     alloc: Global,
-    offsets: &[u64],
+    offsets: &[usize],
     extent: u64,
     rows: &[usize],
     limit: usize,
@@ -71,6 +71,36 @@ fn rows(
     for row in rows {
         add_row(&mut places, offsets, extent, *row, limit)?;
     }
+    Ok(places)
+}
+
+/// Whether of rows the first is the only one.
+fn is_first_alone(rows: &[usize]) -> bool
+    ensures { result ≡ true → rows.now ≡ 0 ∷ [] }
+{
+    match rows.split_first() {
+        Some((row, others)) => *row == 0 && others.is_empty(),
+        None => false,
+    }
+}
+
+/// The places in several rows: of the first row alone they are the offsets, where the row is before the limit.
+#[tactic(auto, using(crate::proofs::Selecting::first_row))]
+fn places_in_rows(
+    alloc: Global,
+    offsets: Vec<usize>,
+    extent: u64,
+    behind: &[usize],
+    limit: usize,
+) -> Result<Vec<usize>, AllocError>
+    requires { AreBelow extent offsets.items }
+    ensures { IfOk result (λ v. v.items ≡ kept limit (flat_map (row_of offsets.items extent) behind.now)) }
+{
+    if extent <= limit as u64 && is_first_alone(behind) {
+        return Ok(offsets);
+    }
+    let places = rows(alloc, &offsets, extent, behind, limit)?;
+    drop(offsets);
     Ok(places)
 }
 
@@ -98,16 +128,17 @@ fn widened_by(
     alloc: Global,
     span: Span,
     choice: Chosen,
-    offsets: &[u64],
+    offsets: Vec<usize>,
     behind: Selected,
     limit: usize,
 ) -> Result<Selected, AllocError>
-    ensures places { IfOk result (λ x. x.places.items ≡ kept limit (flat_map (row_of offsets.now span.extent) behind.places.items)) }
-    ensures spans { IfOk result (λ x. spans_of x.spans.items ≡ spans_with (chosen_of choice) (length offsets.now) (spans_of behind.spans.items)) }
+    requires { AreBelow span.extent offsets.items }
+    ensures places { IfOk result (λ x. x.places.items ≡ kept limit (flat_map (row_of offsets.items span.extent) behind.places.items)) }
+    ensures spans { IfOk result (λ x. spans_of x.spans.items ≡ spans_with (chosen_of choice) (length offsets.items) (spans_of behind.spans.items)) }
 {
     let Selected { places, spans } = behind;
-    let places = rows(alloc, offsets, span.extent, &places, limit)?;
     let spans = spans_with(choice, offsets.len(), spans)?;
+    let places = places_in_rows(alloc, offsets, span.extent, &places, limit)?;
     Ok(Selected { places, spans })
 }
 
@@ -123,7 +154,7 @@ fn widened(
     ensures { IfOk result (λ found. MatchOption found (is_inside (span_of span) (subscripts_in (span_of span) (chosen_of choice)) ≡ false) (Widened (span_of span) (chosen_of choice) behind limit)) }
 {
     match offsets(alloc, span, choice)? {
-        Some(offsets) => Ok(Some(widened_by(alloc, span, choice, &offsets, behind, limit)?)),
+        Some(offsets) => Ok(Some(widened_by(alloc, span, choice, offsets, behind, limit)?)),
         None => {
             drop(behind);
             Ok(None)

@@ -1,11 +1,11 @@
 //! The subscripts that are selected in a dimension.
 
-ghost use Rattle.std.specs.Prelude.{◌≡◌, ◌≢◌, pos, ◌+◌, ◌-ℤ◌, ◌<ℤ◌, ◌≤ℤ◌, ◌<◌, ◌^◌, neg_ℤ, ◌&&◌, int_le, int_lt, nat_abs, map, true, false, IfOk, MatchOption, OnSome, unwrap_or};
+ghost use Rattle.std.specs.Prelude.{◌≡◌, ◌≢◌, pos, ◌+◌, ◌-◌, ◌+ℤ◌, ◌-ℤ◌, ◌<ℤ◌, ◌≤ℤ◌, ◌<◌, ◌^◌, neg_ℤ, ◌&&◌, int_le, int_lt, nat_abs, ◌⊎◌, map, true, false, IfOk, MatchOption, OnSome, unwrap_or};
 ghost use Rattle.f3_meaning_whole.specs.Arithmetic as a;
 ghost use Rattle.f3_meaning_whole.specs.Act.{end_of, is_inside, steps_by_zero, subscripts_in};
 ghost use Rattle.f3_data.specs.Values.{span_of};
 ghost use Rattle.f3_cells.specs.Cells.{chosen_of};
-ghost use Rattle.f3_object_steps.specs.Walks.{IsNear, subscripts_of, Stepped};
+ghost use Rattle.f3_object_steps.specs.Walks.{IsNear, subscripts_of, subscripts_from};
 
 use f3_cells::cell::Chosen;
 use f3_data::value::Span;
@@ -124,38 +124,62 @@ pub fn next_offset(span: Span, walk: Walk) -> Option<u64>
     offset_of(span, walk.next)
 }
 
-/// The subscripts behind the next one.
-#[tactic(auto, using(crate::proofs::Stepping::stepped_more))]
-fn behind(walk: Walk) -> Walk
-    requires some { 0 < walk.left }
-    requires low { neg_ℤ (pos (2 ^ 63)) ≤ℤ walk.next }
-    requires high { walk.next ≤ℤ pos (2 ^ 65) }
-    ensures subscripts { Stepped walk result }
-    ensures near { IsNear result.next }
-    ensures left { result.left + 1 ≡ walk.left }
+/// How far the subscript behind another is from the lower bound of a dimension: none, where it is out of bounds.
+fn offset_behind(span: Span, offset: u64, walk: Walk) -> Option<u64>
+    requires { offset < span.extent }
+    ensures { MatchOption result (((pos offset +ℤ walk.step) <ℤ pos 0) ⊎ (pos span.extent ≤ℤ (pos offset +ℤ walk.step))) (λ o. (pos o ≡ pos offset +ℤ walk.step) × (o < span.extent)) }
 {
-    Walk {
-        next: walk.next + walk.step as i128,
-        left: walk.left - 1,
-        step: walk.step,
+    let distance = walk.step.unsigned_abs();
+    if walk.step < 0 {
+        return offset.checked_sub(distance);
+    }
+    if distance < span.extent - offset {
+        Some(offset + distance)
+    } else {
+        None
     }
 }
 
+/// The subscripts of a walk whose first is inside, by how far they are from the lower bound of a dimension: none, where some are
+/// out of bounds.
+
+fn offsets_from(
+    alloc: Global,
+    span: Span,
+    walk: Walk,
+    first: u64,
+) -> Result<Option<Vec<usize>>, AllocError>
+    requires { first < span.extent }
+    ensures { IfOk result (λ found. MatchOption found (is_inside (span_of span) (subscripts_from span.lower first (walk.left - 1) walk.step) ≡ false) (λ v. (is_inside (span_of span) (subscripts_from span.lower first (walk.left - 1) walk.step) ≡ true) × (v.items ≡ map (λ z. nat_abs (z -ℤ span.lower)) (subscripts_from span.lower first (walk.left - 1) walk.step)))) }
+{
+    let mut left = walk.left.saturating_sub(1);
+    let room = left.min(span.extent as u128).min(ROOM) + 1;
+    let mut offsets = Vec::with_capacity(alloc, room as usize)?;
+    let mut offset = first;
+    while left > 0 {
+        offsets.push(offset as usize)?;
+        let Some(next) = offset_behind(span, offset, walk) else {
+            return Ok(None);
+        };
+        offset = next;
+        left -= 1;
+    }
+    offsets.push(offset as usize)?;
+    Ok(Some(offsets))
+}
+
 /// The selected subscripts, by how far they are from the lower bound of a dimension: none, where some are out of bounds.
-#[tactic(auto, using(crate::proofs::Stepping::inside_more, crate::proofs::Stepping::outside, crate::proofs::Stepping::offsets_more, crate::proofs::Stepping::none_left))]
-pub fn offsets(alloc: Global, span: Span, chosen: Chosen) -> Result<Option<Vec<u64>>, AllocError>
+#[tactic(auto, using(crate::proofs::Stepping::outside, crate::proofs::Stepping::none_left, crate::proofs::Stepping::first_inside))]
+pub fn offsets(alloc: Global, span: Span, chosen: Chosen) -> Result<Option<Vec<usize>>, AllocError>
     requires { steps_by_zero (chosen_of chosen) ≡ false }
     ensures { IfOk result (λ found. MatchOption found (is_inside (span_of span) (subscripts_in (span_of span) (chosen_of chosen)) ≡ false) (λ v. (is_inside (span_of span) (subscripts_in (span_of span) (chosen_of chosen)) ≡ true) × (v.items ≡ map (λ z. nat_abs (z -ℤ span.lower)) (subscripts_in (span_of span) (chosen_of chosen))))) }
 {
-    let mut walk = walk_of(span, chosen);
-    let room = walk.left.min(span.extent as u128).min(ROOM);
-    let mut offsets = Vec::with_capacity(alloc, room as usize)?;
-    while walk.left > 0 {
-        let Some(offset) = next_offset(span, walk) else {
-            return Ok(None);
-        };
-        offsets.push(offset)?;
-        walk = behind(walk);
+    let walk = walk_of(span, chosen);
+    if walk.left == 0 {
+        return Ok(Some(Vec::new(alloc)));
     }
-    Ok(Some(offsets))
+    match next_offset(span, walk) {
+        Some(first) => offsets_from(alloc, span, walk, first),
+        None => Ok(None),
+    }
 }
