@@ -36,7 +36,7 @@ fn push_any(alloc: Global, copies: &mut Vec<Value>, value: &Value) -> Result<(),
     Ok(())
 }
 
-/// A copy of a value joins others, without a call where it is a number.
+/// A copy of a value joins others, without a call where it is a number and there is room.
 #[inline(always)]
 pub(crate) fn push_copy(
     alloc: Global,
@@ -46,7 +46,9 @@ pub(crate) fn push_copy(
     ensures { OnOk result (values_of copies.new.items ≡ values_of copies.old.items ++ value_of value.now ∷ []) }
 {
     match value {
-        Value::Number(number) => copies.push(Value::Number(*number))?,
+        Value::Number(number) if copies.len() < copies.capacity() => {
+            copies.push_reserved(Value::Number(*number));
+        }
         _ => push_any(alloc, copies, value)?,
     }
     Ok(())
