@@ -47,19 +47,28 @@ fn initial_value(alloc: Global, program: &Program, declared: &Declared) -> Resul
     }
 }
 
-/// The values with which variables begin, with room for one more.
+/// The values with which variables begin, with room for so many in all.
 fn initial_values(
     alloc: Global,
     program: &Program,
     declared: &[Declared],
+    room: usize,
 ) -> Result<Vec<Value>, AllocError>
     ensures { IfOk result (λ vs. values_of vs.items ≡ map (initial_value (setting_of program.now)) declared.now) }
 {
-    let mut values = Vec::with_capacity(alloc, declared.len().saturating_add(1))?;
+    let mut values = Vec::with_capacity(alloc, room)?;
     for variable in declared {
         values.push(initial_value(alloc, program, variable)?)?;
     }
     Ok(values)
+}
+
+/// How many variables a procedure has, its result among them.
+fn room_for(procedure: &Procedure) -> usize {
+    match procedure.result {
+        Some(_) => procedure.locals.len().saturating_add(1),
+        None => procedure.locals.len(),
+    }
 }
 
 /// The values with which the variables of an activation of a procedure begin; the result stands behind the others.
@@ -72,7 +81,8 @@ pub fn variables(
 ) -> Result<Vec<Value>, AllocError>
     ensures { IfOk result (λ vs. values_of vs.items ≡ variables (setting_of program.now) procedure.now) }
 {
-    let mut values = initial_values(alloc, program, &procedure.locals)?;
+    let room = room_for(procedure);
+    let mut values = initial_values(alloc, program, &procedure.locals, room)?;
     if let Some(declared) = &procedure.result {
         values.push(initial_value(alloc, program, declared)?)?;
     }
