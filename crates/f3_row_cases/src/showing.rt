@@ -123,6 +123,28 @@ fn putting(alloc: Global, act: Act) -> Result<String, AllocError> {
                 0,
             )
         }
+        Act::LendHeld(d, at, x) => {
+            line(alloc, "lend held", &[d as i64, at as i64, x as i64], 0)
+        }
+        Act::LendHeldEntry(d, at, x, y) => {
+            line(
+                alloc,
+                "lend held entry",
+                &[d as i64, at as i64, x as i64, y as i64],
+                0,
+            )
+        }
+        Act::LendStaticHeld(d, at, x) => {
+            line(alloc, "lend static held", &[d as i64, at as i64, x as i64], 0)
+        }
+        Act::LendStaticHeldEntry(d, at, x, y) => {
+            line(
+                alloc,
+                "lend static held entry",
+                &[d as i64, at as i64, x as i64, y as i64],
+                0,
+            )
+        }
         _ => calling(alloc, act),
     }
 }
