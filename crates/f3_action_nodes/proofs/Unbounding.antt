@@ -19,7 +19,7 @@ use Rattle.f3_typed_parts.specs.declared.known.Part.{Part as Described}
 use Rattle.f3_typed_parts.specs.Known.{part_of}
 use Rattle.f3_typing.specs.Lists.{said_part}
 use Rattle.f3_typing.proofs.Trees.{parts_same}
-use Rattle.f3_action_nodes.specs.Unbounded.{unbound}
+use Rattle.f3_action_nodes.specs.Inner.Unbounded.{unbound}
 
 pub parts_unbounded : (s : Surroundings) (v : t.Parts) → parts s (unbounded v) ≡ unbound (parts s v)
 parts_unbounded s t.no_parts = refl

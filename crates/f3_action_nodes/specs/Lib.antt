@@ -1,1 +1,1 @@
-pub mod Unbounded
+pub mod Inner

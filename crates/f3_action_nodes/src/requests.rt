@@ -9,7 +9,7 @@ ghost use Rattle.f3_numbers.specs.Surroundings.{surroundings_of};
 ghost use Rattle.f3_typed_parts.specs.Known.{context_of, part_of as typed_part};
 ghost use Rattle.f3_typing.specs.Lists.{said_part};
 ghost use Rattle.f3_expression_parts.specs.Parts.{given_of, part_of};
-ghost use Rattle.f3_action_nodes.specs.Unbounded.{unbound};
+ghost use Rattle.f3_action_nodes.specs.Inner.Unbounded.{unbound};
 
 use crate::kinds::kind_by;
 use crate::values::{one, or_one};

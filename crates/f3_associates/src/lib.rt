@@ -2,5 +2,5 @@
 #![tactic(auto)]
 
 pub mod entering;
-pub mod exchanging;
+mod exchanging;
 pub mod selectors;

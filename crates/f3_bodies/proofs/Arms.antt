@@ -16,7 +16,7 @@ use Rattle.f3_tree.specs.declared.statement.Statement.{Statement, If, Select, Do
 use Rattle.f3_tree.specs.declared.statement.Statement.{Action as Acts}
 use Rattle.f3_tree.specs.Expressions.{Tree, expression_view}
 use Rattle.f3_tree.specs.Statements.{StatementTree, Act, Controls, AssociationTree, acts, acts_if, branches, selects, repeats, associates, Block, Branches, no_branches, Cases, no_cases, no_alternative, alternative, action_view, control_view, association_view, statement_view, block_of, block_view}
-use Rattle.f3_scopes.specs.Inner.Blocks.{branches_view, branches_in, alternative_view, cases_view, cases_in}
+use Rattle.f3_scopes.specs.Blocks.{branches_view, branches_in, alternative_view, cases_view, cases_in}
 use Rattle.f3_scopes.proofs.Views.{view_if, view_select, view_associate}
 use Rattle.f3_kinds.specs.declared.said.Said.{Said}
 use Rattle.f3_kinds.specs.Things.{map_or}

@@ -2,7 +2,7 @@
 
 ghost use Rattle.std.specs.Prelude.{◌≡◌, ◌+◌, ◌<◌, ◌^◌, map, length, OnOk, IfOk};
 ghost use Rattle.f3_tree.specs.Statements.{statement_view, block_of};
-ghost use Rattle.f3_scopes.specs.Inner.Blocks.{branches_in, cases_in};
+ghost use Rattle.f3_scopes.specs.Blocks.{branches_in, cases_in};
 ghost use Rattle.f3_type_rules.specs.Associates.{constructs_of_block};
 ghost use Rattle.f3_type_rules.specs.Bodies.{statement_breaks, block_breaks, branch_breaks, case_breaks};
 ghost use Rattle.f3_typed_parts.specs.Noted.{noted};

@@ -28,7 +28,7 @@ use Rattle.f3_cells.specs.States.{state_of, world_of, granted}
 use Rattle.f3_cells.specs.Follows.{Follows, Does, DoesThere}
 use Rattle.f3_cells.specs.Moves.{OnWith}
 use Rattle.f3_cells.specs.Popped.{PoppedMany}
-use Rattle.f3_call_steps.specs.Associating.{Associates, within, LeftWith}
+use Rattle.f3_call_steps.specs.Inner.Associating.{Associates, within, LeftWith}
 
 -- ---- the end
 

@@ -31,7 +31,7 @@ use Rattle.f3_cells.specs.declared.state.Stop.TheVariants as stop
 use Rattle.f3_cells.specs.Cells.{passed_of, here_of, cells_of}
 use Rattle.f3_cells.specs.Follows.{Follows, DoesThere}
 use Rattle.f3_cells.specs.States.{state_of, frame_of, code_of, granted}
-use Rattle.f3_call_steps.specs.Entering.{entry_in, IsEntry, EnteredAt, CalledWith}
+use Rattle.f3_call_steps.specs.Inner.Entering.{entry_in, IsEntry, EnteredAt, CalledWith}
 
 -- ---- procedures by their numbers
 

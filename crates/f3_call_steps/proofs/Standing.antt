@@ -7,7 +7,7 @@ use Rattle.f3_program.specs.declared.declarations.Base.{Base}
 use Rattle.f3_meaning_whole.specs.Act.{Passed, Given, Lent}
 use Rattle.f3_meaning_whole.specs.Exec.{argument_at}
 use Rattle.f3_call_steps.specs.declared.arguments.Stand.{Stand}
-use Rattle.f3_call_steps.specs.Standing.{stand_of, first_of, AreFirsts, StandsIn, given, argument_of}
+use Rattle.f3_call_steps.specs.Inner.Standing.{stand_of, first_of, AreFirsts, StandsIn, given, argument_of}
 
 -- what the table has, or else what is found in the arguments that are left, is the first of all
 abbrev pub Fills : List (Option Stand) → List Passed → List Passed → ℕ → ℕ → Type 0

@@ -1,4 +1,2 @@
 pub mod Returned
-pub mod Entering
-pub mod Associating
-pub mod Standing
+pub mod Inner

@@ -6,7 +6,7 @@ ghost use Rattle.f3_meaning_whole.specs.Exec.{bound, held};
 ghost use Rattle.f3_data.specs.Values.{values_of};
 ghost use Rattle.f3_data.specs.References.{reference_of, references_of};
 ghost use Rattle.f3_cells.specs.Cells.{passed_of};
-ghost use Rattle.f3_call_steps.specs.Standing.{Noted, AreFirsts, StandsIn, argument_of, stand_of};
+ghost use Rattle.f3_call_steps.specs.Inner.Standing.{Noted, AreFirsts, StandsIn, argument_of, stand_of};
 
 use f3_cells::cell::Passed;
 use f3_data::copies;

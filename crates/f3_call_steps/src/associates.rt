@@ -11,7 +11,7 @@ ghost use Rattle.f3_data.specs.References.{reference_of, references_of};
 ghost use Rattle.f3_cells.specs.declared.scene.Scene.{Scene};
 ghost use Rattle.f3_cells.specs.Cells.{association_of};
 ghost use Rattle.f3_cells.specs.Follows.{Does, DoesThere};
-ghost use Rattle.f3_call_steps.specs.Associating.{Associates, Within, LeftWith};
+ghost use Rattle.f3_call_steps.specs.Inner.Associating.{Associates, Within, LeftWith};
 
 use crate::heres::within_associate;
 use f3_cells::cell::{Association, Cell, Flow, Here};

@@ -5,7 +5,7 @@ ghost use Rattle.f3_meaning_whole.specs.Value as m;
 ghost use Rattle.f3_code.specs.declared.instruction.Instruction.TheVariants.{Call};
 ghost use Rattle.f3_cells.specs.Follows.{DoesThere};
 ghost use Rattle.f3_cells.specs.States.{code_of};
-ghost use Rattle.f3_call_steps.specs.Entering.{IsEntry, CalledWith};
+ghost use Rattle.f3_call_steps.specs.Inner.Entering.{IsEntry, CalledWith};
 
 use crate::frames::enter_procedure;
 use f3_cells::cell::{Cell, Passed};

@@ -6,7 +6,7 @@ ghost use Rattle.f3_meaning_whole.specs.Value as m;
 ghost use Rattle.f3_meaning_whole.specs.Exec as x;
 ghost use Rattle.f3_data.specs.Lent.{lent_of};
 ghost use Rattle.f3_cells.specs.Cells.{here_of, passed_of, variables_of};
-ghost use Rattle.f3_call_steps.specs.Entering.{Framed, EnteredAt};
+ghost use Rattle.f3_call_steps.specs.Inner.Entering.{Framed, EnteredAt};
 
 use crate::activations::{enter, variables};
 use crate::arguments::{dummies, held};

@@ -13,7 +13,7 @@ use Rattle.f3_tree.specs.declared.statement.Selector.TheVariants as selector
 use Rattle.f3_tree.specs.declared.statement.Statement.{Statement}
 use Rattle.f3_tree.specs.Expressions.{Tree}
 use Rattle.f3_tree.specs.Statements.{CaseTree, case_view, selector_view}
-use Rattle.f3_scopes.specs.Inner.Blocks.{cases_view}
+use Rattle.f3_scopes.specs.Blocks.{cases_view}
 use Rattle.f3_kinds.specs.declared.types.DataType.{DataType}
 use Rattle.f3_kinds.specs.declared.types.Wanted.TheVariants as wanted
 use Rattle.f3_kinds.specs.declared.said.Said.{Said}

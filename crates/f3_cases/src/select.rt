@@ -3,7 +3,7 @@
 ghost use Rattle.std.specs.Prelude.{◌≡◌, ◌++◌, map, IfOk, OnOk};
 ghost use Rattle.std.specs.List.{flat_map};
 ghost use Rattle.f3_tree.specs.Expressions.{expression_view};
-ghost use Rattle.f3_scopes.specs.Inner.Blocks.{cases_view};
+ghost use Rattle.f3_scopes.specs.Blocks.{cases_view};
 ghost use Rattle.f3_type_rules.specs.Cases.{default_rows, defaults, select_breaks};
 ghost use Rattle.f3_typed_parts.specs.Known.{context_of};
 ghost use Rattle.f3_typed_parts.specs.Noted.{noted};

@@ -1,1 +1,1 @@
-pub mod Nexts
+pub mod Inner

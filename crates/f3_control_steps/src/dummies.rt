@@ -10,7 +10,7 @@ ghost use Rattle.f3_code.specs.Machine.{passed_in};
 ghost use Rattle.f3_cells.specs.Cells.{passed_of};
 ghost use Rattle.f3_cells.specs.States.{frame_of};
 ghost use Rattle.f3_cells.specs.Follows.{Does, DoesIn};
-ghost use Rattle.f3_control_steps.specs.Nexts.{HasLatest, HasNoFrame};
+ghost use Rattle.f3_control_steps.specs.Inner.Nexts.{HasLatest, HasNoFrame};
 
 use crate::lists::{next_of, reversed};
 use f3_cells::cell::{Cell, Passed};

@@ -2,7 +2,7 @@
 
 ghost use Rattle.std.specs.Prelude.{◌≡◌, IfOk, reverse};
 ghost use Rattle.f3_data.specs.References.{references_of};
-ghost use Rattle.f3_control_steps.specs.Nexts.{TakenNext};
+ghost use Rattle.f3_control_steps.specs.Inner.Nexts.{TakenNext};
 
 use f3_data::copies;
 use f3_data::reference::Reference;

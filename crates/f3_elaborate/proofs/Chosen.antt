@@ -6,7 +6,7 @@ use Rattle.f3_scopes.specs.Scopes.{unit_scopes}
 use Rattle.f3_tree.specs.Tree.{UnitTree}
 use Rattle.f3_type_rules.specs.Members.{Numbered, numbered, units_from}
 use Rattle.f3_elaboration.specs.Program.{is_main, main_unit}
-use Rattle.f3_elaborate.specs.Units.{main_place}
+use Rattle.f3_elaborate.specs.Inner.Units.{main_place}
 
 abbrev placed : Bool → Option ℕ → Option ℕ
 placed b o = cond b (Some 0) (option_map suc o)

@@ -35,7 +35,7 @@ use Rattle.f3_elaboration.specs.Numbers.{Numbers, Inner, name_by, name_of, numbe
 use Rattle.f3_elaboration.specs.Units.{in_main, in_member, surroundings}
 use Rattle.f3_inside.specs.declared.state.State.{State}
 use Rattle.f3_inside.specs.Standing.{state_of}
-use Rattle.f3_elaborate.specs.Knows.{Knows}
+use Rattle.f3_elaborate.specs.Inner.Knows.{Knows}
 
 -- ---- what is known is the same where a site is
 

@@ -15,7 +15,7 @@ use Rattle.f3_declared.specs.Scenery.{scene_in as standing}
 use Rattle.f3_scopes.specs.declared.outline.EntityKind.{EntityKind}
 use Rattle.f3_type_rules.specs.declared.definition.Holder.{Holder}
 use Rattle.f3_type_rules.specs.Scene.{Scene}
-use Rattle.f3_types.specs.Inner.Scenes.{scene_with}
+use Rattle.f3_types.specs.Scenes.{scene_with}
 use Rattle.f3_types.specs.Parts.{scene_in, declared_along, units_of}
 use Rattle.f3_numbers.specs.declared.numbers.Numbers.{Numbers as Table}
 use Rattle.f3_numbers.specs.Agrees.{Agrees, nothing_inside}
@@ -27,8 +27,8 @@ use Rattle.f3_elaboration.specs.Numbers.{definitions, numbers_of, unit_statics}
 use Rattle.f3_elaboration.specs.Program.{main_unit, nothing_done, program_along, whole_along}
 use Rattle.f3_elaboration.specs.Units.{main}
 use Rattle.f3_inside.specs.declared.state.State.{State}
-use Rattle.f3_elaborate.specs.Knows.{Knows}
-use Rattle.f3_elaborate.specs.Units.{procedures_in}
+use Rattle.f3_elaborate.specs.Inner.Knows.{Knows}
+use Rattle.f3_elaborate.specs.Inner.Units.{procedures_in}
 
 -- what is known of the program of a tree
 abbrev pub whole_of : Tree → (look : ℕ → ℕ → Lookup) → (order : List ℕ) → Whole

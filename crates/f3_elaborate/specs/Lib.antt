@@ -1,2 +1,1 @@
-pub mod Knows
-pub mod Units
+pub mod Inner

@@ -6,7 +6,7 @@ ghost use Rattle.f3_access.specs.Tables.{lookup_of};
 ghost use Rattle.f3_names.specs.Tables.{AreNames};
 ghost use Rattle.f3_typed_parts.specs.Known.{nature_of};
 ghost use Rattle.f3_types.specs.Parts.{scene_in};
-ghost use Rattle.f3_types.specs.Inner.Scenes.{scene_with};
+ghost use Rattle.f3_types.specs.Scenes.{scene_with};
 
 use f3_kinds::things::Thing;
 use f3_kinds::types::Scalar;

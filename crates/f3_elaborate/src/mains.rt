@@ -17,8 +17,8 @@ ghost use Rattle.f3_elaboration.specs.DeclaredViews.{procedure_view};
 ghost use Rattle.f3_elaboration.specs.Program.{is_main, main_unit, nothing_done};
 ghost use Rattle.f3_elaboration.specs.Units as units;
 ghost use Rattle.f3_program_numbers.specs.Fitting.{AllFit};
-ghost use Rattle.f3_elaborate.specs.Knows.{Knows};
-ghost use Rattle.f3_elaborate.specs.Units.{main_place};
+ghost use Rattle.f3_elaborate.specs.Inner.Knows.{Knows};
+ghost use Rattle.f3_elaborate.specs.Inner.Units.{main_place};
 
 use crate::procedures::main_program;
 use crate::units::Walk;

@@ -14,7 +14,7 @@ ghost use Rattle.f3_elaboration.specs.DeclaredViews.{procedure_view};
 ghost use Rattle.f3_elaboration.specs.Nodes as nodes;
 ghost use Rattle.f3_elaboration.specs.Units as units;
 ghost use Rattle.f3_elaboration.specs.Views.{statement_view, statements_of};
-ghost use Rattle.f3_elaborate.specs.Knows.{Knows};
+ghost use Rattle.f3_elaborate.specs.Inner.Knows.{Knows};
 
 use crate::heads::{Heading, head};
 use f3_declaration_nodes::whole::{Whole, place};

@@ -18,8 +18,8 @@ ghost use Rattle.f3_elaboration.specs.DeclaredViews.{derived_view, procedure_vie
 ghost use Rattle.f3_elaboration.specs.Numbers.{definitions, unit_statics};
 ghost use Rattle.f3_elaboration.specs.Program.{main_unit, nothing_done, program_along};
 ghost use Rattle.f3_elaboration.specs.Units as units;
-ghost use Rattle.f3_elaborate.specs.Knows.{Knows};
-ghost use Rattle.f3_elaborate.specs.Units.{procedures_in};
+ghost use Rattle.f3_elaborate.specs.Inner.Knows.{Knows};
+ghost use Rattle.f3_elaborate.specs.Inner.Units.{procedures_in};
 
 use crate::mains::{Main, main_of};
 use crate::units::{Walk, procedures};

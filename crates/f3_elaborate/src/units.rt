@@ -14,8 +14,8 @@ ghost use Rattle.f3_elaboration.specs.Declarations as elaborated;
 ghost use Rattle.f3_elaboration.specs.DeclaredViews.{procedure_view};
 ghost use Rattle.f3_elaboration.specs.Units as units;
 ghost use Rattle.f3_program_numbers.specs.Fitting.{Fits, AllFit, MembersFit};
-ghost use Rattle.f3_elaborate.specs.Knows.{Knows};
-ghost use Rattle.f3_elaborate.specs.Units.{procedures_in};
+ghost use Rattle.f3_elaborate.specs.Inner.Knows.{Knows};
+ghost use Rattle.f3_elaborate.specs.Inner.Units.{procedures_in};
 
 use crate::procedures::{Home, procedure};
 use f3_declared::scenery::Scenery;

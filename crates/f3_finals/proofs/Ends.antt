@@ -3,7 +3,7 @@ use Rattle.std.proofs.Common.{◌≡◌, refl, sym, ap, ◌∙◌, ℕ, ◌+◌,
 use Rattle.std.proofs.lemmas.List.{length-append}
 use Rattle.f3_scopes.specs.Scopes.{procedure_scopes, procedures_from, own_scopes, unit_scopes}
 use Rattle.f3_tree.specs.Tree.{ProcedureTree, UnitTree}
-use Rattle.f3_natures.specs.Inner.Walk.{count_of, end_of}
+use Rattle.f3_natures.specs.Walk.{count_of, end_of}
 use Rattle.f3_natures.proofs.Owned.{as_many}
 use Rattle.f3_finals.specs.Candidates.{behind_procedures}
 

@@ -13,7 +13,7 @@ use Rattle.f3_kinds.specs.Things.{map_or}
 use Rattle.f3_type_rules.specs.Finals.{is_out, is_explicit, is_type, dummy_rank, header_rank}
 use Rattle.f3_type_rules.specs.Members.{Member, members_from}
 use Rattle.f3_type_rules.specs.Names.{Names, Declared, entries, shape_of, intent_of, object_of}
-use Rattle.f3_natures.specs.Inner.Walk.{count_of}
+use Rattle.f3_natures.specs.Walk.{count_of}
 use Rattle.f3_finals.specs.declared.candidate.Candidate.{Candidate}
 use Rattle.f3_finals.specs.Candidates.{rank_for, member_rank}
 use Rattle.f3_finals.specs.Inner.Candidates.{typed_candidate, candidate_of, candidate_in, candidates_from}

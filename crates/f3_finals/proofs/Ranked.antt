@@ -13,7 +13,7 @@ use Rattle.f3_kinds.specs.Things.{map_or}
 use Rattle.f3_type_rules.specs.Finals.{member_at}
 use Rattle.f3_type_rules.specs.Members.{Member, members_from}
 use Rattle.f3_type_rules.specs.Names.{Names}
-use Rattle.f3_natures.specs.Inner.Walk.{count_of}
+use Rattle.f3_natures.specs.Walk.{count_of}
 use Rattle.f3_finals.specs.declared.candidate.Candidate.{Candidate}
 use Rattle.f3_finals.specs.Candidates.{rank_for, member_rank, AreCandidates}
 use Rattle.f3_finals.specs.Inner.Looked.{rank_found}

@@ -10,7 +10,7 @@ ghost use Rattle.f3_type_rules.specs.Finals.{is_out, is_explicit};
 ghost use Rattle.f3_type_rules.specs.Members.{members_from};
 ghost use Rattle.f3_type_rules.specs.Names.{entries, entries_in};
 ghost use Rattle.f3_declared.specs.Scenery.{names_in};
-ghost use Rattle.f3_natures.specs.Inner.Walk.{count_of};
+ghost use Rattle.f3_natures.specs.Walk.{count_of};
 ghost use Rattle.f3_finals.specs.Candidates.{AreCandidates, behind_procedures, UnitsEndWithProcedures};
 ghost use Rattle.f3_finals.specs.Inner.Candidates.{entry_of, found_view, typed_candidate, candidate_by, candidate_of, candidate_in};
 

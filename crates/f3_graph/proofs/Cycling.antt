@@ -14,7 +14,7 @@ use Rattle.f3_graph.specs.declared.links.Link.{Link}
 use Rattle.f3_tree.specs.Tree.{Tree}
 use Rattle.f3_graph.specs.Units.{Node, nodes_of, uses_of, Uses, Reaches}
 use Rattle.f3_graph.specs.Breaks.{at, NameTwice, ModuleMissing, ReachesItself, NoMainProgram, MainProgramAgain, UnitBreaks}
-use Rattle.f3_graph.specs.Links.{module_of, home, link_of, links_of, targets, IsGraph, Cycles, CyclesIn, missing, missing_at, may_be_first}
+use Rattle.f3_graph.specs.Inner.Links.{module_of, home, link_of, links_of, targets, IsGraph, Cycles, CyclesIn, missing, missing_at, may_be_first}
 use Rattle.f3_nodes.specs.Nodes.{Graph, targets_of, Leads, InRange}
 use Rattle.f3_nodes.proofs.Members.{Has, has_of, contains_of, has_at, at_has, has_piece, piece_of}
 use Rattle.f3_graph.proofs.Naming.{Stands, module_some, module_none, module_there, comes_of, comes_in, home_of, home_is, inside, targets_link, link_targets}

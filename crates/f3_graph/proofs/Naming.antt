@@ -13,8 +13,8 @@ use Rattle.f3_tree.specs.declared.program.UnitKind.TheVariants.{Module, Program 
 use Rattle.f3_graph.specs.declared.links.Link.{Link}
 use Rattle.f3_graph.specs.Units.{Node, uses_of}
 use Rattle.f3_graph.specs.declared.unit.UnitUses.{UnitUses}
-use Rattle.f3_graph.specs.Views.{node_view, nodes_view}
-use Rattle.f3_graph.specs.Links.{is_module, last_module, module_of, home, link_of, links_from, links_of, targets, Inside}
+use Rattle.f3_graph.specs.Inner.Views.{node_view, nodes_view}
+use Rattle.f3_graph.specs.Inner.Links.{is_module, last_module, module_of, home, link_of, links_from, links_of, targets, Inside}
 use Rattle.f3_nodes.proofs.Members.{Has, has_of, has_parts, has_left, has_right, has_mapped, mapped_of, at_has}
 
 -- a module of this name stands at this number

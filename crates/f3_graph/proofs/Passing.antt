@@ -13,7 +13,7 @@ use Rattle.f3_tree.specs.declared.program.UnitKind.TheVariants.{Module, Program 
 use Rattle.f3_tree.specs.Tree.{Tree}
 use Rattle.f3_graph.specs.Units.{Node, nodes_of}
 use Rattle.f3_graph.specs.declared.unit.UnitUses.{UnitUses}
-use Rattle.f3_graph.specs.Views.{node_view, nodes_view}
+use Rattle.f3_graph.specs.Inner.Views.{node_view, nodes_view}
 use Rattle.f3_graph.specs.Breaks.{at, NameTwice, NoMainProgram, MainProgramAgain}
 use Rattle.f3_graph.specs.Inner.Passes.{pass, name_row, name_next, is_main, main_row, main_next}
 use Rattle.f3_nodes.proofs.Members.{Has, has_of, contains_of, has_parts, has_left, has_right, any_of, any_from}

@@ -7,7 +7,7 @@ use Rattle.f3_rules.proofs.Firsts.{least_none, earlier_none}
 use Rattle.f3_nodes.specs.Nodes.{Graph}
 use Rattle.f3_nodes.specs.Levels.{level, AreLevels}
 use Rattle.f3_graph.specs.declared.links.Link.{Link}
-use Rattle.f3_graph.specs.Links.{Cycles, CyclesIn, may_return, returns_to, may_be_first}
+use Rattle.f3_graph.specs.Inner.Links.{Cycles, CyclesIn, may_return, returns_to, may_be_first}
 use Rattle.f3_graph.proofs.Cycling.{cycles_more, cycles_late}
 
 module _ (g : Graph) (links : List Link) (levels : List ℕ) (are : AreLevels g levels) where

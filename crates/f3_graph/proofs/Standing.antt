@@ -10,9 +10,9 @@ use Rattle.f3_tree.specs.declared.program.UnitKind.TheVariants.{Module}
 use Rattle.f3_tree.specs.Tree.{Tree}
 use Rattle.f3_graph.specs.Units.{Node, nodes_of, uses_of, Uses, Reaches}
 use Rattle.f3_graph.specs.declared.unit.UnitUses.{UnitUses}
-use Rattle.f3_graph.specs.Views.{node_view, nodes_view}
+use Rattle.f3_graph.specs.Inner.Views.{node_view, nodes_view}
 use Rattle.f3_graph.specs.Breaks.{at, NameTwice, ReachesItself, UnitBreaks}
-use Rattle.f3_graph.specs.Links.{module_of, home, link_of, links_from, links_of, targets, IsGraph}
+use Rattle.f3_graph.specs.Inner.Links.{module_of, home, link_of, links_from, links_of, targets, IsGraph}
 use Rattle.f3_nodes.specs.Nodes.{Graph, targets_of, Leads, InRange, IsNodeOrder, Ordered}
 use Rattle.f3_graph.specs.Order.{IsOrderOf}
 use Rattle.f3_graph.specs.declared.links.Link.{Link}

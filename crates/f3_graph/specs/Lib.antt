@@ -1,7 +1,4 @@
 pub mod Units
 pub mod Breaks
 pub mod Order
-pub mod Links
-pub mod Views
-pub mod Found
 pub mod Inner

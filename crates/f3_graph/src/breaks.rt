@@ -4,11 +4,11 @@ ghost use Rattle.std.specs.Prelude.{◌≡◌, ◌⊎◌, ◌<◌, ℕ, [], ◌�
 ghost use Rattle.std.specs.List.{flat_map};
 ghost use Rattle.f3_rules.specs.Least.{Least, first_of};
 ghost use Rattle.f3_graph.specs.Breaks.{at, NameTwice, NoMainProgram, MainProgramAgain};
-ghost use Rattle.f3_graph.specs.Links.{missing, Cycles, CyclesIn, Inside, IsGraph, may_return, may_be_first};
+ghost use Rattle.f3_graph.specs.Inner.Links.{missing, Cycles, CyclesIn, Inside, IsGraph, may_return, may_be_first};
 ghost use Rattle.f3_nodes.specs.Nodes.{InRange};
 ghost use Rattle.f3_graph.specs.Inner.Passes.{is_main};
 ghost use Rattle.f3_graph.specs.Units.{nodes_of};
-ghost use Rattle.f3_graph.specs.Views.{nodes_view};
+ghost use Rattle.f3_graph.specs.Inner.Views.{nodes_view};
 ghost use Rattle.f3_tree.specs.Tree.{view};
 
 use crate::links::Link;

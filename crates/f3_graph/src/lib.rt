@@ -10,12 +10,12 @@ ghost use Rattle.f3_rules.specs.Least.{Least};
 ghost use Rattle.f3_tree.specs.Tree.{view};
 ghost use Rattle.f3_graph.specs.declared.CheckFault.TheVariants.{Memory};
 ghost use Rattle.f3_graph.specs.Breaks.{UnitBreaks};
-ghost use Rattle.f3_graph.specs.Found.{Finds};
-ghost use Rattle.f3_graph.specs.Links.{links_of, Inside, IsGraph, CyclesIn};
+ghost use Rattle.f3_graph.specs.Inner.Found.{Finds};
+ghost use Rattle.f3_graph.specs.Inner.Links.{links_of, Inside, IsGraph, CyclesIn};
 ghost use Rattle.f3_nodes.specs.Nodes.{Ordered, InRange, Leads};
 ghost use Rattle.f3_graph.specs.Order.{Orders, IsRefusal, NoOrderNoCycle, numbers_of, text_of};
 ghost use Rattle.f3_graph.specs.Units.{nodes_of};
-ghost use Rattle.f3_graph.specs.Views.{nodes_view};
+ghost use Rattle.f3_graph.specs.Inner.Views.{nodes_view};
 
 use crate::breaks::{first_cycle, first_missing, main_programs, name_twice};
 use crate::links::{Link, graph, links};

@@ -2,9 +2,9 @@
 
 ghost use Rattle.std.specs.Prelude.{◌≡◌, ◌<◌, ◌++◌, ℕ, [], map, length, nat_eq, option_to_list, if◌then◌else◌, ◌==◌, IfOk, OnOk};
 ghost use Rattle.indexmap.specs.IndexMap.{get};
-ghost use Rattle.f3_graph.specs.Links.{module_of, links_from, links_of, is_module, home, Inside, IsGraph};
+ghost use Rattle.f3_graph.specs.Inner.Links.{module_of, links_from, links_of, is_module, home, Inside, IsGraph};
 ghost use Rattle.f3_nodes.specs.Nodes.{targets_of};
-ghost use Rattle.f3_graph.specs.Views.{nodes_view};
+ghost use Rattle.f3_graph.specs.Inner.Views.{nodes_view};
 
 use crate::unit::UnitUses;
 use f3_nodes::graph::empty_graph;

@@ -4,7 +4,7 @@ ghost use Rattle.std.specs.Prelude.{◌≡◌, ◌++◌, map, IfOk, OnOk};
 ghost use Rattle.f3_tree.specs.Declarations.{part_tree};
 ghost use Rattle.f3_tree.specs.Tree.{unit_view};
 ghost use Rattle.f3_graph.specs.Units.{node_of, used_in};
-ghost use Rattle.f3_graph.specs.Views.{nodes_view};
+ghost use Rattle.f3_graph.specs.Inner.Views.{nodes_view};
 
 use f3_tree::declaration::SpecificationPart;
 use f3_tree::expression::Name;

@@ -10,7 +10,7 @@ use Rattle.f3_data.specs.declared.value.Elements.{Elements}
 use Rattle.f3_data.specs.declared.value.Value as v
 use Rattle.f3_data.specs.Values.{value_of, values_of, spans_of}
 use Rattle.f3_data.specs.References.{element_path}
-use Rattle.f3_located.specs.Kinds.{is_array}
+use Rattle.f3_located.specs.Inner.Kinds.{is_array}
 use Rattle.f3_located.proofs.Arrays.{composite_is, array_is, drop_at}
 
 pub listed_joined : (vs : List m.Value) → listed (joined vs) ≡ vs

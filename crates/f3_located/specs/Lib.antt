@@ -1,3 +1,2 @@
 pub mod Finds
-pub mod Kinds
-pub mod Ways
+pub mod Inner

@@ -6,7 +6,7 @@ use Rattle.f3_program.specs.declared.expression.Query.TheVariants.{Lower, Upper}
 use Rattle.f3_kinds.specs.declared.things.Intrinsic.TheVariants as intrinsic
 use Rattle.f3_elaboration.specs.Nodes.{ExpressionNode}
 use Rattle.f3_elaboration.specs.Expressions.{intrinsic_value}
-use Rattle.f3_meant_nodes.specs.Values.{bound_of_two, nested_of, operation_of_two}
+use Rattle.f3_meant_nodes.specs.Inner.Values.{bound_of_two, nested_of, operation_of_two}
 
 pub mod_is : (of : Base) (xs : List ExpressionNode) → operation_of_two o.Mod of xs ≡ intrinsic_value of intrinsic.Mod xs
 mod_is of [] = refl

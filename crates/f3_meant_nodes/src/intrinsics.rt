@@ -5,7 +5,7 @@ ghost use Rattle.f3_elaboration.specs.Expressions.{asked, intrinsic_value, neste
 ghost use Rattle.f3_elaboration.specs.Nodes as n;
 ghost use Rattle.f3_elaboration.specs.Views.{expression_view};
 ghost use Rattle.f3_kinds.specs.declared.things.Intrinsic.TheVariants as intrinsic;
-ghost use Rattle.f3_meant_nodes.specs.Values.{bound_of_two, nested_of, operation_of_two, two_of};
+ghost use Rattle.f3_meant_nodes.specs.Inner.Values.{bound_of_two, nested_of, operation_of_two, two_of};
 
 use crate::lists::split;
 use crate::values::no_value;

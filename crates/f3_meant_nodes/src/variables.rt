@@ -5,7 +5,7 @@ ghost use Rattle.f3_elaboration.specs.Expressions.{along, components_of, number_
 ghost use Rattle.f3_elaboration.specs.Views.{designator_view};
 ghost use Rattle.f3_expression_parts.specs.Parts.{part_of};
 ghost use Rattle.f3_kinds.specs.Things.{component_of};
-ghost use Rattle.f3_meant_nodes.specs.Components.{found_in};
+ghost use Rattle.f3_meant_nodes.specs.Inner.Components.{found_in};
 ghost use Rattle.f3_numbers.specs.Surroundings.{surroundings_of};
 ghost use Rattle.f3_typed_parts.specs.Known.{context_of};
 

@@ -5,7 +5,7 @@ use Rattle.std.specs.Option.{option_map}
 use Rattle.std.specs.List.{flat_map}
 use Rattle.f3_tree.specs.Declarations.{ShapeTree, EntityTree, DeclarationTree}
 use Rattle.f3_type_rules.specs.Names.{Names, last_of, attributes_of, dimension_in}
-use Rattle.f3_natures.specs.Inner.Objects.{common_of, described_by, described_of}
+use Rattle.f3_natures.specs.Objects.{common_of, described_by, described_of}
 
 pub last_of_map : {X Y : Type 0} (f : X → Y) (o : Option X) (xs : List X) → last_of (option_map f o) (map f xs) ≡ option_map f (last_of o xs)
 last_of_map f o [] = refl

@@ -13,7 +13,7 @@ use Rattle.f3_tree.specs.declared.statement.Statement.{Action as Acts}
 use Rattle.f3_tree.specs.Expressions.{expression_view}
 use Rattle.f3_tree.specs.Statements.{AssociationTree, acts, acts_if, repeats, action_view, association_view, control_view, statement_view, block_of, block_view}
 use Rattle.f3_type_rules.specs.Associates.{constructs_of, constructs_of_block, constructs_of_branches, constructs_of_cases}
-use Rattle.f3_scopes.specs.Inner.Blocks.{branches_in, cases_in}
+use Rattle.f3_scopes.specs.Blocks.{branches_in, cases_in}
 use Rattle.f3_scopes.proofs.Views.{view_if, view_select, view_associate}
 
 view_acts : (p : Place) (a : Action) → statement_view (Acts p a) ≡ acts p (action_view a)

@@ -22,9 +22,9 @@ use Rattle.f3_type_rules.specs.Natures.{dummy, result_object, specifier_of, kind
 use Rattle.f3_natures.specs.declared.objects.Described.{Described}
 use Rattle.f3_natures.specs.Entries.{with_first, firsts_after, firsts}
 use Rattle.f3_natures.specs.Natures.{kept}
-use Rattle.f3_natures.specs.Inner.Objects.{described_of}
-use Rattle.f3_natures.specs.Inner.Procedures.{described_entry, described_in, described_all, dummy_by, dummy_entry, object_by, result_by, procedure_by, derived_type, final_for, final_type, is_for}
-use Rattle.f3_natures.specs.Inner.Walk.{declared_at}
+use Rattle.f3_natures.specs.Objects.{described_of}
+use Rattle.f3_natures.specs.Procedures.{described_entry, described_in, described_all, dummy_by, dummy_entry, object_by, result_by, procedure_by, derived_type, final_for, final_type, is_for}
+use Rattle.f3_natures.specs.Walk.{declared_at}
 
 -- ---- look-ups
 

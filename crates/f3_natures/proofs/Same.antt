@@ -26,8 +26,8 @@ use Rattle.f3_type_rules.specs.Finals.{header_rank, member_at, final_rank}
 use Rattle.f3_type_rules.specs.Natures.{object_nature, declared_nature, natures_in, natures_from, procedure_nature, typed_natures, associate_natures, member_natures, unit_natures}
 use Rattle.f3_natures.specs.Entries.{firsts}
 use Rattle.f3_natures.specs.Natures.{kept}
-use Rattle.f3_natures.specs.Inner.Procedures.{is_for}
-use Rattle.f3_natures.specs.Inner.Walk.{final_at, is_final_in, is_final, made_one, made_all, count_of, no_final, inner_made, all_finals, all_made, all_inner, own_count, unit_start, unit_made}
+use Rattle.f3_natures.specs.Procedures.{is_for}
+use Rattle.f3_natures.specs.Walk.{final_at, is_final_in, is_final, made_one, made_all, count_of, no_final, inner_made, all_finals, all_made, all_inner, own_count, unit_start, unit_made}
 use Rattle.f3_natures.proofs.Looked.{procedure_same, final_same}
 use Rattle.f3_natures.proofs.Steps.{one_long, none_all, never}
 

@@ -17,7 +17,7 @@ use Rattle.f3_type_rules.specs.Names.{Names, undeclared}
 use Rattle.f3_type_rules.specs.Members.{numbered, units_from}
 use Rattle.f3_type_rules.specs.Natures.{typed_natures, associate_natures, unit_natures}
 use Rattle.f3_natures.specs.Natures.{kept}
-use Rattle.f3_natures.specs.Inner.Walk.{count_of, end_of, is_final, made_all, no_final, inner_made, all_finals, all_made, all_inner, own_count, unit_start, unit_end, own_made, unit_made, units_end, units_made}
+use Rattle.f3_natures.specs.Walk.{count_of, end_of, is_final, made_all, no_final, inner_made, all_finals, all_made, all_inner, own_count, unit_start, unit_end, own_made, unit_made, units_end, units_made}
 use Rattle.f3_natures.proofs.Owned.{owned, named, block_owned, as_many}
 use Rattle.f3_natures.proofs.Steps.{made_long}
 use Rattle.f3_natures.proofs.Same.{unit_same}

@@ -20,8 +20,8 @@ use Rattle.f3_type_rules.specs.Natures.{declared_nature, typed_natures, associat
 use Rattle.f3_typed_parts.specs.Known.{nature_of}
 use Rattle.f3_natures.specs.declared.objects.Described.{Described}
 use Rattle.f3_natures.specs.Entries.{firsts}
-use Rattle.f3_natures.specs.Inner.Procedures.{described_all, final_type, procedure_by}
-use Rattle.f3_natures.specs.Inner.Walk.{count_of, end_of, along, final_made, procedure_made, is_final, is_final_in, made_one, made_all, no_final, inner_made, all_finals, all_made, all_inner, own_count, unit_start, unit_end, own_made, unit_made, units_end, units_made}
+use Rattle.f3_natures.specs.Procedures.{described_all, final_type, procedure_by}
+use Rattle.f3_natures.specs.Walk.{count_of, end_of, along, final_made, procedure_made, is_final, is_final_in, made_one, made_all, no_final, inner_made, all_finals, all_made, all_inner, own_count, unit_start, unit_end, own_made, unit_made, units_end, units_made}
 
 pub end_least : (s : ℕ) (ps : List ProcedureTree) → s ≤ end_of s ps
 end_least s [] = omega arith

@@ -3,7 +3,7 @@
 ghost use Rattle.std.specs.Prelude.{◌≡◌, ◌++◌, map, length, OnOk, IfOk};
 ghost use Rattle.f3_tree.specs.Statements.{block_of, statement_view};
 ghost use Rattle.f3_type_rules.specs.Associates.{constructs_of, constructs_of_block, constructs_of_branches, constructs_of_cases};
-ghost use Rattle.f3_scopes.specs.Inner.Blocks.{branches_in, cases_in};
+ghost use Rattle.f3_scopes.specs.Blocks.{branches_in, cases_in};
 ghost use Rattle.f3_natures.specs.Constructs.{ConstructsAreAsMany};
 
 use f3_tree::statement::Statement;

@@ -14,8 +14,8 @@ ghost use Rattle.f3_type_rules.specs.Natures.{object_nature, declared_nature, ty
 ghost use Rattle.f3_typed_parts.specs.Known.{nature_of};
 ghost use Rattle.f3_natures.specs.Known.{names_view};
 ghost use Rattle.f3_natures.specs.Natures.{kept, natures_of, HasDistinctParts};
-ghost use Rattle.f3_natures.specs.Inner.Procedures.{final_type, is_for, procedure_by};
-ghost use Rattle.f3_natures.specs.Inner.Walk.{final_at, is_final, made_one, made_all, count_of, end_of, along, final_made, procedure_made, inner_made, all_finals, all_made, all_inner, own_count, unit_start, unit_end, unit_made, units_made, units_end};
+ghost use Rattle.f3_natures.specs.Procedures.{final_type, is_for, procedure_by};
+ghost use Rattle.f3_natures.specs.Walk.{final_at, is_final, made_one, made_all, count_of, end_of, along, final_made, procedure_made, inner_made, all_finals, all_made, all_inner, own_count, unit_start, unit_end, unit_made, units_made, units_end};
 
 use crate::constructs::constructs;
 use crate::names::Names;

@@ -7,7 +7,7 @@ ghost use Rattle.f3_scopes.specs.Scopes.{kind_of, intent_of};
 ghost use Rattle.f3_type_rules.specs.Names.{type_if, type_named, type_of, dimension_in, is_allocatable, last_of, undeclared};
 ghost use Rattle.f3_type_rules.specs.Natures.{typed_object};
 ghost use Rattle.f3_natures.specs.Known.{names_view};
-ghost use Rattle.f3_natures.specs.Inner.Objects.{extent, common_of, extent_by, described_by};
+ghost use Rattle.f3_natures.specs.Objects.{extent, common_of, extent_by, described_by};
 
 use crate::names::Names;
 use f3_access::lookup;

@@ -8,7 +8,7 @@ ghost use Rattle.f3_type_rules.specs.Finals.{is_out};
 ghost use Rattle.f3_typed_parts.specs.Known.{nature_of};
 ghost use Rattle.f3_natures.specs.Known.{names_view};
 ghost use Rattle.f3_natures.specs.Entries.{firsts, firsts_after};
-ghost use Rattle.f3_natures.specs.Inner.Procedures.{described_entry, described_in, described_all, dummy_by, dummy_entry, object_by, result_by, procedure_by, final_for, final_type};
+ghost use Rattle.f3_natures.specs.Procedures.{described_entry, described_in, described_all, dummy_by, dummy_entry, object_by, result_by, procedure_by, final_for, final_type};
 
 use crate::entries::keep_first;
 use crate::names::Names;

@@ -3,4 +3,4 @@ pub mod Performed
 pub mod Parts
 pub mod Walks
 pub mod Selections
-pub mod Picks
+pub mod Inner

@@ -14,7 +14,7 @@ ghost use Rattle.f3_data.specs.Stores.{path_of, steps_of};
 ghost use Rattle.f3_data.specs.References.{element_path, numbers_of, reach_in, reference_of};
 ghost use Rattle.f3_cells.specs.Cells.{chosen_of};
 ghost use Rattle.f3_object_steps.specs.Performed.{Performed};
-ghost use Rattle.f3_object_steps.specs.Picks.{tail_of, narrowed, narrowed_path, narrowed_reach, element_in, FirstPlace, Picked, PickedOf};
+ghost use Rattle.f3_object_steps.specs.Inner.Picks.{tail_of, narrowed, narrowed_path, narrowed_reach, element_in, FirstPlace, Picked, PickedOf};
 
 use crate::naming::contents;
 use crate::places::{Selected, place_of, selection};

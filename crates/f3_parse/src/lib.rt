@@ -1,5 +1,5 @@
 //! Sources, read as a syntax tree.
 #![tactic(auto)]
 
-pub mod advance;
+mod advance;
 pub mod parser;

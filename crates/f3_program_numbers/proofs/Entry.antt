@@ -9,7 +9,7 @@ use Rattle.f3_type_rules.specs.Members.{Member, Numbered}
 use Rattle.f3_type_rules.specs.Walks.{is_among}
 use Rattle.f3_elaboration.specs.Numbers.{Inner, is_variable, is_saved, is_in_header, numbers_in_member, numbers_in_main}
 use Rattle.f3_program_numbers.specs.Chosen.{is_saved_name}
-use Rattle.f3_program_numbers.specs.Entering.{entities_of, result_names, local_in, member_inner, main_inner}
+use Rattle.f3_program_numbers.specs.Inner.Entering.{entities_of, result_names, local_in, member_inner, main_inner}
 use Rattle.f3_program_numbers.proofs.Same.{names_same}
 
 local_choice : (a b c : Bool) → (not a && (not b && not c)) ≡ (not a && (if b then false else (true && not c)))

@@ -1,5 +1,5 @@
 pub mod Chosen
-pub mod Entering
 pub mod Filled
 pub mod Fitting
 pub mod Walks
+pub mod Inner

@@ -13,7 +13,7 @@ ghost use Rattle.f3_elaboration.specs.Numbers.{entity_of, numbers_in_member, num
 ghost use Rattle.f3_numbers.specs.Table.{object_in, procedure_in, type_in};
 ghost use Rattle.f3_numbers.specs.Agrees.{Agrees, nothing_inside};
 ghost use Rattle.f3_program_numbers.specs.Filled.{without, IsInside, Undoes};
-ghost use Rattle.f3_program_numbers.specs.Entering.{entities_of, member_inner, main_inner};
+ghost use Rattle.f3_program_numbers.specs.Inner.Entering.{entities_of, member_inner, main_inner};
 
 use crate::filling::{Storage, add_objects};
 use crate::members::add_member;

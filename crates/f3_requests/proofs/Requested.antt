@@ -39,7 +39,7 @@ use Rattle.f3_cells.specs.States.{state_of, world_of, code_of, granted}
 use Rattle.f3_answers.specs.Wants.{allocated, assigned, called, dimensions, held, renewed}
 use Rattle.f3_answers.specs.Heap.{is_full, refused_once, with_answers}
 use Rattle.f3_requests.specs.Requests.{Answered, refused, refuses}
-use Rattle.f3_requests.specs.Counted.{DoesRefused, too_large, wanted}
+use Rattle.f3_requests.specs.Inner.Counted.{DoesRefused, too_large, wanted}
 
 -- a world that refuses the next request
 abbrev pub refusing : t.Store → World

@@ -14,7 +14,7 @@ use Rattle.f3_data.specs.Values.{spans_of}
 use Rattle.f3_cells.specs.declared.cell.Cell as c
 use Rattle.f3_cells.specs.declared.cell.Cell.TheVariants as cell
 use Rattle.f3_cells.specs.declared.cell.Passed.TheVariants as passed
-use Rattle.f3_requests.specs.Counted.{held_words, extents}
+use Rattle.f3_requests.specs.Inner.Counted.{held_words, extents}
 
 -- the first of what is left
 

@@ -27,7 +27,7 @@ use Rattle.f3_cells.specs.Cells.{cells_of}
 use Rattle.f3_cells.specs.States.{state_of, frame_of, code_of}
 use Rattle.f3_answers.specs.Wants.{allocated, assigned, called, copies, given_words, held, renewed, wants}
 use Rattle.f3_answers.specs.Heap.{is_full}
-use Rattle.f3_requests.specs.Counted.{called_with, counted, too_large, wanted}
+use Rattle.f3_requests.specs.Inner.Counted.{called_with, counted, too_large, wanted}
 
 -- procedures by their numbers
 

@@ -1,2 +1,2 @@
 pub mod Requests
-pub mod Counted
+pub mod Inner

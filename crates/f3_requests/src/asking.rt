@@ -14,7 +14,7 @@ ghost use Rattle.f3_shaping.specs.Results.{is_array};
 ghost use Rattle.f3_cells.specs.Cells.{cells_of};
 ghost use Rattle.f3_cells.specs.States.{setting, code_of};
 ghost use Rattle.f3_requests.specs.Requests.{refuses};
-ghost use Rattle.f3_requests.specs.Counted.{HasElements, called_with, counted, held_words, wanted};
+ghost use Rattle.f3_requests.specs.Inner.Counted.{HasElements, called_with, counted, held_words, wanted};
 
 use crate::extents::{element_count, new_count, rank_of, vacant_words};
 use crate::given::{given_words, top};

@@ -8,7 +8,7 @@ ghost use Rattle.f3_account.specs.Account.{words};
 ghost use Rattle.f3_arithmetic.specs.Turns.{turns_of};
 ghost use Rattle.f3_data.specs.Values.{spans_of};
 ghost use Rattle.f3_cells.specs.declared.cell.Cell.{Cell};
-ghost use Rattle.f3_requests.specs.Counted.{extents, Sized};
+ghost use Rattle.f3_requests.specs.Inner.Counted.{extents, Sized};
 
 use f3_cells::cell::Cell;
 use f3_data::value::Span;

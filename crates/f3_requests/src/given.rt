@@ -3,7 +3,7 @@
 ghost use Rattle.std.specs.Prelude.{◌≡◌, ◌%◌, ◌^◌, ◌∷◌, [], take};
 ghost use Rattle.f3_program.specs.declared.program.Program.{Program};
 ghost use Rattle.f3_cells.specs.Cells.{cells_of};
-ghost use Rattle.f3_requests.specs.Counted.{held_words};
+ghost use Rattle.f3_requests.specs.Inner.Counted.{held_words};
 
 use f3_cells::cell::{Cell, Passed};
 use f3_data::account::words;

@@ -2,7 +2,7 @@
 
 ghost use Rattle.std.specs.Prelude.{◌<◌, ◌^◌, ℕ, Err};
 ghost use Rattle.f3_code.specs.declared.instruction.Instruction.TheVariants as i;
-ghost use Rattle.f3_requests.specs.Counted.{Refused};
+ghost use Rattle.f3_requests.specs.Inner.Counted.{Refused};
 
 use f3_cells::cell::Cell;
 use f3_cells::look::datum_at;

@@ -12,7 +12,7 @@ use Rattle.f3_tree.specs.Expressions.{expression_view}
 use Rattle.f3_tree.specs.Statements.{acts, acts_if, repeats, action_view, control_view, statement_view, block_of, block_view}
 use Rattle.f3_scopes.specs.Outlines.{Scope}
 use Rattle.f3_scopes.specs.Scopes.{constructs_in, constructs_in_block, constructs_in_branches}
-use Rattle.f3_scopes.specs.Inner.Blocks.{branches_in}
+use Rattle.f3_scopes.specs.Blocks.{branches_in}
 use Rattle.f3_scopes.proofs.Views.{view_if}
 
 view_acts : (p : Place) (a : Action) → statement_view (Acts p a) ≡ acts p (action_view a)

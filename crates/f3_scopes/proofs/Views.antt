@@ -8,7 +8,7 @@ use Rattle.f3_tree.specs.declared.statement.Association.{Association}
 use Rattle.f3_tree.specs.declared.statement.Statement.{Statement, If, Select, Associate, the_lemmas}
 use Rattle.f3_tree.specs.Expressions.{expression_view}
 use Rattle.f3_tree.specs.Statements.{StatementTree, branches, branch, selects, case_block, associates, branches_of, cases_of, association_view, selector_view, statement_view, block_view}
-use Rattle.f3_scopes.specs.Inner.Blocks.{branches_view, alternative_view, cases_view}
+use Rattle.f3_scopes.specs.Blocks.{branches_view, alternative_view, cases_view}
 
 -- branches and cases whose blocks are seen already
 module _ (f : Place × Expression × Vec Statement → Place × Expression × Vec StatementTree)

@@ -4,7 +4,7 @@ ghost use Rattle.std.specs.Prelude.{◌≡◌, ◌++◌, map, length, OnOk, IfOk
 ghost use Rattle.f3_tree.specs.Statements.{association_view, block_of, statement_view};
 ghost use Rattle.f3_scopes.specs.Outlines.{own_view, scope_view};
 ghost use Rattle.f3_scopes.specs.Scopes.{construct_name, association_own, scope_of_construct, constructs_in, constructs_in_block, constructs_in_branches, constructs_in_cases};
-ghost use Rattle.f3_scopes.specs.Inner.Blocks.{branches_in, cases_in};
+ghost use Rattle.f3_scopes.specs.Blocks.{branches_in, cases_in};
 
 use crate::outline::{Declared, EntityKind, Outline, ScopeKind};
 use crate::walk::plain;

@@ -13,7 +13,7 @@ use Rattle.f3_tree.specs.declared.statement.Statement.{Action as Acts}
 use Rattle.f3_tree.specs.Expressions.{Tree, expression_view}
 use Rattle.f3_tree.specs.Statements.{StatementTree, Controls, AssociationTree, acts, acts_if, branches, selects, repeats, associates, Block, Branches, Alternative, Cases, case_block}
 use Rattle.f3_tree.specs.Statements.{alternative, Selects, values, default, selector_view, action_view, control_view, association_view, statement_view, block_of, block_view}
-use Rattle.f3_scopes.specs.Inner.Blocks.{branches_view, alternative_view, cases_view}
+use Rattle.f3_scopes.specs.Blocks.{branches_view, alternative_view, cases_view}
 use Rattle.f3_scopes.proofs.Views.{view_if, view_select, view_associate}
 use Rattle.f3_kinds.specs.Things.{Context}
 use Rattle.f3_type_rules.specs.Associates.{constructs_of, constructs_of_block, constructs_of_branches, constructs_of_other, constructs_of_cases}

@@ -3,7 +3,7 @@
 ghost use Rattle.std.specs.Prelude.{◌≡◌, ◌+◌, ◌<◌, ◌^◌, true, map, length, OnOk, IfOk};
 ghost use Rattle.f3_tree.specs.Expressions.{expression_view};
 ghost use Rattle.f3_tree.specs.Statements as tree;
-ghost use Rattle.f3_scopes.specs.Inner.Blocks.{branches_view, alternative_view, cases_view};
+ghost use Rattle.f3_scopes.specs.Blocks.{branches_view, alternative_view, cases_view};
 ghost use Rattle.f3_type_rules.specs.Associates.{constructs_of_block};
 ghost use Rattle.f3_associates.specs.Known.{IsSettled};
 ghost use Rattle.f3_sites.specs.Sites.{site_of};

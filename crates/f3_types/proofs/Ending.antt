@@ -27,7 +27,7 @@ use Rattle.f3_unit_bodies.proofs.Widths.{unit_wide, units_wide}
 use Rattle.f3_types.specs.Breaks.{Means, TypeBreaks}
 use Rattle.f3_types.specs.Parts.{scene_in, declared_along, AreTypesOf, AreAlong}
 use Rattle.f3_types.specs.Inner.Rows.{part_rows, body_rows}
-use Rattle.f3_types.specs.Inner.Scenes.{Knows}
+use Rattle.f3_types.specs.Scenes.{Knows}
 use Rattle.f3_types.proofs.Begun.{IsBegun, begun}
 use Rattle.f3_types.proofs.One.{broken_here}
 

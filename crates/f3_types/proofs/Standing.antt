@@ -26,7 +26,7 @@ use Rattle.f3_entities.specs.Growth.{HasValues, Stands}
 use Rattle.f3_unit_rules.specs.Members.{AreFirsts}
 use Rattle.f3_unit_rules.specs.Units.{AreNumbers, UnitsFit}
 use Rattle.f3_types.specs.Parts.{scene_in}
-use Rattle.f3_types.specs.Inner.Scenes.{Knows}
+use Rattle.f3_types.specs.Scenes.{Knows}
 use Rattle.f3_types.proofs.Counting.{natures_long}
 use Rattle.f3_types.proofs.Fitting.{numbers_are, units_fit}
 use Rattle.f3_types.proofs.Scenes.{none_at, settled_long, short}

@@ -10,7 +10,7 @@ ghost use Rattle.f3_declared.specs.Scenery.{scene_in as standing};
 ghost use Rattle.f3_entities.specs.Cells.{HasCells};
 ghost use Rattle.f3_types.specs.Parts.{scene_in, declared_along};
 ghost use Rattle.f3_types.specs.Inner.Rows.{part_rows};
-ghost use Rattle.f3_types.specs.Inner.Scenes.{Knows};
+ghost use Rattle.f3_types.specs.Scenes.{Knows};
 
 use f3_declared::scenery::Scenery;
 use f3_entities::growth::Growth;

@@ -14,7 +14,7 @@ ghost use Rattle.f3_type_rules.specs.Scene.{names_of};
 ghost use Rattle.f3_natures.specs.Known.{names_view};
 ghost use Rattle.f3_natures.specs.Natures.{natures_of, HasDistinctParts};
 ghost use Rattle.f3_types.specs.Parts.{scene_in};
-ghost use Rattle.f3_types.specs.Inner.Scenes.{scene_with};
+ghost use Rattle.f3_types.specs.Scenes.{scene_with};
 
 use f3_finalizable::settle::settle;
 use f3_kinds::things::Thing;

@@ -16,7 +16,7 @@ ghost use Rattle.f3_types.specs.Inner.Phases.{of_types};
 ghost use Rattle.f3_types.specs.Parts.{scene_in, declared_along};
 ghost use Rattle.f3_types.specs.Types.{AreTypes, AreTypesAlong, HasDefinitions};
 ghost use Rattle.f3_types.specs.Inner.Rows.{body_rows};
-ghost use Rattle.f3_types.specs.Inner.Scenes.{Knows};
+ghost use Rattle.f3_types.specs.Scenes.{Knows};
 
 use crate::beginning::site;
 use crate::declaring::{Declared, declare};

@@ -4,7 +4,7 @@ use Rattle.std.proofs.lemmas.List.{length-append}
 use Rattle.f3_scopes.specs.Scopes.{unit_scopes, scopes_from}
 use Rattle.f3_tree.specs.Tree.{ProcedureTree, UnitTree}
 use Rattle.f3_type_rules.specs.Associates.{constructs_of_block}
-use Rattle.f3_natures.specs.Inner.Walk.{end_of, unit_end}
+use Rattle.f3_natures.specs.Walk.{end_of, unit_end}
 use Rattle.f3_natures.proofs.Standing.{units_ends}
 use Rattle.f3_unit_bodies.specs.Bodies.{widths, unit_width, unit_widths}
 

@@ -23,7 +23,7 @@ use Rattle.f3_data.specs.Values.{value_of, values_of}
 use Rattle.f3_shaping.specs.Results.{value_ran}
 use Rattle.std.proofs.Math.Path.{fun_ext}
 use Rattle.f3_value_steps.proofs.Ends.{performs_gives, performs_fails}
-use Rattle.f3_value_steps.specs.Structures.{world_with, Takes, Builds}
+use Rattle.f3_value_steps.specs.Inner.Structures.{world_with, Takes, Builds}
 
 -- ---- what follows a component
 

@@ -7,8 +7,8 @@ use Rattle.std.proofs.lemmas.List.{length-map, get_or-map}
 use Rattle.f3_meaning_whole.specs.Act.{Passed, Given, Lent, passed_at}
 use Rattle.f3_cells.specs.declared.cell.Passed as c
 use Rattle.f3_cells.specs.Cells.{passed_of}
-use Rattle.f3_value_steps.specs.Structures.{number_in}
-use Rattle.f3_value_steps.specs.Positions.{position_of, first_of}
+use Rattle.f3_value_steps.specs.Inner.Structures.{number_in}
+use Rattle.f3_value_steps.specs.Inner.Positions.{position_of, first_of}
 
 -- what the table has, or else what is found in the arguments that are left, is the first of all
 abbrev pub Fills : List (Option ℕ) → List Passed → List Passed → ℕ → Type 0

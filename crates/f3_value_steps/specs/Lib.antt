@@ -1,3 +1,2 @@
 pub mod Ends
-pub mod Structures
-pub mod Positions
+pub mod Inner

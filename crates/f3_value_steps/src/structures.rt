@@ -9,8 +9,8 @@ ghost use Rattle.f3_data.specs.Values.{value_of};
 ghost use Rattle.f3_data.specs.Stores.{path_of, store_of};
 ghost use Rattle.f3_cells.specs.Cells.{passed_of};
 ghost use Rattle.f3_value_steps.specs.Ends.{DoesOf};
-ghost use Rattle.f3_value_steps.specs.Positions.{Noted, AreFirsts};
-ghost use Rattle.f3_value_steps.specs.Structures.{number_in, Takes, Builds};
+ghost use Rattle.f3_value_steps.specs.Inner.Positions.{Noted, AreFirsts};
+ghost use Rattle.f3_value_steps.specs.Inner.Structures.{number_in, Takes, Builds};
 
 use crate::finish::finish;
 use f3_cells::cell::Passed;

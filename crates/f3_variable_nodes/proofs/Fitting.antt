@@ -14,7 +14,7 @@ use Rattle.f3_tree.specs.declared.program.ProcedureKind.{ProcedureKind}
 use Rattle.f3_tree.specs.declared.program.ProcedureKind.TheVariants.{Subroutine, Function}
 use Rattle.f3_tree.specs.declared.program.Unit.{Unit as ProgramUnit}
 use Rattle.f3_tree.specs.Tree.{ProcedureTree, UnitTree, Tree, unit_view}
-use Rattle.f3_natures.specs.Inner.Walk.{unit_end, unit_start}
+use Rattle.f3_natures.specs.Walk.{unit_end, unit_start}
 use Rattle.f3_natures.proofs.Standing.{units_ends}
 use Rattle.f3_type_rules.specs.Associates.{constructs_of_block}
 use Rattle.f3_unit_rules.specs.Members.{typed_count, AreFirsts, Fit}
@@ -22,7 +22,7 @@ use Rattle.f3_unit_rules.proofs.Walked.{fit_within}
 use Rattle.f3_unit_rules.specs.Units.{UnitFits}
 use Rattle.f3_order_laws.proofs.Constructs.{block_long}
 use Rattle.f3_order_laws.proofs.Places.{Lies, lies_left, lies_right, first_more}
-use Rattle.f3_variable_nodes.specs.Walk.{AllFit}
+use Rattle.f3_variable_nodes.specs.Inner.Walk.{AllFit}
 
 first_within : (scopes : List Scope) (n : ℕ) → first_entity scopes n ≤ length (entities_of scopes)
 first_within scopes zero = omega arith

@@ -7,7 +7,7 @@ use Rattle.f3_scopes.specs.Outlines.{Scope}
 use Rattle.f3_scopes.specs.Scopes.{declared_in}
 use Rattle.f3_tree.specs.declared.program.UnitKind.TheVariants as unit
 use Rattle.f3_tree.specs.Tree.{ProcedureTree, UnitTree}
-use Rattle.f3_natures.specs.Inner.Walk.{along, count_of, unit_end, unit_start}
+use Rattle.f3_natures.specs.Walk.{along, count_of, unit_end, unit_start}
 use Rattle.f3_type_rules.specs.Members.{Member, members_from, numbered, units_from}
 use Rattle.f3_unit_rules.specs.Members.{typed_count, AreFirsts, Fit}
 use Rattle.f3_unit_rules.specs.Units.{UnitFits}
@@ -18,7 +18,7 @@ use Rattle.f3_declaration_nodes.specs.declared.whole.Whole.{Whole as Tables}
 use Rattle.f3_declaration_nodes.specs.Stands.{Stands}
 use Rattle.f3_declaration_nodes.specs.Variables.{static_by}
 use Rattle.f3_declaration_nodes.proofs.Varying.{static_stands}
-use Rattle.f3_variable_nodes.specs.Walk.{AllFit, part_statics, procedure_statics, statics_from, unit_statics_by}
+use Rattle.f3_variable_nodes.specs.Inner.Walk.{AllFit, part_statics, procedure_statics, statics_from, unit_statics_by}
 use Rattle.f3_variable_nodes.proofs.Fitting.{unit_ends}
 
 abbrev member_statics : (unit : ℕ) → Member → List Variable

@@ -1,4 +1,4 @@
 pub mod Locals
-pub mod Walk
 pub mod Headers
 pub mod Dummies
+pub mod Inner

@@ -5,7 +5,7 @@ ghost use Rattle.std.specs.List.{flat_map};
 ghost use Rattle.f3_scopes.specs.Scopes.{declared_in, scopes_of};
 ghost use Rattle.f3_tree.specs.Declarations.{declaration_view, entity_view, specification_view};
 ghost use Rattle.f3_tree.specs.Tree.{procedure_view, unit_view, view};
-ghost use Rattle.f3_natures.specs.Inner.Walk.{along, count_of, end_of, unit_end, unit_start};
+ghost use Rattle.f3_natures.specs.Walk.{along, count_of, end_of, unit_end, unit_start};
 ghost use Rattle.f3_names.specs.Tables.{AreNames};
 ghost use Rattle.f3_type_rules.specs.Members.{units_from};
 ghost use Rattle.f3_declared.specs.Declarations.{IsRead, tree_of};
@@ -16,7 +16,7 @@ ghost use Rattle.f3_elaboration.specs.DeclaredViews.{static_view};
 ghost use Rattle.f3_elaboration.specs.Numbers.{Inner, declared_from, is_static_in, names_in, unit_statics};
 ghost use Rattle.f3_declaration_nodes.specs.Stands.{Stands};
 ghost use Rattle.f3_declaration_nodes.specs.Variables.{static_by, variable_at};
-ghost use Rattle.f3_variable_nodes.specs.Walk.{AllFit, part_statics, procedure_statics, statics_from, unit_statics_by};
+ghost use Rattle.f3_variable_nodes.specs.Inner.Walk.{AllFit, part_statics, procedure_statics, statics_from, unit_statics_by};
 
 use crate::places::{declared_by, is_static_in, typed_count};
 use f3_declaration_nodes::variables::make_static;

@@ -13,7 +13,7 @@ use Rattle.f3_kinds.specs.declared.types.Object.{Object}
 use Rattle.f3_kinds.specs.Things.{map_or}
 use Rattle.f3_type_rules.specs.Names.{Names, Declared, entries, shape_of, intent_of, object_of}
 use Rattle.f3_type_rules.specs.Finals.{is_out, is_explicit}
-use Rattle.f3_natures.specs.Inner.Walk.{along}
+use Rattle.f3_natures.specs.Walk.{along}
 use Rattle.f3_finals.specs.declared.candidate.Candidate.{Candidate}
 use Rattle.f3_finals.specs.declared.candidate.Found.{Found}
 

@@ -2,9 +2,9 @@ use Rattle.std.proofs.Common.{◌≡◌, ℕ, length, None, sym, subst, ◌∙�
 use Rattle.f3_rules.specs.Least.{Least}
 use Rattle.f3_tree.specs.Tree.{view}
 use Rattle.f3_graph.specs.Breaks.{UnitBreaks}
-use Rattle.f3_graph.specs.Links.{Inside}
+use Rattle.f3_graph.specs.Inner.Links.{Inside}
 use Rattle.f3_nodes.specs.Nodes.{InRange, Leads, Ordered}
-use Rattle.f3_graph.specs.Views.{nodes_view}
+use Rattle.f3_graph.specs.Inner.Views.{nodes_view}
 use Rattle.f3_graph.proofs.Naming.{inside}
 use Rattle.f3_graph.proofs.Standing.{many, Knows, known, ordered, in_order, no_order}
 use Rattle.f3_graph.proofs.examine.Goals as goal

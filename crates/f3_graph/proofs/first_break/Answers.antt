@@ -2,9 +2,9 @@ use Rattle.std.proofs.Common.{length, sym, subst, ap, ◌∙◌, ◌≡◌}
 use Rattle.f3_rules.specs.Least.{Least, earlier_of}
 use Rattle.f3_tree.specs.Tree.{view}
 use Rattle.f3_graph.specs.Breaks.{UnitBreaks, NameTwice}
-use Rattle.f3_graph.specs.Links.{targets, Inside, IsGraph, links_of}
+use Rattle.f3_graph.specs.Inner.Links.{targets, Inside, IsGraph, links_of}
 use Rattle.f3_graph.specs.Units.{nodes_of}
-use Rattle.f3_graph.specs.Views.{nodes_view}
+use Rattle.f3_graph.specs.Inner.Views.{nodes_view}
 use Rattle.f3_graph.proofs.Naming.{inside}
 use Rattle.f3_graph.proofs.Cycling.{in_range, least_units}
 use Rattle.f3_graph.proofs.Standing.{many}

@@ -6,7 +6,7 @@ use Rattle.f3_tree.specs.Declarations.{EntityTree}
 use Rattle.f3_kinds.specs.declared.things.Component.{Component}
 use Rattle.f3_type_rules.specs.Names.{is_given}
 use Rattle.f3_natures.specs.declared.objects.Common.{Common}
-use Rattle.f3_natures.specs.Inner.Objects.{described_by}
+use Rattle.f3_natures.specs.Objects.{described_by}
 
 abbrev pub is_private_with : Accessibility → Bool
 is_private_with Public = false

@@ -5,7 +5,7 @@ use Rattle.f3_tree.specs.declared.statement.Selector.{Selector}
 use Rattle.f3_tree.specs.declared.statement.Statement.{Statement}
 use Rattle.f3_tree.specs.Expressions.{expression_view}
 use Rattle.f3_tree.specs.Statements.{association_view, control_view, action_view, statement_view, block_of, block_view}
-use Rattle.f3_scopes.specs.Inner.Blocks.{branches_view, branches_in, cases_view, cases_in}
+use Rattle.f3_scopes.specs.Blocks.{branches_view, branches_in, cases_view, cases_in}
 use Rattle.std.specs.Global.{Vec}
 use Rattle.std.proofs.lemmas.Result.{on_ok_weaker, IfOk-weaker}
 use Rattle.f3_type_rules.specs.Statements.{condition_breaks}

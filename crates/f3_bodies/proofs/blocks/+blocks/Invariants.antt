@@ -1,6 +1,6 @@
 use Rattle.std.proofs.Common.{◌≡◌, ◌+◌, ◌*◌, map, drop}
 use Rattle.f3_tree.specs.Statements.{statement_view, block_of}
-use Rattle.f3_scopes.specs.Inner.Blocks.{branches_view, branches_in, cases_view, cases_in}
+use Rattle.f3_scopes.specs.Blocks.{branches_view, branches_in, cases_view, cases_in}
 use Rattle.f3_type_rules.specs.Bodies.{block_breaks, branch_breaks, case_breaks}
 use Rattle.f3_typed_parts.specs.Noted.{noted}
 use Rattle.f3_sites.specs.Sites.{site_of}

@@ -4,7 +4,7 @@ use Rattle.std.proofs.lemmas.Grind.{common_steps}
 use Rattle.f3_meaning_whole.specs.Exec.{argument_at, bound}
 use Rattle.f3_data.specs.References.{reference_of}
 use Rattle.f3_cells.specs.Cells.{passed_of}
-use Rattle.f3_call_steps.specs.Standing.{StandsIn, argument_of}
+use Rattle.f3_call_steps.specs.Inner.Standing.{StandsIn, argument_of}
 use Rattle.f3_call_steps.proofs.Standing.{stands_inside, argument_is}
 use Rattle.f3_call_steps.proofs.arguments.few_dummies.Goals as goal
 

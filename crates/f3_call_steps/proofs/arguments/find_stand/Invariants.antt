@@ -1,6 +1,6 @@
 use Rattle.std.proofs.Common.{◌≡◌, ◌≤◌, drop, map}
 use Rattle.f3_cells.specs.Cells.{passed_of}
-use Rattle.f3_call_steps.specs.Standing.{stand_of}
+use Rattle.f3_call_steps.specs.Inner.Standing.{stand_of}
 use Rattle.f3_call_steps.proofs.arguments.find_stand.Given as goal
 
 abbrev pub invariant-loop-position : goal.invariant-loop-position

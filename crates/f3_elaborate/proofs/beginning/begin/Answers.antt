@@ -6,7 +6,7 @@ use Rattle.f3_typed_parts.specs.Known.{nature_of}
 use Rattle.f3_type_rules.specs.Natures.{settled}
 use Rattle.f3_natures.specs.Known.{names_view}
 use Rattle.f3_natures.specs.Natures.{natures_of}
-use Rattle.f3_types.specs.Inner.Scenes.{scene_with}
+use Rattle.f3_types.specs.Scenes.{scene_with}
 use Rattle.f3_types.proofs.Scenes.{staged}
 use Rattle.f3_elaborate.proofs.beginning.begin.Goals as goal
 

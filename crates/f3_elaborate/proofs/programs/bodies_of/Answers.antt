@@ -11,7 +11,7 @@ use Rattle.f3_elaboration.specs.Program.{main_unit, nothing_done}
 use Rattle.f3_elaboration.specs.Units.{main}
 use Rattle.f3_program_numbers.proofs.Room.{entities_fit}
 use Rattle.f3_program_numbers.proofs.Standing.{as_long, firsts_are, fits, numbered}
-use Rattle.f3_elaborate.specs.Units.{procedures_in}
+use Rattle.f3_elaborate.specs.Inner.Units.{procedures_in}
 use Rattle.f3_elaborate.proofs.programs.bodies_of.Goals as goal
 
 pub firsts-requires : goal.firsts-requires

@@ -7,7 +7,7 @@ use Rattle.f3_types.specs.Members.{AreFirsts}
 use Rattle.f3_program_numbers.specs.Fitting.{MembersFit}
 use Rattle.f3_elaboration.specs.Declarations.{Whole}
 use Rattle.f3_elaboration.specs.DeclaredViews.{procedure_view}
-use Rattle.f3_elaborate.specs.Knows.{Knows}
+use Rattle.f3_elaborate.specs.Inner.Knows.{Knows}
 use Rattle.f3_elaborate.proofs.Members.{nodes_by}
 use Rattle.f3_elaborate.proofs.units.add_members.Given as goal
 

@@ -3,7 +3,7 @@ use Rattle.f3_tree.specs.Tree.{unit_view}
 use Rattle.f3_type_rules.specs.Members.{numbered, units_from}
 use Rattle.f3_elaboration.specs.DeclaredViews.{procedure_view}
 use Rattle.f3_program_numbers.proofs.Ordered.{fit_at, placed_at}
-use Rattle.f3_elaborate.specs.Units.{procedures_in}
+use Rattle.f3_elaborate.specs.Inner.Units.{procedures_in}
 use Rattle.f3_elaborate.proofs.Walks.{units_more, units_end}
 use Rattle.f3_elaborate.proofs.units.procedures.Goals as goal
 

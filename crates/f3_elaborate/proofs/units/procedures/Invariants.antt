@@ -9,8 +9,8 @@ use Rattle.f3_types.specs.Members.{AreFirsts}
 use Rattle.f3_types.specs.Units.{AreNumbers}
 use Rattle.f3_elaboration.specs.Declarations.{Whole}
 use Rattle.f3_elaboration.specs.DeclaredViews.{procedure_view}
-use Rattle.f3_elaborate.specs.Knows.{Knows}
-use Rattle.f3_elaborate.specs.Units.{procedures_in}
+use Rattle.f3_elaborate.specs.Inner.Knows.{Knows}
+use Rattle.f3_elaborate.specs.Inner.Units.{procedures_in}
 use Rattle.f3_elaborate.proofs.units.procedures.Given as goal
 
 abbrev pub invariant-loop-number : goal.invariant-loop-number

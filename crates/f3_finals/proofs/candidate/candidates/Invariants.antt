@@ -1,7 +1,7 @@
 use Rattle.std.proofs.Common.{◌≡◌, ◌++◌, map, drop}
 use Rattle.f3_tree.specs.Tree.{procedure_view}
 use Rattle.f3_declared.specs.Scenery.{names_in}
-use Rattle.f3_natures.specs.Inner.Walk.{end_of}
+use Rattle.f3_natures.specs.Walk.{end_of}
 use Rattle.f3_finals.specs.Inner.Candidates.{candidates_from}
 use Rattle.f3_finals.proofs.candidate.candidates.Given as goal
 

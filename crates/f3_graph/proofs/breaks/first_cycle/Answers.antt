@@ -1,6 +1,6 @@
 use Rattle.std.proofs.Common.{◌+◌, sym, subst, take, get_or, ◌∙◌, ap, ◌&&◌}
 use Rattle.f3_rules.specs.Least.{Least}
-use Rattle.f3_graph.specs.Links.{CyclesIn, may_return, may_be_first}
+use Rattle.f3_graph.specs.Inner.Links.{CyclesIn, may_return, may_be_first}
 use Rattle.std.proofs.Common.{length, Option}
 use Rattle.f3_rules.specs.declared.breaks.Break.{Break}
 use Rattle.f3_graph.proofs.Naming.{inside_at, no_link}

@@ -1,6 +1,6 @@
 use Rattle.std.proofs.Common.{take}
 use Rattle.f3_rules.specs.Least.{Least}
-use Rattle.f3_graph.specs.Links.{CyclesIn}
+use Rattle.f3_graph.specs.Inner.Links.{CyclesIn}
 use Rattle.f3_nodes.specs.Levels.{AreLevels}
 use Rattle.f3_graph.proofs.breaks.first_cycle.Given as goal
 

@@ -1,7 +1,7 @@
 use Rattle.std.proofs.Common.{ap, ◌∙◌}
 use Rattle.f3_rules.specs.Least.{earlier_of}
 use Rattle.f3_rules.proofs.Firsts.{first_step}
-use Rattle.f3_graph.specs.Links.{missing}
+use Rattle.f3_graph.specs.Inner.Links.{missing}
 use Rattle.f3_graph.proofs.breaks.first_missing.Goals as goal
 
 pub loop-link-preserved : goal.loop-link-preserved

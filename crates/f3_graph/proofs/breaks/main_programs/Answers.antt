@@ -5,7 +5,7 @@ use Rattle.f3_rules.specs.Least.{Least, earlier_of, first_of}
 use Rattle.f3_rules.proofs.Firsts.{earlier_none}
 use Rattle.f3_graph.specs.Breaks.{at}
 use Rattle.f3_graph.specs.Inner.Passes.{pass, main_row, main_next, is_main}
-use Rattle.f3_graph.specs.Views.{node_view, nodes_view}
+use Rattle.f3_graph.specs.Inner.Views.{node_view, nodes_view}
 use Rattle.f3_tree.specs.Tree.{view}
 use Rattle.f3_graph.proofs.Passing.{pass_step, after, after_step, MainBreaks, some_main, no_main}
 use Rattle.f3_graph.proofs.breaks.main_programs.Goals as goal

@@ -2,7 +2,7 @@ use Rattle.std.proofs.Common.{◌≡◌, false, drop}
 use Rattle.f3_rules.specs.Least.{earlier_of, first_of}
 use Rattle.f3_graph.specs.Inner.Passes.{pass, main_row, main_next}
 use Rattle.f3_graph.proofs.Passing.{after}
-use Rattle.f3_graph.specs.Views.{nodes_view}
+use Rattle.f3_graph.specs.Inner.Views.{nodes_view}
 use Rattle.f3_graph.proofs.breaks.main_programs.Given as goal
 
 abbrev pub invariant-loop-unit : goal.invariant-loop-unit

@@ -4,7 +4,7 @@ use Rattle.f3_rules.specs.Least.{Least, earlier_of, first_of}
 use Rattle.f3_rules.proofs.Firsts.{earlier_none}
 use Rattle.f3_graph.specs.Breaks.{NameTwice}
 use Rattle.f3_graph.specs.Inner.Passes.{pass, name_row, name_next}
-use Rattle.f3_graph.specs.Views.{nodes_view}
+use Rattle.f3_graph.specs.Inner.Views.{nodes_view}
 use Rattle.f3_graph.proofs.Passing.{pass_step, least_names}
 use Rattle.f3_graph.proofs.breaks.name_twice.Goals as goal
 

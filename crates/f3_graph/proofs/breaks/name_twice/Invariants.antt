@@ -1,7 +1,7 @@
 use Rattle.std.proofs.Common.{◌≡◌, [], drop}
 use Rattle.f3_rules.specs.Least.{earlier_of, first_of}
 use Rattle.f3_graph.specs.Inner.Passes.{pass, name_row, name_next}
-use Rattle.f3_graph.specs.Views.{nodes_view}
+use Rattle.f3_graph.specs.Inner.Views.{nodes_view}
 use Rattle.f3_graph.proofs.breaks.name_twice.Given as goal
 
 abbrev pub invariant-loop-unit : goal.invariant-loop-unit

@@ -1,5 +1,5 @@
 use Rattle.std.proofs.Common.{◌≡◌, ℕ, ◌++◌, drop, length}
-use Rattle.f3_graph.specs.Links.{targets}
+use Rattle.f3_graph.specs.Inner.Links.{targets}
 use Rattle.f3_nodes.specs.Nodes.{targets_of}
 use Rattle.f3_graph.proofs.links.graph.Given as goal
 

@@ -1,7 +1,7 @@
 use Rattle.std.proofs.Common.{◌≡◌, ℕ, Option, subst}
 use Rattle.std.specs.Prelude.{IfOk}
-use Rattle.f3_graph.specs.Links.{links_from}
-use Rattle.f3_graph.specs.Views.{nodes_view}
+use Rattle.f3_graph.specs.Inner.Links.{links_from}
+use Rattle.f3_graph.specs.Inner.Views.{nodes_view}
 use Rattle.f3_graph.proofs.links.links.Goals as goal
 
 pub returns : goal.returns

@@ -1,7 +1,7 @@
 use Rattle.std.proofs.Common.{◌≡◌, ℕ, drop, nat_eq}
 use Rattle.indexmap.specs.IndexMap.{get}
-use Rattle.f3_graph.specs.Links.{last_module, module_of}
-use Rattle.f3_graph.specs.Views.{nodes_view}
+use Rattle.f3_graph.specs.Inner.Links.{last_module, module_of}
+use Rattle.f3_graph.specs.Inner.Views.{nodes_view}
 use Rattle.f3_graph.proofs.links.modules.Given as goal
 
 abbrev pub invariant-loop-number : goal.invariant-loop-number

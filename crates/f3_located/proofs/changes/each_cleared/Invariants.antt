@@ -4,7 +4,7 @@ use Rattle.f3_meaning_whole.specs.Store.{get}
 use Rattle.f3_data.specs.Values.{values_of}
 use Rattle.f3_data.specs.Stores.{steps_of, path_of, store_of}
 use Rattle.f3_data.specs.References.{element_path, numbers_of}
-use Rattle.f3_located.specs.Ways.{LeadsToElement}
+use Rattle.f3_located.specs.Inner.Ways.{LeadsToElement}
 use Rattle.f3_located.proofs.changes.each_cleared.Given as goal
 
 abbrev pub invariant-loop-k : goal.invariant-loop-k

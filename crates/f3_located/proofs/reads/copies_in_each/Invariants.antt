@@ -3,7 +3,7 @@ use Rattle.f3_meaning_whole.specs.Store as s
 use Rattle.f3_data.specs.Values.{values_of}
 use Rattle.f3_data.specs.Stores.{steps_of, path_of, store_of}
 use Rattle.f3_data.specs.References.{element_path, numbers_of}
-use Rattle.f3_located.specs.Ways.{LeadsToElement}
+use Rattle.f3_located.specs.Inner.Ways.{LeadsToElement}
 use Rattle.f3_located.proofs.reads.copies_in_each.Given as goal
 
 abbrev pub invariant-loop-k : goal.invariant-loop-k

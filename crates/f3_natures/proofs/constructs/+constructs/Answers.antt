@@ -8,7 +8,7 @@ use Rattle.f3_tree.specs.declared.statement.Selector.{Selector}
 use Rattle.f3_tree.specs.declared.statement.Statement.{Statement}
 use Rattle.f3_tree.specs.Statements.{StatementTree, association_view, statement_view, block_of, block_view}
 use Rattle.f3_type_rules.specs.Associates.{constructs_of, constructs_of_block, constructs_of_branches, constructs_of_cases}
-use Rattle.f3_scopes.specs.Inner.Blocks.{branches_in, branches_view, cases_in, cases_view}
+use Rattle.f3_scopes.specs.Blocks.{branches_in, branches_view, cases_in, cases_view}
 use Rattle.f3_scopes.proofs.Views.{view_if, view_select}
 use Rattle.f3_natures.proofs.Blocks.{of_action, of_logical, of_if, of_else, of_select, of_do, of_associate, none_added, one_added, both_added}
 use Rattle.f3_natures.proofs.Growing.{grown_more, grown_whole}

@@ -1,7 +1,7 @@
 use Rattle.std.proofs.Common.{◌≡◌, ◌++◌, map, drop, length}
 use Rattle.f3_tree.specs.Statements.{statement_view, block_of}
 use Rattle.f3_type_rules.specs.Associates.{constructs_of_block, constructs_of_branches, constructs_of_cases}
-use Rattle.f3_scopes.specs.Inner.Blocks.{branches_view, branches_in, cases_view, cases_in}
+use Rattle.f3_scopes.specs.Blocks.{branches_view, branches_in, cases_view, cases_in}
 use Rattle.f3_natures.proofs.constructs.+constructs.Given as goal
 
 abbrev pub invariant-add_block-loop-statement : goal.invariant-add_block-loop-statement

@@ -4,7 +4,7 @@ use Rattle.f3_tree.specs.Tree.{unit_view}
 use Rattle.f3_type_rules.specs.Associates.{constructs_of_block}
 use Rattle.f3_typed_parts.specs.Known.{nature_of}
 use Rattle.f3_natures.specs.Known.{names_view}
-use Rattle.f3_natures.specs.Inner.Walk.{count_of, unit_start}
+use Rattle.f3_natures.specs.Walk.{count_of, unit_start}
 use Rattle.f3_natures.proofs.Steps.{end_least, unit_joined}
 use Rattle.f3_natures.proofs.natures.add_all.Goals as goal
 

@@ -4,7 +4,7 @@ use Rattle.f3_tree.specs.declared.program.Procedure.{Procedure}
 use Rattle.f3_tree.specs.Tree.{procedure_view}
 use Rattle.f3_typed_parts.specs.Known.{nature_of}
 use Rattle.f3_natures.specs.Known.{names_view}
-use Rattle.f3_natures.specs.Inner.Walk.{end_of, final_made, procedure_made, inner_made, all_finals, all_made, all_inner}
+use Rattle.f3_natures.specs.Walk.{end_of, final_made, procedure_made, inner_made, all_finals, all_made, all_inner}
 use Rattle.f3_natures.proofs.Growing.{grown_whole}
 use Rattle.f3_natures.proofs.Steps.{end_fits, end_more, along_more}
 use Rattle.f3_natures.proofs.natures.add_procedures.Goals as goal

@@ -2,7 +2,7 @@ use Rattle.std.proofs.Common.{◌≡◌, ◌++◌, map, drop}
 use Rattle.f3_tree.specs.Tree.{procedure_view}
 use Rattle.f3_typed_parts.specs.Known.{nature_of}
 use Rattle.f3_natures.specs.Known.{names_view}
-use Rattle.f3_natures.specs.Inner.Walk.{end_of, all_finals, all_made, all_inner}
+use Rattle.f3_natures.specs.Walk.{end_of, all_finals, all_made, all_inner}
 use Rattle.f3_natures.proofs.natures.add_procedures.Given as goal
 
 abbrev pub invariant-loop-procedure : goal.invariant-loop-procedure

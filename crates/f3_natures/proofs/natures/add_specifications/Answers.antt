@@ -3,7 +3,7 @@ use Rattle.f3_tree.specs.declared.declaration.Specification.{Specification}
 use Rattle.f3_tree.specs.Declarations.{specification_view}
 use Rattle.f3_typed_parts.specs.Known.{nature_of}
 use Rattle.f3_natures.specs.Known.{names_view}
-use Rattle.f3_natures.specs.Inner.Walk.{is_final, made_one, made_all}
+use Rattle.f3_natures.specs.Walk.{is_final, made_one, made_all}
 use Rattle.f3_natures.proofs.Growing.{numbered_more}
 use Rattle.f3_natures.proofs.natures.add_specifications.Goals as goal
 

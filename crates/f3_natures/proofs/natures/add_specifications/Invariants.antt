@@ -2,7 +2,7 @@ use Rattle.std.proofs.Common.{◌≡◌, ◌++◌, map, drop, length}
 use Rattle.f3_tree.specs.Declarations.{specification_view}
 use Rattle.f3_typed_parts.specs.Known.{nature_of}
 use Rattle.f3_natures.specs.Known.{names_view}
-use Rattle.f3_natures.specs.Inner.Walk.{is_final, made_all}
+use Rattle.f3_natures.specs.Walk.{is_final, made_all}
 use Rattle.f3_natures.proofs.natures.add_specifications.Given as goal
 
 abbrev pub invariant-loop-specification : goal.invariant-loop-specification

@@ -1,7 +1,7 @@
 use Rattle.std.proofs.Common.{◌≡◌, drop}
 use Rattle.std.specs.List.{list_any}
 use Rattle.f3_natures.specs.Known.{names_view}
-use Rattle.f3_natures.specs.Inner.Walk.{is_final}
+use Rattle.f3_natures.specs.Walk.{is_final}
 use Rattle.f3_natures.proofs.natures.has_final.Given as goal
 
 abbrev pub invariant-loop-name : goal.invariant-loop-name

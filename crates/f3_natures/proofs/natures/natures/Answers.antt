@@ -2,7 +2,7 @@ use Rattle.std.proofs.Common.{◌≡◌, rules, map, ◌∙◌}
 use Rattle.f3_tree.specs.Tree.{view}
 use Rattle.f3_typed_parts.specs.Known.{nature_of}
 use Rattle.f3_natures.specs.Known.{names_view}
-use Rattle.f3_natures.specs.Inner.Walk.{units_made}
+use Rattle.f3_natures.specs.Walk.{units_made}
 use Rattle.f3_natures.proofs.Standing.{program_same}
 use Rattle.f3_natures.proofs.Distinct.{kept_all}
 use Rattle.f3_natures.proofs.natures.natures.Goals as goal

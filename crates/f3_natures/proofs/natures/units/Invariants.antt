@@ -2,7 +2,7 @@ use Rattle.std.proofs.Common.{◌≡◌, ◌++◌, map, drop, length}
 use Rattle.f3_tree.specs.Tree.{unit_view}
 use Rattle.f3_typed_parts.specs.Known.{nature_of}
 use Rattle.f3_natures.specs.Known.{names_view}
-use Rattle.f3_natures.specs.Inner.Walk.{units_end, units_made}
+use Rattle.f3_natures.specs.Walk.{units_end, units_made}
 use Rattle.f3_natures.proofs.natures.units.Given as goal
 
 abbrev pub invariant-loop-unit : goal.invariant-loop-unit

@@ -3,7 +3,7 @@ use Rattle.std.specs.List.{flat_map}
 use Rattle.f3_tree.specs.declared.declaration.Attribute.{Attribute}
 use Rattle.f3_tree.specs.Declarations.{Placed, placed_view}
 use Rattle.f3_type_rules.specs.Names.{dimension_in}
-use Rattle.f3_natures.specs.Inner.Objects.{extent}
+use Rattle.f3_natures.specs.Objects.{extent}
 use Rattle.f3_natures.proofs.Attributes.{last_of_map, last_done}
 use Rattle.f3_natures.proofs.objects.dimension.Goals as goal
 

@@ -2,7 +2,7 @@ use Rattle.std.proofs.Common.{◌≡◌, map, drop}
 use Rattle.f3_tree.specs.Declarations.{entity_view, declaration_view}
 use Rattle.f3_natures.specs.Known.{names_view}
 use Rattle.f3_natures.specs.Entries.{firsts_after}
-use Rattle.f3_natures.specs.Inner.Procedures.{described_entry}
+use Rattle.f3_natures.specs.Procedures.{described_entry}
 use Rattle.f3_natures.proofs.procedures.add_declared.Given as goal
 
 abbrev pub invariant-loop-entity : goal.invariant-loop-entity

@@ -1,7 +1,7 @@
 use Rattle.std.proofs.Common.{◌≡◌, map, drop, nat_eq}
 use Rattle.indexmap.specs.IndexMap.{get}
 use Rattle.f3_natures.specs.Entries.{firsts, firsts_after}
-use Rattle.f3_natures.specs.Inner.Procedures.{dummy_entry}
+use Rattle.f3_natures.specs.Procedures.{dummy_entry}
 use Rattle.f3_natures.proofs.procedures.dummies.Given as goal
 
 abbrev pub invariant-loop-name : goal.invariant-loop-name

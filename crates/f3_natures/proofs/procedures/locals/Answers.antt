@@ -2,7 +2,7 @@ use Rattle.std.proofs.Common.{map, refl, rules, List}
 use Rattle.f3_tree.specs.declared.declaration.Specification.{Specification}
 use Rattle.f3_tree.specs.Declarations.{specification_view}
 use Rattle.f3_natures.specs.Known.{names_view}
-use Rattle.f3_natures.specs.Inner.Procedures.{described_in, described_all}
+use Rattle.f3_natures.specs.Procedures.{described_in, described_all}
 use Rattle.f3_natures.proofs.First.{entries_step}
 use Rattle.f3_natures.proofs.procedures.locals.Goals as goal
 

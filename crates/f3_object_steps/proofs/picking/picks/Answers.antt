@@ -2,7 +2,7 @@ use Rattle.std.proofs.Common.{map, subst, Ok}
 use Rattle.f3_data.specs.Stores.{path_of}
 use Rattle.f3_data.specs.References.{reference_of}
 use Rattle.f3_cells.specs.Cells.{chosen_of}
-use Rattle.f3_object_steps.specs.Picks.{PickedOf}
+use Rattle.f3_object_steps.specs.Inner.Picks.{PickedOf}
 use Rattle.f3_object_steps.proofs.Picks.{pick_none, pick_some_by, pick_err}
 use Rattle.f3_object_steps.proofs.picking.picks.Goals as goal
 

@@ -1,6 +1,6 @@
 use Rattle.std.proofs.Common.{◌≡◌, ◌++◌, take}
 use Rattle.f3_access.specs.Tables.{lookup_of}
-use Rattle.f3_program_numbers.specs.Entering.{entities_of}
+use Rattle.f3_program_numbers.specs.Inner.Entering.{entities_of}
 use Rattle.f3_program_numbers.proofs.entering.add_entities.Given as goal
 
 abbrev pub invariant-loop-name : goal.invariant-loop-name

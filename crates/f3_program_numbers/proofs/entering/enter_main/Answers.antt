@@ -1,7 +1,7 @@
 use Rattle.std.proofs.Common.{◌≡◌, ap, sym, ◌∙◌}
 use Rattle.f3_tree.specs.Tree.{unit_view}
 use Rattle.f3_elaboration.specs.Numbers.{Inner, numbers_in_main}
-use Rattle.f3_program_numbers.specs.Entering.{main_inner}
+use Rattle.f3_program_numbers.specs.Inner.Entering.{main_inner}
 use Rattle.f3_program_numbers.proofs.Entry.{main_same}
 use Rattle.f3_program_numbers.proofs.Whole.{undone}
 use Rattle.f3_program_numbers.proofs.entering.enter_main.Goals as goal

@@ -3,7 +3,7 @@ use Rattle.f3_access.specs.Tables.{lookup_of}
 use Rattle.f3_tree.specs.declared.expression.Name.{Name}
 use Rattle.f3_tree.specs.Tree.{procedure_view}
 use Rattle.f3_elaboration.specs.Numbers.{Inner, numbers_in_member}
-use Rattle.f3_program_numbers.specs.Entering.{entities_of, member_inner}
+use Rattle.f3_program_numbers.specs.Inner.Entering.{entities_of, member_inner}
 use Rattle.f3_program_numbers.proofs.Entry.{member_same}
 use Rattle.f3_program_numbers.proofs.Whole.{undone}
 use Rattle.f3_program_numbers.proofs.entering.enter_member.Goals as goal

@@ -3,7 +3,7 @@ use Rattle.f3_account.specs.Account.{used}
 use Rattle.f3_data.specs.Stores.{store_of}
 use Rattle.f3_gen_values.specs.Emitted.{taken}
 use Rattle.f3_cells.specs.States.{setting}
-use Rattle.f3_requests.specs.Counted.{wanted}
+use Rattle.f3_requests.specs.Inner.Counted.{wanted}
 use Rattle.f3_requests.proofs.Requested.{answered, some_wanted}
 use Rattle.f3_requests.proofs.answering.answer.Goals as goal
 

@@ -1,13 +1,13 @@
 use Rattle.std.proofs.Common.{ap, sym, ◌∙◌}
 use Rattle.f3_data.specs.References.{reference_of}
 use Rattle.f3_cells.specs.Cells.{cells_of}
-use Rattle.f3_requests.specs.Counted.{counted}
+use Rattle.f3_requests.specs.Inner.Counted.{counted}
 use Rattle.f3_gen_values.specs.Emitted.{taken}
 use Rattle.std.proofs.Common.{drop, take, suc, arith}
 use Rattle.f3_answers.specs.Wants.{dimensions}
 use Rattle.f3_data.specs.Stores.{store_of}
 use Rattle.f3_cells.specs.States.{setting}
-use Rattle.f3_requests.specs.Counted.{extents, too_large}
+use Rattle.f3_requests.specs.Inner.Counted.{extents, too_large}
 use Rattle.f3_requests.proofs.Tops.{extents_are}
 use Rattle.f3_requests.proofs.Wanting.{small, allocated_none, allocated_before, allocated_large, allocated_some}
 use Rattle.f3_requests.proofs.asking.allocate_wants.Goals as goal

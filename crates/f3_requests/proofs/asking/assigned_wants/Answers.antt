@@ -2,7 +2,7 @@ use Rattle.std.proofs.Common.{ap, sym, ◌∙◌}
 use Rattle.f3_data.specs.Values.{value_of}
 use Rattle.f3_data.specs.References.{reference_of}
 use Rattle.f3_cells.specs.Cells.{cells_of}
-use Rattle.f3_requests.specs.Counted.{counted}
+use Rattle.f3_requests.specs.Inner.Counted.{counted}
 use Rattle.f3_requests.proofs.Wanting.{assigned_none, assigned_bare, assigned_some, assigned_small}
 use Rattle.f3_requests.proofs.asking.assigned_wants.Goals as goal
 

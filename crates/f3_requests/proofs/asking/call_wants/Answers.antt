@@ -1,7 +1,7 @@
 use Rattle.std.proofs.Common.{◌<◌, ◌≤◌, length, take, ap, sym, ◌∙◌, arith}
 use Rattle.f3_answers.specs.Wants.{given_words}
 use Rattle.f3_cells.specs.Cells.{cells_of}
-use Rattle.f3_requests.specs.Counted.{held_words}
+use Rattle.f3_requests.specs.Inner.Counted.{held_words}
 use Rattle.f3_requests.proofs.Tops.{given_are}
 use Rattle.f3_requests.proofs.Wanting.{call_deep, call_is}
 use Rattle.f3_requests.proofs.asking.call_wants.Goals as goal

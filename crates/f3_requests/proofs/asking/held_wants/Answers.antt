@@ -1,7 +1,7 @@
 use Rattle.std.proofs.Common.{ap, sym, ◌∙◌}
 use Rattle.f3_data.specs.Values.{value_of}
 use Rattle.f3_cells.specs.Cells.{cells_of}
-use Rattle.f3_requests.specs.Counted.{counted}
+use Rattle.f3_requests.specs.Inner.Counted.{counted}
 use Rattle.f3_requests.proofs.Wanting.{held_none, held_some, held_small}
 use Rattle.f3_requests.proofs.asking.held_wants.Goals as goal
 

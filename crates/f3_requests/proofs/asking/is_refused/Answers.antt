@@ -2,7 +2,7 @@ use Rattle.f3_account.specs.Account as account
 use Rattle.f3_data.specs.Stores.{store_of}
 use Rattle.f3_gen_values.specs.Emitted.{taken}
 use Rattle.f3_cells.specs.States.{setting}
-use Rattle.f3_requests.specs.Counted.{wanted}
+use Rattle.f3_requests.specs.Inner.Counted.{wanted}
 use Rattle.f3_requests.proofs.Wanting.{full_is, not_full}
 use Rattle.f3_requests.proofs.asking.is_refused.Goals as goal
 

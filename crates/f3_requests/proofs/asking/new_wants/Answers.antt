@@ -2,7 +2,7 @@ use Rattle.std.proofs.Common.{ap, sym}
 use Rattle.f3_data.specs.Values.{value_of}
 use Rattle.f3_data.specs.References.{reference_of}
 use Rattle.f3_cells.specs.Cells.{cells_of}
-use Rattle.f3_requests.specs.Counted.{counted}
+use Rattle.f3_requests.specs.Inner.Counted.{counted}
 use Rattle.std.proofs.Common.{length, arith, refl}
 use Rattle.f3_meaning_whole.specs.Value as m
 use Rattle.f3_gen_values.specs.Emitted.{taken}

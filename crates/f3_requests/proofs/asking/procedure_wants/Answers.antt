@@ -1,7 +1,7 @@
 use Rattle.std.proofs.Common.{◌≤◌, ◌<◌, length, ap, sym, ◌∙◌, arith, refl}
 use Rattle.std.specs.Prelude.{slice_get}
 use Rattle.f3_meaning_whole.specs.Run.{setting_of}
-use Rattle.f3_requests.specs.Counted.{counted, held_words}
+use Rattle.f3_requests.specs.Inner.Counted.{counted, held_words}
 use Rattle.f3_requests.proofs.Wanting.{entry_some, no_procedure, no_line}
 use Rattle.f3_requests.proofs.asking.procedure_wants.Goals as goal
 

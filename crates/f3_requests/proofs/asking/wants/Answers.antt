@@ -1,7 +1,7 @@
 use Rattle.std.proofs.Common.{ap, sym}
 use Rattle.f3_gen_values.specs.Emitted.{taken}
 use Rattle.f3_cells.specs.States.{setting, state_of, code_of}
-use Rattle.f3_requests.specs.Counted.{counted}
+use Rattle.f3_requests.specs.Inner.Counted.{counted}
 use Rattle.f3_requests.proofs.Wanting.{no_wants}
 use Rattle.f3_requests.proofs.asking.wants.Goals as goal
 

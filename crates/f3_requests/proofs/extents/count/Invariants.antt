@@ -1,6 +1,6 @@
 use Rattle.std.proofs.Common.{◌≡◌, ◌≤◌, ◌^◌, length, drop, MatchOption}
 use Rattle.f3_meaning_whole.specs.Value.{count}
-use Rattle.f3_requests.specs.Counted.{extents}
+use Rattle.f3_requests.specs.Inner.Counted.{extents}
 use Rattle.f3_requests.proofs.extents.count.Given as goal
 
 abbrev pub invariant-loop-before : goal.invariant-loop-before

@@ -1,5 +1,5 @@
 use Rattle.std.proofs.Common.{◌≡◌, ◌+◌, ◌%◌, ◌^◌, length, drop}
-use Rattle.f3_requests.specs.Counted.{extents}
+use Rattle.f3_requests.specs.Inner.Counted.{extents}
 use Rattle.f3_requests.proofs.extents.rank_of.Given as goal
 
 abbrev pub invariant-loop-cell : goal.invariant-loop-cell

@@ -3,7 +3,7 @@ use Rattle.std.proofs.lemmas.Iterator.{YieldsList-from_slice}
 use Rattle.std.proofs.lemmas.Iterator.Search.{any_from_yields_List}
 use Rattle.f3_cells.specs.declared.cell.Cell.{Cell}
 use Rattle.f3_meaning_whole.specs.Exec.{too_many}
-use Rattle.f3_requests.specs.Counted.{extents}
+use Rattle.f3_requests.specs.Inner.Counted.{extents}
 use Rattle.f3_requests.proofs.Sums.{too_many_any}
 use Rattle.f3_requests.proofs.extents.too_many.Goals as goal
 

@@ -1,5 +1,5 @@
 use Rattle.std.proofs.Common.{◌≡◌, ◌+◌, ◌%◌, ◌^◌, drop}
-use Rattle.f3_requests.specs.Counted.{held_words}
+use Rattle.f3_requests.specs.Inner.Counted.{held_words}
 use Rattle.f3_requests.proofs.given.given_words.Given as goal
 
 abbrev pub invariant-loop-cell : goal.invariant-loop-cell

@@ -4,7 +4,7 @@ use Rattle.f3_tree.specs.declared.statement.Statement.{Statement}
 use Rattle.f3_tree.specs.Statements.{StatementTree, association_view, statement_view, block_of, block_view}
 use Rattle.f3_scopes.specs.Outlines.{scope_view}
 use Rattle.f3_scopes.specs.Scopes.{construct_name, scope_of_construct, constructs_in, constructs_in_block, constructs_in_branches, constructs_in_cases}
-use Rattle.f3_scopes.specs.Inner.Blocks.{branches_in, branches_view, cases_in, cases_view}
+use Rattle.f3_scopes.specs.Blocks.{branches_in, branches_view, cases_in, cases_view}
 use Rattle.f3_scopes.proofs.Views.{view_if, view_select, view_associate}
 use Rattle.f3_scopes.proofs.Blocks.{of_action, of_logical, of_if, of_else, of_do, none_added, one_added}
 use Rattle.f3_scopes.proofs.Growing.{joined, step, stepped_whole, begun}

@@ -2,7 +2,7 @@ use Rattle.std.proofs.Common.{◌≡◌, ◌++◌, map, drop, length}
 use Rattle.f3_tree.specs.Statements.{statement_view, block_of}
 use Rattle.f3_scopes.specs.Outlines.{scope_view}
 use Rattle.f3_scopes.specs.Scopes.{constructs_in_block, constructs_in_branches, constructs_in_cases}
-use Rattle.f3_scopes.specs.Inner.Blocks.{branches_view, branches_in, cases_view, cases_in}
+use Rattle.f3_scopes.specs.Blocks.{branches_view, branches_in, cases_view, cases_in}
 use Rattle.f3_scopes.proofs.constructs.+constructs.Given as goal
 
 abbrev pub invariant-add_block-loop-statement : goal.invariant-add_block-loop-statement

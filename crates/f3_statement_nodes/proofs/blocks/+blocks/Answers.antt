@@ -7,7 +7,7 @@ use Rattle.f3_tree.specs.declared.statement.Statement.{Statement}
 use Rattle.f3_tree.specs.Expressions.{expression_view}
 use Rattle.f3_tree.specs.Statements as tree
 use Rattle.f3_tree.specs.Statements.{StatementTree, action_view, association_view, block_of, block_view, control_view}
-use Rattle.f3_scopes.specs.Inner.Blocks.{branches_view, alternative_view, cases_view}
+use Rattle.f3_scopes.specs.Blocks.{branches_view, alternative_view, cases_view}
 use Rattle.f3_program.specs.declared.statement.Statement as program
 use Rattle.f3_elaboration.specs.Actions.{action, nothing_done}
 use Rattle.f3_elaboration.specs.Context.{Surroundings}

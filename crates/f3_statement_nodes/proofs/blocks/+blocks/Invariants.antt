@@ -1,6 +1,6 @@
 use Rattle.std.proofs.Common.{◌≡◌, ◌+◌, ◌*◌, ◌++◌, map, drop}
 use Rattle.f3_tree.specs.Statements.{statement_view as tree_of, block_of}
-use Rattle.f3_scopes.specs.Inner.Blocks.{branches_view, alternative_view, cases_view}
+use Rattle.f3_scopes.specs.Blocks.{branches_view, alternative_view, cases_view}
 use Rattle.f3_elaboration.specs.Actions.{nothing_done}
 use Rattle.f3_elaboration.specs.Statements as e
 use Rattle.f3_elaboration.specs.Views.{statement_view}

@@ -2,7 +2,7 @@ use Rattle.std.proofs.Common.{ap, ◌∙◌}
 use Rattle.f3_access.specs.Tables.{lookup_of}
 use Rattle.f3_graph.specs.Order.{numbers_of}
 use Rattle.f3_tree.specs.Tree.{view}
-use Rattle.f3_types.specs.Inner.Scenes.{scene_with}
+use Rattle.f3_types.specs.Scenes.{scene_with}
 use Rattle.f3_types.proofs.Ending.{least_of_types}
 use Rattle.f3_types.proofs.typed.examine.Goals as goal
 

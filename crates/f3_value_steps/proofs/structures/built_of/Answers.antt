@@ -1,7 +1,7 @@
 use Rattle.std.proofs.Common.{map, subst, arith}
 use Rattle.f3_data.specs.Stores.{store_of}
 use Rattle.f3_cells.specs.Cells.{passed_of}
-use Rattle.f3_value_steps.specs.Structures.{Takes}
+use Rattle.f3_value_steps.specs.Inner.Structures.{Takes}
 use Rattle.f3_value_steps.proofs.Components.{so_far_more, so_far_fails, so_far_all}
 use Rattle.f3_value_steps.proofs.structures.built_of.Goals as goal
 

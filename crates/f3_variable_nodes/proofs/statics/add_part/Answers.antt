@@ -6,7 +6,7 @@ use Rattle.f3_tree.specs.declared.declaration.Specification.{Specification}
 use Rattle.f3_tree.specs.Declarations.{specification_view}
 use Rattle.f3_elaboration.specs.Numbers.{along_part, is_static_in, names_in}
 use Rattle.f3_declaration_nodes.specs.Variables.{static_by}
-use Rattle.f3_variable_nodes.specs.Walk.{part_statics}
+use Rattle.f3_variable_nodes.specs.Inner.Walk.{part_statics}
 use Rattle.f3_variable_nodes.proofs.Walking.{numbered, picked, walked}
 use Rattle.f3_variable_nodes.proofs.statics.add_part.Goals as goal
 

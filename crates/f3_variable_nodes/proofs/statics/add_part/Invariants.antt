@@ -4,7 +4,7 @@ use Rattle.f3_scopes.specs.Scopes.{declared_in}
 use Rattle.f3_tree.specs.Declarations.{specification_view}
 use Rattle.f3_elaboration.specs.DeclaredViews.{static_view}
 use Rattle.f3_declaration_nodes.specs.Variables.{static_by}
-use Rattle.f3_variable_nodes.specs.Walk.{part_statics}
+use Rattle.f3_variable_nodes.specs.Inner.Walk.{part_statics}
 use Rattle.f3_variable_nodes.proofs.statics.add_part.Given as goal
 
 abbrev pub invariant-loop-specification : goal.invariant-loop-specification

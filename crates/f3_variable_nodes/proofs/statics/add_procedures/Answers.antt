@@ -3,11 +3,11 @@ use Rattle.std.proofs.lemmas.List.{map-append}
 use Rattle.std.proofs.lemmas.Option.{get_or_from_slice_get}
 use Rattle.f3_tree.specs.declared.program.Procedure.{Procedure}
 use Rattle.f3_tree.specs.Tree.{procedure_view}
-use Rattle.f3_natures.specs.Inner.Walk.{along, count_of}
+use Rattle.f3_natures.specs.Walk.{along, count_of}
 use Rattle.f3_natures.proofs.Steps.{end_more}
 use Rattle.f3_unit_rules.proofs.Walked.{scope_behind, scope_within, behind_within, fit_here, fit_more}
 use Rattle.f3_declaration_nodes.specs.Variables.{static_by}
-use Rattle.f3_variable_nodes.specs.Walk.{procedure_statics}
+use Rattle.f3_variable_nodes.specs.Inner.Walk.{procedure_statics}
 use Rattle.f3_variable_nodes.proofs.Walking.{walked}
 use Rattle.f3_variable_nodes.proofs.statics.add_procedures.Goals as goal
 

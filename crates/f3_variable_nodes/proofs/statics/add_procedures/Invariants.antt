@@ -1,10 +1,10 @@
 use Rattle.std.proofs.Common.{◌≡◌, ◌++◌, ◌-◌, ◌^◌, map, drop}
 use Rattle.f3_tree.specs.Tree.{procedure_view}
-use Rattle.f3_natures.specs.Inner.Walk.{along, end_of}
+use Rattle.f3_natures.specs.Walk.{along, end_of}
 use Rattle.f3_unit_rules.specs.Members.{Fit}
 use Rattle.f3_elaboration.specs.DeclaredViews.{static_view}
 use Rattle.f3_declaration_nodes.specs.Variables.{static_by}
-use Rattle.f3_variable_nodes.specs.Walk.{procedure_statics}
+use Rattle.f3_variable_nodes.specs.Inner.Walk.{procedure_statics}
 use Rattle.f3_variable_nodes.proofs.statics.add_procedures.Given as goal
 
 abbrev pub invariant-loop-procedure : goal.invariant-loop-procedure

@@ -1,6 +1,6 @@
 use Rattle.std.proofs.Common.{◌≤◌, length, rules}
 use Rattle.f3_tree.specs.Tree.{unit_view}
-use Rattle.f3_natures.specs.Inner.Walk.{unit_start}
+use Rattle.f3_natures.specs.Walk.{unit_start}
 use Rattle.f3_variable_nodes.proofs.Fitting.{unit_starts}
 use Rattle.f3_variable_nodes.proofs.statics.add_unit.Goals as goal
 

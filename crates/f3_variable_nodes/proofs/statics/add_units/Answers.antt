@@ -2,9 +2,9 @@ use Rattle.std.proofs.Common.{◌-◌, ◌^◌, ◌+◌, ℕ, List, map, drop, s
 use Rattle.std.proofs.lemmas.List.{map-append}
 use Rattle.f3_tree.specs.declared.program.Unit.{Unit as ProgramUnit}
 use Rattle.f3_tree.specs.Tree.{unit_view}
-use Rattle.f3_natures.specs.Inner.Walk.{unit_end}
+use Rattle.f3_natures.specs.Walk.{unit_end}
 use Rattle.f3_declaration_nodes.specs.Variables.{static_by}
-use Rattle.f3_variable_nodes.specs.Walk.{AllFit, statics_from, unit_statics_by}
+use Rattle.f3_variable_nodes.specs.Inner.Walk.{AllFit, statics_from, unit_statics_by}
 use Rattle.f3_variable_nodes.proofs.Fitting.{unit_here}
 use Rattle.f3_variable_nodes.proofs.Walking.{walked}
 use Rattle.f3_variable_nodes.proofs.statics.add_units.Goals as goal

@@ -2,7 +2,7 @@ use Rattle.std.proofs.Common.{◌≡◌, ◌++◌, ◌-◌, ◌^◌, map, drop}
 use Rattle.f3_tree.specs.Tree.{unit_view}
 use Rattle.f3_elaboration.specs.DeclaredViews.{static_view}
 use Rattle.f3_declaration_nodes.specs.Variables.{static_by}
-use Rattle.f3_variable_nodes.specs.Walk.{AllFit, statics_from}
+use Rattle.f3_variable_nodes.specs.Inner.Walk.{AllFit, statics_from}
 use Rattle.f3_variable_nodes.proofs.statics.add_units.Given as goal
 
 abbrev pub invariant-loop-unit : goal.invariant-loop-unit

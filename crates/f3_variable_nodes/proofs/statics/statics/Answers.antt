@@ -12,7 +12,7 @@ use Rattle.std.specs.List.{flat_map}
 use Rattle.f3_type_rules.specs.Members.{units_from}
 use Rattle.f3_program.specs.declared.program.Static.{Static}
 use Rattle.f3_declaration_nodes.specs.Variables.{static_by}
-use Rattle.f3_variable_nodes.specs.Walk.{AllFit, statics_from}
+use Rattle.f3_variable_nodes.specs.Inner.Walk.{AllFit, statics_from}
 use Rattle.f3_variable_nodes.proofs.Fitting.{all_fit, few_entities}
 use Rattle.f3_variable_nodes.proofs.Same.{statics_stand, units_same}
 use Rattle.f3_variable_nodes.proofs.statics.statics.Goals as goal

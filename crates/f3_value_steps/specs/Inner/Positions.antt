@@ -2,7 +2,7 @@
 use Rattle.std.specs.Prelude.{◌≡◌, ℕ, suc, ◌<◌, nat_eq, if◌then◌else◌, List, [], ◌∷◌, length, Option, None, Some}
 use Rattle.std.specs.List.{slice_index_or}
 use Rattle.f3_meaning_whole.specs.Act.{Passed}
-use Rattle.f3_value_steps.specs.Structures.{number_in}
+use Rattle.f3_value_steps.specs.Inner.Structures.{number_in}
 
 -- the position of the first argument with a number, if there is one: among arguments from a position on
 abbrev pub position_of : ℕ → List Passed → ℕ → Option ℕ

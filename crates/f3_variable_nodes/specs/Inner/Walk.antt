@@ -4,7 +4,7 @@ use Rattle.f3_tree.specs.declared.program.UnitKind.{UnitKind}
 use Rattle.f3_tree.specs.declared.program.UnitKind.TheVariants as unit
 use Rattle.f3_tree.specs.Declarations.{SpecificationTree}
 use Rattle.f3_tree.specs.Tree.{ProcedureTree, UnitTree}
-use Rattle.f3_natures.specs.Inner.Walk.{along, unit_start, unit_end}
+use Rattle.f3_natures.specs.Walk.{along, unit_start, unit_end}
 use Rattle.f3_unit_rules.specs.Members.{typed_count}
 use Rattle.f3_unit_rules.specs.Units.{UnitFits}
 use Rattle.f3_elaboration.specs.Numbers.{Variable, along_part, names_in, is_static_in}

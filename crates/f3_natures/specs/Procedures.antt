@@ -16,7 +16,7 @@ use Rattle.f3_type_rules.specs.Finals.{is_out}
 use Rattle.f3_type_rules.specs.Natures.{typed_object, kind_nature}
 use Rattle.f3_natures.specs.declared.objects.Described.{Described}
 use Rattle.f3_natures.specs.Entries.{firsts}
-use Rattle.f3_natures.specs.Inner.Objects.{described_of}
+use Rattle.f3_natures.specs.Objects.{described_of}
 
 abbrev pub described_entry : Names → (scope : ℕ) → DeclarationTree → EntityTree → ℕ × Described
 described_entry names scope d x = ((x.name).symbol, described_of names scope (d, x))

@@ -15,7 +15,7 @@ use Rattle.f3_type_rules.specs.Names.{Names, components}
 use Rattle.f3_type_rules.specs.Natures.{declared_nature, typed_natures, associate_natures}
 use Rattle.f3_natures.specs.declared.objects.Described.{Described}
 use Rattle.f3_natures.specs.Entries.{firsts}
-use Rattle.f3_natures.specs.Inner.Procedures.{described_all, procedure_by, final_type, is_for}
+use Rattle.f3_natures.specs.Procedures.{described_all, procedure_by, final_type, is_for}
 
 -- the entity is a procedure of the module that may be final for the type; `first` is the entity of the first procedure
 abbrev pub final_at : (first : ℕ) → (finals : List (Option ℕ)) → (type : ℕ) → (found : ℕ) → Bool

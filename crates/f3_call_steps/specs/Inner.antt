@@ -1,0 +1,4 @@
+-- What only private functions and proofs cite.
+pub mod Associating
+pub mod Entering
+pub mod Standing
