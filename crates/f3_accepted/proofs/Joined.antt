@@ -10,13 +10,14 @@ use Rattle.f3_parse.specs.Spells.{Spells, PhaseOne, Parses}
 use Rattle.f3_graph.specs.declared.CheckFault.{CheckFault}
 use Rattle.f3_graph.specs.declared.CheckFault.TheVariants.{Refused, Memory}
 use Rattle.f3_graph.specs.Breaks.{UnitBreaks}
+use Rattle.f3_graph.specs.Faults.{fault_of_text}
 use Rattle.f3_graph.specs.Order.{Orders}
 use Rattle.f3_names.specs.Answers.{BreaksOfNames, NamesAnswer}
 use Rattle.f3_types.specs.Breaks.{TypeBreaks, BreaksOfTypes}
 use Rattle.f3_types.specs.Answers.{TypesAnswer, DefinitionsAnswer}
 use Rattle.f3_accepted.specs.Accepted.{Breaks, of_units, of_names, of_types, Accepted}
 use Rattle.f3_accepted.specs.Inner.Phases.{Named, Defined}
-use Rattle.f3_accepted.specs.Refusals.{First, of_text, of_program, Checks, fault_of_text}
+use Rattle.f3_accepted.specs.Refusals.{First, of_text, of_program, Checks}
 use Rattle.f3_accepted.proofs.Phases.{least_of_units, least_of_names, least_of_types, least_of_5_and_6, least_of_7}
 
 pub text_refused : (sources : List Source) (fault : TextFault) → Parses (Err fault) sources → Checks (Err (fault_of_text fault)) sources

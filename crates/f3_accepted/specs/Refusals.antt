@@ -4,8 +4,6 @@ use Rattle.f3_places.specs.declared.source.Source.{Source}
 use Rattle.f3_rules.specs.declared.breaks.Break.{Break}
 use Rattle.f3_rules.specs.declared.refusal.Refusal.{Refusal}
 use Rattle.f3_rules.specs.Least.{Least}
-use Rattle.f3_text.specs.declared.statement.TextFault.{TextFault}
-use Rattle.f3_text.specs.declared.statement.TextFault.TheVariants as text_fault
 use Rattle.f3_tree.specs.Tree.{Tree, view}
 use Rattle.f3_parse.specs.Spells.{Spells, IsFirstFault}
 use Rattle.f3_graph.specs.declared.CheckFault.{CheckFault}
@@ -38,8 +36,3 @@ abbrev pub Checks : Result Checked CheckFault → List Source → Type 0
 Checks (Ok checked) sources = IsChecked checked sources
 Checks (Err (Refused refusal)) sources = First sources refusal × ((t : Tree) → Accepted sources t → ⊥)
 Checks (Err Memory) sources = Unit {0}
-
--- a fault of the text, as one of the check
-abbrev pub fault_of_text : TextFault → CheckFault
-fault_of_text (text_fault.Refused refusal) = Refused refusal
-fault_of_text text_fault.Memory = Memory

@@ -1,13 +1,13 @@
 //! The check of sources against all rules.
 
-ghost use Rattle.std.specs.Prelude.{◌≡◌, IfOk};
+ghost use Rattle.std.specs.Prelude.{IfOk};
 ghost use Rattle.f3_rules.specs.declared.breaks.Break.{Break};
 ghost use Rattle.f3_tree.specs.Tree.{view};
 ghost use Rattle.f3_graph.specs.Order.{IsOrder, numbers_of};
 ghost use Rattle.f3_names.specs.Answers.{BreaksOfNames};
 ghost use Rattle.f3_names.specs.Tables.{AreNames, lookup_at};
 ghost use Rattle.f3_types.specs.Types.{AreTypesAlong};
-ghost use Rattle.f3_accepted.specs.Refusals.{Checks, fault_of_text};
+ghost use Rattle.f3_accepted.specs.Refusals.{Checks};
 ghost use Rattle.f3_accepted.specs.Inner.Phases.{Named, Defined};
 
 use crate::checked::Checked;
@@ -15,7 +15,6 @@ use f3_graph::{CheckFault, UnitOrder, order};
 use f3_names::table::Names;
 use f3_parse::parser::parse;
 use f3_places::source::Source;
-use f3_text::statement::TextFault;
 use f3_tree::program::Program;
 use f3_types::table::Types;
 use f3_types::typed::{definitions, typed};
@@ -28,7 +27,7 @@ pub fn check(alloc: Global, sources: &[Source]) -> Result<Checked, CheckFault>
 {
     let program = match parse(alloc, sources) {
         Ok(program) => program,
-        Err(fault) => return Err(of_text(fault)),
+        Err(fault) => return Err(CheckFault::from(fault)),
     };
     match named(alloc, &program) {
         Ok((order, names, types)) => Ok(Checked {
@@ -80,15 +79,5 @@ fn defined(
             drop(types);
             Err(fault)
         }
-    }
-}
-
-/// A fault of the text, as one of the check.
-fn of_text(fault: TextFault) -> CheckFault
-    ensures { result ≡ fault_of_text fault }
-{
-    match fault {
-        TextFault::Refused(refusal) => CheckFault::Refused(refusal),
-        TextFault::Memory => CheckFault::Memory,
     }
 }

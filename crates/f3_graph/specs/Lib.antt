@@ -1,4 +1,5 @@
 pub mod Units
 pub mod Breaks
 pub mod Order
+pub mod Faults
 pub mod Inner

@@ -10,6 +10,7 @@ ghost use Rattle.f3_rules.specs.Least.{Least};
 ghost use Rattle.f3_tree.specs.Tree.{view};
 ghost use Rattle.f3_graph.specs.declared.CheckFault.TheVariants.{Memory};
 ghost use Rattle.f3_graph.specs.Breaks.{UnitBreaks};
+ghost use Rattle.f3_graph.specs.Faults.{fault_of_text};
 ghost use Rattle.f3_graph.specs.Inner.Found.{Finds};
 ghost use Rattle.f3_graph.specs.Inner.Links.{links_of, Inside, IsGraph, CyclesIn};
 ghost use Rattle.f3_nodes.specs.Nodes.{Ordered, InRange, Leads};
@@ -23,6 +24,7 @@ use crate::unit::{UnitUses, unit_uses};
 use f3_nodes::walk::used_first;
 use f3_rules::breaks::{Break, earlier};
 use f3_rules::refusal::Refusal;
+use f3_text::statement::TextFault;
 use f3_tree::program::Program;
 use indexmap::IndexSet;
 use std::alloc::{AllocError, Global};
@@ -51,6 +53,17 @@ impl From<AllocError> for CheckFault {
 
     fn from(_fault: AllocError) -> CheckFault {
         CheckFault::Memory
+    }
+}
+
+impl From<TextFault> for CheckFault {
+    ghost from_gives = { λ fault e. e ≡ fault_of_text fault };
+
+    fn from(fault: TextFault) -> CheckFault {
+        match fault {
+            TextFault::Refused(refusal) => CheckFault::Refused(refusal),
+            TextFault::Memory => CheckFault::Memory,
+        }
     }
 }
 

@@ -14,12 +14,13 @@ use Rattle.f3_parse.specs.Spells.{Spells, PhaseOne, Parses}
 use Rattle.f3_graph.specs.declared.CheckFault.{CheckFault}
 use Rattle.f3_graph.specs.declared.CheckFault.TheVariants.{Refused, Memory}
 use Rattle.f3_graph.specs.Breaks.{UnitBreaks}
+use Rattle.f3_graph.specs.Faults.{fault_of_text}
 use Rattle.f3_graph.specs.Order.{IsRefusal, Orders}
 use Rattle.f3_names.specs.declared.table.Names.{Names}
 use Rattle.f3_names.specs.Tables.{AreNames}
 use Rattle.f3_names.specs.Answers.{BreaksOfNames, NamesAnswer}
 use Rattle.f3_name_table.specs.NameTable.{table_text}
-use Rattle.f3_name_table.specs.Answers.{EarlyBreaks, of_units, of_names, FirstOfNames, of_text, of_program, Shows, Answers, fault_of_text}
+use Rattle.f3_name_table.specs.Answers.{EarlyBreaks, of_units, of_names, FirstOfNames, of_text, of_program, Shows, Answers}
 use Rattle.f3_name_table.proofs.Phases.{least_of_units, least_of_names}
 
 pub text_refused : (sources : List Source) (fault : TextFault) → Parses (Err fault) sources → Answers (Err (fault_of_text fault)) sources

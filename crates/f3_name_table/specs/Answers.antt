@@ -6,8 +6,6 @@ use Rattle.f3_places.specs.declared.source.Source.{Source}
 use Rattle.f3_rules.specs.declared.breaks.Break.{Break}
 use Rattle.f3_rules.specs.declared.refusal.Refusal.{Refusal}
 use Rattle.f3_rules.specs.Least.{Least}
-use Rattle.f3_text.specs.declared.statement.TextFault.{TextFault}
-use Rattle.f3_text.specs.declared.statement.TextFault.TheVariants as text_fault
 use Rattle.f3_tree.specs.Tree.{Tree}
 use Rattle.f3_parse.specs.Spells.{Spells, IsFirstFault}
 use Rattle.f3_graph.specs.declared.CheckFault.{CheckFault}
@@ -38,8 +36,3 @@ abbrev pub Answers : Result (String Global) CheckFault → List Source → Type 
 Answers (Ok text) sources = Shows sources text × ((refusal : Refusal) → FirstOfNames sources refusal → ⊥)
 Answers (Err (Refused refusal)) sources = FirstOfNames sources refusal × ((text : String Global) → Shows sources text → ⊥)
 Answers (Err Memory) sources = Unit {0}
-
--- a fault of the text, as one of the check
-abbrev pub fault_of_text : TextFault → CheckFault
-fault_of_text (text_fault.Refused refusal) = Refused refusal
-fault_of_text text_fault.Memory = Memory

@@ -1,16 +1,15 @@
 //! From sources to the table of their names.
 
-ghost use Rattle.std.specs.Prelude.{◌≡◌, List, Ok};
+ghost use Rattle.std.specs.Prelude.{List, Ok};
 ghost use Rattle.f3_places.specs.declared.source.Source.{Source};
 ghost use Rattle.f3_parse.specs.Spells.{Parses};
-ghost use Rattle.f3_name_table.specs.Answers.{Answers, fault_of_text};
+ghost use Rattle.f3_name_table.specs.Answers.{Answers};
 
 use crate::lines::table_text;
 use f3_graph::{CheckFault, order};
 use f3_names::names;
 use f3_parse::parser::parse;
 use f3_places::source::Source;
-use f3_text::statement::TextFault;
 use f3_tree::program::Program;
 use std::alloc::Global;
 
@@ -24,7 +23,7 @@ pub fn name_table(alloc: Global, sources: &[Source]) -> Result<String, CheckFaul
 {
     match parse(alloc, sources) {
         Ok(program) => table_of(alloc, &program),
-        Err(fault) => Err(of_text(fault)),
+        Err(fault) => Err(CheckFault::from(fault)),
     }
 }
 
@@ -37,15 +36,5 @@ fn table_of(alloc: Global, program: &Program) -> Result<String, CheckFault>
     match table_text(alloc, program, &names) {
         Ok(text) => Ok(text),
         Err(_) => Err(CheckFault::Memory),
-    }
-}
-
-/// A fault of the text, as one of the check.
-fn of_text(fault: TextFault) -> CheckFault
-    ensures { result ≡ fault_of_text fault }
-{
-    match fault {
-        TextFault::Refused(refusal) => CheckFault::Refused(refusal),
-        TextFault::Memory => CheckFault::Memory,
     }
 }

@@ -13,7 +13,6 @@ use f3_rules::refusal::{Refusal, render};
 use f3_rules::rule::Rule;
 use f3_scope_rules::first_scope_break;
 use f3_scopes::scopes::outlines;
-use f3_text::statement::TextFault;
 use f3_tree::program::{Program, Unit};
 use std::alloc::{AllocError, Global};
 
@@ -112,8 +111,7 @@ fn pass(alloc: Global, question: &str, sources: &[Source]) -> Result<String, Che
             drop(program);
             text
         }
-        Err(TextFault::Refused(refusal)) => Err(CheckFault::Refused(refusal)),
-        Err(TextFault::Memory) => Err(CheckFault::Memory),
+        Err(fault) => Err(CheckFault::from(fault)),
     }
 }
 

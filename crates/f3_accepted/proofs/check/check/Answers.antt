@@ -3,7 +3,7 @@ use Rattle.f3_accepted.proofs.Joined.{text_refused, program_refused, accepted, n
 use Rattle.f3_accepted.proofs.check.check.Goals as goal
 
 pub returns-in-Err : goal.returns-in-Err
-returns-in-Err c = rw c.of_text.ensures (text_refused c.args.sources.now c.in-Err.fault c.in-Err.ensures)
+returns-in-Err c = rw c.from.ensures (text_refused c.args.sources.now c.in-Err.fault c.in-Err.ensures)
 
 pub invariant_of-result : goal.invariant_of-result
 invariant_of-result c = record {
