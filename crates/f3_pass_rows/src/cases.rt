@@ -8,8 +8,45 @@
 use crate::answers::answer;
 use std::alloc::{AllocError, Global};
 
+/// How many cases have their answers, how many have not, and a line for each of these.
+#[derive(Drop)]
+pub struct Compared {
+    pub passed: usize,
+    pub failed: usize,
+    pub lines: String,
+}
+
+/// Asks the cases of a text, and compares.
+pub fn compared(alloc: Global, text: &str) -> Result<Compared, AllocError> {
+    let mut all = Compared {
+        passed: 0,
+        failed: 0,
+        lines: String::new(alloc),
+    };
+    for block in text.strip_suffix('\n').unwrap_or(text).split("\n\n") {
+        if !block.starts_with('#') {
+            add_block(alloc, &mut all, block)?;
+        }
+    }
+    Ok(all)
+}
+
+/// Asks the cases of a block, and compares.
+fn add_block(alloc: Global, all: &mut Compared, block: &str) -> Result<(), AllocError> {
+    let (question, cases, between) = parts(block);
+    for case in cases.split(between) {
+        if is_right(alloc, question, case)? {
+            all.passed = all.passed.saturating_add(1);
+        } else {
+            writeln!(all.lines, "{question}: not as expected: {case}")?;
+            all.failed = all.failed.saturating_add(1);
+        }
+    }
+    Ok(())
+}
+
 /// The question of a block, its cases, and what stands between these.
-pub fn parts(block: &str) -> (&str, &str, &str) {
+fn parts(block: &str) -> (&str, &str, &str) {
     let (question, cases) = block.split_once('\n').unwrap_or((block, ""));
     match question.strip_prefix("each ") {
         Some(question) => (question, cases, "\n"),
@@ -18,7 +55,7 @@ pub fn parts(block: &str) -> (&str, &str, &str) {
 }
 
 /// Whether the text of a case has the case's answer.
-pub fn is_right(alloc: Global, question: &str, case: &str) -> Result<bool, AllocError> {
+fn is_right(alloc: Global, question: &str, case: &str) -> Result<bool, AllocError> {
     let Some((text, wanted)) = case.split_once("-> ") else {
         return Ok(false);
     };
