@@ -123,9 +123,7 @@ fn putting(alloc: Global, act: Act) -> Result<String, AllocError> {
                 0,
             )
         }
-        Act::LendHeld(d, at, x) => {
-            line(alloc, "lend held", &[d as i64, at as i64, x as i64], 0)
-        }
+        Act::LendHeld(d, at, x) => { line(alloc, "lend held", &[d as i64, at as i64, x as i64], 0) }
         Act::LendHeldEntry(d, at, x, y) => {
             line(
                 alloc,
@@ -135,7 +133,12 @@ fn putting(alloc: Global, act: Act) -> Result<String, AllocError> {
             )
         }
         Act::LendStaticHeld(d, at, x) => {
-            line(alloc, "lend static held", &[d as i64, at as i64, x as i64], 0)
+            line(
+                alloc,
+                "lend static held",
+                &[d as i64, at as i64, x as i64],
+                0,
+            )
         }
         Act::LendStaticHeldEntry(d, at, x, y) => {
             line(
