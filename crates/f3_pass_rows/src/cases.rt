@@ -10,15 +10,15 @@ use std::alloc::{AllocError, Global};
 
 /// How many cases have their answers, how many have not, and a line for each of these.
 #[derive(Drop)]
-pub struct Compared {
+pub struct Tally {
     pub passed: usize,
     pub failed: usize,
     pub lines: String,
 }
 
 /// Asks the cases of a text, and compares.
-pub fn compared(alloc: Global, text: &str) -> Result<Compared, AllocError> {
-    let mut all = Compared {
+pub fn compared(alloc: Global, text: &str) -> Result<Tally, AllocError> {
+    let mut all = Tally {
         passed: 0,
         failed: 0,
         lines: String::new(alloc),
@@ -32,7 +32,7 @@ pub fn compared(alloc: Global, text: &str) -> Result<Compared, AllocError> {
 }
 
 /// Asks the cases of a block, and compares.
-fn add_block(alloc: Global, all: &mut Compared, block: &str) -> Result<(), AllocError> {
+fn add_block(alloc: Global, all: &mut Tally, block: &str) -> Result<(), AllocError> {
     let (question, cases, between) = parts(block);
     for case in cases.split(between) {
         if is_right(alloc, question, case)? {
