@@ -11,7 +11,7 @@ use crate::written::{block_with, has_words};
 use f3_desc::{Layout, Piece};
 use f3_heap::{BlockId, Blocks, PlainBlocks, RawHeap};
 use f3_objects::{
-    copy_contents, copy_elements, copy_tree, free_contents, free_elements, move_tree, unbox_tree,
+    copy_contents, copy_elements, copy_tree, free_contents, free_elements, unbox_tree,
 };
 use std::alloc::{AllocError, Global};
 use std::process::Abort;
@@ -190,46 +190,6 @@ fn unboxes_lists<B: Blocks>(rt: &impl Abort, heap: &mut B) -> bool {
         && has_words(heap, numbers, &[40, 41])
 }
 
-/// Moves the first of the two allocatables between two words of another block.
-fn moves_a_list<B: Blocks>(rt: &impl Abort, heap: &mut B) -> bool {
-    let (numbers, lists) = two_lists(rt, heap);
-    let to = block_with(rt, heap, &[8, 0, 0, 0, 9]);
-    let Ok(()) = move_tree(heap, lists, 0, to, 1, 1) else {
-        return false;
-    };
-    heap.used() == 28
-        && has_words(heap, to, &[8, numbers.word(), 1, 2, 9])
-        && has_words(heap, lists, &[0, 1, 2, 0, 0, 0])
-        && has_words(heap, numbers, &[40, 41])
-}
-
-/// Moves the second of the two allocatables, which has no block.
-fn moves_no_block<B: Blocks>(rt: &impl Abort, heap: &mut B) -> bool {
-    let (numbers, lists) = two_lists(rt, heap);
-    let to = block_with(rt, heap, &[8, 0, 0, 0, 9]);
-    let Ok(()) = move_tree(heap, lists, 3, to, 1, 1) else {
-        return false;
-    };
-    heap.used() == 28
-        && has_words(heap, to, &[8, 0, 0, 0, 9])
-        && has_words(heap, lists, &[numbers.word(), 1, 2, 0, 0, 0])
-}
-
-/// Moves nothing where the first of the two allocatables is pinned.
-fn keeps_a_pinned_list<B: Blocks>(rt: &impl Abort, heap: &mut B) -> bool {
-    let (numbers, lists) = two_lists(rt, heap);
-    let to = block_with(rt, heap, &[8, 0, 0, 0, 9]);
-    if heap.pins(numbers) != 0 {
-        return false;
-    }
-    heap.pin(numbers);
-    let Err(_) = move_tree(heap, lists, 0, to, 1, 1) else {
-        return false;
-    };
-    has_words(heap, to, &[8, 0, 0, 0, 9])
-        && has_words(heap, lists, &[numbers.word(), 1, 2, 0, 0, 0])
-}
-
 /// Copies no element between two blocks of one word.
 fn copies_none<B: Blocks>(rt: &impl Abort, heap: &mut B, layout: &Layout) -> bool
     requires { pieces_of layout.now ≡ Word ∷ Allocatable 1 0 ∷ [] }
@@ -289,17 +249,14 @@ fn goes_well<B: Blocks>(rt: &impl Abort, heap: &mut B, layout: &Layout, number: 
         6 => copies_an_empty_block(rt, heap, layout),
         7 => frees_none(rt, heap, layout),
         8 => frees_an_empty_block(rt, heap, layout),
-        9 => unboxes_an_empty_block(rt, heap),
-        10 => moves_a_list(rt, heap),
-        11 => moves_no_block(rt, heap),
-        _ => keeps_a_pinned_list(rt, heap),
+        _ => unboxes_an_empty_block(rt, heap),
     }
 }
 
 #[test]
 fn objects_by_the_account_alone(rt: HostRuntime) {
     let layout = lists(rt.alloc()).expect(&rt, "memory");
-    for number in 0..13 {
+    for number in 0..10 {
         let mut heap = PlainBlocks::new(rt.alloc(), 64);
         let is_well = goes_well(&rt, &mut heap, &layout, number);
         drop(heap);
@@ -311,7 +268,7 @@ fn objects_by_the_account_alone(rt: HostRuntime) {
 #[test]
 fn objects_in_a_region(rt: HostRuntime) {
     let layout = lists(rt.alloc()).expect(&rt, "memory");
-    for number in 0..13 {
+    for number in 0..10 {
         let mut heap = RawHeap::new(rt.alloc(), 64).expect(&rt, "memory");
         let is_well = goes_well(&rt, &mut heap, &layout, number);
         drop(heap);
