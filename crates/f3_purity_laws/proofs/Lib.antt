@@ -1,4 +1,5 @@
 pub mod Calling
 pub mod Guarded
+pub mod Sensible
 pub mod Owning
 pub mod Composed

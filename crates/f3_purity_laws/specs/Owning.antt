@@ -1,11 +1,13 @@
 -- Statements that change what their procedure owns alone.
-use Rattle.std.specs.Prelude.{⊤, ◌≡◌, ℕ, Bool, false, List, ◌++◌, map, slice_get}
+use Rattle.std.specs.Prelude.{⊤, ◌≡◌, ℕ, Bool, true, List, ◌++◌, map}
+use Rattle.f3_program.specs.declared.declarations.Kind.{Kind}
 use Rattle.f3_program.specs.declared.expression.Expression as e
 use Rattle.f3_program.specs.declared.statement.Statement as s
 use Rattle.f3_program.specs.declared.program.Program.{Program}
-use Rattle.f3_meaning_whole.specs.Act.{right_to}
-use Rattle.f3_meaning_whole.specs.Permitted.{Each, is_define, Lendable, Scope, MayExec}
+use Rattle.f3_meaning_whole.specs.Formed.{is_formed}
+use Rattle.f3_meaning_whole.specs.Permitted.{Each, Lendable, Scope, MayExec}
 use Rattle.f3_pure_laws.specs.Pure.{definable_in, Owns, own_selectors, OwnsStat, OwnsAllPassed, OwnsRequest}
+use Rattle.f3_purity_laws.specs.Barring.{barring}
 
 module _ (p : Program) (pure : ℕ → Bool) where
   abbrev pub OwnsCall : List Bool → e.Expression → Type 0
@@ -40,11 +42,8 @@ module _ (p : Program) (pure : ℕ → Bool) where
 abbrev pub may_defines : List Lendable → List Bool
 may_defines ls = map (λ (l : Lendable). l.may_define) ls
 
--- no variable that lives for the whole run may be defined by a unit
-abbrev pub AreBarred : Program → ℕ → Type 0
-AreBarred p unit = (i : ℕ) → is_define (right_to unit (slice_get p.statics.items i)) ≡ false
-
--- Where that is so, a statement that defines only what may be defined changes what its procedure owns alone.
+-- A statement that makes sense, and defines only what may be defined where no variable that lives for the whole run may be, changes what
+-- its procedure owns alone.
 abbrev pub LawfulChangesOwn : Type 0
-LawfulChangesOwn = (p : Program) (pure : ℕ → Bool) (scope : Scope) → AreBarred p scope.unit → (x : s.Statement) → MayExec p x scope
-    → ChangesOwn p pure x (may_defines scope.names)
+LawfulChangesOwn = (p : Program) (pure : ℕ → Bool) (scope : Scope) (x : s.Statement) (names : List Kind)
+    → is_formed p scope.variables x names ≡ true → MayExec (barring scope.unit p) x scope → ChangesOwn p pure x (may_defines scope.names)
