@@ -1,3 +1,6 @@
 pub mod Numbers
 pub mod Called
 pub mod Rules
+pub mod Flags
+pub mod Harmless
+pub mod Barred
