@@ -212,18 +212,20 @@ module _ (t : Tree) (look : ℕ → ℕ → Lookup) (order : List ℕ) (ordered 
         clean all_natures (h.definition).entity (h.unit).scope (components names (h.unit).scope (h.definition).tree)
         (h.nature ∙ ap (λ f. Some (derived (h.unit).scope (components names (h.unit).scope (h.definition).tree) f)) (unflagged n y h is))
 
-    no_ranks : (d : Definition) (ns : List Name) → list_any (λ (n : Name). is_given (final_rank names (d.unit).scope (d.unit).members d.entity n)) ns ≡ false
-        → flat_map (λ (n : Name). map_or [] (λ rank. final w d.unit n rank ∷ []) (final_rank names (d.unit).scope (d.unit).members d.entity n)) ns ≡ []
-    no_ranks d [] h = refl
-    no_ranks d (n ∷ ns) h = go (final_rank names (d.unit).scope (d.unit).members d.entity n) h
-      where
-        abbrev rest : List Final
-        rest = flat_map (λ (n : Name). map_or [] (λ rank. final w d.unit n rank ∷ []) (final_rank names (d.unit).scope (d.unit).members d.entity n)) ns
+    abbrev ranks : Definition → List Name → List Final
+    ranks d ns = flat_map (λ (n : Name). map_or [] (λ rank. final w d.unit n rank ∷ []) (final_rank names (d.unit).scope (d.unit).members d.entity n)) ns
 
-        go : (o : Option ℕ) → (is_given o || list_any (λ (n : Name). is_given (final_rank names (d.unit).scope (d.unit).members d.entity n)) ns) ≡ false
-            → map_or [] (λ rank. final w d.unit n rank ∷ []) o ++ rest ≡ []
-        go None h = no_ranks d ns h
-        go (Some r) h = no h
+    abbrev any_rank : Numbered → (entity : ℕ) → List Name → Bool
+    any_rank u e ns = list_any (λ (n : Name). is_given (final_rank names u.scope u.members e n)) ns
+
+    no_ranks : (d : Definition) (ns : List Name) → any_rank d.unit d.entity ns ≡ false → ranks d ns ≡ []
+    no_ranks d [] h = refl
+    no_ranks d (n ∷ ns) h = go (final_rank names (d.unit).scope (d.unit).members d.entity n) h (no_ranks d ns)
+      where
+        go : (o : Option ℕ) → (is_given o || any_rank d.unit d.entity ns) ≡ false → (any_rank d.unit d.entity ns ≡ false → ranks d ns ≡ [])
+            → map_or [] (λ rank. final w d.unit n rank ∷ []) o ++ ranks d ns ≡ []
+        go None h rest = rest h
+        go (Some r) h rest = no h
 
     ended : (n : ℕ) (y : program_type.Derived) → slice_get p.types.items n ≡ Some y → harmless n ≡ true → y.finals.items ≡ []
     ended n y at is =
@@ -233,7 +235,7 @@ module _ (t : Tree) (look : ℕ → ℕ → Lookup) (order : List ℕ) (ordered 
         let unit : h.unit ≡ (h.definition).unit = sym (ap (λ (d : Definition). d.unit) h.of_unit) in
         ap (λ (z : DerivedNode). z.finals) (sym h.node)
         ∙ no_ranks h.definition ((h.definition).tree).finals
-        (subst (λ (u : Numbered). list_any (λ (n : Name). is_given (final_rank names u.scope u.members (h.definition).entity n)) ((h.definition).tree).finals ≡ false) unit free)
+        (subst (λ (u : Numbered). any_rank u (h.definition).entity ((h.definition).tree).finals ≡ false) unit free)
 
     -- ---- components
 

@@ -4,3 +4,4 @@ pub mod Rules
 pub mod Flags
 pub mod Harmless
 pub mod Barred
+pub mod Placed
