@@ -5,3 +5,4 @@ pub mod Flags
 pub mod Harmless
 pub mod Barred
 pub mod Placed
+pub mod Procedures
