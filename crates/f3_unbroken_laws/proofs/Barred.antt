@@ -1,11 +1,10 @@
 -- Where a pure procedure begins, none but its own variables may be defined.
-use Rattle.std.proofs.Common.{◌≡◌, refl, sym, ap, subst, ◌∙◌, inl, inr, ℕ, zero, suc, Bool, true, false, ◌&&◌, ◌||◌, not, List, [], ◌∷◌, ◌++◌, position, nat_eq, map, filter, Option, None, Some, option_map, slice_get, arith, if◌then◌else◌}
+use Rattle.std.proofs.Common.{◌≡◌, refl, sym, ap, subst, ◌∙◌, inl, inr, ℕ, zero, suc, Bool, true, false, ◌&&◌, ◌||◌, not, List, [], ◌∷◌, position, nat_eq, map, filter, Option, None, Some, option_map, slice_get, arith, if◌then◌else◌}
 use Rattle.std.specs.Prelude.{◌==◌}
 use Rattle.std.specs.List.{flat_map}
 use Rattle.f3_lookups.specs.declared.lookup.Lookup.{Lookup}
 use Rattle.f3_lookups.specs.declared.lookup.Lookup.TheVariants.{One}
 use Rattle.f3_nodes.proofs.Members.{Has, has_parts, piece_of, at_has}
-use Rattle.f3_rules.specs.declared.breaks.Break.{Break}
 use Rattle.f3_scopes.specs.declared.outline.ScopeKind.{ScopeKind}
 use Rattle.f3_scopes.specs.declared.outline.ScopeKind.TheVariants as scope
 use Rattle.f3_scopes.specs.Outlines.{Scope as Outline}
@@ -23,12 +22,11 @@ use Rattle.f3_program.specs.declared.program.Static as program
 use Rattle.f3_program.specs.declared.program.Program.{Program}
 use Rattle.f3_kinds.specs.declared.said.Said.{Said}
 use Rattle.f3_kinds.specs.declared.types.Object.{Object}
-use Rattle.f3_kinds.specs.Rows.{unless}
 use Rattle.f3_kinds.specs.Things.{variable, look_here}
 use Rattle.f3_meaning_whole.specs.Act.{static_type}
-use Rattle.f3_meaning_whole.specs.Permitted.{Each, Scope, name_of}
+use Rattle.f3_meaning_whole.specs.Permitted.{Scope, name_of}
 use Rattle.f3_type_rules.specs.declared.definition.Holder.{Holder}
-use Rattle.f3_type_rules.specs.Definitions.{Site, protected_rows, intent_rows}
+use Rattle.f3_type_rules.specs.Definitions.{Site}
 use Rattle.f3_type_rules.specs.Members.{Member, Numbered}
 use Rattle.f3_type_rules.specs.Names.{Declared, is_given}
 use Rattle.f3_type_rules.specs.Attributes.{has}
@@ -38,10 +36,10 @@ use Rattle.f3_elaboration.specs.Context.{Surroundings}
 use Rattle.f3_elaboration.specs.Declarations.{Whole}
 use Rattle.f3_elaboration.specs.Numbers.{Variable, is_variable, is_saved, is_static_in, unit_names, unit_statics, member_names, name_by, number_in, numbers_in_member}
 use Rattle.f3_elaboration.specs.Units.{in_member}
-use Rattle.f3_lawful_laws.specs.Agreement.{Agrees, Allows, IsType, lend_rows}
+use Rattle.f3_lawful_laws.specs.Agreement.{Agrees, Allows, lend_rows}
 use Rattle.f3_lawful_laws.specs.Entities.{units_of, whole_of, AreAlike}
 use Rattle.f3_lawful_laws.proofs.Facts.{no, same, holds, first, left, right, when_false}
-use Rattle.f3_lawful_laws.proofs.Opening.{mapped_at, from_mapped}
+use Rattle.f3_lawful_laws.proofs.Opening.{from_mapped}
 use Rattle.f3_lawful_laws.proofs.Positions.{eq_same}
 use Rattle.f3_entity_laws.specs.Laws.{names_at}
 use Rattle.f3_entity_laws.specs.Things.{Home, of_unit, of_member, number_of, scope_at, Thing, name, result, things_of, symbol_of, IsAmong, IsHome}

@@ -6,7 +6,6 @@ use Rattle.f3_lookups.specs.declared.lookup.Lookup.{Lookup}
 use Rattle.f3_scopes.specs.declared.outline.EntityKind.{EntityKind}
 use Rattle.f3_scopes.specs.declared.outline.EntityKind.TheVariants as entity
 use Rattle.f3_scopes.specs.Scopes.{kind_of}
-use Rattle.f3_tree.specs.declared.declaration.TypeSpecifier.{TypeSpecifier}
 use Rattle.f3_tree.specs.declared.program.ProcedureKind.{ProcedureKind}
 use Rattle.f3_tree.specs.declared.program.ProcedureKind.TheVariants.{Subroutine, Function}
 use Rattle.f3_tree.specs.Tree.{Tree}
@@ -21,8 +20,7 @@ use Rattle.f3_type_rules.specs.Members.{Member, Numbered}
 use Rattle.f3_type_rules.specs.Names.{Names, object_of}
 use Rattle.f3_type_rules.specs.Natures.{object_nature, kind_nature, procedure_nature, unit_natures, settled}
 use Rattle.f3_type_rules.specs.Scene.{names_of}
-use Rattle.f3_elaboration.specs.Nodes.{DeclaredNode, ProcedureNode}
-use Rattle.f3_elaboration.specs.Context.{Surroundings}
+use Rattle.f3_elaboration.specs.Nodes.{ProcedureNode}
 use Rattle.f3_elaboration.specs.Declarations.{Whole}
 use Rattle.f3_elaboration.specs.DeclaredViews.{declared_view, program_view}
 use Rattle.f3_elaboration.specs.Numbers.{Inner, number_in}
@@ -37,7 +35,7 @@ use Rattle.f3_entity_laws.proofs.Natures.{natures}
 use Rattle.f3_pure_laws.specs.References as references
 use Rattle.f3_purity_laws.specs.Laws.{PureOnesArePure}
 use Rattle.f3_reference_laws.specs.Laws.{HaveResults}
-use Rattle.f3_unbroken_laws.specs.Laws.{is_pure, pure_in}
+use Rattle.f3_unbroken_laws.specs.Laws.{pure_in}
 use Rattle.f3_unbroken_laws.proofs.Numbers.{number_pure, member_there}
 
 -- ---- procedures among the natures

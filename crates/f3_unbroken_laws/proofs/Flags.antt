@@ -1,7 +1,7 @@
 -- Which types are finalizable: a type that is not has no final subroutine of its own, and no component of one that is.
-use Rattle.std.proofs.Common.{◌≡◌, refl, sym, ap, subst, ◌∙◌, inl, inr, ℕ, zero, suc, ◌+◌, ◌<◌, ◌≤◌, Bool, true, false, ◌||◌, List, [], ◌∷◌, ◌++◌, length, take, map, Option, None, Some, arith, slice_get}
+use Rattle.std.proofs.Common.{◌≡◌, refl, sym, ap, subst, ◌∙◌, inl, inr, ℕ, zero, suc, ◌+◌, ◌<◌, Bool, true, false, ◌||◌, List, [], ◌∷◌, length, take, Option, None, Some, arith, slice_get}
 use Rattle.std.specs.List.{flat_map, list_any}
-use Rattle.std.proofs.lemmas.List.{length-map, length-append}
+use Rattle.std.proofs.lemmas.List.{length-map}
 use Rattle.std.proofs.lemmas.Option.{slice_get_within}
 use Rattle.f3_scopes.specs.Scopes.{declared_in, own}
 use Rattle.f3_tree.specs.declared.expression.Name.{Name}
@@ -12,14 +12,14 @@ use Rattle.f3_kinds.specs.declared.things.Component.{Component}
 use Rattle.f3_kinds.specs.Things.{map_or, Nature, constant, variable, derived, subroutine, function}
 use Rattle.f3_type_rules.specs.Declarations.{is_final_nature}
 use Rattle.f3_type_rules.specs.Finals.{final_rank}
-use Rattle.f3_type_rules.specs.Members.{Member, Numbered}
+use Rattle.f3_type_rules.specs.Members.{Numbered}
 use Rattle.f3_type_rules.specs.Names.{Names, is_given, components}
 use Rattle.f3_type_rules.specs.Natures.{declared_nature, natures_in, natures_from, unit_natures, flag_of, is_finalized, rounds, marked, settled}
 use Rattle.f3_elaboration.specs.Numbers.{Definition, types_in, along_part, definitions}
 use Rattle.f3_finalizable.specs.Inner.Marks.{is_seen}
-use Rattle.f3_finalizable.proofs.Rounds.{round, Under, fixed, rounds_long}
+use Rattle.f3_finalizable.proofs.Rounds.{round, fixed, rounds_long}
 use Rattle.f3_lawful_laws.proofs.Facts.{no, nothing, same}
-use Rattle.f3_lawful_laws.proofs.Opening.{at_front, at_back, mapped_at}
+use Rattle.f3_lawful_laws.proofs.Opening.{at_front, at_back}
 use Rattle.f3_entity_laws.specs.Things.{unit_things, things_of, IsAmong}
 use Rattle.f3_entity_laws.proofs.Lists.{split_at, before, flat_block, there}
 use Rattle.f3_entity_laws.proofs.Natures.{natures, things}

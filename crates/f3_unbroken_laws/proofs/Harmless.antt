@@ -1,6 +1,5 @@
 -- Types that are not finalizable are harmless.
 use Rattle.std.proofs.Common.{◌≡◌, refl, sym, ap, subst, ◌∙◌, ℕ, zero, suc, Bool, true, false, ◌||◌, not, List, [], ◌∷◌, ◌++◌, map, Option, None, Some, slice_get, if◌then◌else◌}
-use Rattle.std.specs.Prelude.{⊤}
 use Rattle.std.specs.List.{flat_map, list_any}
 use Rattle.f3_lookups.specs.declared.lookup.Lookup.{Lookup}
 use Rattle.f3_lookups.specs.declared.lookup.Lookup.TheVariants.{One, Nothing, Several}
@@ -15,7 +14,7 @@ use Rattle.f3_tree.specs.declared.expression.IntegerKind.TheVariants.{Four, Eigh
 use Rattle.f3_tree.specs.declared.expression.Name.{Name}
 use Rattle.f3_tree.specs.declared.program.ProcedureKind.{ProcedureKind}
 use Rattle.f3_tree.specs.declared.program.ProcedureKind.TheVariants.{Subroutine, Function}
-use Rattle.f3_tree.specs.Declarations.{Placed, EntityTree, DeclarationTree, TypeTree}
+use Rattle.f3_tree.specs.Declarations.{Placed, DeclarationTree, TypeTree}
 use Rattle.f3_tree.specs.Tree.{Tree}
 use Rattle.f3_graph.specs.Order.{IsOrderOf}
 use Rattle.f3_graph.specs.Units.{nodes_of}
@@ -39,8 +38,7 @@ use Rattle.f3_type_rules.specs.Natures.{unit_natures, settled}
 use Rattle.f3_type_rules.specs.Program.{units_in}
 use Rattle.f3_type_rules.specs.Scene.{names_of}
 use Rattle.f3_elaboration.specs.Nodes.{DerivedNode, ProgramNode}
-use Rattle.f3_elaboration.specs.Context.{base as base_in}
-use Rattle.f3_elaboration.specs.Declarations.{Whole, derived as derived_node, finals, final}
+use Rattle.f3_elaboration.specs.Declarations.{Whole, derived as derived_node, final}
 use Rattle.f3_elaboration.specs.DeclaredViews.{derived_view, program_view}
 use Rattle.f3_elaboration.specs.Numbers.{Inner, Definition, number_in, base_of, definitions}
 use Rattle.f3_elaboration.specs.Program.{elaborated}
@@ -50,12 +48,12 @@ use Rattle.f3_lawful_laws.specs.Entities.{units_of, whole_of}
 use Rattle.f3_lawful_laws.proofs.Facts.{no, nothing, same, negated_back}
 use Rattle.f3_lawful_laws.proofs.Opening.{mapped_at, from_mapped}
 use Rattle.f3_entity_laws.specs.Laws.{definition_at}
-use Rattle.f3_entity_laws.specs.Things.{of_unit, of_member, number_of, Thing, name, type, procedure, result, associate, nature_of, own_of, things_of, IsAmong, IsOf}
+use Rattle.f3_entity_laws.specs.Things.{of_unit, of_member, Thing, name, type, procedure, result, associate, own_of, things_of, IsAmong, IsOf}
 use Rattle.f3_entity_laws.proofs.Entities.{entities, of_program}
 use Rattle.f3_entity_laws.proofs.Found.{all_types, ordered_unit}
 use Rattle.f3_entity_laws.proofs.Lists.{flat_at}
 use Rattle.f3_entity_laws.proofs.Names.{thing_types, type_things}
-use Rattle.f3_entity_laws.proofs.Natures.{natures, things}
+use Rattle.f3_entity_laws.proofs.Natures.{things}
 use Rattle.f3_entity_laws.proofs.Stands.{unit_at}
 use Rattle.f3_agreement_laws.specs.Unbroken.{HasOuterTypes}
 use Rattle.f3_agreement_laws.proofs.Declared.{no_types}

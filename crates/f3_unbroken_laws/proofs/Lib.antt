@@ -6,3 +6,4 @@ pub mod Harmless
 pub mod Barred
 pub mod Placed
 pub mod Procedures
+pub mod Whole

@@ -10,7 +10,7 @@ use Rattle.f3_program.specs.declared.program.Procedure.{Procedure}
 use Rattle.f3_program.specs.declared.program.Program.{Program}
 use Rattle.f3_kinds.specs.Things.{map_or}
 use Rattle.f3_type_rules.specs.Associates.{constructs_of_block}
-use Rattle.f3_type_rules.specs.Members.{Member, Numbered, members_from, numbered, units_from}
+use Rattle.f3_type_rules.specs.Members.{Member, Numbered, members_from, units_from}
 use Rattle.f3_type_rules.specs.Program.{units_in}
 use Rattle.f3_elaboration.specs.Nodes.{ProgramNode}
 use Rattle.f3_elaboration.specs.Declarations.{Whole}
@@ -20,7 +20,7 @@ use Rattle.f3_elaboration.specs.Program.{elaborated}
 use Rattle.f3_elaboration.specs.Units.{procedure}
 use Rattle.f3_lawful_laws.specs.Entities.{units_of, whole_of}
 use Rattle.f3_lawful_laws.proofs.Opening.{mapped_at, from_mapped}
-use Rattle.f3_entity_laws.specs.Things.{of_member, IsAmong, IsHome}
+use Rattle.f3_entity_laws.specs.Things.{of_member, IsHome}
 use Rattle.f3_entity_laws.proofs.Found.{procedures}
 use Rattle.f3_entity_laws.proofs.Lists.{before, flat_at, flat_block}
 use Rattle.f3_unbroken_laws.specs.Laws.{procedures_of, is_pure, pure_in}

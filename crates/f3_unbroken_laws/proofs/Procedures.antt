@@ -1,6 +1,6 @@
 -- What a pure procedure declares is of harmless types, where it may be defined or ends (T12).
-use Rattle.std.proofs.Common.{◌≡◌, refl, sym, ap, subst, ◌∙◌, inl, inr, ℕ, zero, suc, Bool, true, false, ◌&&◌, ◌||◌, not, List, [], ◌∷◌, ◌++◌, map, filter, nat_eq, Option, None, Some, option_to_list, slice_get}
-use Rattle.std.specs.List.{flat_map, list_any}
+use Rattle.std.proofs.Common.{◌≡◌, refl, sym, ap, subst, ◌∙◌, inl, inr, ℕ, zero, suc, Bool, true, false, ◌&&◌, ◌||◌, not, List, [], ◌∷◌, ◌++◌, map, nat_eq, Option, None, Some, option_to_list, slice_get}
+use Rattle.std.specs.List.{list_any}
 use Rattle.std.specs.Map.{lookup}
 use Rattle.f3_lookups.specs.declared.lookup.Lookup.{Lookup}
 use Rattle.f3_graph.specs.Order.{IsOrderOf}
@@ -11,7 +11,6 @@ use Rattle.f3_nodes.proofs.Members.{at_has}
 use Rattle.f3_scopes.specs.Scopes.{name_or, result_of}
 use Rattle.f3_tree.specs.declared.declaration.Intent as tree
 use Rattle.f3_tree.specs.declared.declaration.Intent.TheVariants as given
-use Rattle.f3_tree.specs.declared.declaration.TypeSpecifier.{TypeSpecifier}
 use Rattle.f3_tree.specs.declared.expression.Name.{Name}
 use Rattle.f3_tree.specs.declared.program.ProcedureKind.{ProcedureKind}
 use Rattle.f3_tree.specs.declared.program.ProcedureKind.TheVariants.{Subroutine, Function}
@@ -19,19 +18,15 @@ use Rattle.f3_tree.specs.Declarations.{SpecificationTree, declares}
 use Rattle.f3_tree.specs.Tree.{Tree}
 use Rattle.f3_program.specs.declared.declarations.Declared as program
 use Rattle.f3_program.specs.declared.program.Dummy as dummy
-use Rattle.f3_program.specs.declared.program.Intent as lent
-use Rattle.f3_program.specs.declared.program.Intent.TheVariants as intent
 use Rattle.f3_program.specs.declared.program.Procedure.{Procedure}
-use Rattle.f3_program.specs.declared.program.Program.{Program}
-use Rattle.f3_kinds.specs.declared.types.Object.{Object}
 use Rattle.f3_kinds.specs.Things.{map_or}
 use Rattle.f3_meaning_whole.specs.Act.{type_of as type_in}
 use Rattle.f3_meaning_whole.specs.Exec.{declared_in}
-use Rattle.f3_meaning_whole.specs.Permitted.{Each, Lendable, is_in as is_given_in, lendable, names_of, scope_of}
-use Rattle.f3_type_rules.specs.Declarations.{is_in, is_finalizable, may_finalize}
+use Rattle.f3_meaning_whole.specs.Permitted.{is_in as is_given_in, lendable, names_of, scope_of}
+use Rattle.f3_type_rules.specs.Declarations.{is_in, may_finalize}
 use Rattle.f3_type_rules.specs.Members.{Member, Numbered}
-use Rattle.f3_type_rules.specs.Names.{Declared, entries, intent_of, object_of, type_of, undeclared}
-use Rattle.f3_type_rules.specs.Natures.{specifier_of, typed_object}
+use Rattle.f3_type_rules.specs.Names.{Declared, entries, intent_of, object_of, undeclared}
+use Rattle.f3_type_rules.specs.Natures.{specifier_of}
 use Rattle.f3_type_rules.specs.Program.{program_breaks}
 use Rattle.f3_type_rules.specs.Scene.{names_of as known_names}
 use Rattle.f3_type_rules.specs.Walks.{Spot, is_among}
@@ -42,12 +37,11 @@ use Rattle.f3_elaboration.specs.Numbers.{Variable, base_of, is_variable, is_save
 use Rattle.f3_elaboration.specs.Units as units
 use Rattle.f3_elaboration.specs.Units.{declaration_of, procedure}
 use Rattle.f3_lawful_laws.specs.Entities.{units_of, whole_of}
-use Rattle.f3_lawful_laws.proofs.Facts.{no, nothing, same, right, negated_back}
+use Rattle.f3_lawful_laws.proofs.Facts.{no, nothing, same, right}
 use Rattle.f3_lawful_laws.proofs.Opening.{each_at, from_mapped, mapped_at}
 use Rattle.f3_lawful_laws.proofs.Positions.{eq_self}
 use Rattle.f3_agreement_laws.specs.Unbroken.{HasOuterTypes}
 use Rattle.f3_agreement_laws.proofs.Declared.{IsEntry, entry_of}
-use Rattle.f3_entity_laws.specs.Laws.{variable_at}
 use Rattle.f3_entity_laws.specs.Things.{of_member, name, IsAmong, IsHome}
 use Rattle.f3_entity_laws.proofs.Entities.{of_program}
 use Rattle.f3_entity_laws.proofs.Lists.{split_at}
@@ -56,8 +50,7 @@ use Rattle.f3_variable_laws.proofs.Fits.{seen_variables}
 use Rattle.f3_variable_laws.proofs.Lists.{among_of, kept}
 use Rattle.f3_pure_laws.specs.Ending.{IsHarmless}
 use Rattle.f3_purity_laws.specs.Composed.{EndsWell, AreHarmlessIn}
-use Rattle.f3_unbroken_laws.proofs.Rules as rules
-use Rattle.f3_unbroken_laws.proofs.Rules.{scene, spot, name_ends, result_ends}
+use Rattle.f3_unbroken_laws.proofs.Rules.{spot, name_ends, result_ends}
 use Rattle.f3_unbroken_laws.proofs.Harmless.{harmless, said_harmless}
 
 -- ---- conditions

@@ -1,5 +1,5 @@
 -- What the rules on specification parts say of a procedure of a program that breaks none: T1 and T12.
-use Rattle.std.proofs.Common.{◌≡◌, refl, sym, ap, subst, ◌∙◌, ℕ, ◌+◌, Bool, true, false, ◌&&◌, ◌||◌, not, List, [], ◌∷◌, ◌++◌, length, filter, nat_eq, Option, None, Some, Contains, slice_get}
+use Rattle.std.proofs.Common.{◌≡◌, refl, sym, subst, ℕ, Bool, true, false, ◌&&◌, ◌||◌, not, List, [], ◌∷◌, ◌++◌, length, filter, nat_eq, Option, None, Some, Contains, slice_get}
 use Rattle.std.specs.List.{flat_map, list_any}
 use Rattle.f3_lookups.specs.declared.lookup.Lookup.{Lookup}
 use Rattle.f3_graph.specs.Order.{IsOrderOf}
@@ -12,7 +12,6 @@ use Rattle.f3_tree.specs.declared.program.ProcedureKind.{ProcedureKind}
 use Rattle.f3_tree.specs.declared.program.ProcedureKind.TheVariants.{Subroutine, Function}
 use Rattle.f3_tree.specs.Declarations.{ShapeTree, protected, parameter, save, allocatable, EntityTree, DeclarationTree, declares}
 use Rattle.f3_tree.specs.Tree.{Tree}
-use Rattle.f3_kinds.specs.Rows.{unless}
 use Rattle.f3_kinds.specs.Things.{map_or}
 use Rattle.f3_type_rules.specs.Attributes.{has, any_intent, is_derived, is_deferred, is_open, is_twice, conflicts}
 use Rattle.f3_type_rules.specs.Finals.{is_explicit}

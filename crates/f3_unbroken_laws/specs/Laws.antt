@@ -1,5 +1,5 @@
 -- What breaks no rule is pure.
-use Rattle.std.specs.Prelude.{◌≡◌, ℕ, Bool, false, ◌||◌, List, slice_get}
+use Rattle.std.specs.Prelude.{ℕ, Bool, false, ◌||◌, List, slice_get}
 use Rattle.std.specs.List.{flat_map}
 use Rattle.f3_lookups.specs.declared.lookup.Lookup.{Lookup}
 use Rattle.f3_tree.specs.Tree.{ProcedureTree, UnitTree, Tree}
