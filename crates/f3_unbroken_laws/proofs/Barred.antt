@@ -161,7 +161,7 @@ static_home us v h =
 
 module _ (t : Tree) (look : ℕ → ℕ → Lookup) (u : Numbered) (m : Member) (home : IsHome (units_of t) (of_member u m))
     (unsaved : (d : DeclarationTree) (x : EntityTree) → IsAmong ((m.tree).part).specifications (declares d) → IsAmong d.entities x
-        → not (has parameter d) ≡ true → (has save d || is_given x.initial) ≡ false) where
+    → not (has parameter d) ≡ true → (has save d || is_given x.initial) ≡ false) where
   -- where the name of a variable that lives for the whole run stands
   record IsLasting (e : ℕ) : Type 0 where
     variable_is : Variable
@@ -254,7 +254,7 @@ outside_back scopes site x (Some h) rows = go (is_construct (slice_get scopes h.
 
 module _ (t : Tree) (look : ℕ → ℕ → Lookup) (order : List ℕ) (p : Program) (u : Numbered) (m : Member) (home : IsHome (units_of t) (of_member u m))
     (unsaved : (d : DeclarationTree) (x : EntityTree) → IsAmong ((m.tree).part).specifications (declares d) → IsAmong d.entities x
-        → not (has parameter d) ≡ true → (has save d || is_given x.initial) ≡ false) where
+    → not (has parameter d) ≡ true → (has save d || is_given x.initial) ≡ false) where
   abbrev w : Whole
   w = whole_of t look order
 

@@ -218,8 +218,8 @@ module _ (t : Tree) (look : ℕ → ℕ → Lookup) (order : List ℕ) (ordered 
       variables = variables_harmless;
       names =
           each_at (EndsWell ends_well) (names_of q.dummies.items) (λ i l at.
-              let (y, at_y, is) = from_mapped lendable q.dummies.items i l at in
-              subst (EndsWell ends_well) is (dummy_ends i y at_y));
+          let (y, at_y, is) = from_mapped lendable q.dummies.items i l at in
+          subst (EndsWell ends_well) is (dummy_ends i y at_y));
     }
 
     -- the locals stand first
