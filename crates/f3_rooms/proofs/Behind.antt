@@ -120,7 +120,7 @@ module _ (ts : List Shape) (m : Live) (block i : ℕ) (z : ℤ) where
       ∙ ap (λ vs. variable ts m d b o (first hs) ∷ vs) (values_clear ds b (o + room ts d) (others hs) (λ k. ways (suc k)))
 
   variables_clear : (ds : List Declared) (b o : ℕ) (hs : Row) → Ways ds b o hs → AreVariables ts m ds b o hs → AreVariables ts now ds b o hs
-  variables_clear [] b o hs ways are = tt
+  variables_clear [] b o hs ways are = are
   variables_clear (d ∷ ds) b o hs ways are =
       let s : Shape = shape_in ts d.kind.of in
       let c = head_clear d ds b o hs ways in

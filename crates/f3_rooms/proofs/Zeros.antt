@@ -79,14 +79,14 @@ variables_alike ts m (d ∷ ds) b o p z =
 
 module _ (m : Live) (n : ℕ) (P : Fact) (holds : (b o : ℕ) → AreZeros m b o n → P b o Empty) where
   each_bare : (k b o : ℕ) → AreZeros m b o (k * n) → Each k n P b o end
-  each_bare zero b o z = tt
+  each_bare zero b o z = refl
   each_bare (suc k) b o z =
       let y : AreZeros m b o (n + k * n) = zeros_many m b o k n z in
       (holds b o (zeros_front m b o n (k * n) y), each_bare k b (o + n) (zeros_behind m b o n (k * n) y))
 
   laid_bare : (rank : ℕ) (ss : List Span) (b o : ℕ) → AreZeros m b o (laid_words rank ss n) → AreLaid rank ss n P b o Empty
   laid_bare zero ss b o z = holds b o z
-  laid_bare (suc rank) ss b o z = each_bare (count ss) b o z
+  laid_bare (suc rank) ss b o z = (tt, each_bare (count ss) b o z)
 
   form_bare : (form : Form) (b o : ℕ) → AreZeros m b o (form_words form n) → IsForm m form n P b o Empty
   form_bare (Laid rank ss) b o z = laid_bare rank ss b o z
@@ -96,10 +96,10 @@ mutual
   object_bare : (m : Live) (s : Shape) (b o : ℕ) → AreZeros m b o (words_for s) → IsObject m s b o Empty
   object_bare m Whole b o z = refl
   object_bare m Logical b o z = refl
-  object_bare m (Record t parts) b o z = components_bare m parts b o z
+  object_bare m (Record t parts) b o z = (tt, components_bare m parts b o z)
 
   components_bare : (m : Live) (parts : Parts) (b o : ℕ) → AreZeros m b o (words_for_parts parts) → AreComponents m parts b o end
-  components_bare m nothing b o z = tt
+  components_bare m nothing b o z = refl
   components_bare m (and c s rest) b o z =
       let k : ℕ = form_words (form_of c.declared) (words_for s) in
       let j : ℕ = words_for_parts rest in
@@ -107,7 +107,7 @@ mutual
       components_bare m rest b (o + k) (zeros_behind m b o k j z))
 
 variables_bare : (ts : List Shape) (m : Live) (ds : List Declared) (b o : ℕ) → AreZeros m b o (total ts ds) → AreVariables ts m ds b o end
-variables_bare ts m [] b o z = tt
+variables_bare ts m [] b o z = refl
 variables_bare ts m (d ∷ ds) b o z =
     let s : Shape = shape_in ts d.kind.of in
     (form_bare m (words_for s) (IsObject m s) (object_bare m s) (form_of d) b o (zeros_front m b o (room ts d) (total ts ds) z),
