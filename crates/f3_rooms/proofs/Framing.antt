@@ -59,7 +59,7 @@ kept_front m n bs cs = kept_fewer m n (bs ++ cs) bs (λ q. let e = times_append 
 pub kept_back : (m n : Live) (bs cs : List ℕ) → Kept m n (bs ++ cs) → Kept m n cs
 kept_back m n bs cs = kept_fewer m n (bs ++ cs) cs (λ q. let e = times_append q bs cs in omega arith)
 
-one_here : (q : ℕ) (bs : List ℕ) → 0 < times q (q ∷ bs)
+pub one_here : (q : ℕ) (bs : List ℕ) → 0 < times q (q ∷ bs)
 one_here q bs = let e : times q (q ∷ []) ≡ 1 = rw (eq-eqb q q refl) refl in omega arith
 
 pub kept_here : (m n : Live) (b : ℕ) (bs : List ℕ) → Kept m n (b ∷ bs) → Steady m n b
