@@ -24,7 +24,7 @@ times_part q hs (suc k) = let e = times_row q hs in let i = times_part q (others
 pub one_more : (q b : ℕ) (bs : List ℕ) → q ≡ b → times q (b ∷ bs) ≡ 1 + times q bs
 one_more q b bs e = let one : times q (b ∷ []) ≡ 1 = rw (eq-eqb q b e) refl in omega arith
 
-room_for : (k w i : ℕ) → i < k → i * w + w ≤ k * w
+pub room_for : (k w i : ℕ) → i < k → i * w + w ≤ k * w
 room_for zero w i lt = absurd (omega arith)
 room_for (suc k) w zero lt = omega arith
 room_for (suc k) w (suc i) lt = let e = room_for k w i (omega arith) in omega arith
@@ -64,7 +64,7 @@ inside_owned f b o k bs inside = record {
 }
 
 module _ (f : Found) where
-  wider : (b o k p l : ℕ) (bs cs : List ℕ) → p ≤ o → o + k ≤ p + l → ((q : ℕ) → times q bs ≤ times q cs) → IsInside f b o k bs → IsInside f b p l cs
+  pub wider : (b o k p l : ℕ) (bs cs : List ℕ) → p ≤ o → o + k ≤ p + l → ((q : ℕ) → times q bs ≤ times q cs) → IsInside f b o k bs → IsInside f b p l cs
   wider b o k p l bs cs low high few inside = record {
     counted = λ q. let e = few q in let g = inside.counted q in omega arith;
     placed = elim inside.placed [
