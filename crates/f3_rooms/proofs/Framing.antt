@@ -1,6 +1,7 @@
 -- What an object is depends on the words of its own stretch of a block, and on the blocks that are held in it.
 use Rattle.std.proofs.Common.{◌≡◌, ℕ, zero, suc, ◌+◌, ◌*◌, ◌<◌, ◌≤◌, List, [], ◌∷◌, ◌++◌, length, refl, sym, ap, ◌∙◌, arith}
 use Rattle.std.proofs.lemmas.Bool.{eq-eqb}
+use Rattle.std.specs.Prelude.{map}
 use Rattle.f3_program.specs.declared.declarations.Declared.{Declared}
 use Rattle.f3_heap_laws.specs.Blocks.{Live, IsLive, words_of}
 use Rattle.f3_meaning_whole.specs.Value.{Span, Value, Truth, Number, Composite, Array, Allocated, Values, more, joined, count}
@@ -226,6 +227,12 @@ module _ (ts : List Shape) (m n : Live) where
   level_persists [] kept has = has
   level_persists (s ∷ ss) kept has =
       (slot_persists s (kept_front m n (slot_blocks s) (level_blocks ss) kept) has.0, level_persists ss (kept_back m n (slot_blocks s) (level_blocks ss) kept) has.1)
+
+  pub levels_stay : (ls : List (List Slot)) → Kept m n (levels_blocks ls) → map (level_values ts n) ls ≡ map (level_values ts m) ls
+  levels_stay [] kept = refl
+  levels_stay (l ∷ ls) kept =
+      ap (λ vs. vs ∷ map (level_values ts n) ls) (level_stays l (kept_front m n (level_blocks l) (levels_blocks ls) kept))
+      ∙ ap (λ vs. level_values ts m l ∷ vs) (levels_stay ls (kept_back m n (level_blocks l) (levels_blocks ls) kept))
 
   pub levels_persist : (ls : List (List Slot)) → Kept m n (levels_blocks ls) → AreLevels ts m ls → AreLevels ts n ls
   levels_persist [] kept has = has
