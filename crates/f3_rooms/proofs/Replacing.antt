@@ -1,24 +1,24 @@
 -- A part of a variable becomes another: that alone changes.
-use Rattle.std.proofs.Common.{◌≡◌, ◌≢◌, inl, inr, ℕ, zero, suc, ◌+◌, ◌*◌, ◌-◌, ◌<◌, ◌≤◌, Bool, true, false, List, [], ◌∷◌, ◌++◌, length, refl, sym, ap, subst, ◌∙◌, arith}
-use Rattle.std.proofs.lemmas.Bool.{ltb-true, ltb-false, cases_eq}
-use Rattle.std.specs.Prelude.{◌⊎◌, Option, None, Some, nat_lt, if◌then◌else◌, slice_index_or, slice_set, map}
+use Rattle.std.proofs.Common.{◌≡◌, ◌≢◌, inl, inr, ℕ, zero, suc, ◌+◌, ◌*◌, ◌<◌, ◌≤◌, Bool, true, false, List, [], ◌∷◌, length, refl, sym, ap, subst, ◌∙◌, arith}
+use Rattle.std.proofs.lemmas.Bool.{ltb-true}
+use Rattle.std.specs.Prelude.{◌⊎◌, None, Some, nat_lt, if◌then◌else◌, slice_index_or, slice_set}
 use Rattle.f3_program.specs.declared.declarations.Base.{Base}
 use Rattle.f3_program.specs.declared.declarations.Declared.{Declared}
 use Rattle.f3_heap_laws.specs.Blocks.{Live, IsLive, words_of}
-use Rattle.f3_meaning_whole.specs.Value.{Span, Value, Values, Composite, Array, Unallocated, Allocated, more, joined, count}
+use Rattle.f3_meaning_whole.specs.Value.{Span, Value, Composite, Array, Unallocated, Allocated, more, joined, count}
 use Rattle.f3_meaning_whole.specs.Shape.{Shape, Whole, Logical, Record, Parts, nothing, and, shape_in}
-use Rattle.f3_meaning_whole.specs.Store.{Root, Static, Local, Step, Component, Element, Contents, part, with_part}
+use Rattle.f3_meaning_whole.specs.Store.{Step, Component, Element, Contents, with_part}
 use Rattle.f3_meaning_whole.specs.Store.{with_part_at as with_value_part}
-use Rattle.f3_rooms.specs.Held.{Held, Row, Empty, Holds, Parts as Divided, parts_of, first, others, part_at, with_part_at, with_held, next, blocks_in, blocks_in_all, times}
+use Rattle.f3_rooms.specs.Held.{Held, Row, Empty, Holds, Parts as Divided, parts_of, first, others, part_at, with_part_at, with_held, blocks_in, blocks_in_all, times}
 use Rattle.f3_rooms.specs.Forms.{Form, Laid, Allocatable, form_of, form_words, laid_words, words_for, words_for_parts, room, total}
 use Rattle.f3_rooms.specs.Values.{word, elements, laid, formed, object, components, variable, variables}
 use Rattle.f3_rooms.specs.Places.{Found, value_at, Onward, in_laid, in_form, in_object, in_component, in_variables}
 use Rattle.f3_rooms.specs.Sound.{Fact, Each, AreLaid, IsForm, IsObject, AreComponents, AreVariables}
 use Rattle.f3_rooms.specs.Laws.{with_held_in}
-use Rattle.f3_rooms.proofs.Framing.{times_append, times_row, times_parts, Steady, Kept, Same, Reading, bounds_persist, elements_stay, components_stay, variables_stay, formed_stays, object_stays}
+use Rattle.f3_rooms.proofs.Framing.{times_append, times_row, times_parts, Kept, Same, Reading, bounds_persist, elements_stay, components_stay, variables_stay, formed_stays, object_stays}
 use Rattle.f3_rooms.proofs.Framing.{each_persists, components_persist, variables_persist, form_persists, object_persists}
 use Rattle.f3_rooms.proofs.Reading.{one_found, none_found}
-use Rattle.f3_rooms.proofs.Within.{times_part, one_more, size_of, IsPlaced, IsInside, IsOwned, inside_owned, wider, laid_inside, form_inside, object_inside, component_inside, variables_inside}
+use Rattle.f3_rooms.proofs.Within.{times_part, one_more, size_of, IsInside, IsOwned, inside_owned, wider, laid_inside, form_inside, object_inside, component_inside, variables_inside}
 
 module _ (m n : Live) (f : Found) (u : Held) where
   -- of blocks of a store: those that are not held in the part are as they were, but for the words of the part itself

@@ -1,20 +1,20 @@
 -- A part of a variable of a store becomes another: that alone changes.
-use Rattle.std.proofs.Common.{◌≡◌, inl, inr, ℕ, zero, suc, ◌+◌, ◌-◌, ◌<◌, ◌≤◌, Bool, true, false, List, [], ◌∷◌, ◌++◌, length, refl, sym, ap, subst, ◌∙◌, arith}
+use Rattle.std.proofs.Common.{◌≡◌, ℕ, zero, suc, ◌+◌, ◌-◌, ◌<◌, ◌≤◌, Bool, true, false, List, [], ◌∷◌, ◌++◌, length, refl, sym, ap, subst, ◌∙◌, arith}
 use Rattle.std.proofs.lemmas.Bool.{ltb-true, ltb-false}
-use Rattle.std.specs.Prelude.{◌⊎◌, Option, None, Some, nat_lt, if◌then◌else◌, slice_index_or, slice_set, map}
-use Rattle.f3_heap_laws.specs.Blocks.{Live, IsLive, words_of}
+use Rattle.std.specs.Prelude.{Some, nat_lt, if◌then◌else◌, slice_index_or, slice_set, map}
+use Rattle.f3_heap_laws.specs.Blocks.{Live, words_of}
 use Rattle.f3_meaning_whole.specs.Value.{Value, Unallocated}
 use Rattle.f3_meaning_whole.specs.Shape.{Shape}
-use Rattle.f3_meaning_whole.specs.Store.{Store, Root, Static, Local, Step, part, with_part}
-use Rattle.f3_rooms.specs.Held.{Held, Row, blocks_in, blocks_in_all, times}
+use Rattle.f3_meaning_whole.specs.Store.{Store, Static, Local, Step, with_part}
+use Rattle.f3_rooms.specs.Held.{Held, blocks_in, blocks_in_all, times}
 use Rattle.f3_rooms.specs.Forms.{total}
-use Rattle.f3_rooms.specs.Rooms.{Room, Slot, Known, Stands, Rooms, room_values, level_values, store_of, room_blocks, level_blocks, levels_blocks, blocks_of}
+use Rattle.f3_rooms.specs.Rooms.{Room, Slot, Known, Stands, Rooms, room_values, level_values, room_blocks, level_blocks, levels_blocks, blocks_of}
 use Rattle.f3_rooms.specs.Places.{Found, in_room, in_level, found, room_with, level_with, rooms_with}
 use Rattle.f3_rooms.specs.Sound.{IsRoom, IsLevel, AreLevels, IsSound}
 use Rattle.f3_rooms.specs.Laws.{Replaces, IsReplaced, PartsAreReplaced}
 use Rattle.f3_rooms.proofs.Framing.{times_append, Kept, room_persists, level_stays, level_persists, levels_stay, levels_persist, room_stays}
 use Rattle.f3_rooms.proofs.Reading.{none_found, variables_count, among, behind, level_is}
-use Rattle.f3_rooms.proofs.Within.{one_more, IsOwned, owned_more, variables_inside, room_owns, level_owns, times_level, level_sound}
+use Rattle.f3_rooms.proofs.Within.{one_more, IsOwned, owned_more, variables_inside, room_owns, level_owns, times_level}
 use Rattle.f3_rooms.proofs.Replacing.{IsOpen, open_fewer, kept_beside, now, new_value, Turned, variables_turn}
 
 -- ---- lists of values
