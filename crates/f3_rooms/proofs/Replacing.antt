@@ -24,7 +24,7 @@ module _ (m n : Live) (f : Found) (u : Held) where
   -- of blocks of a store: those that are not held in the part are as they were, but for the words of the part itself
   pub record IsOpen (bs : List ℕ) : Type 0 where
     pub apart : (q : ℕ) → times q bs ≤ 1
-    pub live : (b : ℕ) → times b (blocks_in f.held) < times b bs → IsLive n b × (length (words_of n b) ≡ length (words_of m b))
+    pub live : (b : ℕ) → times b (blocks_in f.held) < times b bs → (IsLive m b → IsLive n b) × (length (words_of n b) ≡ length (words_of m b))
     pub same : (b i : ℕ) → times b (blocks_in f.held) < times b bs → (b ≡ f.block → (i < f.at) ⊎ (f.at + size_of f ≤ i)) → word n b i ≡ word m b i
     pub form : IsForm n f.form (words_for f.shape) (IsObject n f.shape) f.block f.at u
 
@@ -43,7 +43,7 @@ module _ (m n : Live) (f : Found) (u : Held) where
       let g = own.counted q in
       let less : times q (blocks_in f.held) < times q all = omega arith in
       let ne : q ≢ f.block = λ e. none (subst (λ b. times b (blocks_in f.held) < times b bs) (sym e) own.block) lt c one in
-      record { live = λ l. (o.live q less).0; long = (o.live q less).1; same = λ i. o.same q i less (λ e. absurd (ne e)) }
+      record { live = (o.live q less).0; long = (o.live q less).1; same = λ i. o.same q i less (λ e. absurd (ne e)) }
     where
       none : times q (blocks_in f.held) < times q bs → 0 < times q cs → times q bs + times q cs ≤ times q all → times q all ≤ 1 → ⊥
       none a b c d = omega arith
@@ -202,7 +202,7 @@ module _ (m n : Live) (f : Found) (u : Held) where
             named = has.named;
             bounds = bounds_persist m n b (o + 1) ss (λ i low high. same i (omega arith) (omega arith)) has.bounds;
             ranked = has.ranked;
-            live = own.0;
+            live = own.0 has.live;
             words = own.1 ∙ has.words;
             within = t.sound;
           };

@@ -64,7 +64,7 @@ module _ (ts : List Shape) (m n : Live) (f : Found) (u : Held) where
       let same : length (words_of n r.block) ≡ length (words_of m r.block) = l.1 in
       record {
         value = t.value;
-        sound = record { live = l.0; long = omega arith; variables = t.sound };
+        sound = record { live = l.0 has.live; long = omega arith; variables = t.sound };
         found = t.found;
         counted = λ q. let d = t.counted q in omega arith;
       }
