@@ -155,7 +155,7 @@ module _ (ts : List Shape) (m n : Live) (f : Found) (u : Held) where
   -- ---- the store
 
   whole : (x : Rooms) → IsSound ts m x → Replaces m n x f u → IsOpen m n f u (blocks_of x)
-  whole x sound r = record { apart = sound.apart; live = r.live; same = r.same; form = r.form }
+  whole x sound r = record { apart = sound.apart; live = λ b lt. (λ was. (r.live b lt).0, (r.live b lt).1); same = r.same; form = r.form }
 
   once : (x y : Rooms) → IsSound ts m x → Replaces m n x f u → ((q : ℕ) → times q (blocks_of y) + times q (blocks_in f.held) ≤ times q (blocks_of x) + times q (blocks_in u))
       → (q : ℕ) → times q (blocks_of y) ≤ 1

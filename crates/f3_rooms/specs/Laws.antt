@@ -37,7 +37,7 @@ PartsAreWithin = (ts : List Shape) (m : Live) (x : Rooms) → IsSound ts m x →
 -- A part of a variable becomes another: its words, and what is held in it, which is now this. All other words of variables stay, and new
 -- blocks are of no other part.
 pub record Replaces (m n : Live) (x : Rooms) (f : Found) (u : Held) : Type 0 where
-  pub live : (b : ℕ) → times b (blocks_in f.held) < times b (blocks_of x) → (IsLive m b → IsLive n b) × (length (words_of n b) ≡ length (words_of m b))
+  pub live : (b : ℕ) → times b (blocks_in f.held) < times b (blocks_of x) → IsLive n b × (length (words_of n b) ≡ length (words_of m b))
   pub same : (b i : ℕ) → times b (blocks_in f.held) < times b (blocks_of x) → (b ≡ f.block → (i < f.at) ⊎ (f.at + form_words f.form (words_for f.shape) ≤ i))
       → word n b i ≡ word m b i
   pub form : IsForm n f.form (words_for f.shape) (IsObject n f.shape) f.block f.at u
