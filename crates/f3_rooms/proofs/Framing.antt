@@ -141,7 +141,7 @@ module _ (m n : Live) where
 
   pub laid_persist : (rank : ℕ) (ss : List Span) (w : ℕ) (P Q : Fact) → Persists w P Q → Persists (laid_words rank ss w) (AreLaid rank ss w P) (AreLaid rank ss w Q)
   laid_persist zero ss w P Q stays b o h same kept has = stays b o h same kept has
-  laid_persist (suc rank) ss w P Q stays b o h same kept has = each_persists (count ss) w P Q stays b o (parts_of h) same (kept_parts m n h kept) has
+  laid_persist (suc rank) ss w P Q stays b o h same kept has = (has.0, each_persists (count ss) w P Q stays b o (parts_of h) same (kept_parts m n h kept) has.1)
 
   pub bounds_persist : (b o : ℕ) (ss : List Span) → Same m n b o (2 * length ss) → TellBounds m b o ss → TellBounds n b o ss
   bounds_persist b o [] same has = has
@@ -173,7 +173,7 @@ module _ (m n : Live) where
     pub object_persists : (s : Shape) → Persists (words_for s) (IsObject m s) (IsObject n s)
     object_persists Whole b o h same kept has = has
     object_persists Logical b o h same kept has = has
-    object_persists (Record t parts) b o h same kept has = components_persist parts b o (parts_of h) same (kept_parts m n h kept) has
+    object_persists (Record t parts) b o h same kept has = (has.0, components_persist parts b o (parts_of h) same (kept_parts m n h kept) has.1)
 
     pub components_persist : (parts : Parts) (b o : ℕ) (hs : Row) → Same m n b o (words_for_parts parts) → Kept m n (blocks_in_all hs)
         → AreComponents m parts b o hs → AreComponents n parts b o hs

@@ -1,7 +1,7 @@
 -- A part of a variable becomes another: that alone changes.
 use Rattle.std.proofs.Common.{◌≡◌, ◌≢◌, inl, inr, ℕ, zero, suc, ◌+◌, ◌*◌, ◌<◌, ◌≤◌, Bool, true, false, List, [], ◌∷◌, length, refl, sym, ap, subst, ◌∙◌, arith}
 use Rattle.std.proofs.lemmas.Bool.{ltb-true}
-use Rattle.std.specs.Prelude.{◌⊎◌, None, Some, nat_lt, if◌then◌else◌, slice_index_or, slice_set}
+use Rattle.std.specs.Prelude.{⊤, ◌⊎◌, None, Some, nat_lt, if◌then◌else◌, slice_index_or, slice_set}
 use Rattle.f3_program.specs.declared.declarations.Base.{Base}
 use Rattle.f3_program.specs.declared.declarations.Declared.{Declared}
 use Rattle.f3_heap_laws.specs.Blocks.{Live, IsLive, words_of}
@@ -162,16 +162,16 @@ module _ (m n : Live) (f : Found) (u : Held) where
       where
         by : (t : Bool) → nat_lt k (count ss) ≡ t → (if t then in_object s of b (o + k * w) (part_at (parts_of h) k) way else None) ≡ Some f
             → Turned (Array ss (joined (elements (count ss) w (object n s) b o (row_with (parts_of h) k way))) ≡ Array ss (with_value_part (joined (elements (count ss) w (object m s) b o (parts_of h))) k way new_value))
-            (Each (count ss) w (IsObject n s) b o (row_with (parts_of h) k way))
+            (⊤ × Each (count ss) w (IsObject n s) b o (row_with (parts_of h) k way))
             ((if nat_lt k (count ss) then in_object s of b (o + k * w) (part_at (row_with (parts_of h) k way) k) way else None) ≡ Some now)
             (blocks_in h) (blocks_in_all (row_with (parts_of h) k way))
         by false t e = none_found f e
         by true t e =
-            let r = elements_turn (count ss) b o (parts_of h) k way (ltb-true k (count ss) t) e has
+            let r = elements_turn (count ss) b o (parts_of h) k way (ltb-true k (count ss) t) e has.1
             (open_fewer (b ∷ blocks_in h) (b ∷ blocks_in_all (parts_of h)) (λ q. let p = times_parts q h in omega arith) opened) in
             record {
               value = ap (Array ss) r.value;
-              sound = r.sound;
+              sound = (tt, r.sound);
               found = ap (λ c. if c then in_object s of b (o + k * w) (part_at (row_with (parts_of h) k way) k) way else None) t ∙ r.found;
               counted = λ q. let c = r.counted q in let p = times_parts q h in omega arith;
             }
@@ -216,9 +216,9 @@ module _ (m n : Live) (f : Found) (u : Held) where
     pub object_turns : (s : Shape) (of : Base) → Turns (in_object s of) (object m s) (object n s) (IsObject m s) (IsObject n s)
     object_turns s of b o h [] e has opened = turns_here _ (one_found _ f e) opened
     object_turns (Record t parts) of b o h (Component k ∷ way) e has opened =
-        let r = components_turn parts b o (parts_of h) k way e has
+        let r = components_turn parts b o (parts_of h) k way e has.1
         (open_fewer (b ∷ blocks_in h) (b ∷ blocks_in_all (parts_of h)) (λ q. let p = times_parts q h in omega arith) opened) in
-        record { value = ap Composite r.value; sound = r.sound; found = r.found; counted = λ q. let c = r.counted q in let p = times_parts q h in omega arith }
+        record { value = ap Composite r.value; sound = (tt, r.sound); found = r.found; counted = λ q. let c = r.counted q in let p = times_parts q h in omega arith }
     object_turns (Record t parts) of b o h (Element k ∷ way) e has opened = none_found f e
     object_turns (Record t parts) of b o h (Contents ∷ way) e has opened = none_found f e
     object_turns Whole of b o h (step ∷ way) e has opened = none_found f e

@@ -15,6 +15,7 @@ use Rattle.f3_rooms.specs.Laws.{path_at, Replaces, IsReplaced, IsPut, ScalarsAre
 use Rattle.f3_rooms.proofs.Reading.{parts_are_found}
 use Rattle.f3_rooms.proofs.Within.{size_of, store_owns, part_lies}
 use Rattle.f3_rooms.proofs.Stores.{parts_are_replaced}
+use Rattle.f3_rooms.proofs.Living.{all_live}
 use Rattle.f3_rooms.proofs.Unmoved.{store_unmoved}
 use Rattle.f3_rooms.proofs.Words.{put_live, put_long, put_there, put_apart}
 
@@ -54,7 +55,7 @@ module _ (ts : List Shape) (m : Live) (x : Rooms) (sound : IsSound ts m x) (r : 
   replaces =
       let size = scalar_size f scalar in
       record {
-        live = λ b lt. (put_live m f.block f.at z b, put_long m f.block f.at z b);
+        live = λ b lt. (put_live m f.block f.at z b (all_live ts m x sound b (omega arith)), put_long m f.block f.at z b);
         same = λ b i lt aside. put_apart m f.block f.at z b i (λ e is. elim (aside e) [ inl before ↦ omega arith | inr after ↦ omega arith ]);
         form = scalar_form f scalar m n (part_lies ts m x sound r way f at).form;
         once = λ q. let c = (store_owns ts x r way f at).counted q in let one = sound.apart q in omega arith;
@@ -64,7 +65,7 @@ module _ (ts : List Shape) (m : Live) (x : Rooms) (sound : IsSound ts m x) (r : 
   is_put : IsPut ts m x r way f z
   is_put =
       let t = parts_are_replaced ts m n x sound r way f at f.held replaces in
-      let same = store_unmoved ts n x r way f at in
+      let same = store_unmoved ts m n x sound r way f at in
       let lies = part_lies ts m x sound r way f at in
       let within : f.at + size_of f ≤ length (words_of m f.block) = lies.within in
       let size = scalar_size f scalar in

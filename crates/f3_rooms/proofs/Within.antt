@@ -215,7 +215,7 @@ module _ (m : Live) (f : Found) where
         by true t e =
             let few = room_for (count ss) (words_for s) k (ltb-true k (count ss) t) in
             lies b (o + k * words_for s) (part_at (parts_of h) k) way e live (omega arith)
-            (each_at (count ss) (words_for s) (IsObject m s) b o (parts_of h) k (ltb-true k (count ss) t) has)
+            (each_at (count ss) (words_for s) (IsObject m s) b o (parts_of h) k (ltb-true k (count ss) t) has.1)
 
     form_lies : (form : Form) → Lies (form_words form (words_for s)) (in_form form s of (in_object s of)) (IsForm m form (words_for s) (IsObject m s))
     form_lies (Laid rank ss) b o h way e live long has = laid_lies rank ss b o h way e live long has
@@ -231,7 +231,7 @@ module _ (m : Live) (f : Found) where
   mutual
     object_lies : (s : Shape) (of : Base) → Lies (words_for s) (in_object s of) (IsObject m s)
     object_lies s of b o h [] e live long has = lies_here _ (one_found _ f e) live long has
-    object_lies (Record t parts) of b o h (Component k ∷ way) e live long has = component_lies parts b o (parts_of h) k way e live long has
+    object_lies (Record t parts) of b o h (Component k ∷ way) e live long has = component_lies parts b o (parts_of h) k way e live long has.1
     object_lies (Record t parts) of b o h (Element k ∷ way) e live long has = none_found f e
     object_lies (Record t parts) of b o h (Contents ∷ way) e live long has = none_found f e
     object_lies Whole of b o h (step ∷ way) e live long has = none_found f e

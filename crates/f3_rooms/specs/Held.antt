@@ -1,6 +1,6 @@
 -- What allocatables hold, in a variable and beneath it (ISO/IEC 1539-1:2004, 6.3).
 use Rattle.std.proofs.Common.{zero, suc}
-use Rattle.std.specs.Prelude.{ℕ, ◌+◌, nat_eq, if◌then◌else◌, List, [], ◌∷◌, ◌++◌}
+use Rattle.std.specs.Prelude.{⊤, ℕ, ◌+◌, nat_eq, if◌then◌else◌, List, [], ◌∷◌, ◌++◌}
 use Rattle.f3_meaning_whole.specs.Value.{Span}
 use Rattle.f3_meaning_whole.specs.Store.{Step, Component, Element, Contents}
 
@@ -20,6 +20,12 @@ abbrev pub parts_of : Held → Row
 parts_of (Parts hs) = hs
 parts_of Empty = end
 parts_of (Holds c ss h) = end
+
+-- what is no allocatable holds nothing, or has parts that do
+abbrev pub IsDivided : Held → Type 0
+IsDivided Empty = ⊤
+IsDivided (Holds c ss h) = ⊥
+IsDivided (Parts hs) = ⊤
 
 abbrev pub first : Row → Held
 first end = Empty

@@ -5,7 +5,7 @@ use Rattle.f3_program.specs.declared.declarations.Declared.{Declared}
 use Rattle.f3_heap_laws.specs.Blocks.{Live, IsLive, words_of}
 use Rattle.f3_meaning_whole.specs.Value.{Span, count}
 use Rattle.f3_meaning_whole.specs.Shape.{Shape, Whole, Logical, Record, Parts, nothing, and, shape_in}
-use Rattle.f3_rooms.specs.Held.{Held, Row, Empty, Holds, Parts as Divided, parts_of, first, others, times}
+use Rattle.f3_rooms.specs.Held.{Held, Row, Empty, Holds, Parts as Divided, end, IsDivided, parts_of, first, others, times}
 use Rattle.f3_rooms.specs.Forms.{Form, Laid, Allocatable, form_of, form_words, laid_words, words_for, room, total}
 use Rattle.f3_rooms.specs.Values.{word}
 use Rattle.f3_rooms.specs.Rooms.{Room, Slot, Known, Stands, Rooms, blocks_of}
@@ -14,14 +14,14 @@ use Rattle.f3_rooms.specs.Rooms.{Room, Slot, Known, Stands, Rooms, blocks_of}
 abbrev pub Fact : Type 1
 Fact = ℕ → ℕ → Held → Type 0
 
--- so many objects, one behind another
+-- so many objects, one behind another, and nothing is held behind the last
 abbrev pub Each : ℕ → ℕ → Fact → ℕ → ℕ → Row → Type 0
-Each zero n P b o hs = ⊤
+Each zero n P b o hs = hs ≡ end
 Each (suc k) n P b o hs = P b o (first hs) × Each k n P b (o + n) (others hs)
 
 abbrev pub AreLaid : ℕ → List Span → ℕ → Fact → ℕ → ℕ → Held → Type 0
 AreLaid zero ss n P b o h = P b o h
-AreLaid (suc rank) ss n P b o h = Each (count ss) n P b o (parts_of h)
+AreLaid (suc rank) ss n P b o h = IsDivided h × Each (count ss) n P b o (parts_of h)
 
 -- the words from a place on tell of these bounds: of each dimension its lower bound and its extent
 abbrev pub TellBounds : Live → ℕ → ℕ → List Span → Type 0
@@ -52,16 +52,16 @@ abbrev mutual
   pub IsObject : Live → Shape → ℕ → ℕ → Held → Type 0
   IsObject m Whole b o h = h ≡ Empty
   IsObject m Logical b o h = h ≡ Empty
-  IsObject m (Record t parts) b o h = AreComponents m parts b o (parts_of h)
+  IsObject m (Record t parts) b o h = IsDivided h × AreComponents m parts b o (parts_of h)
 
   pub AreComponents : Live → Parts → ℕ → ℕ → Row → Type 0
-  AreComponents m nothing b o hs = ⊤
+  AreComponents m nothing b o hs = hs ≡ end
   AreComponents m (and c s rest) b o hs =
       IsForm m (form_of c.declared) (words_for s) (IsObject m s) b o (first hs)
       × AreComponents m rest b (o + form_words (form_of c.declared) (words_for s)) (others hs)
 
 abbrev pub AreVariables : List Shape → Live → List Declared → ℕ → ℕ → Row → Type 0
-AreVariables ts m [] b o hs = ⊤
+AreVariables ts m [] b o hs = hs ≡ end
 AreVariables ts m (d ∷ ds) b o hs =
     IsForm m (form_of d) (words_for (shape_in ts d.kind.of)) (IsObject m (shape_in ts d.kind.of)) b o (first hs)
     × AreVariables ts m ds b (o + room ts d) (others hs)
