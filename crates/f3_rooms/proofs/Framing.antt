@@ -1,15 +1,16 @@
 -- What an object is depends on the words of its own stretch of a block, and on the blocks that are held in it.
-use Rattle.std.proofs.Common.{◌≡◌, ℕ, zero, suc, ◌+◌, ◌*◌, ◌<◌, ◌≤◌, List, [], ◌∷◌, ◌++◌, length, refl, sym, ap, ◌∙◌, arith}
+use Rattle.std.proofs.Common.{◌≡◌, ℕ, zero, suc, ◌+◌, ◌*◌, ◌<◌, ◌≤◌, List, [], ◌∷◌, ◌++◌, length, refl, ap, ◌∙◌, arith}
 use Rattle.std.proofs.lemmas.Bool.{eq-eqb}
+use Rattle.std.specs.Prelude.{map}
 use Rattle.f3_program.specs.declared.declarations.Declared.{Declared}
 use Rattle.f3_heap_laws.specs.Blocks.{Live, IsLive, words_of}
-use Rattle.f3_meaning_whole.specs.Value.{Span, Value, Truth, Number, Composite, Array, Allocated, Values, more, joined, count}
+use Rattle.f3_meaning_whole.specs.Value.{Span, Value, Truth, Number, Composite, Array, Allocated, more, joined, count}
 use Rattle.f3_meaning_whole.specs.Shape.{Shape, Whole, Logical, Record, Parts, nothing, and, shape_in}
 use Rattle.f3_rooms.specs.Held.{Held, Row, Empty, Holds, Parts as Divided, end, next, parts_of, first, others, blocks_in, blocks_in_all, times}
 use Rattle.f3_rooms.specs.Forms.{Form, Laid, Allocatable, form_of, form_words, laid_words, words_for, words_for_parts, room, total}
 use Rattle.f3_rooms.specs.Values.{word, is_set, elements, laid, holding, formed, object, components, variable, variables}
 use Rattle.f3_rooms.specs.Rooms.{Room, Slot, Known, Stands, room_values, slot_values, level_values, room_blocks, slot_blocks, level_blocks, levels_blocks}
-use Rattle.f3_rooms.specs.Sound.{Fact, Each, AreLaid, TellBounds, IsAllocated, IsHolder, IsForm, IsObject, AreComponents, AreVariables, IsRoom, IsSlot, IsLevel, AreLevels}
+use Rattle.f3_rooms.specs.Sound.{Fact, Each, AreLaid, TellBounds, IsHolder, IsForm, IsObject, AreComponents, AreVariables, IsRoom, IsSlot, IsLevel, AreLevels}
 
 -- ---- counting
 
@@ -226,6 +227,12 @@ module _ (ts : List Shape) (m n : Live) where
   level_persists [] kept has = has
   level_persists (s ∷ ss) kept has =
       (slot_persists s (kept_front m n (slot_blocks s) (level_blocks ss) kept) has.0, level_persists ss (kept_back m n (slot_blocks s) (level_blocks ss) kept) has.1)
+
+  pub levels_stay : (ls : List (List Slot)) → Kept m n (levels_blocks ls) → map (level_values ts n) ls ≡ map (level_values ts m) ls
+  levels_stay [] kept = refl
+  levels_stay (l ∷ ls) kept =
+      ap (λ vs. vs ∷ map (level_values ts n) ls) (level_stays l (kept_front m n (level_blocks l) (levels_blocks ls) kept))
+      ∙ ap (λ vs. level_values ts m l ∷ vs) (levels_stay ls (kept_back m n (level_blocks l) (levels_blocks ls) kept))
 
   pub levels_persist : (ls : List (List Slot)) → Kept m n (levels_blocks ls) → AreLevels ts m ls → AreLevels ts n ls
   levels_persist [] kept has = has

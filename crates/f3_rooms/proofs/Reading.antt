@@ -7,14 +7,14 @@ use Rattle.f3_program.specs.declared.declarations.Declared.{Declared}
 use Rattle.f3_heap_laws.specs.Blocks.{Live}
 use Rattle.f3_meaning_whole.specs.Value.{Span, Value, Unallocated, joined, count}
 use Rattle.f3_meaning_whole.specs.Shape.{Shape, Whole, Logical, Record, Parts, nothing, and, shape_in}
-use Rattle.f3_meaning_whole.specs.Store.{Root, Static, Local, Step, Component, Element, Contents, part, get}
+use Rattle.f3_meaning_whole.specs.Store.{Static, Local, Step, Component, Element, Contents, part}
 use Rattle.f3_meaning_whole.specs.Store.{part_at as value_part}
 use Rattle.f3_rooms.specs.Held.{Held, Row, Empty, Holds, Parts as Divided, parts_of, first, others, part_at}
 use Rattle.f3_rooms.specs.Forms.{Form, Laid, Allocatable, form_of, form_words, words_for, room}
-use Rattle.f3_rooms.specs.Values.{elements, laid, holding, formed, object, components, variables}
-use Rattle.f3_rooms.specs.Rooms.{Room, Slot, Known, Stands, Rooms, room_values, level_values, store_of}
-use Rattle.f3_rooms.specs.Places.{Found, value_at, Onward, in_laid, in_holder, in_form, in_object, in_component, in_variables, in_room, in_level, found}
-use Rattle.f3_rooms.specs.Laws.{path_at, PartsAreFound}
+use Rattle.f3_rooms.specs.Values.{elements, laid, formed, object, components, variables}
+use Rattle.f3_rooms.specs.Rooms.{Slot, Known, Stands, room_values, level_values}
+use Rattle.f3_rooms.specs.Places.{Found, value_at, Onward, in_laid, in_form, in_object, in_component, in_variables, in_room, in_level}
+use Rattle.f3_rooms.specs.Laws.{PartsAreFound}
 use Rattle.f3_rooms.proofs.Framing.{Reading}
 
 pub one_found : (f g : Found) → Some f ≡ Some g → f ≡ g

@@ -1,7 +1,7 @@
 -- Where the words of a part lie, and what is held in it.
-use Rattle.std.proofs.Common.{◌≡◌, inl, inr, ℕ, zero, suc, ◌+◌, ◌*◌, ◌-◌, ◌<◌, ◌≤◌, Bool, true, false, List, [], ◌∷◌, ◌++◌, length, refl, sym, ap, subst, ◌∙◌, arith}
+use Rattle.std.proofs.Common.{◌≡◌, inl, inr, ℕ, zero, suc, ◌+◌, ◌*◌, ◌-◌, ◌<◌, ◌≤◌, Bool, true, false, List, [], ◌∷◌, ◌++◌, length, refl, sym, subst, arith}
 use Rattle.std.proofs.lemmas.Bool.{ltb-true, eq-eqb}
-use Rattle.std.specs.Prelude.{◌⊎◌, Option, None, Some, nat_lt, if◌then◌else◌, slice_index_or}
+use Rattle.std.specs.Prelude.{◌⊎◌, None, Some, nat_lt, if◌then◌else◌, slice_index_or}
 use Rattle.f3_program.specs.declared.declarations.Base.{Base}
 use Rattle.f3_program.specs.declared.declarations.Declared.{Declared}
 use Rattle.f3_heap_laws.specs.Blocks.{Live, IsLive, words_of}
@@ -10,11 +10,11 @@ use Rattle.f3_meaning_whole.specs.Shape.{Shape, Whole, Logical, Record, Parts, n
 use Rattle.f3_meaning_whole.specs.Store.{Root, Static, Local, Step, Component, Element, Contents}
 use Rattle.f3_rooms.specs.Held.{Held, Row, Empty, Holds, Parts as Divided, parts_of, first, others, part_at, blocks_in, blocks_in_all, times}
 use Rattle.f3_rooms.specs.Forms.{Form, Laid, Allocatable, form_of, form_words, laid_words, words_for, words_for_parts, room, total}
-use Rattle.f3_rooms.specs.Rooms.{Room, Slot, Known, Stands, Rooms, room_blocks, slot_blocks, level_blocks, levels_blocks, blocks_of}
+use Rattle.f3_rooms.specs.Rooms.{Room, Slot, Known, Stands, Rooms, room_blocks, level_blocks, levels_blocks, blocks_of}
 use Rattle.f3_rooms.specs.Places.{Found, Onward, in_laid, in_form, in_object, in_component, in_variables, in_room, in_level, found}
 use Rattle.f3_rooms.specs.Sound.{Fact, Each, AreLaid, IsForm, IsObject, AreComponents, AreVariables, IsRoom, IsLevel, AreLevels, IsSound}
 use Rattle.f3_rooms.specs.Laws.{IsWithin, PartsAreWithin}
-use Rattle.f3_rooms.proofs.Framing.{times_append, times_row, times_parts, one_here}
+use Rattle.f3_rooms.proofs.Framing.{times_append, times_row, times_parts}
 use Rattle.f3_rooms.proofs.Reading.{one_found, none_found}
 
 pub times_part : (q : ℕ) (hs : Row) (k : ℕ) → times q (blocks_in (part_at hs k)) ≤ times q (blocks_in_all hs)
@@ -24,7 +24,7 @@ times_part q hs (suc k) = let e = times_row q hs in let i = times_part q (others
 pub one_more : (q b : ℕ) (bs : List ℕ) → q ≡ b → times q (b ∷ bs) ≡ 1 + times q bs
 one_more q b bs e = let one : times q (b ∷ []) ≡ 1 = rw (eq-eqb q b e) refl in omega arith
 
-room_for : (k w i : ℕ) → i < k → i * w + w ≤ k * w
+pub room_for : (k w i : ℕ) → i < k → i * w + w ≤ k * w
 room_for zero w i lt = absurd (omega arith)
 room_for (suc k) w zero lt = omega arith
 room_for (suc k) w (suc i) lt = let e = room_for k w i (omega arith) in omega arith
@@ -64,7 +64,7 @@ inside_owned f b o k bs inside = record {
 }
 
 module _ (f : Found) where
-  wider : (b o k p l : ℕ) (bs cs : List ℕ) → p ≤ o → o + k ≤ p + l → ((q : ℕ) → times q bs ≤ times q cs) → IsInside f b o k bs → IsInside f b p l cs
+  pub wider : (b o k p l : ℕ) (bs cs : List ℕ) → p ≤ o → o + k ≤ p + l → ((q : ℕ) → times q bs ≤ times q cs) → IsInside f b o k bs → IsInside f b p l cs
   wider b o k p l bs cs low high few inside = record {
     counted = λ q. let e = few q in let g = inside.counted q in omega arith;
     placed = elim inside.placed [
