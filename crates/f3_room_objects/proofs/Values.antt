@@ -16,14 +16,14 @@ use Rattle.f3_room_objects.specs.Changes.{EqualTreesAreEqual}
 -- ---- reading
 
 -- what stands in front of items, and what is behind
-abbrev Reader : Type 0
+abbrev pub Reader : Type 0
 Reader = Items → Value × Items
 
-abbrev read_all : ℕ → Reader → Items → List Value × Items
+abbrev pub read_all : ℕ → Reader → Items → List Value × Items
 read_all zero r v = ([], v)
 read_all (suc k) r v = let p = r v in let q = read_all k r p.1 in (p.0 ∷ q.0, q.1)
 
-abbrev read_laid : ℕ → List Span → Reader → Reader
+abbrev pub read_laid : ℕ → List Span → Reader → Reader
 read_laid zero ss r v = r v
 read_laid (suc rank) ss r v = let q = read_all (count ss) r v in (Array ss (joined q.0), q.1)
 
@@ -32,35 +32,35 @@ spans_read [] = []
 spans_read (lower ∷ []) = []
 spans_read (lower ∷ extent ∷ dims) = record { lower = lower; extent = count_of extent } ∷ spans_read dims
 
-abbrev read_holder : ℕ → Reader → Reader
+abbrev pub read_holder : ℕ → Reader → Reader
 read_holder rank r (Present dims c v) = (Allocated (read_laid rank (spans_read dims) r c).0, v)
 read_holder rank r (Absent v) = (Unallocated, v)
 read_holder rank r Nil = (Unallocated, Nil)
 read_holder rank r (Item z v) = (Unallocated, v)
 
-abbrev read_form : Form → Reader → Reader
+abbrev pub read_form : Form → Reader → Reader
 read_form (Laid rank ss) r v = read_laid rank ss r v
 read_form (Allocatable rank) r v = read_holder rank r v
 
-abbrev read_whole : Reader
+abbrev pub read_whole : Reader
 read_whole (Item z v) = (Number z, v)
 read_whole Nil = (Unallocated, Nil)
 read_whole (Absent v) = (Unallocated, v)
 read_whole (Present dims c v) = (Unallocated, v)
 
-abbrev read_logical : Reader
+abbrev pub read_logical : Reader
 read_logical (Item z v) = (Truth (is_set z), v)
 read_logical Nil = (Unallocated, Nil)
 read_logical (Absent v) = (Unallocated, v)
 read_logical (Present dims c v) = (Unallocated, v)
 
 abbrev mutual
-  read_object : Shape → Reader
+  pub read_object : Shape → Reader
   read_object Whole v = read_whole v
   read_object Logical v = read_logical v
   read_object (Record t parts) v = let q = read_components parts v in (Composite q.0, q.1)
 
-  read_components : Parts → Items → Values × Items
+  pub read_components : Parts → Items → Values × Items
   read_components nothing v = (none, v)
   read_components (and c s rest) v =
       let p = read_form (form_of c.declared) (read_object s) v in
@@ -75,7 +75,7 @@ value_onto (Word w t) u v = ap (Item w) (value_onto t u v)
 value_onto (NoBlock dims t) u v = ap Absent (value_onto t u v)
 value_onto (Block b dims c t) u v = ap (Present dims (value c)) (value_onto t u v)
 
-onto_nil : (v : Items) → v ⊞ Nil ≡ v
+pub onto_nil : (v : Items) → v ⊞ Nil ≡ v
 onto_nil Nil = refl
 onto_nil (Item z v) = ap (Item z) (onto_nil v)
 onto_nil (Absent v) = ap Absent (onto_nil v)
@@ -85,7 +85,7 @@ spans_told : (ss : List Span) → spans_read (bounds_of ss) ≡ ss
 spans_told [] = refl
 spans_told (s ∷ ss) = ap (λ rs. s ∷ rs) (spans_told ss)
 
-abbrev Reading : Type 0
+abbrev pub Reading : Type 0
 Reading = ℕ → ℕ → Held → Value
 
 -- a reader reads the value of an object from that of its tree
