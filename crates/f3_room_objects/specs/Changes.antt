@@ -1,22 +1,22 @@
 -- What the calls on objects (f3_objects) do to a store.
-use Rattle.std.specs.Prelude.{◌≡◌, ◌≢◌, ◌≤◌, ℕ, pos, true, List, [], replicate, Some}
+use Rattle.std.specs.Prelude.{◌≡◌, ◌≢◌, ◌≤◌, ◌⊎◌, ℕ, ◌+◌, ◌*◌, pos, true, List, [], replicate, Some}
 use Rattle.std.specs.FinMap.{empty}
 use Rattle.f3_heap_laws.specs.Blocks.{Live, words_of, with_words}
-use Rattle.f3_meaning_whole.specs.Value.{Value, cleared}
+use Rattle.f3_meaning_whole.specs.Value.{Span, Value, Unallocated, cleared}
 use Rattle.f3_meaning_whole.specs.Shape.{Shape}
-use Rattle.f3_meaning_whole.specs.Store.{Root, Step, get}
+use Rattle.f3_meaning_whole.specs.Store.{Root, Step, get, put}
 use Rattle.f3_desc.specs.Shape.{width}
 use Rattle.f3_objects.specs.Tree.{Tree, Fits, value, times as times_beneath}
-use Rattle.f3_objects.specs.Holds.{Replaces, Frees, with_words_at}
+use Rattle.f3_objects.specs.Holds.{Replaces, Frees, Moves, with_words_at}
 use Rattle.f3_objects.specs.Copies.{Ready}
-use Rattle.f3_rooms.specs.Held.{Held, Empty, blocks_in, times}
-use Rattle.f3_rooms.specs.Forms.{words_for}
+use Rattle.f3_rooms.specs.Held.{Held, Empty, Holds, blocks_in, times}
+use Rattle.f3_rooms.specs.Forms.{Allocatable, words_for}
 use Rattle.f3_rooms.specs.Values.{formed, object}
 use Rattle.f3_rooms.specs.Rooms.{Rooms, store_of}
 use Rattle.f3_rooms.specs.Places.{Found, value_at, found, rooms_with}
 use Rattle.f3_rooms.specs.Sound.{IsSound}
 use Rattle.f3_rooms.specs.Laws.{path_at, with_held_in, Becomes}
-use Rattle.f3_room_objects.specs.Trees.{layout_of, tree_at}
+use Rattle.f3_room_objects.specs.Trees.{layout_for, layout_of, tree_at}
 
 -- Parts of one form whose trees have equal values have equal values.
 abbrev pub EqualTreesAreEqual : Type 0
@@ -60,3 +60,14 @@ abbrev pub ClearedPartsAreBlank : Type 0
 ClearedPartsAreBlank = (ts : List Shape) (m n : Live) (x : Rooms) → IsSound ts m x → (r : Root) (way : List Step) (f : Found) → found ts x r way ≡ Some f → IsBare f
     → n ≡ with_words m f.block (with_words_at (words_of m f.block) f.at (replicate (width (layout_of f)) (pos 0)))
     → Puts ts m n x r way f (blank_value f)
+
+-- What an allocatable holds goes over to another of its type and rank, which holds nothing and stands apart (move_tree; 13.7.82).
+abbrev pub MovesAreMoves : Type 0
+MovesAreMoves = (ts : List Shape) (m n : Live) (x : Rooms) → IsSound ts m x → (r q : Root) (way other : List Step) (f g : Found)
+    → found ts x r way ≡ Some f → (rank : ℕ) → f.form ≡ Allocatable rank → (c : ℕ) (ss : List Span) (h : Held) → f.held ≡ Holds c ss h
+    → found ts (rooms_with x r way Empty) q other ≡ Some g → g.form ≡ Allocatable rank → g.held ≡ Empty → g.shape ≡ f.shape
+    → (f.block ≡ g.block → (f.at + (1 + 2 * rank) ≤ g.at) ⊎ (g.at + (1 + 2 * rank) ≤ f.at))
+    → Moves m n f.block f.at g.block g.at rank (layout_for f.shape) (tree_at m f)
+    → (store_of ts n (rooms_with (rooms_with x r way Empty) q other (Holds c ss h))
+    ≡ put (put (store_of ts m x) (path_at r way) Unallocated) (path_at q other) (get (store_of ts m x) (path_at r way)))
+    × IsSound ts n (rooms_with (rooms_with x r way Empty) q other (Holds c ss h))

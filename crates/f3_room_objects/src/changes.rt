@@ -1,6 +1,6 @@
 //! Laws of what the calls on objects do to a store.
 
-ghost use Rattle.f3_room_objects.specs.Changes.{EqualTreesAreEqual, PartsAreReady, CopiesArePut, FreedPartsAreCleared, ClearedPartsAreBlank};
+ghost use Rattle.f3_room_objects.specs.Changes.{EqualTreesAreEqual, PartsAreReady, CopiesArePut, FreedPartsAreCleared, ClearedPartsAreBlank, MovesAreMoves};
 
 /// A tree tells the value of a part.
 pub fn equal_trees_are_equal()
@@ -21,4 +21,9 @@ pub fn freed_parts_are_cleared()
 /// Zeros at a part in which nothing is held are its blank value.
 pub fn cleared_parts_are_blank()
     ensures { ClearedPartsAreBlank }
+{}
+
+/// What an allocatable holds goes over to another that stands apart (13.7.82).
+pub fn moves_are_moves()
+    ensures { MovesAreMoves }
 {}
