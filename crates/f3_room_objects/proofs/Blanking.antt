@@ -1,16 +1,15 @@
 -- Parts whose words become 0.
-use Rattle.std.proofs.Common.{◌≡◌, ◌≢◌, ℕ, zero, suc, ◌+◌, ◌*◌, ◌<◌, ◌≤◌, ℤ, pos, List, [], ◌∷◌, length, replicate, refl, sym, ap, subst, ◌∙◌, arith}
-use Rattle.std.specs.Prelude.{None}
-use Rattle.std.specs.FinMap.{get as find, empty}
+use Rattle.std.proofs.Common.{◌≡◌, ℕ, zero, suc, ◌+◌, ◌*◌, pos, List, ◌∷◌, replicate, refl, sym, ap, subst, ◌∙◌, arith}
+use Rattle.std.specs.FinMap.{empty}
 use Rattle.f3_heap_laws.specs.Blocks.{Live, words_of, with_words}
 use Rattle.f3_heap_laws.proofs.Laws.{get-insert_other, live-insert_same, words-insert_same, pins-insert_same}
 use Rattle.f3_meaning_whole.specs.Value.{Span, count}
 use Rattle.f3_meaning_whole.specs.Shape.{Shape, Whole, Logical, Record, Parts, nothing, and}
 use Rattle.f3_desc.specs.Shape.{Shape as Layout, row, width}
-use Rattle.f3_objects.specs.Tree.{Tree, End, Word, Unallocated, ◌⊕◌, words, times as times_beneath, repeated, blank, value}
+use Rattle.f3_objects.specs.Tree.{End, Word, Unallocated, ◌⊕◌, times as times_beneath, repeated, blank, value}
 use Rattle.f3_objects.specs.Holds.{Replaces as TreeReplaces, with_words_at}
 use Rattle.f3_objects.proofs.Blanks.{words-blank, blank-fits, blank-bare, held-bare}
-use Rattle.f3_rooms.specs.Held.{Held, Empty, end}
+use Rattle.f3_rooms.specs.Held.{Empty, end}
 use Rattle.f3_rooms.specs.Forms.{Form, Laid, Allocatable, form_of, form_words, words_for}
 use Rattle.f3_rooms.specs.Places.{Found}
 use Rattle.f3_rooms.specs.Laws.{IsWithin}

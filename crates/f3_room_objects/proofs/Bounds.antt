@@ -1,10 +1,10 @@
 -- Bounds of trees.
-use Rattle.std.proofs.Common.{◌≡◌, ℕ, zero, suc, ◌+◌, ◌*◌, ◌<◌, ℤ, pos, List, [], ◌∷◌, refl, sym, ap, subst, ◌∙◌, arith}
+use Rattle.std.proofs.Common.{◌≡◌, ℕ, zero, suc, ◌+◌, List, [], ◌∷◌, refl, sym, subst, arith}
 use Rattle.std.specs.Prelude.{⊤}
 use Rattle.f3_heap_laws.specs.Blocks.{Live}
 use Rattle.f3_meaning_whole.specs.Value.{Span, count}
 use Rattle.f3_meaning_whole.specs.Shape.{Shape, Whole, Logical, Record, Parts, nothing, and}
-use Rattle.f3_objects.specs.Tree.{Tree, End, Word, Unallocated, Allocated, ◌⊕◌, times, Value, Nil, Number, Absent, Present, value, IsBare}
+use Rattle.f3_objects.specs.Tree.{Tree, End, Word, Unallocated, Allocated, ◌⊕◌, Value, Nil, Number, Absent, Present, value, IsBare}
 use Rattle.f3_objects.proofs.Trees.{times_own}
 use Rattle.f3_rooms.specs.Held.{Held, Row, Empty, Holds, Parts as Divided, parts_of, first, others}
 use Rattle.f3_rooms.specs.Forms.{Form, Laid, Allocatable, form_of, form_words, words_for}

@@ -1,16 +1,16 @@
 -- Parts whose blocks are given back.
-use Rattle.std.proofs.Common.{◌≡◌, ℕ, zero, suc, ◌+◌, ◌*◌, ◌≤◌, ℤ, pos, Bool, true, false, ◌&&◌, cond, nat_eq, List, [], ◌∷◌, map, refl, sym, ap, subst, ◌∙◌, arith}
+use Rattle.std.proofs.Common.{◌≡◌, ℕ, zero, suc, ◌+◌, Bool, true, false, ◌&&◌, nat_eq, List, [], ◌∷◌, map, refl, sym, ap, ◌∙◌, arith}
 use Rattle.f3_heap_laws.specs.Blocks.{Live, pins_of}
-use Rattle.f3_meaning_whole.specs.Value.{Span, Value, Number, Truth, Composite, Array, Unallocated, Allocated, Values, none, more, joined, count, cleared, all_cleared}
+use Rattle.f3_meaning_whole.specs.Value.{Span, Value, Composite, Array, Values, more, joined, count, cleared, all_cleared}
 use Rattle.f3_meaning_whole.specs.Shape.{Shape, Whole, Logical, Record, Parts, nothing, and}
 use Rattle.f3_meaning_whole.specs.Store.{get}
-use Rattle.f3_objects.specs.Tree.{Tree, End, Word, Unallocated as NoBlock, Allocated as Block, ◌⊕◌, words, Value as Items, Nil, Number as Item, Absent, Present, value}
+use Rattle.f3_objects.specs.Tree.{Tree, End, Word, Unallocated as NoBlock, Allocated as Block, ◌⊕◌, Value as Items, Nil, Number as Item, Absent, Present, value}
 use Rattle.f3_objects.specs.Holds.{is_free, left}
-use Rattle.f3_objects.proofs.Trees.{◌⊞◌, times-left, free-left}
+use Rattle.f3_objects.proofs.Trees.{◌⊞◌, free-left}
 use Rattle.f3_objects.proofs.Emptying.{fits-left}
 use Rattle.f3_rooms.specs.Held.{Held, Row, Empty, Holds, Parts as Divided, parts_of, first, others}
 use Rattle.f3_rooms.specs.Forms.{Form, Laid, Allocatable, form_of, form_words, words_for}
-use Rattle.f3_rooms.specs.Values.{word, elements, laid, formed, object, components}
+use Rattle.f3_rooms.specs.Values.{elements, laid, formed, object, components}
 use Rattle.f3_rooms.specs.Rooms.{store_of}
 use Rattle.f3_rooms.specs.Places.{Found, value_at}
 use Rattle.f3_rooms.specs.Laws.{path_at}

@@ -1,24 +1,24 @@
 -- Trees of what is sound.
 use Rattle.std.proofs.Common.{◌≡◌, ℕ, zero, suc, ◌+◌, ◌*◌, ◌≤◌, ℤ, pos, Bool, true, false, cond, List, [], ◌∷◌, ◌++◌, length, take, drop, nat_eq, refl, sym, ap, subst, ◌∙◌, arith, append-nil}
-use Rattle.std.specs.Prelude.{Some, if◌then◌else◌}
+use Rattle.std.specs.Prelude.{if◌then◌else◌}
 use Rattle.f3_heap_laws.specs.Blocks.{Live, words_of}
 use Rattle.f3_meaning_whole.specs.Value.{Span, count}
 use Rattle.f3_meaning_whole.specs.Shape.{Shape, Whole, Logical, Record, Parts, nothing, and}
-use Rattle.f3_desc.specs.Shape.{Shape as Layout, Plain, Holder, Both, Times, row}
-use Rattle.f3_objects.specs.Tree.{Tree, End, Word, Unallocated, Allocated, ◌⊕◌, words, times as times_beneath, one_at, elements, Joins, Repeats, IsHolder, unallocated, allocated, Fits}
-use Rattle.f3_objects.specs.Holds.{Held as IsHeld, Stands, Holds as HoldsTree}
+use Rattle.f3_desc.specs.Shape.{Shape as Layout, Both, Times, row}
+use Rattle.f3_objects.specs.Tree.{Tree, End, ◌⊕◌, words, times as times_beneath, one_at, elements, Repeats, unallocated, allocated, Fits}
+use Rattle.f3_objects.specs.Holds.{Held as IsHeld}
 use Rattle.f3_objects.proofs.Trees.{append-End, words-append, times-append, held_both}
-use Rattle.f3_rooms.specs.Held.{Held, Row, Empty, Holds, Parts as Divided, end, parts_of, first, others, blocks_in, blocks_in_all, times}
+use Rattle.f3_rooms.specs.Held.{Held, Row, Empty, Holds, Parts as Divided, parts_of, first, others, blocks_in, blocks_in_all, times}
 use Rattle.f3_rooms.specs.Forms.{Form, Laid, Allocatable, form_of, form_words, laid_words, words_for, words_for_parts}
 use Rattle.f3_rooms.specs.Values.{word}
-use Rattle.f3_rooms.specs.Places.{Found, found}
-use Rattle.f3_rooms.specs.Sound.{Fact, Each, AreLaid, IsForm, IsObject, AreComponents, IsSound}
+use Rattle.f3_rooms.specs.Places.{Found}
+use Rattle.f3_rooms.specs.Sound.{Fact, Each, AreLaid, IsForm, IsObject, AreComponents}
 use Rattle.f3_rooms.specs.Laws.{IsWithin}
 use Rattle.f3_rooms.proofs.Framing.{times_append, times_row}
 use Rattle.f3_rooms.proofs.Living.{times_divided, times_end}
 use Rattle.f3_rooms.proofs.Within.{store_owns}
 use Rattle.f3_room_objects.specs.Trees.{laid_as, formed_as, layout_for, layouts_for, layout_of, words_from, bounds_of, Growing, trees, laid_tree, formed_tree, object_tree, components_tree, tree_at}
-use Rattle.f3_room_objects.specs.Laws.{IsApart, PartsAreApart, PartsHoldTrees, TreesHaveTheirBlocks}
+use Rattle.f3_room_objects.specs.Laws.{PartsAreApart, PartsHoldTrees, TreesHaveTheirBlocks}
 use Rattle.f3_room_objects.proofs.Windows.{length-words_from, words_from-append, window, whole_block, tell_bounds, length-bounds, elements-bounds}
 
 -- a tree of a layout, of so many words of a block from one on, and of these blocks

@@ -1,21 +1,18 @@
 -- What an allocatable holds is moved to another.
 use Rattle.std.proofs.Common.{◌≡◌, ◌≢◌, ◌⊎◌, inl, inr, ℕ, zero, suc, ◌+◌, ◌-◌, ◌*◌, ◌<◌, ◌≤◌, ℤ, pos, List, [], ◌∷◌, ◌++◌, length, take, drop, get_or, refl, sym, ap, subst, ◌∙◌, arith, append-nil, is_some}
 use Rattle.std.proofs.lemmas.Bool.{cases_eq, cases_lt}
-use Rattle.std.specs.Prelude.{Some}
 use Rattle.f3_heap_laws.specs.Blocks.{Live, IsLive, words_of, with_words}
 use Rattle.std.specs.FinMap.{get as find}
 use Rattle.f3_heap_laws.proofs.Laws.{get-insert_other, live-insert, live-insert_same, words-insert_same, words-insert_other}
-use Rattle.f3_meaning_whole.specs.Value.{Span, Unallocated}
-use Rattle.f3_meaning_whole.specs.Shape.{Shape}
-use Rattle.f3_meaning_whole.specs.Store.{Root, Step, get, put}
-use Rattle.f3_objects.specs.Tree.{Tree, End, Allocated, words}
+use Rattle.f3_meaning_whole.specs.Value.{Span}
+use Rattle.f3_objects.specs.Tree.{words}
 use Rattle.f3_objects.specs.Holds.{with_words_at, with_moved}
 use Rattle.f3_objects.proofs.Spans.{length-written, written_there, read_outside}
 use Rattle.f3_rooms.specs.Held.{Held, Empty, Holds}
 use Rattle.f3_rooms.specs.Forms.{Form, Allocatable, form_words, words_for}
 use Rattle.f3_rooms.specs.Values.{word}
-use Rattle.f3_rooms.specs.Rooms.{Rooms, blocks_of, store_of}
-use Rattle.f3_rooms.specs.Places.{Found, found, with_word, rooms_with}
+use Rattle.f3_rooms.specs.Rooms.{Rooms, blocks_of}
+use Rattle.f3_rooms.specs.Places.{Found, with_word, rooms_with}
 use Rattle.f3_rooms.specs.Sound.{TellBounds, IsForm, IsObject, IsHolder, IsAllocated, IsSound}
 use Rattle.f3_rooms.specs.Laws.{IsWithin, with_bounds, with_holder}
 use Rattle.f3_rooms.proofs.Framing.{Steady, Kept}
@@ -23,7 +20,7 @@ use Rattle.f3_rooms.proofs.Keeping.{store_stays, rooms_persist}
 use Rattle.f3_rooms.proofs.Moving.{objects_move}
 use Rattle.f3_rooms.proofs.Freeing.{emptied}
 use Rattle.f3_rooms.proofs.Within.{part_lies}
-use Rattle.f3_rooms.proofs.Words.{IsWritten, put_live, put_long, put_there, put_apart, written_word, written_holder, holder_names, holder_told}
+use Rattle.f3_rooms.proofs.Words.{IsWritten, put_long, put_there, put_apart, written_holder, holder_names, holder_told}
 use Rattle.f3_room_objects.specs.Trees.{bounds_of, object_tree, formed_tree, tree_at}
 use Rattle.f3_room_objects.specs.Changes.{MovesAreMoves}
 use Rattle.f3_room_objects.proofs.Windows.{WordsAre, window, from_are, length-bounds}
@@ -61,7 +58,7 @@ module _ (m : Live) (b o : ℕ) (ws : List ℤ) (fits : o + length ws ≤ length
     ];
     same = λ q i aside. elim (cases_eq q b) [
       | inl e ↦ ap (λ k. word written k i) e ∙ ap (λ us. get_or us i (pos 0)) (words-insert_same m b _)
-        ∙ read_outside (words_of m b) o i ws (pos 0) (omega arith) (aside e) ∙ ap (λ k. word m k i) (sym e)
+          ∙ read_outside (words_of m b) o i ws (pos 0) (omega arith) (aside e) ∙ ap (λ k. word m k i) (sym e)
       | inr ne ↦ ap (λ us. get_or us i (pos 0)) (words-insert_other m b _ q ne)
     ];
   }
@@ -110,8 +107,10 @@ module _ (m : Live) (from a to b c : ℕ) (ss : List Span) where
     fits_bare = let e = put_long m from a (pos 0) to in omega arith
 
     held_are : WordsAre held to b ws
-    held_are = (holder_names bare to b c ss fits_bare,
-        subst (WordsAre held to (b + 1)) (sym (append-nil (bounds_of ss))) (tell_are held to (b + 1) ss (holder_told bare to b c ss fits_bare)))
+    held_are = (
+      holder_names bare to b c ss fits_bare,
+      subst (WordsAre held to (b + 1)) (sym (append-nil (bounds_of ss))) (tell_are held to (b + 1) ss (holder_told bare to b c ss fits_bare)),
+    )
 
     -- the word that was emptied is none of those that were written
     not_emptied : (q i : ℕ) → q ≡ to → b ≤ i → i < b + (1 + 2 * length ss) → q ≡ from → i ≢ a
@@ -162,9 +161,9 @@ module _ (m : Live) (from a to b c : ℕ) (ss : List Span) where
       | inr ne ↦ elim (cases_eq q to) [
         | inl e ↦ live-insert mid from _ q (subst (IsLive mid) (sym e) (live-insert_same m to _))
         | inr far ↦
-          let e : find held q ≡ find m q = bounds_find (with_word bare to b (pos c)) to (b + 1) ss q far ∙ get-insert_other bare to _ q far ∙ get-insert_other m from _ q ne in
-          let f : find moved q ≡ find m q = get-insert_other mid from _ q ne ∙ get-insert_other m to _ q far in
-          ap is_some (f ∙ sym e) ∙ there
+            let e : find held q ≡ find m q = bounds_find (with_word bare to b (pos c)) to (b + 1) ss q far ∙ get-insert_other bare to _ q far ∙ get-insert_other m from _ q ne in
+            let f : find moved q ≡ find m q = get-insert_other mid from _ q ne ∙ get-insert_other m to _ q far in
+            ap is_some (f ∙ sym e) ∙ there
       ]
     ]
 

@@ -1,13 +1,13 @@
 -- What a tree that stands in words of a block holds there.
-use Rattle.std.proofs.Common.{◌≡◌, ℕ, zero, suc, ◌+◌, ◌*◌, ℤ, pos, List, [], ◌∷◌, ◌++◌, length, refl, sym, ap, subst, ◌∙◌, arith, append-nil}
+use Rattle.std.proofs.Common.{◌≡◌, ℕ, zero, suc, ◌+◌, ◌*◌, ℤ, List, [], ◌∷◌, length, refl, sym, ap, subst, ◌∙◌, arith, append-nil}
 use Rattle.f3_heap_laws.specs.Blocks.{Live, words_of}
 use Rattle.f3_meaning_whole.specs.Value.{Span, count}
 use Rattle.f3_meaning_whole.specs.Shape.{Shape, Whole, Logical, Record, Parts, nothing, and}
-use Rattle.f3_desc.specs.Shape.{Shape as Layout, Plain, Holder, Both, Times, row, width}
-use Rattle.f3_objects.specs.Tree.{Tree, End, Word, Unallocated, Allocated, ◌⊕◌, words, elements, count_of, Joins, Repeats, IsHolder, unallocated, allocated, Fits}
+use Rattle.f3_desc.specs.Shape.{Shape as Layout, Plain, row, width}
+use Rattle.f3_objects.specs.Tree.{Tree, End, Word, Unallocated, Allocated, ◌⊕◌, words, elements, count_of, Repeats, IsHolder, unallocated, allocated, Fits}
 use Rattle.f3_objects.specs.Holds.{Held as IsHeld}
 use Rattle.f3_objects.proofs.Trees.{append-End, words-append, held_front, held_back, size-fits}
-use Rattle.f3_rooms.specs.Held.{Held, Row, Empty, Holds, Parts as Divided, end, next, parts_of, first, others}
+use Rattle.f3_rooms.specs.Held.{Held, Row, Empty, Holds, Parts as Divided, end, next}
 use Rattle.f3_rooms.specs.Forms.{Form, Laid, Allocatable, form_of, form_words, laid_words, words_for, words_for_parts}
 use Rattle.f3_rooms.specs.Values.{word}
 use Rattle.f3_rooms.specs.Sound.{Fact, Each, AreLaid, TellBounds, IsForm, IsObject, AreComponents}

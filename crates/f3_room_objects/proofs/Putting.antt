@@ -1,5 +1,5 @@
 -- Parts whose trees become others, in stores.
-use Rattle.std.proofs.Common.{◌≡◌, ◌≢◌, ℕ, ◌+◌, ◌≤◌, pos, List, [], refl, sym, ap, subst, ◌∙◌, arith}
+use Rattle.std.proofs.Common.{◌≡◌, ℕ, ◌≤◌, List, sym, ap, subst, ◌∙◌}
 use Rattle.std.specs.Prelude.{Some}
 use Rattle.f3_heap_laws.specs.Blocks.{Live}
 use Rattle.f3_meaning_whole.specs.Value.{Value}
@@ -9,8 +9,7 @@ use Rattle.f3_desc.specs.Shape.{Shape as Layout}
 use Rattle.f3_objects.specs.Tree.{Tree, Fits, value, times as times_beneath}
 use Rattle.f3_objects.specs.Holds.{Holds as HoldsTree, Replaces as TreeReplaces}
 use Rattle.f3_rooms.specs.Rooms.{Rooms, store_of}
-use Rattle.f3_rooms.specs.Forms.{words_for}
-use Rattle.f3_rooms.specs.Places.{Found, value_at, found, rooms_with}
+use Rattle.f3_rooms.specs.Places.{Found, value_at, found}
 use Rattle.f3_rooms.specs.Sound.{IsSound}
 use Rattle.f3_rooms.specs.Laws.{IsWithin, IsReplaced, path_at, with_held_in}
 use Rattle.f3_rooms.proofs.Reading.{parts_are_found}
@@ -22,7 +21,7 @@ use Rattle.f3_room_objects.specs.Changes.{Puts, PartsAreReady, CopiesArePut}
 use Rattle.f3_room_objects.proofs.Bounds.{part_bound, bounds_equal}
 use Rattle.f3_room_objects.proofs.Growing.{parts_are_apart, parts_hold_trees, trees_have_their_blocks}
 use Rattle.f3_room_objects.proofs.Replacing.{trees_replace_parts}
-use Rattle.f3_room_objects.proofs.Values.{read_part, part_read, equal_trees_are_equal}
+use Rattle.f3_room_objects.proofs.Values.{read_part, part_read}
 
 -- the value that a part has then is read from the new tree
 pub tree_put : (ts : List Shape) (m n : Live) (x : Rooms) → IsSound ts m x → (r : Root) (way : List Step) (f : Found) → found ts x r way ≡ Some f

@@ -1,29 +1,29 @@
 -- Parts whose trees become others.
-use Rattle.std.proofs.Common.{◌≡◌, ◌≢◌, ◌⊎◌, inl, inr, ℕ, zero, suc, ◌+◌, ◌<◌, ◌≤◌, ℤ, pos, Bool, true, false, List, [], ◌∷◌, length, take, drop, get_or, nat_eq, is_some, refl, sym, ap, subst, ◌∙◌, arith}
+use Rattle.std.proofs.Common.{◌≡◌, ◌≢◌, ◌⊎◌, inl, inr, ℕ, ◌+◌, ◌<◌, ◌≤◌, pos, Bool, true, false, List, length, take, drop, get_or, nat_eq, refl, sym, ap, subst, ◌∙◌, arith}
 use Rattle.std.proofs.lemmas.Bool.Decides.{nat_tests}
-use Rattle.std.specs.Prelude.{Some, None}
+use Rattle.std.specs.Prelude.{Some}
 use Rattle.std.specs.FinMap.{get as find}
 use Rattle.f3_heap_laws.specs.Blocks.{Live, IsLive, words_of}
 use Rattle.f3_meaning_whole.specs.Shape.{Shape}
 use Rattle.f3_meaning_whole.specs.Store.{Root, Step}
 use Rattle.f3_objects.specs.Tree.{Tree, words, times as times_beneath, Fits}
-use Rattle.f3_objects.specs.Holds.{Replaces as TreeReplaces, with_words_at}
+use Rattle.f3_objects.specs.Holds.{Replaces as TreeReplaces}
 use Rattle.f3_objects.proofs.Changes.{not_dead, same_live, same_words}
 use Rattle.f3_objects.proofs.Spans.{length-written, written_there, read_outside}
 use Rattle.f3_objects.proofs.Trees.{zero_or_more}
-use Rattle.f3_rooms.specs.Held.{Held, blocks_in, times}
+use Rattle.f3_rooms.specs.Held.{blocks_in, times}
 use Rattle.f3_rooms.specs.Forms.{form_words, words_for}
 use Rattle.f3_rooms.specs.Values.{word}
 use Rattle.f3_rooms.specs.Rooms.{Rooms, blocks_of}
 use Rattle.f3_rooms.specs.Places.{Found, found}
 use Rattle.f3_rooms.specs.Sound.{IsForm, IsObject, IsSound}
-use Rattle.f3_rooms.specs.Laws.{IsWithin, Replaces, with_held_in}
+use Rattle.f3_rooms.specs.Laws.{IsWithin, with_held_in}
 use Rattle.f3_rooms.proofs.Living.{all_live}
-use Rattle.f3_rooms.proofs.Within.{store_owns, parts_are_within}
-use Rattle.f3_room_objects.specs.Trees.{words_from, layout_of, formed_tree, object_tree, tree_at, HaveBounds}
+use Rattle.f3_rooms.proofs.Within.{parts_are_within}
+use Rattle.f3_room_objects.specs.Trees.{layout_of, formed_tree, object_tree, tree_at, HaveBounds}
 use Rattle.f3_room_objects.specs.Laws.{IsApart, BecomesTree, TreesReplaceParts}
 use Rattle.f3_room_objects.proofs.Windows.{window, from_are}
-use Rattle.f3_room_objects.proofs.Growing.{Grown, part_grown, parts_are_apart}
+use Rattle.f3_room_objects.proofs.Growing.{part_grown, parts_are_apart}
 use Rattle.f3_room_objects.proofs.Planting.{Sits, Planted, part_wide, part_planted}
 
 split : (q b : ℕ) → (q ≡ b) ⊎ (q ≢ b)
@@ -119,9 +119,9 @@ module _ (ts : List Shape) (m n : Live) (x : Rooms) (sound : IsSound ts m x) (r 
     | inl none ↦ omega arith
     | inr there ↦ elim (zero_or_more (times_beneath q (tree_at m f))) [
       | inl none ↦
-        let e : times_beneath q u ≡ 0 = none_taken q (all_live ts m x sound q there) none in
-        let g = are q in
-        absurd (omega arith)
+          let e : times_beneath q u ≡ 0 = none_taken q (all_live ts m x sound q there) none in
+          let g = are q in
+          absurd (omega arith)
       | inr held ↦ let e = were q in let g = sound.apart q in omega arith
     ]
   ]

@@ -1,14 +1,13 @@
 -- Values of parts, read from those of their trees.
-use Rattle.std.proofs.Common.{◌≡◌, ℕ, zero, suc, ◌+◌, ◌*◌, ℤ, pos, Bool, true, false, ◌&&◌, cond, nat_eq, List, [], ◌∷◌, map, refl, sym, ap, subst, ◌∙◌, arith}
+use Rattle.std.proofs.Common.{◌≡◌, ℕ, zero, suc, ◌+◌, ℤ, List, [], ◌∷◌, refl, sym, ap, ◌∙◌}
 use Rattle.f3_heap_laws.specs.Blocks.{Live}
-use Rattle.f3_meaning_whole.specs.Value.{Span, Value, Number, Truth, Composite, Array, Unallocated, Allocated, Values, none, more, joined, count, cleared, all_cleared}
+use Rattle.f3_meaning_whole.specs.Value.{Span, Value, Number, Truth, Composite, Array, Unallocated, Allocated, Values, none, more, joined, count}
 use Rattle.f3_meaning_whole.specs.Shape.{Shape, Whole, Logical, Record, Parts, nothing, and}
 use Rattle.f3_objects.specs.Tree.{Tree, End, Word, Unallocated as NoBlock, Allocated as Block, ◌⊕◌, count_of, Value as Items, Nil, Number as Item, Absent, Present, value}
-use Rattle.f3_objects.specs.Holds.{is_free, left}
 use Rattle.f3_objects.proofs.Trees.{◌⊞◌}
 use Rattle.f3_rooms.specs.Held.{Held, Row, Empty, Holds, Parts as Divided, parts_of, first, others}
 use Rattle.f3_rooms.specs.Forms.{Form, Laid, Allocatable, form_of, form_words, words_for}
-use Rattle.f3_rooms.specs.Values.{word, is_set, elements, laid, holding, formed, object, components}
+use Rattle.f3_rooms.specs.Values.{is_set, elements, laid, formed, object, components}
 use Rattle.f3_rooms.specs.Places.{Found, value_at}
 use Rattle.f3_room_objects.specs.Trees.{bounds_of, Growing, trees, laid_tree, formed_tree, object_tree, components_tree, tree_at}
 use Rattle.f3_room_objects.specs.Changes.{EqualTreesAreEqual}
