@@ -5,3 +5,4 @@ pub mod Rooms
 pub mod Places
 pub mod Sound
 pub mod Laws
+pub mod Ways
