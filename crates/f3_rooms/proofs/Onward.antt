@@ -1,15 +1,15 @@
 -- Ways on from parts.
-use Rattle.std.proofs.Common.{◌≡◌, ℕ, zero, suc, ◌+◌, ◌*◌, ◌-◌, Bool, true, false, List, [], ◌∷◌, ◌++◌, length, refl, sym, ap, ◌∙◌}
-use Rattle.std.specs.Prelude.{None, Some, Option, nat_lt, if◌then◌else◌, slice_index_or}
+use Rattle.std.proofs.Common.{◌≡◌, ℕ, zero, suc, ◌+◌, ◌*◌, ◌-◌, Bool, true, false, List, [], ◌∷◌, ◌++◌, length, ap}
+use Rattle.std.specs.Prelude.{None, Some, nat_lt, if◌then◌else◌, slice_index_or}
 use Rattle.f3_program.specs.declared.declarations.Base.{Base}
 use Rattle.f3_program.specs.declared.declarations.Declared.{Declared}
 use Rattle.f3_meaning_whole.specs.Value.{Span, count}
 use Rattle.f3_meaning_whole.specs.Shape.{Shape, Whole, Logical, Record, Parts, nothing, and, shape_in}
-use Rattle.f3_meaning_whole.specs.Store.{Root, Static, Local, Step, Component, Element, Contents}
+use Rattle.f3_meaning_whole.specs.Store.{Static, Local, Step, Component, Element, Contents}
 use Rattle.f3_rooms.specs.Held.{Held, Row, Empty, Holds, Parts as Divided, parts_of, first, others, part_at}
 use Rattle.f3_rooms.specs.Forms.{Form, Laid, Allocatable, form_of, form_words, words_for, room}
-use Rattle.f3_rooms.specs.Rooms.{Slot, Known, Stands, Rooms}
-use Rattle.f3_rooms.specs.Places.{Found, Onward, in_laid, in_holder, in_form, in_object, in_component, in_variables, in_room, in_level, found}
+use Rattle.f3_rooms.specs.Rooms.{Slot, Known, Stands}
+use Rattle.f3_rooms.specs.Places.{Found, Onward, in_laid, in_form, in_object, in_component, in_variables, in_room, in_level}
 use Rattle.f3_rooms.specs.Ways.{part_of, PartsHaveParts}
 use Rattle.f3_rooms.proofs.Reading.{one_found, none_found}
 
