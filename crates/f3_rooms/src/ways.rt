@@ -1,6 +1,6 @@
 //! Laws of ways to parts.
 
-ghost use Rattle.f3_rooms.specs.Ways.{PartsHaveParts, OtherVariablesStand, OtherPartsStand};
+ghost use Rattle.f3_rooms.specs.Ways.{PartsHaveParts, OtherVariablesStand, OtherPartsStand, StaticsStand, LocalsStand};
 
 /// A way goes on from the part that stands at its front.
 pub fn parts_have_parts()
@@ -11,4 +11,10 @@ pub fn parts_have_parts()
 pub fn others_stand()
     ensures variables { OtherVariablesStand }
     ensures parts { OtherPartsStand }
+{}
+
+/// Each variable stands in the block of its room, behind those before it.
+pub fn variables_stand()
+    ensures statics { StaticsStand }
+    ensures locals { LocalsStand }
 {}
