@@ -5,7 +5,7 @@ use Rattle.std.specs.Prelude.{Some, nat_lt, if◌then◌else◌, slice_index_or,
 use Rattle.f3_heap_laws.specs.Blocks.{Live, words_of}
 use Rattle.f3_meaning_whole.specs.Value.{Value, Unallocated}
 use Rattle.f3_meaning_whole.specs.Shape.{Shape}
-use Rattle.f3_meaning_whole.specs.Store.{Store, Static, Local, Step, with_part}
+use Rattle.f3_meaning_whole.specs.Store.{Store, Root, Static, Local, Step, with_part}
 use Rattle.f3_rooms.specs.Held.{Held, blocks_in, blocks_in_all, times}
 use Rattle.f3_rooms.specs.Forms.{total}
 use Rattle.f3_rooms.specs.Rooms.{Room, Slot, Known, Stands, Rooms, room_values, level_values, room_blocks, level_blocks, levels_blocks, blocks_of}
@@ -157,8 +157,11 @@ module _ (ts : List Shape) (m n : Live) (f : Found) (u : Held) where
   whole : (x : Rooms) → IsSound ts m x → Replaces m n x f u → IsOpen m n f u (blocks_of x)
   whole x sound r = record { apart = sound.apart; live = λ b lt. (λ was. (r.live b lt).0, (r.live b lt).1); same = r.same; form = r.form }
 
-  once : (x y : Rooms) → IsSound ts m x → Replaces m n x f u → ((q : ℕ) → times q (blocks_of y) + times q (blocks_in f.held) ≤ times q (blocks_of x) + times q (blocks_in u))
-      → (q : ℕ) → times q (blocks_of y) ≤ 1
+  -- what is held in the part is in the place of what was
+  abbrev IsCounted : Rooms → Rooms → Type 0
+  IsCounted x y = (q : ℕ) → times q (blocks_of y) + times q (blocks_in f.held) ≤ times q (blocks_of x) + times q (blocks_in u)
+
+  once : (x y : Rooms) → IsSound ts m x → Replaces m n x f u → IsCounted x y → (q : ℕ) → times q (blocks_of y) ≤ 1
   once x y sound r counted q =
       let c = counted q in
       let one = sound.apart q in
@@ -170,46 +173,53 @@ module _ (ts : List Shape) (m n : Live) (f : Found) (u : Held) where
       by zero e apart c one own = omega arith
       by (suc k) e apart c one own = let a = apart (omega arith) in omega arith
 
-  static_replaced : (x : Rooms) → IsSound ts m x → (i : ℕ) (way : List Step) → found ts x (Static i) way ≡ Some f → Replaces m n x f u → IsReplaced ts m n x (Static i) way f u
+  static_replaced : (x : Rooms) → IsSound ts m x → (i : ℕ) (way : List Step) → found ts x (Static i) way ≡ Some f → Replaces m n x f u
+      → IsReplaced ts m n x (Static i) way f u × IsCounted x (rooms_with x (Static i) way u)
   static_replaced x sound i way e r =
       let opened = whole x sound r in
       let bs : List ℕ = room_blocks x.statics in
       let cs : List ℕ = levels_blocks x.levels in
       let t = room_turns x.statics i way e sound.statics (open_fewer m n f u (blocks_of x) bs (λ q. let s = times_append q bs cs in omega arith) opened) in
       let kept : Kept m n cs = kept_beside m n f u (blocks_of x) bs cs opened (room_owns f ts x.statics i way e) (λ q. let s = times_append q bs cs in omega arith) in
-      record {
+      let counted : IsCounted x (rooms_with x (Static i) way u) = λ q. let c = t.counted q in let s = times_append q bs cs in let a = times_append q (room_blocks (room_with x.statics i way u)) cs in omega arith in
+      (record {
         store = ap (λ vs. let s : Store = record { statics = vs; levels = map (level_values ts n) x.levels } in s) t.value
             ∙ ap (λ ls. let s : Store = record { statics = changed (room_values ts m x.statics) i way; levels = ls } in s) (levels_stay ts m n x.levels kept);
         sound = record {
           statics = t.sound;
           levels = levels_persist ts m n x.levels kept sound.levels;
-          apart = once x (rooms_with x (Static i) way u) sound r (λ q. let c = t.counted q in let s = times_append q bs cs in
-              let a = times_append q (room_blocks (room_with x.statics i way u)) cs in omega arith);
+          apart = once x (rooms_with x (Static i) way u) sound r counted;
         };
         found = t.found;
-      }
+      }, counted)
 
   local_replaced : (x : Rooms) → IsSound ts m x → (level i : ℕ) (way : List Step) → found ts x (Local level i) way ≡ Some f → Replaces m n x f u
-      → IsReplaced ts m n x (Local level i) way f u
+      → IsReplaced ts m n x (Local level i) way f u × IsCounted x (rooms_with x (Local level i) way u)
   local_replaced x sound level i way e r =
       let opened = whole x sound r in
       let bs : List ℕ = room_blocks x.statics in
       let cs : List ℕ = levels_blocks x.levels in
       let t = levels_turn x.levels level i way e sound.levels (open_fewer m n f u (blocks_of x) cs (λ q. let s = times_append q bs cs in omega arith) opened) in
       let kept : Kept m n bs = kept_beside m n f u (blocks_of x) cs bs opened (owned_level f ts x.levels level i way e) (λ q. let s = times_append q bs cs in omega arith) in
-      record {
+      let counted : IsCounted x (rooms_with x (Local level i) way u) = λ q. let c = t.counted q in let s = times_append q bs cs in
+          let a = times_append q bs (levels_blocks (level_changed x.levels level i way)) in omega arith in
+      (record {
         store = ap (λ vs. let s : Store = record { statics = vs; levels = map (level_values ts n) (level_changed x.levels level i way) } in s) (room_stays ts m n x.statics kept)
             ∙ ap (λ ls. let s : Store = record { statics = room_values ts m x.statics; levels = ls } in s)
             (t.value ∙ ap (λ vs. slice_set (map (level_values ts m) x.levels) level (changed vs i way)) (sym (level_is ts m x.levels level)));
         sound = record {
           statics = room_persists ts m n x.statics kept sound.statics;
           levels = t.sound;
-          apart = once x (rooms_with x (Local level i) way u) sound r (λ q. let c = t.counted q in let s = times_append q bs cs in
-              let a = times_append q bs (levels_blocks (level_changed x.levels level i way)) in omega arith);
+          apart = once x (rooms_with x (Local level i) way u) sound r counted;
         };
         found = t.found;
-      }
+      }, counted)
+
+pub part_replaced : (ts : List Shape) (m n : Live) (x : Rooms) → IsSound ts m x → (r : Root) (way : List Step) (f : Found) → found ts x r way ≡ Some f
+    → (u : Held) → Replaces m n x f u
+    → IsReplaced ts m n x r way f u × ((q : ℕ) → times q (blocks_of (rooms_with x r way u)) + times q (blocks_in f.held) ≤ times q (blocks_of x) + times q (blocks_in u))
+part_replaced ts m n x sound (Static i) way f e u r = static_replaced ts m n f u x sound i way e r
+part_replaced ts m n x sound (Local level i) way f e u r = local_replaced ts m n f u x sound level i way e r
 
 pub parts_are_replaced : PartsAreReplaced
-parts_are_replaced ts m n x sound (Static i) way f e u r = static_replaced ts m n f u x sound i way e r
-parts_are_replaced ts m n x sound (Local level i) way f e u r = local_replaced ts m n f u x sound level i way e r
+parts_are_replaced ts m n x sound r way f e u replaces = (part_replaced ts m n x sound r way f e u replaces).0

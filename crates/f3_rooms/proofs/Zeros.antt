@@ -44,7 +44,7 @@ module _ (m : Live) (n : ℕ) (f g : ℕ → ℕ → Held → Value) (alike : (b
       ap (λ v. v ∷ elements k n f b (o + n) end) (alike b o p (zeros_front m b o n (k * n) y))
       ∙ ap (λ vs. g 0 p Empty ∷ vs) (elements_alike k b (o + n) (p + n) (zeros_behind m b o n (k * n) y))
 
-  laid_alike : (rank : ℕ) (ss : List Span) (b o p : ℕ) → AreZeros m b o (laid_words rank ss n) → laid rank ss n f b o Empty ≡ laid rank ss n g 0 p Empty
+  pub laid_alike : (rank : ℕ) (ss : List Span) (b o p : ℕ) → AreZeros m b o (laid_words rank ss n) → laid rank ss n f b o Empty ≡ laid rank ss n g 0 p Empty
   laid_alike zero ss b o p z = alike b o p z
   laid_alike (suc rank) ss b o p z = ap (λ vs. Array ss (joined vs)) (elements_alike (count ss) b o p z)
 
@@ -53,7 +53,7 @@ module _ (m : Live) (n : ℕ) (f g : ℕ → ℕ → Held → Value) (alike : (b
   formed_alike (Allocatable rank) b o p z = refl
 
 mutual
-  object_alike : (m : Live) (s : Shape) (b o p : ℕ) → AreZeros m b o (words_for s) → object m s b o Empty ≡ object empty s 0 p Empty
+  pub object_alike : (m : Live) (s : Shape) (b o p : ℕ) → AreZeros m b o (words_for s) → object m s b o Empty ≡ object empty s 0 p Empty
   object_alike m Whole b o p z = ap Number (zero_here m b o 0 z ∙ sym (blank_word 0 p))
   object_alike m Logical b o p z = ap (λ w. Truth (is_set w)) (zero_here m b o 0 z ∙ sym (blank_word 0 p))
   object_alike m (Record t parts) b o p z = ap Composite (components_alike m parts b o p z)
@@ -84,7 +84,7 @@ module _ (m : Live) (n : ℕ) (P : Fact) (holds : (b o : ℕ) → AreZeros m b o
       let y : AreZeros m b o (n + k * n) = zeros_many m b o k n z in
       (holds b o (zeros_front m b o n (k * n) y), each_bare k b (o + n) (zeros_behind m b o n (k * n) y))
 
-  laid_bare : (rank : ℕ) (ss : List Span) (b o : ℕ) → AreZeros m b o (laid_words rank ss n) → AreLaid rank ss n P b o Empty
+  pub laid_bare : (rank : ℕ) (ss : List Span) (b o : ℕ) → AreZeros m b o (laid_words rank ss n) → AreLaid rank ss n P b o Empty
   laid_bare zero ss b o z = holds b o z
   laid_bare (suc rank) ss b o z = (tt, each_bare (count ss) b o z)
 
@@ -93,7 +93,7 @@ module _ (m : Live) (n : ℕ) (P : Fact) (holds : (b o : ℕ) → AreZeros m b o
   form_bare (Allocatable rank) b o z = z o (omega arith) (omega arith)
 
 mutual
-  object_bare : (m : Live) (s : Shape) (b o : ℕ) → AreZeros m b o (words_for s) → IsObject m s b o Empty
+  pub object_bare : (m : Live) (s : Shape) (b o : ℕ) → AreZeros m b o (words_for s) → IsObject m s b o Empty
   object_bare m Whole b o z = refl
   object_bare m Logical b o z = refl
   object_bare m (Record t parts) b o z = (tt, components_bare m parts b o z)
