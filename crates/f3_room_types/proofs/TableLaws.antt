@@ -1,7 +1,8 @@
 -- Tables of types one after another.
-use Rattle.std.proofs.Common.{◌≡◌, ℕ, zero, suc, ◌+◌, ◌<◌, ◌≤◌, List, [], ◌∷◌, ◌++◌, length, take, get_or, refl, sym, ap, subst, ◌∙◌, arith}
+use Rattle.std.proofs.Common.{◌≡◌, ℕ, zero, suc, ◌+◌, ◌<◌, ◌≤◌, List, [], ◌∷◌, ◌++◌, length, take, drop, get_or, refl, sym, ap, subst, ◌∙◌, arith}
 use Rattle.std.specs.Prelude.{◌^◌, All, Any, Option, None, Some, MatchOption, slice_get}
-use Rattle.std.proofs.lemmas.List.{take_more, get_or_append_left, get_or-append_right}
+use Rattle.std.proofs.lemmas.List.{take_more, get_or_append_left, get_or-append-add, length-take-le, take-append-drop}
+use Rattle.std.proofs.lemmas.List.Elements.{All-push}
 use Rattle.std.proofs.lemmas.Option.{slice_get_read}
 use Rattle.f3_program.specs.declared.declarations.Base.TheVariants as base
 use Rattle.f3_program.specs.declared.declarations.Component.{Component}
@@ -60,6 +61,16 @@ next_table xs i x ys zs y lt f h k e =
     subst (AreTables (shapes_of (take (i + 1) xs))) (sym e)
     (subst (λ rs. AreTables rs (ys ++ y ∷ [])) (sym (next_shape xs i x lt f)) (tables_more (shapes_of (take i xs)) ys (shape_next (take i xs) x) y h k))
 
+-- what is made of the type of a number by the types before it
+abbrev pub IsMade : Shape → Option TypeTable → Type 0
+IsMade s o = MatchOption o (most_words < words_for s) (λ x. IsTable s x × (x.words ≤ most_words))
+
+pub is_made : (xs : List Derived) (i : ℕ) (x : Derived) (ys us : List TypeTable) (cs : List Component) (o : Option TypeTable) → us ≡ ys → cs ≡ x.components.items
+    → ((ts : List Shape) (t : ℕ) → AreTables ts us → IsMade (Record t (parts_in ts cs)) o) → AreTables (shapes_of (take i xs)) ys → IsMade (shape_next (take i xs) x) o
+is_made xs i x ys us cs o same its h have =
+    let ss : List Shape = shapes_of (take i xs) in
+    subst (λ ds. IsMade (Record (length ss) (parts_in ss ds)) o) its (h ss (length ss) (subst (AreTables ss) (sym same) have))
+
 -- ---- components
 
 -- one component more
@@ -112,14 +123,52 @@ module _ (xs : List TypeTable) (cs : List Component) (i : ℕ) (c : Component) (
   pub not_tabled : (n : ℕ) → most_words < words + n → (ts : List Shape) → AreTables ts xs → n ≤ room ts c.declared → most_words < words_for_parts (parts_in ts cs)
   not_tabled n much ts have le = omega (arith, words_among ts cs i c at, (tabled.are ts have).0)
 
--- ---- a type with too many words
+-- ---- the trees of all types begin with those of the first ones
+
+length_more : (ss : List Shape) (s : Shape) → length (ss ++ s ∷ []) ≡ length ss + 1
+length_more [] s = omega arith
+length_more (r ∷ ss) s = omega (arith, length_more ss s)
+
+shapes_length : (ss : List Shape) (ts : List Derived) → length (shapes_from ss ts) ≡ length ss + length ts
+shapes_length ss [] = omega arith
+shapes_length ss (t ∷ ts) =
+    let s : Shape = Record (length ss) (parts_in ss t.components.items) in
+    omega (arith, shapes_length (ss ++ s ∷ []) ts, length_more ss s)
+
+pub shapes_number : (ts : List Derived) → length (shapes_of ts) ≡ length ts
+shapes_number ts = shapes_length [] ts ∙ omega arith
 
 shapes_kept : (ss : List Shape) (ts : List Derived) (k : ℕ) (d : Shape) → k < length ss → get_or (shapes_from ss ts) k d ≡ get_or ss k d
 shapes_kept ss [] k d lt = refl
 shapes_kept ss (t ∷ ts) k d lt =
     let s : Shape = Record (length ss) (parts_in ss t.components.items) in
     shapes_kept (ss ++ s ∷ []) ts k d (omega (arith, length_more ss s)) ∙ get_or_append_left ss (s ∷ []) d k lt
-  where
-    length_more : (ss : List Shape) (s : Shape) → length (ss ++ s ∷ []) ≡ length ss + 1
-    length_more [] s = omega arith
-    length_more (r ∷ ss) s = omega (arith, length_more ss s)
+
+shapes_split : (ss : List Shape) (ts us : List Derived) → shapes_from ss (ts ++ us) ≡ shapes_from (shapes_from ss ts) us
+shapes_split ss [] us = refl
+shapes_split ss (t ∷ ts) us = shapes_split (ss ++ Record (length ss) (parts_in ss t.components.items) ∷ []) ts us
+
+pub shape_stands : (xs : List Derived) (i : ℕ) (x : Derived) (d : Shape) → i < length xs → x ≡ get_or xs i x → get_or (shapes_of xs) i d ≡ shape_next (take i xs) x
+shape_stands xs i x d lt f =
+    let ss : List Shape = shapes_of (take i xs) in
+    let s : Shape = shape_next (take i xs) x in
+    let n : length ss ≡ i = shapes_number (take i xs) ∙ length-take-le i xs (omega arith) in
+    let all : shapes_of xs ≡ shapes_from (ss ++ s ∷ []) (drop (i + 1) xs)
+    = ap shapes_of (sym (take-append-drop (i + 1) xs)) ∙ (shapes_split [] (take (i + 1) xs) (drop (i + 1) xs) ∙ ap (λ rs. shapes_from rs (drop (i + 1) xs)) (next_shape xs i x lt f)) in
+    let here : get_or (ss ++ s ∷ []) (length ss + 0) d ≡ s = get_or-append-add ss (s ∷ []) 0 d in
+    let at : length ss + 0 ≡ i = omega arith in
+    ap (λ rs. get_or rs i d) all ∙ (shapes_kept (ss ++ s ∷ []) (drop (i + 1) xs) i d (omega (arith, length_more ss s)) ∙ subst (λ k. get_or (ss ++ s ∷ []) k d ≡ s) at here)
+
+-- ---- types with too many words
+
+pub some_large : (xs : List Derived) (i : ℕ) (x : Derived) → i < length xs → x ≡ get_or xs i x → most_words < words_for (shape_next (take i xs) x) → Any (λ s. most_words < words_for s) (shapes_of xs)
+some_large xs i x lt f much =
+    let n : i < length (shapes_of xs) = omega (arith, shapes_number xs) in
+    (i, shape_next (take i xs) x, n, shape_stands xs i x _ lt f, much)
+
+pub is_small : (s : Shape) (x : TypeTable) → IsTable s x × (x.words ≤ most_words) → words_for s ≤ most_words
+is_small s x h = omega (arith, table_words s x h.0, h.1)
+
+pub all_small : (xs : List Derived) (i : ℕ) (x : Derived) → i < length xs → x ≡ get_or xs i x → All (λ s. words_for s ≤ most_words) (shapes_of (take i xs))
+    → words_for (shape_next (take i xs) x) ≤ most_words → All (λ s. words_for s ≤ most_words) (shapes_of (take (i + 1) xs))
+all_small xs i x lt f few le = subst (All (λ s. words_for s ≤ most_words)) (sym (next_shape xs i x lt f)) (All-push (λ s. words_for s ≤ most_words) (shapes_of (take i xs)) (shape_next (take i xs) x) few le)
