@@ -1,11 +1,12 @@
 -- Which types have layouts, and pieces of layouts (f3_desc, Shape).
 use Rattle.std.proofs.Common.{zero, suc}
-use Rattle.std.specs.Prelude.{⊤, ◌≡◌, ◌≤◌, ◌<◌, ◌^◌, ℕ, List, [], ◌∷◌, ◌++◌, length}
+use Rattle.std.specs.Prelude.{⊤, ◌≡◌, ◌≤◌, ◌<◌, ◌^◌, ℕ, List, [], ◌∷◌, ◌++◌, length, Option, None, Some}
+use Rattle.f3_program.specs.declared.declarations.Declared.{Declared}
 use Rattle.f3_meaning_whole.specs.Value.{Span, count}
-use Rattle.f3_meaning_whole.specs.Shape.{Shape, Whole, Logical, Record, Parts, nothing, and}
+use Rattle.f3_meaning_whole.specs.Shape.{Shape, Whole, Logical, Record, Parts, nothing, and, shape_in}
 use Rattle.f3_desc.specs.declared.piece.Piece.{Piece}
 use Rattle.f3_desc.specs.Shape.{Shape as Layout, Plain, shape_at, shapes_from, most_words}
-use Rattle.f3_rooms.specs.Forms.{Form, Laid, Allocatable, form_of, words_for_parts}
+use Rattle.f3_rooms.specs.Forms.{Form, Laid, Allocatable, form_of, words_for_parts, room}
 use Rattle.f3_room_objects.specs.Trees.{layout_for, formed_as}
 
 -- ---- which types have layouts
@@ -67,3 +68,13 @@ pub record Begins (old new : List Layout) : Type 0 where
 pub record Has (old new : List Piece) (l : Layout) (k : ℕ) : Type 0 where
   pub begins : Begins (layouts_of old) (layouts_of new)
   pub is : IsAt (layouts_of new) l k
+
+-- A component has become a piece; or it cannot be one, or has too many words for an object.
+abbrev pub AddsPart : List Shape → Declared → List Piece → List Piece → Option ℕ → Type 0
+AddsPart ts d old new None = HasPiece (form_of d) → room ts d ≤ most_words → ⊥
+AddsPart ts d old new (Some k) = Has old new (formed_as (form_of d) (layout_for (shape_in ts d.kind.of))) k
+
+-- So all components; or no type of these has a layout.
+pub record HasParts (old new : List Piece) (parts : Parts) (ks : List ℕ) : Type 0 where
+  pub begins : Begins (layouts_of old) (layouts_of new)
+  pub are : ArePartsAt (layouts_of new) parts ks

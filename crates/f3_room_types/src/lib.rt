@@ -2,5 +2,7 @@
 //! copied and cleared.
 #![tactic(auto)]
 
+pub mod layouts;
+mod pieces;
 pub mod tabling;
 pub mod words;

@@ -3,6 +3,7 @@
 ghost use Rattle.std.specs.Prelude.{◌≡◌, ◌≤◌, ◌<◌, ◌*◌, List, [], IsTrue, IfOk, MatchOption, map, length, nat_lt};
 ghost use Rattle.std.specs.List.{list_all};
 ghost use Rattle.f3_desc.specs.Shape.{Holder, Plain, Times, are_pieces, is_piece, most_words, row, shape_at, shape_of, width};
+ghost use Rattle.f3_desc.specs.Layout.{pieces_of};
 ghost use Rattle.f3_room_types.specs.Pieces.{Has, IsAt, layouts_of};
 
 use crate::tabling::MOST_WORDS;
@@ -35,11 +36,13 @@ impl Pieces {
     fn push(&mut self, piece: Piece, words: usize) -> Result<usize, AllocError>
         requires piece { IsTrue (is_piece (layouts_of self.old.pieces.items) piece) }
         requires words { words ≡ width (shape_of (layouts_of self.old.pieces.items) piece) }
-        ensures { IfOk result (Has self.old.pieces.items self.new.pieces.items (shape_of (layouts_of self.old.pieces.items) piece)) }
+        ensures number { IfOk result (λ k. k ≡ length self.old.pieces.items) }
+        ensures has { IfOk result (Has self.old.pieces.items self.new.pieces.items (shape_of (layouts_of self.old.pieces.items) piece)) }
     {
         let number = self.pieces.len();
-        self.widths.push(words)?;
+        self.widths.reserve(1)?;
         self.pieces.push(piece)?;
+        self.widths.push_reserved(words);
         Ok(number)
     }
 
@@ -98,7 +101,7 @@ impl Pieces {
     /// The layout of these pieces.
     pub(crate) fn layout(self, alloc: Global) -> Result<Layout, AllocError>
         requires { 0 < length self.pieces.items }
-        ensures { IfOk result (λ l. l.pieces.items ≡ self.pieces.items) }
+        ensures { IfOk result (λ l. pieces_of l ≡ self.pieces.items) }
     {
         Layout::new(alloc, self.pieces)
     }
