@@ -85,7 +85,7 @@ offsets_more at ts (b ∷ cs) c =
     let e : (at + room ts b.declared) + words_for_parts (parts_in ts cs) ≡ at + (room ts b.declared + words_for_parts (parts_in ts cs)) = omega arith in
     ap (λ ks. at ∷ ks) (offsets_more (at + room ts b.declared) ts cs c ∙ ap (λ k. offsets_from (at + room ts b.declared) (parts_in ts cs) ++ k ∷ []) e)
 
-words_among : (ts : List Shape) (cs : List Component) (i : ℕ) (c : Component) → slice_get cs i ≡ Some c
+pub words_among : (ts : List Shape) (cs : List Component) (i : ℕ) (c : Component) → slice_get cs i ≡ Some c
     → words_for_parts (parts_in ts (take i cs)) + room ts c.declared ≤ words_for_parts (parts_in ts cs)
 words_among ts [] i c e = absurd (cc)
 words_among ts (b ∷ cs) zero c e = let f : b ≡ c = cc in subst (λ (x : Component). 0 + room ts x.declared ≤ room ts b.declared + words_for_parts (parts_in ts cs)) f (omega arith)

@@ -3,7 +3,7 @@
 ghost use Rattle.std.specs.Prelude.{◌≡◌, ◌<◌, ℕ, List, IsTrue, IfOk, IfSome, MatchOption, All, nat_lt};
 ghost use Rattle.std.specs.List.{list_all};
 ghost use Rattle.f3_desc.specs.Layout.{piece_count, shape_in as layout_in};
-ghost use Rattle.f3_desc.specs.Shape.{Shape as Layout};
+ghost use Rattle.f3_desc.specs.Shape as desc;
 ghost use Rattle.f3_meaning_whole.specs.Shape.{Shape, Record, parts_in, shape_in, shapes_of};
 ghost use Rattle.f3_room_objects.specs.Trees.{layout_for};
 ghost use Rattle.f3_room_types.specs.Pieces.{AddsPart, AreNumbered, Has, HasLayout, HasParts, IsAt, layouts_of};
@@ -29,7 +29,7 @@ pub struct Layouts {
 
 /// The number of the piece of a type, by those of the derived types: a scalar is the first.
 fn number_of(numbers: &[usize], of: Base) -> usize
-    ensures at { (ls : List Layout) (ts : List Shape) → AreNumbered ls ts numbers.now → IsAt ls (layout_for (shape_in ts of)) result }
+    ensures at { (ls : List desc.Shape) (ts : List Shape) → AreNumbered ls ts numbers.now → IsAt ls (layout_for (shape_in ts of)) result }
     ensures within { (n : ℕ) → 0 < n → IsTrue (list_all (λ k. nat_lt k n) numbers.now) → result < n }
 {
     match of {
