@@ -74,7 +74,7 @@ abbrev pub AddsPart : List Shape → Declared → List Piece → List Piece → 
 AddsPart ts d old new None = HasPiece (form_of d) → room ts d ≤ most_words → ⊥
 AddsPart ts d old new (Some k) = Has old new (formed_as (form_of d) (layout_for (shape_in ts d.kind.of))) k
 
--- So all components; or no type of these has a layout.
+-- So all components of a type.
 pub record HasParts (old new : List Piece) (parts : Parts) (ks : List ℕ) : Type 0 where
   pub begins : Begins (layouts_of old) (layouts_of new)
   pub are : ArePartsAt (layouts_of new) parts ks

@@ -2,6 +2,7 @@
 //! copied and cleared.
 #![tactic(auto)]
 
+pub mod laws;
 pub mod layouts;
 mod pieces;
 pub mod tabling;

@@ -7,7 +7,7 @@ use Rattle.f3_room_types.proofs.tabling.table_of.Goals.{in_default-via-in-Some+e
 
 pub returns-in_default : goal.returns-in_default
 returns-in_default c = λ ts t have. elim c.in_default.branch [
-  in_default-via-in-Some+else-more-words w ↦
+  | in_default-via-in-Some+else-more-words w ↦
       let is : w.in-Some.more ≡ room ts c.component-item.result.declared = rw w.in-Some.is at (c.words_of.ensures ts have) in
       not_tabled c.args.tables.now c.args.components.now c.loop-component.component-index c.component-item.result (omega arith) c.component-item.is c.loop-component.words c.loop-component.offsets.items
       c.loop-component.invariant w.in-Some.more (omega (arith, c.loop-component.invariant.small)) ts have (omega arith)

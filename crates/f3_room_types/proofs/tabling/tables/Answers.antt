@@ -19,6 +19,6 @@ loop-one-preserved c =
     c.deref.ensures.value c.deref-in-loop-one.ensures.value c.in_ok-table.ensures c.loop-one.invariant.0 in
     let is : IsTable s c.in-Some.table × (c.in-Some.table.words ≤ most_words) = rw c.in-Some.is at made in (
       next_table c.args.types.now c.loop-one.one-index c.one-item.result c.loop-one.tables.items _ c.in-Some.table (omega arith) c.one-item.is c.loop-one.invariant.0 is.0
-      c.in_ok-push-in-Some.ensures.items,
+          c.in_ok-push-in-Some.ensures.items,
       all_small c.args.types.now c.loop-one.one-index c.one-item.result (omega arith) c.one-item.is c.loop-one.invariant.1 (is_small s c.in-Some.table is),
     )

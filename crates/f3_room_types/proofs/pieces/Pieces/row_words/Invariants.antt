@@ -7,5 +7,5 @@ use Rattle.f3_room_types.proofs.pieces.Pieces.row_words.Given as goal
 abbrev pub invariant-loop-part : goal.invariant-loop-part
 invariant-loop-part l = record {
   small : l.words ≤ most_words;
-  all : l.words + width (row (map (shape_at (layouts_of l.self.pieces.items)) (drop l.part-index l.parts))) ≡ width (row (map (shape_at (layouts_of l.self.pieces.items)) l.parts))
+  all : l.words + width (row (map (shape_at (layouts_of l.self.pieces.items)) (drop l.part-index l.parts))) ≡ width (row (map (shape_at (layouts_of l.self.pieces.items)) l.parts));
 }
