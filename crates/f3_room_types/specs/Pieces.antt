@@ -72,9 +72,15 @@ pub record Has (old new : List Piece) (l : Layout) (k : ℕ) : Type 0 where
 -- A component has become a piece; or it cannot be one, or has too many words for an object.
 abbrev pub AddsPart : List Shape → Declared → List Piece → List Piece → Option ℕ → Type 0
 AddsPart ts d old new None = HasPiece (form_of d) → room ts d ≤ most_words → ⊥
-AddsPart ts d old new (Some k) = Has old new (formed_as (form_of d) (layout_for (shape_in ts d.kind.of))) k
+AddsPart ts d old new (Some k) = HasPiece (form_of d) × Has old new (formed_as (form_of d) (layout_for (shape_in ts d.kind.of))) k
 
 -- So all components of a type.
 pub record HasParts (old new : List Piece) (parts : Parts) (ks : List ℕ) : Type 0 where
   pub begins : Begins (layouts_of old) (layouts_of new)
   pub are : ArePartsAt (layouts_of new) parts ks
+  pub pieces : HavePieces parts
+
+-- A type has become a piece, or has no layout.
+abbrev pub AddsType : Shape → List Piece → List Piece → Option ℕ → Type 0
+AddsType s old new None = HasLayout s → ⊥
+AddsType s old new (Some k) = HasLayout s × Has old new (layout_for s) k

@@ -6,7 +6,7 @@ ghost use Rattle.f3_desc.specs.Layout.{piece_count, shape_in as layout_in};
 ghost use Rattle.f3_desc.specs.Shape as desc;
 ghost use Rattle.f3_meaning_whole.specs.Shape.{Shape, Record, parts_in, shape_in, shapes_of};
 ghost use Rattle.f3_room_objects.specs.Trees.{layout_for};
-ghost use Rattle.f3_room_types.specs.Pieces.{AddsPart, AreNumbered, Has, HasLayout, HasParts, IsAt, layouts_of};
+ghost use Rattle.f3_room_types.specs.Pieces.{AddsPart, AddsType, AreNumbered, HasLayout, HasParts, IsAt, layouts_of};
 
 use crate::pieces::Pieces;
 use crate::words::elements;
@@ -99,8 +99,7 @@ fn whole(
 ) -> Result<Option<usize>, AllocError>
     requires { (ts : List Shape) × AreNumbered (layouts_of pieces.old.pieces.items) ts numbers.now }
     ensures { IfOk result (λ r. (ts : List Shape) (t : ℕ) → AreNumbered (layouts_of pieces.old.pieces.items) ts numbers.now
-        → MatchOption r (¬ (HasLayout (Record t (parts_in ts components.now))))
-        (Has pieces.old.pieces.items pieces.new.pieces.items (layout_for (Record t (parts_in ts components.now))))) }
+        → AddsType (Record t (parts_in ts components.now)) pieces.old.pieces.items pieces.new.pieces.items r) }
 {
     match parts(alloc, pieces, numbers, components)? {
         Some(parts) => pieces.record(parts),
@@ -111,11 +110,12 @@ fn whole(
 impl Layouts {
     ghost use Rattle.f3_room_types.specs.Layouts.{AreLayouts};
 
-    /// The layouts of the types of a program: none where one of them has none.
+    /// The layouts of the types of a program: none exactly where one of them has none.
     ///
     /// `AllocError` where the host has no memory for them.
     pub fn new(alloc: Global, types: &[Derived]) -> Result<Option<Layouts>, AllocError>
-        ensures { IfOk result (λ r. MatchOption r (¬ (All HasLayout (shapes_of types.now))) (AreLayouts (shapes_of types.now))) }
+        ensures layouts { IfOk result (λ r. MatchOption r (¬ (All HasLayout (shapes_of types.now))) (AreLayouts (shapes_of types.now))) }
+        ensures all { IfOk result (λ r. IfSome r (λ l. All HasLayout (shapes_of types.now))) }
     {
         let mut pieces = Pieces::new(alloc)?;
         let mut numbers = Vec::new(alloc);

@@ -90,7 +90,8 @@ impl Pieces {
     pub(crate) fn record(&mut self, parts: Vec<usize>) -> Result<Option<usize>, AllocError>
         requires { IsTrue (list_all (λ k. nat_lt k (length (layouts_of self.old.pieces.items))) parts.items) }
         ensures { IfOk result (λ r. MatchOption r (most_words < width (row (map (shape_at (layouts_of self.old.pieces.items)) parts.items)))
-            (Has self.old.pieces.items self.new.pieces.items (row (map (shape_at (layouts_of self.old.pieces.items)) parts.items)))) }
+            (λ k. Has self.old.pieces.items self.new.pieces.items (row (map (shape_at (layouts_of self.old.pieces.items)) parts.items)) k
+            × (width (row (map (shape_at (layouts_of self.old.pieces.items)) parts.items)) ≤ most_words))) }
     {
         match self.row_words(&parts) {
             Some(words) => Ok(Some(self.push(Piece::Record(parts), words)?)),
