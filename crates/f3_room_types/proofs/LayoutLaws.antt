@@ -1,10 +1,10 @@
 -- Layouts of types by the numbers of their pieces.
-use Rattle.std.proofs.Common.{◌≡◌, ℕ, zero, suc, ◌+◌, ◌*◌, ◌<◌, ◌≤◌, Bool, true, false, nat_lt, IsTrue, List, [], ◌∷◌, ◌++◌, map, length, take, get_or, refl, sym, ap, subst, ◌∙◌, arith, length-append}
+use Rattle.std.proofs.Common.{◌≡◌, ℕ, zero, suc, ◌+◌, ◌*◌, ◌<◌, ◌≤◌, true, false, nat_lt, IsTrue, List, [], ◌∷◌, ◌++◌, map, length, take, get_or, refl, sym, ap, subst, ◌∙◌, arith}
 use Rattle.std.specs.List.{list_all}
 use Rattle.std.specs.Prelude.{◌^◌, All, Option, None, Some, MatchOption, Result, Ok, Err, IfOk, slice_get}
 use Rattle.std.specs.declared.alloc.AllocError.{AllocError}
 use Rattle.std.proofs.lemmas.Bool.{ltb-true, and_from, lt-ltb}
-use Rattle.std.proofs.lemmas.List.{take_more, take-append-drop}
+use Rattle.std.proofs.lemmas.List.{take_more}
 use Rattle.std.proofs.lemmas.List.Elements.{All-push}
 use Rattle.std.proofs.lemmas.Option.{slice_get_read}
 use Rattle.f3_program.specs.declared.declarations.Component.{Component}
@@ -17,7 +17,7 @@ use Rattle.f3_desc.specs.Shape.{Shape as Layout, Plain, Holder, Times, width, ro
 use Rattle.f3_desc.specs.Layout.{pieces_of, shapes}
 use Rattle.f3_desc.specs.declared.layout.Layout as layout
 use Rattle.f3_desc.proofs.Shapes.{test_at, shapes_length}
-use Rattle.f3_rooms.specs.Forms.{Form, Laid, Allocatable, form_of, form_words, words_for, words_for_parts, room}
+use Rattle.f3_rooms.specs.Forms.{Laid, Allocatable, form_of, form_words, words_for, words_for_parts, room}
 use Rattle.f3_room_objects.specs.Trees.{layout_for, layouts_for, formed_as}
 use Rattle.f3_room_objects.proofs.Planting.{width_for}
 use Rattle.f3_room_types.specs.Pieces.{HasPiece, HavePieces, HasLayout, layouts_of, IsAt, AreAt, ArePartsAt, AreNumbered, Begins, Has, AddsPart, AddsType, HasParts}

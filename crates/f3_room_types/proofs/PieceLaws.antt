@@ -1,9 +1,9 @@
 -- Pieces one after another.
-use Rattle.std.proofs.Common.{◌≡◌, ℕ, zero, suc, ◌+◌, ◌*◌, ◌<◌, ◌≤◌, Bool, true, List, [], ◌∷◌, ◌++◌, map, length, get_or, refl, sym, ap, subst, ◌∙◌, arith, length-append}
+use Rattle.std.proofs.Common.{◌≡◌, ℕ, ◌+◌, true, List, [], ◌∷◌, ◌++◌, map, length, get_or, refl, sym, ap, subst, ◌∙◌, arith, length-append}
 use Rattle.std.proofs.lemmas.Bool.{and_parts, and_from}
 use Rattle.std.proofs.lemmas.List.{get_or_append_left, get_or-append-add}
 use Rattle.f3_desc.specs.declared.piece.Piece.{Piece}
-use Rattle.f3_desc.specs.Shape.{Shape as Layout, Nothing, Plain, width, shape_of, shapes_from, is_piece, are_pieces}
+use Rattle.f3_desc.specs.Shape.{Shape as Layout, Nothing, width, shape_of, shapes_from, is_piece, are_pieces}
 use Rattle.f3_desc.proofs.Shapes.{shapes_length}
 use Rattle.f3_room_types.specs.Pieces.{layouts_of, IsAt, Begins, Has}
 

@@ -1,13 +1,12 @@
 -- Tables of types one after another.
 use Rattle.std.proofs.Common.{◌≡◌, ℕ, zero, suc, ◌+◌, ◌<◌, ◌≤◌, List, [], ◌∷◌, ◌++◌, length, take, drop, get_or, refl, sym, ap, subst, ◌∙◌, arith}
-use Rattle.std.specs.Prelude.{◌^◌, All, Any, Option, None, Some, MatchOption, slice_get}
+use Rattle.std.specs.Prelude.{All, Any, Option, Some, MatchOption, slice_get}
 use Rattle.std.proofs.lemmas.List.{take_more, get_or_append_left, get_or-append-add, length-take-le, take-append-drop}
 use Rattle.std.proofs.lemmas.List.Elements.{All-push}
 use Rattle.std.proofs.lemmas.Option.{slice_get_read}
-use Rattle.f3_program.specs.declared.declarations.Base.TheVariants as base
 use Rattle.f3_program.specs.declared.declarations.Component.{Component}
 use Rattle.f3_program.specs.declared.declarations.Derived.{Derived}
-use Rattle.f3_meaning_whole.specs.Shape.{Shape, Whole, Logical, Record, nothing, and, shape_in, parts_in, shapes_from, shapes_of}
+use Rattle.f3_meaning_whole.specs.Shape.{Shape, Whole, Logical, Record, parts_in, shapes_from, shapes_of}
 use Rattle.f3_desc.specs.Shape.{most_words}
 use Rattle.f3_rooms.specs.Forms.{room, words_for, words_for_parts}
 use Rattle.f3_type_tables.specs.declared.table.TypeTable.{TypeTable}

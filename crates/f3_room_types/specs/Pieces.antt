@@ -1,8 +1,8 @@
 -- Which types have layouts, and pieces of layouts (f3_desc, Shape).
 use Rattle.std.proofs.Common.{zero, suc}
-use Rattle.std.specs.Prelude.{⊤, ◌≡◌, ◌≤◌, ◌<◌, ◌^◌, ℕ, List, [], ◌∷◌, ◌++◌, length, Option, None, Some}
+use Rattle.std.specs.Prelude.{⊤, ◌≡◌, ◌≤◌, ◌<◌, ◌^◌, ℕ, List, [], ◌∷◌, length, Option, None, Some}
 use Rattle.f3_program.specs.declared.declarations.Declared.{Declared}
-use Rattle.f3_meaning_whole.specs.Value.{Span, count}
+use Rattle.f3_meaning_whole.specs.Value.{count}
 use Rattle.f3_meaning_whole.specs.Shape.{Shape, Whole, Logical, Record, Parts, nothing, and, shape_in}
 use Rattle.f3_desc.specs.declared.piece.Piece.{Piece}
 use Rattle.f3_desc.specs.Shape.{Shape as Layout, Plain, shape_at, shapes_from, most_words}

@@ -1,6 +1,6 @@
 //! Pieces of layouts, one after another.
 
-ghost use Rattle.std.specs.Prelude.{◌≡◌, ◌≤◌, ◌<◌, ◌*◌, List, [], IsTrue, IfOk, MatchOption, map, length, nat_lt};
+ghost use Rattle.std.specs.Prelude.{◌≡◌, ◌≤◌, ◌<◌, ◌*◌, [], IsTrue, IfOk, MatchOption, map, length, nat_lt};
 ghost use Rattle.std.specs.List.{list_all};
 ghost use Rattle.f3_desc.specs.Shape.{Holder, Plain, Times, are_pieces, is_piece, most_words, row, shape_at, shape_of, width};
 ghost use Rattle.f3_desc.specs.Layout.{pieces_of};

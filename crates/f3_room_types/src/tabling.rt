@@ -1,6 +1,6 @@
 //! Tables of the types of a program.
 
-ghost use Rattle.std.specs.Prelude.{◌≡◌, ◌≤◌, ◌<◌, ℕ, List, IfOk, IfSome, MatchOption, All, Any};
+ghost use Rattle.std.specs.Prelude.{◌≤◌, ◌<◌, ℕ, List, IfOk, IfSome, MatchOption, All, Any};
 ghost use Rattle.f3_desc.specs.Shape.{most_words};
 ghost use Rattle.f3_meaning_whole.specs.Shape.{Shape, Record, parts_in, shapes_of};
 ghost use Rattle.f3_rooms.specs.Forms.{words_for, words_for_parts};

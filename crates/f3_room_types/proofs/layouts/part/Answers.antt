@@ -1,4 +1,4 @@
-use Rattle.std.proofs.Common.{arith, ◌≡◌, subst, ap, sym, ◌∙◌, List}
+use Rattle.std.proofs.Common.{arith, ◌≡◌, ap, ◌∙◌, List}
 use Rattle.f3_program.specs.declared.declarations.Dimension.{Dimension}
 use Rattle.f3_meaning_whole.specs.Value.{count}
 use Rattle.f3_meaning_whole.specs.Shape.{spans_declared}
