@@ -1,0 +1,3 @@
+//! Tables of derived types: how many words an object of each has, and where its components begin.
+
+pub mod table;
