@@ -1,0 +1,4 @@
+pub mod Names
+pub mod Passing
+pub mod Setting
+pub mod Beginning
