@@ -54,9 +54,9 @@ pub(crate) fn push_copy(
     Ok(())
 }
 
-/// A copy of one of these values joins others: nothing, where there is none of the number.
-#[inline(always)]
-fn push_copy_among(
+/// A copy of one of these values, of any kind, joins others: nothing, where there is none of the number.
+#[inline(never)]
+fn push_any_among(
     alloc: Global,
     copies: &mut Vec<Value>,
     values: &[Value],
@@ -69,6 +69,25 @@ fn push_copy_among(
         None => copies.push(Value::Unallocated)?,
     }
     Ok(())
+}
+
+/// The same, without a call where it is a number and there is room.
+#[inline(always)]
+fn push_copy_among(
+    alloc: Global,
+    copies: &mut Vec<Value>,
+    values: &[Value],
+    place: usize,
+) -> Result<(), AllocError>
+    ensures { OnOk result (values_of copies.new.items ≡ values_of copies.old.items ++ slice_index_or (values_of values.now) place v.Unallocated ∷ []) }
+{
+    match object(values, place) {
+        Some(Value::Number(number)) if copies.len() < copies.capacity() => {
+            copies.push_reserved(Value::Number(*number));
+            Ok(())
+        }
+        _ => push_any_among(alloc, copies, values, place),
+    }
 }
 
 /// Copies of those of these values that are listed by their numbers.
@@ -132,7 +151,7 @@ fn elements_at<'a>(store: &'a Store, path: &Path) -> Option<&'a [Value]>
 }
 
 /// Copies of what stands in a part of elements of an array, found by its way from the root.
-#[tactic(auto, using(crate::proofs::Arrays::drop_at))]
+#[tactic(auto, using(f3_data::proofs::Counted::drop_at))]
 fn copies_in_each(
     alloc: Global,
     store: &Store,
