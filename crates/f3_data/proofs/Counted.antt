@@ -1,5 +1,5 @@
 -- So many numbers, and one of a list.
-use Rattle.std.proofs.Common.{◌≡◌, ℕ, zero, suc, ◌+◌, ◌<◌, ◌≤◌, List, [], ◌∷◌, length, drop, refl, ap, ◌∙◌, arith, None, Some}
+use Rattle.std.proofs.Common.{◌≡◌, ℕ, zero, suc, ◌+◌, ◌<◌, ◌≤◌, List, [], ◌∷◌, length, drop, get_or, refl, ap, ◌∙◌, arith, None, Some}
 use Rattle.std.specs.Prelude.{slice_get}
 use Rattle.f3_data.specs.References.{counted}
 
@@ -29,8 +29,13 @@ drop_at k [] n h = cc
 drop_at zero (x ∷ ns) n h = let e : x ≡ n = cc in rw e refl
 drop_at (suc k) (x ∷ ns) n h = drop_at k ns n h ∙ ap (λ i. n ∷ drop i (x ∷ ns)) (let e : suc (k + 1) ≡ suc k + 1 = omega arith in e)
 
+pub got_at : (k : ℕ) (ns : List ℕ) (d : ℕ) → k < length ns → slice_get ns k ≡ Some (get_or ns k d)
+got_at k [] d h = absurd (omega arith)
+got_at zero (x ∷ ns) d h = refl
+got_at (suc k) (x ∷ ns) d h = got_at k ns d (omega arith)
+
 -- past the last
-drop_past : (k : ℕ) (ns : List ℕ) → length ns ≤ k → drop k ns ≡ []
+pub drop_past : (k : ℕ) (ns : List ℕ) → length ns ≤ k → drop k ns ≡ []
 drop_past zero [] h = refl
 drop_past zero (n ∷ ns) h = absurd (omega arith)
 drop_past (suc k) [] h = refl

@@ -1,13 +1,14 @@
 //! Elements of arrays that take values, each its own.
 
-ghost use Rattle.std.specs.Prelude.{◌≡◌, ◌∷◌, ◌+◌, ◌%◌, ◌^◌, List, drop, slice_get};
+ghost use Rattle.std.specs.Prelude.{◌≡◌, ◌∷◌, ◌+◌, ◌%◌, ◌^◌, List, true, false, drop};
 ghost use Rattle.f3_meaning_whole.specs.Value as m;
 ghost use Rattle.f3_meaning_whole.specs.Value.{joined};
 ghost use Rattle.f3_meaning_whole.specs.Store.{with_part, with_part_at};
+ghost use Rattle.f3_meaning_whole.specs.Arithmetic.{constant_value};
 ghost use Rattle.f3_account.specs.Account.{words, row};
 ghost use Rattle.f3_data.specs.Values.{value_of, values_of};
 ghost use Rattle.f3_data.specs.Stores.{steps_of};
-ghost use Rattle.f3_data.specs.References.{numbers_of};
+ghost use Rattle.f3_data.specs.References.{counted, numbers_of};
 ghost use Rattle.f3_data.specs.Each.{row_with, with_each};
 
 use crate::account::words;
@@ -17,19 +18,44 @@ use crate::store::Step;
 use crate::value::Value;
 use f3_program::declarations::Constant;
 
-/// The place of an element, by its number among those that are meant, from 0 on.
-#[tactic(auto, using(crate::proofs::Counted::counted_at, crate::proofs::Counted::counted_past))]
-pub fn number_at(numbers: &Numbers, k: usize) -> Option<usize>
-    ensures { result ≡ slice_get (numbers_of numbers.now) k }
+/// A number takes the place of a number: whether it did.
+#[inline(always)]
+fn overwrite(value: &mut Value, number: i64) -> bool
+    ensures grown { result ≡ true → words (value_of value.old) ≡ words (value_of value.new) }
+    ensures value { result ≡ true → value_of value.new ≡ m.Number number }
+    ensures kept { result ≡ false → value.new ≡ value.old }
 {
-    match numbers {
-        Numbers::First(count) => { if k < *count { Some(k) } else { None } }
-        Numbers::Listed(listed) => listed.get(k).copied(),
+    match value {
+        Value::Number(old) => {
+            *old = number;
+            true
+        }
+        _ => false,
     }
 }
 
-/// A value that is no scalar takes the place of a part of another. How many words more that takes, up to multiples of 2 ^ 64
-/// (own rule).
+/// A scalar takes the place of a part of a value. How many words more that takes, up to multiples of 2 ^ 64 (own rule).
+#[inline(never)]
+fn take_scalar(value: &mut Value, tail: &[Step], scalar: Constant) -> u64
+    ensures grown { (words (value_of value.old) + result) % 2 ^ 64 ≡ words (value_of value.new) % 2 ^ 64 }
+    ensures value { value_of value.new ≡ with_part (value_of value.old) (steps_of tail.now) (constant_value scalar) }
+{
+    set(value, tail, scalar)
+}
+
+/// The same of a number, without a call where a number itself is what takes it.
+#[inline(always)]
+fn take_number(value: &mut Value, tail: &[Step], number: i64) -> u64
+    ensures grown { (words (value_of value.old) + result) % 2 ^ 64 ≡ words (value_of value.new) % 2 ^ 64 }
+    ensures value { value_of value.new ≡ with_part (value_of value.old) (steps_of tail.now) (m.Number number) }
+{
+    if tail.is_empty() && overwrite(value, number) {
+        return 0;
+    }
+    take_scalar(value, tail, Constant::Number(number))
+}
+
+/// The same of a value that is no scalar.
 #[inline(never)]
 fn take_any(value: &mut Value, tail: &[Step], mut new: Value) -> u64
     ensures grown { (words (value_of value.old) + result) % 2 ^ 64 ≡ words (value_of value.new) % 2 ^ 64 }
@@ -42,15 +68,15 @@ fn take_any(value: &mut Value, tail: &[Step], mut new: Value) -> u64
     grown
 }
 
-/// A value takes the place of a part of another, a scalar in place. How many words more that takes.
+/// The same of any value.
 #[inline(always)]
 fn take(value: &mut Value, tail: &[Step], new: Value) -> u64
     ensures grown { (words (value_of value.old) + result) % 2 ^ 64 ≡ words (value_of value.new) % 2 ^ 64 }
     ensures value { value_of value.new ≡ with_part (value_of value.old) (steps_of tail.now) (value_of new) }
 {
     match new {
-        Value::Number(number) => set(value, tail, Constant::Number(number)),
-        Value::Truth(truth) => set(value, tail, Constant::Truth(truth)),
+        Value::Number(number) => take_number(value, tail, number),
+        Value::Truth(truth) => take_scalar(value, tail, Constant::Truth(truth)),
         other => take_any(value, tail, other),
     }
 }
@@ -69,25 +95,66 @@ fn take_at(values: &mut Vec<Value>, place: usize, tail: &[Step], new: Value) -> 
     }
 }
 
-/// The element of a number, among those that are meant, takes a value in a part of it.
+/// The element of a number, among those that are listed, takes a value in a part of it.
 #[inline(always)]
-fn take_of(
+fn take_of(values: &mut Vec<Value>, places: &[usize], k: usize, tail: &[Step], new: Value) -> u64
+    ensures grown { (row (joined (values_of values.old.items)) + result) % 2 ^ 64 ≡ row (joined (values_of values.new.items)) % 2 ^ 64 }
+    ensures values { (xs : List m.Value) → row_with (joined (values_of values.new.items)) (steps_of tail.now) (drop (k + 1) places.now) xs ≡ row_with (joined (values_of values.old.items)) (steps_of tail.now) (drop k places.now) (value_of new ∷ xs) }
+{
+    if k < places.len() {
+        take_at(values, places[k], tail, new)
+    } else {
+        drop(new);
+        0
+    }
+}
+
+/// Elements that are listed take values in a part of them, each its own. How many words more all take.
+fn take_listed(values: &mut Vec<Value>, places: &[usize], tail: &[Step], news: Vec<Value>) -> u64
+    ensures grown { (row (joined (values_of values.old.items)) + result) % 2 ^ 64 ≡ row (joined (values_of values.new.items)) % 2 ^ 64 }
+    ensures values { joined (values_of values.new.items) ≡ row_with (joined (values_of values.old.items)) (steps_of tail.now) places.now (values_of news.items) }
+{
+    let mut grown: u64 = 0;
+    let mut k = 0;
+    for new in news {
+        grown = grown.wrapping_add(take_of(values, places, k, tail, new));
+        k += 1;
+    }
+    grown
+}
+
+/// The element of a number, among so many from the first on, takes a value in a part of it.
+#[inline(always)]
+fn take_of_first(
     values: &mut Vec<Value>,
-    numbers: &Numbers,
+    count: usize,
     k: usize,
     tail: &[Step],
     new: Value,
 ) -> u64
     ensures grown { (row (joined (values_of values.old.items)) + result) % 2 ^ 64 ≡ row (joined (values_of values.new.items)) % 2 ^ 64 }
-    ensures values { (xs : List m.Value) → row_with (joined (values_of values.new.items)) (steps_of tail.now) (drop (k + 1) (numbers_of numbers.now)) xs ≡ row_with (joined (values_of values.old.items)) (steps_of tail.now) (drop k (numbers_of numbers.now)) (value_of new ∷ xs) }
+    ensures values { (xs : List m.Value) → row_with (joined (values_of values.new.items)) (steps_of tail.now) (drop (k + 1) (counted 0 count)) xs ≡ row_with (joined (values_of values.old.items)) (steps_of tail.now) (drop k (counted 0 count)) (value_of new ∷ xs) }
 {
-    match number_at(numbers, k) {
-        Some(place) => take_at(values, place, tail, new),
-        None => {
-            drop(new);
-            0
-        }
+    if k < count {
+        take_at(values, k, tail, new)
+    } else {
+        drop(new);
+        0
     }
+}
+
+/// So many elements from the first on take values in a part of them, each its own. How many words more all take.
+fn take_first(values: &mut Vec<Value>, count: usize, tail: &[Step], news: Vec<Value>) -> u64
+    ensures grown { (row (joined (values_of values.old.items)) + result) % 2 ^ 64 ≡ row (joined (values_of values.new.items)) % 2 ^ 64 }
+    ensures values { joined (values_of values.new.items) ≡ row_with (joined (values_of values.old.items)) (steps_of tail.now) (counted 0 count) (values_of news.items) }
+{
+    let mut grown: u64 = 0;
+    let mut k = 0;
+    for new in news {
+        grown = grown.wrapping_add(take_of_first(values, count, k, tail, new));
+        k += 1;
+    }
+    grown
 }
 
 /// Elements take values in a part of them, each its own. How many words more all take.
@@ -95,13 +162,10 @@ fn take_in(values: &mut Vec<Value>, numbers: &Numbers, tail: &[Step], news: Vec<
     ensures grown { (row (joined (values_of values.old.items)) + result) % 2 ^ 64 ≡ row (joined (values_of values.new.items)) % 2 ^ 64 }
     ensures values { joined (values_of values.new.items) ≡ row_with (joined (values_of values.old.items)) (steps_of tail.now) (numbers_of numbers.now) (values_of news.items) }
 {
-    let mut grown: u64 = 0;
-    let mut k = 0;
-    for new in news {
-        grown = grown.wrapping_add(take_of(values, numbers, k, tail, new));
-        k += 1;
+    match numbers {
+        Numbers::First(count) => take_first(values, *count, tail, news),
+        Numbers::Listed(places) => take_listed(values, places, tail, news),
     }
-    grown
 }
 
 /// The same of the elements of an array; nothing happens to another value.

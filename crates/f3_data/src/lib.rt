@@ -3,7 +3,7 @@
 
 pub mod account;
 pub mod copies;
-pub mod elements;
+mod elements;
 pub mod lent;
 pub mod parts;
 pub mod reference;

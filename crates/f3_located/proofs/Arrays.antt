@@ -14,7 +14,7 @@ use Rattle.f3_data.specs.declared.reference.Numbers.{Numbers}
 use Rattle.f3_data.specs.declared.reference.Numbers.TheVariants as numbers
 use Rattle.f3_data.specs.Stores.{step_of, steps_of}
 use Rattle.f3_data.specs.References.{counted, numbers_of, element_path}
-pub use Rattle.f3_data.proofs.Counted.{counted_length, counted_at, drop_at}
+pub use Rattle.f3_data.proofs.Counted.{counted_length, counted_at, drop_at, got_at}
 
 -- rows of values in memory
 pub row_is : {n : _} (k : v.Row_of-Value n) → row_of k ≡ joined (values_of (v.items-the_row-Value n k))
@@ -43,11 +43,6 @@ whole_array p b = ap (r.reach_of p) (array_is b) ∙ ap (r.Many (spans_of b.valu
 pub whole_array_by : (p : Path) (value : v.Value) (b : Box Elements Global) (spans : List Span) (tail : List t.Step) (n : ℕ) → value ≡ v.Array b → spans ≡ b.value.spans.items → tail ≡ [] → n ≡ length b.value.values.items →
     r.Many (spans_of spans) (map (element_path p (steps_of tail)) (counted 0 n)) ≡ r.reach_of p (value_of value)
 whole_array_by p value b spans tail n a s t l = rw (a, s, t, l) (sym (whole_array p b))
-
-got_at : (k : ℕ) (ns : List ℕ) (d : ℕ) → k < length ns → slice_get ns k ≡ Some (get_or ns k d)
-got_at k [] d h = absurd (omega arith)
-got_at zero (x ∷ ns) d h = refl
-got_at (suc k) (x ∷ ns) d h = got_at k ns d (omega arith)
 
 pub first_at : (ns : Numbers) (n k : ℕ) → ns ≡ numbers.First n → k < length (numbers_of ns) → slice_get (numbers_of ns) k ≡ Some k
 first_at ns n k e h = ap (λ x. slice_get (numbers_of x) k) e ∙ counted_at n k (omega (arith, counted_length 0 n, ap (λ x. length (numbers_of x)) e))

@@ -21,6 +21,17 @@ pub fn length_of(numbers: &Numbers) -> usize
     }
 }
 
+/// The place of an element, by its number among those that are meant, from 0 on.
+#[tactic(auto, using(f3_data::proofs::Counted::counted_at, f3_data::proofs::Counted::counted_past))]
+pub fn number_at(numbers: &Numbers, k: usize) -> Option<usize>
+    ensures { result ≡ slice_get (numbers_of numbers.now) k }
+{
+    match numbers {
+        Numbers::First(count) => { if k < *count { Some(k) } else { None } }
+        Numbers::Listed(listed) => listed.get(k).copied(),
+    }
+}
+
 /// The place of an element that there is.
 #[tactic(auto, using(f3_data::proofs::Counted::counted_at))]
 pub fn place_at(numbers: &Numbers, k: usize) -> usize

@@ -140,9 +140,62 @@ fn offset_behind(span: Span, offset: u64, walk: Walk) -> Option<u64>
     }
 }
 
+/// The subscripts from one that is inside, and so few behind it that there is room for all of them, by how far they are from the
+/// lower bound of a dimension: none, where some are out of bounds.
+fn few_offsets(
+    alloc: Global,
+    span: Span,
+    walk: Walk,
+    first: u64,
+    behind: usize,
+) -> Result<Option<Vec<usize>>, AllocError>
+    requires inside { first < span.extent }
+    requires few { behind < 2 ^ 16 }
+    ensures { IfOk result (λ found. MatchOption found (is_inside (span_of span) (subscripts_from span.lower first behind walk.step) ≡ false) (λ v. (is_inside (span_of span) (subscripts_from span.lower first behind walk.step) ≡ true) × (v.items ≡ map (λ z. nat_abs (z -ℤ span.lower)) (subscripts_from span.lower first behind walk.step)))) }
+{
+    let mut left = behind;
+    let mut offsets = Vec::with_capacity(alloc, behind + 1)?;
+    let mut offset = first;
+    while left > 0 {
+        offsets.push_reserved(offset as usize);
+        let Some(next) = offset_behind(span, offset, walk) else {
+            return Ok(None);
+        };
+        offset = next;
+        left -= 1;
+    }
+    offsets.push_reserved(offset as usize);
+    Ok(Some(offsets))
+}
+
+/// The same of many.
+fn many_offsets(
+    alloc: Global,
+    span: Span,
+    walk: Walk,
+    first: u64,
+    behind: u128,
+) -> Result<Option<Vec<usize>>, AllocError>
+    requires { first < span.extent }
+    ensures { IfOk result (λ found. MatchOption found (is_inside (span_of span) (subscripts_from span.lower first behind walk.step) ≡ false) (λ v. (is_inside (span_of span) (subscripts_from span.lower first behind walk.step) ≡ true) × (v.items ≡ map (λ z. nat_abs (z -ℤ span.lower)) (subscripts_from span.lower first behind walk.step)))) }
+{
+    let mut left = behind;
+    let mut offsets = Vec::new(alloc);
+    let mut last = first;
+    while left > 0 {
+        offsets.push(last as usize)?;
+        let Some(next) = offset_behind(span, last, walk) else {
+            return Ok(None);
+        };
+        last = next;
+        left -= 1;
+    }
+    offsets.push(last as usize)?;
+    Ok(Some(offsets))
+}
+
 /// The subscripts of a walk whose first is inside, by how far they are from the lower bound of a dimension: none, where some are
 /// out of bounds.
-
 fn offsets_from(
     alloc: Global,
     span: Span,
@@ -152,20 +205,12 @@ fn offsets_from(
     requires { first < span.extent }
     ensures { IfOk result (λ found. MatchOption found (is_inside (span_of span) (subscripts_from span.lower first (walk.left - 1) walk.step) ≡ false) (λ v. (is_inside (span_of span) (subscripts_from span.lower first (walk.left - 1) walk.step) ≡ true) × (v.items ≡ map (λ z. nat_abs (z -ℤ span.lower)) (subscripts_from span.lower first (walk.left - 1) walk.step)))) }
 {
-    let mut left = walk.left.saturating_sub(1);
-    let room = left.min(span.extent as u128).min(ROOM) + 1;
-    let mut offsets = Vec::with_capacity(alloc, room as usize)?;
-    let mut offset = first;
-    while left > 0 {
-        offsets.push(offset as usize)?;
-        let Some(next) = offset_behind(span, offset, walk) else {
-            return Ok(None);
-        };
-        offset = next;
-        left -= 1;
+    let behind = walk.left.saturating_sub(1);
+    if behind < ROOM {
+        few_offsets(alloc, span, walk, first, behind as usize)
+    } else {
+        many_offsets(alloc, span, walk, first, behind)
     }
-    offsets.push(offset as usize)?;
-    Ok(Some(offsets))
 }
 
 /// The selected subscripts, by how far they are from the lower bound of a dimension: none, where some are out of bounds.

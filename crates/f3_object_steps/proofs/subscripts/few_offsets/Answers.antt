@@ -4,7 +4,7 @@ use Rattle.f3_meaning_whole.specs.Act.{is_inside}
 use Rattle.f3_data.specs.Values.{span_of}
 use Rattle.f3_object_steps.specs.Walks.{subscripts_from}
 use Rattle.f3_object_steps.proofs.Stepping.{inside_behind, outside_behind, offsets_behind, last_inside, last_offset}
-use Rattle.f3_object_steps.proofs.subscripts.offsets_from.Goals as goal
+use Rattle.f3_object_steps.proofs.subscripts.few_offsets.Goals as goal
 
 pub returns-in_default : goal.returns-in_default
 returns-in_default c =
@@ -15,9 +15,11 @@ pub loop-left-preserved : goal.loop-left-preserved
 loop-left-preserved c =
     let some : 0 < c.loop-left.left = omega arith in (
       inside_behind (span_of c.args.span) c.args.walk.step c.loop-left.offset c.in-Some.next c.loop-left.left c.loop-left.invariant.2 some c.in-Some.ensures.0 ∙ c.loop-left.invariant.0,
-      ap (λ us. us ++ map (λ z. nat_abs (z -ℤ c.args.span.lower)) (subscripts_from c.args.span.lower c.in-Some.next (c.loop-left.left - 1) c.args.walk.step)) c.in_ok-push.ensures.items
+      ap (λ us. us ++ map (λ z. nat_abs (z -ℤ c.args.span.lower)) (subscripts_from c.args.span.lower c.in-Some.next (c.loop-left.left - 1) c.args.walk.step)) c.push_reserved.ensures.items
           ∙ offsets_behind c.args.span.lower c.args.walk.step c.loop-left.offset c.in-Some.next c.loop-left.left c.loop-left.offsets.items some c.in-Some.ensures.0 ∙ c.loop-left.invariant.1,
       c.in-Some.ensures.1,
+      omega (arith, c.push_reserved.ensures.len),
+      omega (arith, c.push_reserved.ensures.capacity),
     )
 
 pub returns : goal.returns
@@ -26,7 +28,7 @@ returns c =
       sym c.loop-left.invariant.0
           ∙ ap (λ k. is_inside (span_of c.args.span) (subscripts_from c.args.span.lower c.loop-left.offset k c.args.walk.step)) none
           ∙ last_inside (span_of c.args.span) c.args.walk.step c.loop-left.offset c.loop-left.invariant.2,
-      c.in_ok-push-2.ensures.items
+      c.push_reserved-2.ensures.items
           ∙ ap (λ us. c.loop-left.offsets.items ++ us) (sym (last_offset c.args.span.lower c.args.walk.step c.loop-left.offset))
           ∙ ap (λ k. c.loop-left.offsets.items ++ map (λ z. nat_abs (z -ℤ c.args.span.lower)) (subscripts_from c.args.span.lower c.loop-left.offset k c.args.walk.step)) (sym none)
           ∙ c.loop-left.invariant.1,

@@ -1,0 +1,15 @@
+use Rattle.std.proofs.Common.{◌≡◌, ◌<◌, ◌-◌, ◌++◌, map}
+use Rattle.std.specs.Prelude.{◌-ℤ◌, nat_abs}
+use Rattle.f3_meaning_whole.specs.Act.{is_inside}
+use Rattle.f3_data.specs.Values.{span_of}
+use Rattle.f3_object_steps.specs.Walks.{subscripts_from}
+use Rattle.f3_object_steps.proofs.subscripts.many_offsets.Given as goal
+
+abbrev pub invariant-loop-left : goal.invariant-loop-left
+invariant-loop-left l =
+    (is_inside (span_of l.span) (subscripts_from l.span.lower l.last l.left l.walk.step) ≡ is_inside (span_of l.span) (subscripts_from l.span.lower l.fn.first l.behind l.walk.step))
+    × (l.offsets.items ++ map (λ z. nat_abs (z -ℤ l.span.lower)) (subscripts_from l.span.lower l.last l.left l.walk.step) ≡ map (λ z. nat_abs (z -ℤ l.span.lower)) (subscripts_from l.span.lower l.fn.first l.behind l.walk.step))
+    × (l.last < l.span.extent)
+
+abbrev pub decreases-loop-left : goal.decreases-loop-left
+decreases-loop-left l = l.left
