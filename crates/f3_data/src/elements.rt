@@ -1,10 +1,9 @@
 //! Elements of arrays that take values, each its own.
 
-ghost use Rattle.std.specs.Prelude.{◌≡◌, ◌∷◌, ◌+◌, ◌%◌, ◌^◌, List, true, false, drop};
+ghost use Rattle.std.specs.Prelude.{◌≡◌, ◌∷◌, [], ◌+◌, ◌%◌, ◌^◌, List, true, false, drop};
 ghost use Rattle.f3_meaning_whole.specs.Value as m;
 ghost use Rattle.f3_meaning_whole.specs.Value.{joined};
 ghost use Rattle.f3_meaning_whole.specs.Store.{with_part, with_part_at};
-ghost use Rattle.f3_meaning_whole.specs.Arithmetic.{constant_value};
 ghost use Rattle.f3_account.specs.Account.{words, row};
 ghost use Rattle.f3_data.specs.Values.{value_of, values_of};
 ghost use Rattle.f3_data.specs.Stores.{steps_of};
@@ -17,6 +16,46 @@ use crate::reference::Numbers;
 use crate::store::Step;
 use crate::value::Value;
 use f3_program::declarations::Constant;
+
+/// A value that is no scalar takes the place of a part of another. How many words more that takes, up to multiples of 2 ^ 64
+/// (own rule).
+#[inline(never)]
+fn take_any(value: &mut Value, tail: &[Step], mut new: Value) -> u64
+    ensures grown { (words (value_of value.old) + result) % 2 ^ 64 ≡ words (value_of value.new) % 2 ^ 64 }
+    ensures value { value_of value.new ≡ with_part (value_of value.old) (steps_of tail.now) (value_of new) }
+{
+    let come = words(&new);
+    exchange(value, tail, &mut new);
+    let grown = come.wrapping_sub(words(&new));
+    drop(new);
+    grown
+}
+
+/// A value takes the place of a part of another, a scalar in place. How many words more that takes.
+fn take(value: &mut Value, tail: &[Step], new: Value) -> u64
+    ensures grown { (words (value_of value.old) + result) % 2 ^ 64 ≡ words (value_of value.new) % 2 ^ 64 }
+    ensures value { value_of value.new ≡ with_part (value_of value.old) (steps_of tail.now) (value_of new) }
+{
+    match new {
+        Value::Number(number) => set(value, tail, Constant::Number(number)),
+        Value::Truth(truth) => set(value, tail, Constant::Truth(truth)),
+        other => take_any(value, tail, other),
+    }
+}
+
+/// An element takes a value in a part of it; nothing happens where there is none. How many words more the elements take.
+#[inline(never)]
+fn take_any_at(values: &mut Vec<Value>, place: usize, tail: &[Step], new: Value) -> u64
+    ensures grown { (row (joined (values_of values.old.items)) + result) % 2 ^ 64 ≡ row (joined (values_of values.new.items)) % 2 ^ 64 }
+    ensures values { joined (values_of values.new.items) ≡ with_part_at (joined (values_of values.old.items)) place (steps_of tail.now) (value_of new) }
+{
+    if place < values.len() {
+        take(&mut values[place], tail, new)
+    } else {
+        drop(new);
+        0
+    }
+}
 
 /// A number takes the place of a number: whether it did.
 #[inline(always)]
@@ -34,64 +73,41 @@ fn overwrite(value: &mut Value, number: i64) -> bool
     }
 }
 
-/// A scalar takes the place of a part of a value. How many words more that takes, up to multiples of 2 ^ 64 (own rule).
-#[inline(never)]
-fn take_scalar(value: &mut Value, tail: &[Step], scalar: Constant) -> u64
-    ensures grown { (words (value_of value.old) + result) % 2 ^ 64 ≡ words (value_of value.new) % 2 ^ 64 }
-    ensures value { value_of value.new ≡ with_part (value_of value.old) (steps_of tail.now) (constant_value scalar) }
+/// A number takes the place of an element that is one: whether it did.
+#[inline(always)]
+fn overwrite_at(values: &mut Vec<Value>, place: usize, number: i64) -> bool
+    ensures grown { result ≡ true → row (joined (values_of values.old.items)) ≡ row (joined (values_of values.new.items)) }
+    ensures values { result ≡ true → joined (values_of values.new.items) ≡ with_part_at (joined (values_of values.old.items)) place [] (m.Number number) }
+    ensures kept { result ≡ false → values_of values.new.items ≡ values_of values.old.items }
 {
-    set(value, tail, scalar)
+    if place < values.len() {
+        overwrite(&mut values[place], number)
+    } else {
+        false
+    }
 }
 
-/// The same of a number, without a call where a number itself is what takes it.
+/// An element takes a number, without a call where it is one.
 #[inline(always)]
-fn take_number(value: &mut Value, tail: &[Step], number: i64) -> u64
-    ensures grown { (words (value_of value.old) + result) % 2 ^ 64 ≡ words (value_of value.new) % 2 ^ 64 }
-    ensures value { value_of value.new ≡ with_part (value_of value.old) (steps_of tail.now) (m.Number number) }
+fn take_number_at(values: &mut Vec<Value>, place: usize, number: i64) -> u64
+    ensures grown { (row (joined (values_of values.old.items)) + result) % 2 ^ 64 ≡ row (joined (values_of values.new.items)) % 2 ^ 64 }
+    ensures values { joined (values_of values.new.items) ≡ with_part_at (joined (values_of values.old.items)) place [] (m.Number number) }
 {
-    if tail.is_empty() && overwrite(value, number) {
+    if overwrite_at(values, place, number) {
         return 0;
     }
-    take_scalar(value, tail, Constant::Number(number))
+    take_any_at(values, place, &[], Value::Number(number))
 }
 
-/// The same of a value that is no scalar.
-#[inline(never)]
-fn take_any(value: &mut Value, tail: &[Step], mut new: Value) -> u64
-    ensures grown { (words (value_of value.old) + result) % 2 ^ 64 ≡ words (value_of value.new) % 2 ^ 64 }
-    ensures value { value_of value.new ≡ with_part (value_of value.old) (steps_of tail.now) (value_of new) }
-{
-    let come = words(&new);
-    exchange(value, tail, &mut new);
-    let grown = come.wrapping_sub(words(&new));
-    drop(new);
-    grown
-}
-
-/// The same of any value.
-#[inline(always)]
-fn take(value: &mut Value, tail: &[Step], new: Value) -> u64
-    ensures grown { (words (value_of value.old) + result) % 2 ^ 64 ≡ words (value_of value.new) % 2 ^ 64 }
-    ensures value { value_of value.new ≡ with_part (value_of value.old) (steps_of tail.now) (value_of new) }
-{
-    match new {
-        Value::Number(number) => take_number(value, tail, number),
-        Value::Truth(truth) => take_scalar(value, tail, Constant::Truth(truth)),
-        other => take_any(value, tail, other),
-    }
-}
-
-/// An element takes a value in a part of it; nothing happens where there is none. How many words more the elements take.
+/// An element takes a value in a part of it, without a call where that is a number and takes one.
 #[inline(always)]
 fn take_at(values: &mut Vec<Value>, place: usize, tail: &[Step], new: Value) -> u64
     ensures grown { (row (joined (values_of values.old.items)) + result) % 2 ^ 64 ≡ row (joined (values_of values.new.items)) % 2 ^ 64 }
     ensures values { joined (values_of values.new.items) ≡ with_part_at (joined (values_of values.old.items)) place (steps_of tail.now) (value_of new) }
 {
-    if place < values.len() {
-        take(&mut values[place], tail, new)
-    } else {
-        drop(new);
-        0
+    match new {
+        Value::Number(number) if tail.is_empty() => take_number_at(values, place, number),
+        other => take_any_at(values, place, tail, other),
     }
 }
 
