@@ -87,7 +87,16 @@ fn overwrite_at(values: &mut Vec<Value>, place: usize, number: i64) -> bool
     }
 }
 
-/// An element takes a number, without a call where it is one.
+/// An element takes a number, whatever it is.
+#[inline(never)]
+fn take_any_number_at(values: &mut Vec<Value>, place: usize, number: i64) -> u64
+    ensures grown { (row (joined (values_of values.old.items)) + result) % 2 ^ 64 ≡ row (joined (values_of values.new.items)) % 2 ^ 64 }
+    ensures values { joined (values_of values.new.items) ≡ with_part_at (joined (values_of values.old.items)) place [] (m.Number number) }
+{
+    take_any_at(values, place, &[], Value::Number(number))
+}
+
+/// The same, without a call where it is a number.
 #[inline(always)]
 fn take_number_at(values: &mut Vec<Value>, place: usize, number: i64) -> u64
     ensures grown { (row (joined (values_of values.old.items)) + result) % 2 ^ 64 ≡ row (joined (values_of values.new.items)) % 2 ^ 64 }
@@ -96,7 +105,7 @@ fn take_number_at(values: &mut Vec<Value>, place: usize, number: i64) -> u64
     if overwrite_at(values, place, number) {
         return 0;
     }
-    take_any_at(values, place, &[], Value::Number(number))
+    take_any_number_at(values, place, number)
 }
 
 /// An element takes a value in a part of it, without a call where that is a number and takes one.
