@@ -164,7 +164,7 @@ at_once [] xs s p tail = ap (put s p) (no_number (get s p) tail xs) ∙ same_the
 at_once (n ∷ ns) [] s p tail = ap (put s p) (no_value (get s p) tail (n ∷ ns)) ∙ same_there s p.root p.steps
 at_once (n ∷ ns) (x ∷ xs) s p tail =
     let e : get (put s (element_path p tail n) x) p ≡ with_part (get s p) (Element n ∷ tail) x =
-        ap (λ v. part v p.steps) (roots_kept s p.root p.steps n tail x) ∙ kept (at_root s p.root) p.steps n tail x in
+    ap (λ v. part v p.steps) (roots_kept s p.root p.steps n tail x) ∙ kept (at_root s p.root) p.steps n tail x in
     sym (sym (at_once ns xs (put s (element_path p tail n) x) p tail)
     ∙ ap (λ v. put (put s (element_path p tail n) x) p (with_each v tail ns xs)) e
     ∙ ap (put (put s (element_path p tail n) x) p) (each_first (get s p) tail n ns x xs)

@@ -150,13 +150,7 @@ fn take_listed(values: &mut Vec<Value>, places: &[usize], tail: &[Step], news: V
 
 /// The element of a number, among so many from the first on, takes a value in a part of it.
 #[inline(always)]
-fn take_of_first(
-    values: &mut Vec<Value>,
-    count: usize,
-    k: usize,
-    tail: &[Step],
-    new: Value,
-) -> u64
+fn take_of_first(values: &mut Vec<Value>, count: usize, k: usize, tail: &[Step], new: Value) -> u64
     ensures grown { (row (joined (values_of values.old.items)) + result) % 2 ^ 64 ≡ row (joined (values_of values.new.items)) % 2 ^ 64 }
     ensures values { (xs : List m.Value) → row_with (joined (values_of values.new.items)) (steps_of tail.now) (drop (k + 1) (counted 0 count)) xs ≡ row_with (joined (values_of values.old.items)) (steps_of tail.now) (drop k (counted 0 count)) (value_of new ∷ xs) }
 {

@@ -163,7 +163,11 @@ impl Store {
         let grown = take_each(&mut held, numbers, tail, values);
         exchange_at_path(&mut self.statics, &mut self.levels, array, &mut held);
         let gone = words(&held);
-        self.used = self.used.wrapping_add(1).wrapping_add(grown).wrapping_sub(gone);
+        self.used = self
+            .used
+            .wrapping_add(1)
+            .wrapping_add(grown)
+            .wrapping_sub(gone);
         drop(held);
     }
 

@@ -46,24 +46,15 @@ pub(crate) fn push_copy(
     Ok(())
 }
 
-/// A copy of one of these values joins others: nothing, where there is none of the number.
-#[inline(always)]
-fn push_copy_among(
-    alloc: Global,
-    copies: &mut Vec<Value>,
-    values: &[Value],
-    place: usize,
-) -> Result<(), AllocError>
-    requires { vec_len copies.old < vec_capacity copies.old }
-    ensures items { OnOk result (values_of copies.new.items ≡ values_of copies.old.items ++ slice_index_or (values_of values.now) place v.Unallocated ∷ []) }
-    ensures len { OnOk result (vec_len copies.new ≡ vec_len copies.old + 1) }
-    ensures room { vec_capacity copies.new ≡ vec_capacity copies.old }
+/// A copy of one of these values, whatever it is: nothing, where there is none of the number.
+#[inline(never)]
+fn copy_among(alloc: Global, values: &[Value], place: usize) -> Result<Value, AllocError>
+    ensures { IfOk result (λ x. value_of x ≡ slice_index_or (values_of values.now) place v.Unallocated) }
 {
     match object(values, place) {
-        Some(value) => push_copy(alloc, copies, value)?,
-        None => copies.push_reserved(Value::Unallocated),
+        Some(value) => copies::value(alloc, value),
+        None => Ok(Value::Unallocated),
     }
-    Ok(())
 }
 
 /// Copies of those of these values that are listed by their numbers.
@@ -76,7 +67,10 @@ fn copies_listed(
 {
     let mut copies = Vec::with_capacity(alloc, places.len())?;
     for place in places {
-        push_copy_among(alloc, &mut copies, values, *place)?;
+        match object(values, *place) {
+            Some(Value::Number(number)) => copies.push_reserved(Value::Number(*number)),
+            _ => copies.push_reserved(copy_among(alloc, values, *place)?),
+        }
     }
     Ok(copies)
 }
@@ -87,7 +81,10 @@ fn copies_of_first(alloc: Global, values: &[Value], count: usize) -> Result<Vec<
 {
     let mut copies = Vec::with_capacity(alloc, count)?;
     for place in 0..count {
-        push_copy_among(alloc, &mut copies, values, place)?;
+        match object(values, place) {
+            Some(Value::Number(number)) => copies.push_reserved(Value::Number(*number)),
+            _ => copies.push_reserved(copy_among(alloc, values, place)?),
+        }
     }
     Ok(copies)
 }

@@ -12,11 +12,10 @@ overflow_sub-offset c = let w = down_within c.loop-left.offset c.distance_of-dis
 
 pub loop-left-preserved : goal.loop-left-preserved
 loop-left-preserved c =
-    
     let w = down_within c.loop-left.offset c.distance_of-distance.result c.loop-left.left c.loop-left-test.true c.loop-left.invariant.3 in
     let v : unsigned_abs c.args.walk.step ≤ c.loop-left.offset = omega (arith, c.distance_of-distance.ensures) in
     let next : pos (c.loop-left.offset - c.distance_of-distance.result) ≡ pos c.loop-left.offset +ℤ c.args.walk.step =
-        ap (λ n. pos (c.loop-left.offset - n)) c.distance_of-distance.ensures ∙ down_behind c.args.walk.step c.loop-left.offset c.requires.down v in (
+    ap (λ n. pos (c.loop-left.offset - n)) c.distance_of-distance.ensures ∙ down_behind c.args.walk.step c.loop-left.offset c.requires.down v in (
       inside_behind (span_of c.args.span) c.args.walk.step c.loop-left.offset (c.loop-left.offset - c.distance_of-distance.result) c.loop-left.left c.loop-left.invariant.2 c.loop-left-test.true next ∙ c.loop-left.invariant.0,
       ap (λ us. us ++ map (λ z. nat_abs (z -ℤ c.args.span.lower)) (subscripts_from c.args.span.lower (c.loop-left.offset - c.distance_of-distance.result) (c.loop-left.left - 1) c.args.walk.step)) c.push_reserved.ensures.items
           ∙ offsets_behind c.args.span.lower c.args.walk.step c.loop-left.offset (c.loop-left.offset - c.distance_of-distance.result) c.loop-left.left c.loop-left.offsets.items c.loop-left-test.true next ∙ c.loop-left.invariant.1,
@@ -28,8 +27,7 @@ loop-left-preserved c =
 
 pub returns : goal.returns
 returns c =
-    let none : c.loop-left.left ≡ 0 = omega arith in
-     (
+    let none : c.loop-left.left ≡ 0 = omega arith in (
       sym c.loop-left.invariant.0
           ∙ ap (λ k. is_inside (span_of c.args.span) (subscripts_from c.args.span.lower c.loop-left.offset k c.args.walk.step)) none
           ∙ last_inside (span_of c.args.span) c.args.walk.step c.loop-left.offset c.loop-left.invariant.2,

@@ -14,7 +14,7 @@ pub loop-left-preserved : goal.loop-left-preserved
 loop-left-preserved c =
     let i : c.loop-left.offset < c.args.span.extent = omega arith in
     let next : pos (c.loop-left.offset + c.distance_of-distance.result) ≡ pos c.loop-left.offset +ℤ c.args.walk.step =
-        ap (λ n. pos (c.loop-left.offset + n)) c.distance_of-distance.ensures ∙ up_behind c.args.walk.step c.loop-left.offset c.requires.up in (
+    ap (λ n. pos (c.loop-left.offset + n)) c.distance_of-distance.ensures ∙ up_behind c.args.walk.step c.loop-left.offset c.requires.up in (
       inside_behind (span_of c.args.span) c.args.walk.step c.loop-left.offset (c.loop-left.offset + c.distance_of-distance.result) c.loop-left.left i c.loop-left-test.true next ∙ c.loop-left.invariant.0,
       ap (λ us. us ++ map (λ z. nat_abs (z -ℤ c.args.span.lower)) (subscripts_from c.args.span.lower (c.loop-left.offset + c.distance_of-distance.result) (c.loop-left.left - 1) c.args.walk.step)) c.push_reserved.ensures.items
           ∙ offsets_behind c.args.span.lower c.args.walk.step c.loop-left.offset (c.loop-left.offset + c.distance_of-distance.result) c.loop-left.left c.loop-left.offsets.items c.loop-left-test.true next ∙ c.loop-left.invariant.1,
