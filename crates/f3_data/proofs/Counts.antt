@@ -101,6 +101,13 @@ one_exchanged_in_row vs i a b d y h e f =
     let o = one_exchanged vs i a b d y h e f in
     omega arith
 
+-- one takes as many words as what was there
+pub one_alike_in_row : (vs : List v.Value) (i : ℕ) (d y : v.Value) → i < length vs → d ≡ get_or vs i d →
+    words (value_of d) ≡ words (value_of y) → row (joined (values_of vs)) ≡ row (joined (values_of (slice_set vs i y)))
+one_alike_in_row vs i d y h e f =
+    let o = one_exchanged_in_row vs i 0 0 d y h e (omega arith) in
+    omega arith
+
 pub level_exchanged : (ls : List (Vec v.Value Global)) (l a b : ℕ) (d y : Vec v.Value Global) → l < length ls → d ≡ get_or ls l d →
     level_words (values_of d.items) + a ≡ level_words (values_of y.items) + b →
     levels_words (levels_of ls) + a ≡ levels_words (levels_of (slice_set ls l y)) + b

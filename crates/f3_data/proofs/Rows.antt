@@ -58,6 +58,18 @@ with_part_within [] i way x d y h e = absurd (omega arith)
 with_part_within (z ∷ vs) zero way x d y h e = ap (λ u. m.more u (joined (values_of vs))) e
 with_part_within (z ∷ vs) (suc i) way x d y h e = ap (m.more (value_of z)) (with_part_within vs i way x d y (omega arith) e)
 
+-- the same by what stands there
+pub with_part_stands : (vs : List v.Value) (i : ℕ) (way : List Step) (x : m.Value) (d y : v.Value) → i < length vs → d ≡ get_or vs i d →
+    value_of y ≡ with_part (value_of d) way x →
+    joined (values_of (slice_set vs i y)) ≡ with_part_at (joined (values_of vs)) i way x
+with_part_stands vs i way x d y h e f = with_part_within vs i way x d y h (f ∙ ap (λ u. with_part (value_of u) way x) e)
+
+-- nothing changes where one takes what it is
+pub set_kept : (vs : List v.Value) (i : ℕ) (d y : v.Value) → y ≡ d → d ≡ get_or vs i d → slice_set vs i y ≡ vs
+set_kept [] i d y e f = refl
+set_kept (x ∷ vs) zero d y e f = ap (λ u. u ∷ vs) (e ∙ f)
+set_kept (x ∷ vs) (suc i) d y e f = ap (λ us. x ∷ us) (set_kept vs i d y e f)
+
 -- values in which parts of one component or element are others
 pub array_put : (b d : Box Elements Global) (k : ℕ) (s : n.Step) (rest steps : List n.Step) (x : m.Value) →
     s ≡ step.Element k → steps ≡ s ∷ rest → d.value.spans ≡ b.value.spans →

@@ -54,9 +54,9 @@ pub fn values(alloc: Global, originals: &[Value]) -> Result<Vec<Value>, AllocErr
     let mut copies = Vec::with_capacity(alloc, originals.len())?;
     for original in originals {
         match original {
-            Value::Number(number) => copies.push(Value::Number(*number))?,
-            Value::Truth(truth) => copies.push(Value::Truth(*truth))?,
-            _ => copies.push(value(alloc, original)?)?,
+            Value::Number(number) => copies.push_reserved(Value::Number(*number)),
+            Value::Truth(truth) => copies.push_reserved(Value::Truth(*truth)),
+            _ => copies.push_reserved(value(alloc, original)?),
         }
     }
     Ok(copies)

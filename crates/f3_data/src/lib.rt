@@ -3,6 +3,7 @@
 
 pub mod account;
 pub mod copies;
+mod elements;
 pub mod lent;
 pub mod parts;
 pub mod reference;

@@ -4,10 +4,12 @@ ghost use Rattle.std.specs.Prelude.{◌≡◌, ◌%◌, ◌^◌};
 ghost use Rattle.f3_data.specs.Taken.{taken};
 
 use crate::account::{block, level_words, levels_words, words};
+use crate::elements::take_each;
 use crate::parts::{
     exchange_at_path, object, objects, part, set_element_in, set_element_in_level, set_in,
     set_in_level,
 };
+use crate::reference::Numbers;
 use crate::value::Value;
 use f3_program::declarations::Constant;
 use std::alloc::{AllocError, Global};
@@ -47,14 +49,15 @@ pub struct Store {
 }
 
 impl Store {
-    ghost use Rattle.std.specs.Prelude.{[], OnOk};
+    ghost use Rattle.std.specs.Prelude.{[], OnOk, map};
     ghost use Rattle.f3_meaning_whole.specs.Value as m;
     ghost use Rattle.f3_meaning_whole.specs.Arithmetic.{constant_value};
-    ghost use Rattle.f3_meaning_whole.specs.Store.{at_root, get, put};
+    ghost use Rattle.f3_meaning_whole.specs.Store.{at_root, get, put, put_all};
     ghost use Rattle.f3_meaning_whole.specs.Ran.{Entered, Ended, effect};
     ghost use Rattle.f3_account.specs.Account.{used};
     ghost use Rattle.f3_data.specs.Values.{value_of, values_of};
     ghost use Rattle.f3_data.specs.Stores.{root_of, steps_of, path_of, store_of, element_steps, Found};
+    ghost use Rattle.f3_data.specs.References.{element_path, numbers_of};
 
     /// The store with these values for the whole run, and no level.
     pub fn new(alloc: Global, statics: Vec<Value>) -> Store
@@ -149,6 +152,23 @@ impl Store {
             ),
         };
         self.used = self.used.wrapping_add(grown);
+    }
+
+    /// Elements of the array at a path take values in a part of them, each its own; nothing happens to those that there are not.
+    pub fn put_each(&mut self, array: &Path, numbers: &Numbers, tail: &[Step], values: Vec<Value>)
+        ensures { store_of self.new ≡ put_all (map (element_path (path_of array.now) (steps_of tail.now)) (numbers_of numbers.now)) (values_of values.items) (store_of self.old) }
+    {
+        let mut held = Value::Unallocated;
+        exchange_at_path(&mut self.statics, &mut self.levels, array, &mut held);
+        let grown = take_each(&mut held, numbers, tail, values);
+        exchange_at_path(&mut self.statics, &mut self.levels, array, &mut held);
+        let gone = words(&held);
+        self.used = self
+            .used
+            .wrapping_add(1)
+            .wrapping_add(grown)
+            .wrapping_sub(gone);
+        drop(held);
     }
 
     /// A level with these values begins.

@@ -14,6 +14,7 @@ use Rattle.f3_data.specs.declared.reference.Numbers.{Numbers}
 use Rattle.f3_data.specs.declared.reference.Numbers.TheVariants as numbers
 use Rattle.f3_data.specs.Stores.{step_of, steps_of}
 use Rattle.f3_data.specs.References.{counted, numbers_of, element_path}
+pub use Rattle.f3_data.proofs.Counted.{counted_length, counted_at, drop_at, got_at}
 
 -- rows of values in memory
 pub row_is : {n : _} (k : v.Row_of-Value n) → row_of k ≡ joined (values_of (v.items-the_row-Value n k))
@@ -25,27 +26,6 @@ composite_is vs = search (rules, v.the_lemmas, row_is)
 
 pub array_is : (b : Box Elements Global) → value_of (v.Array b) ≡ m.Array (spans_of b.value.spans.items) (joined (values_of b.value.values.items))
 array_is b = search (rules, v.the_lemmas, row_is)
-
--- so many numbers
-pub counted_length : (i n : ℕ) → length (counted i n) ≡ n
-counted_length i zero = refl
-counted_length i (suc n) = ap suc (counted_length (suc i) n)
-
-pub counted_from : (i n k : ℕ) → k < n → slice_get (counted i n) k ≡ Some (i + k)
-counted_from i zero k h = absurd (omega arith)
-counted_from i (suc n) zero h = ap Some (omega arith)
-counted_from i (suc n) (suc k) h = counted_from (suc i) n k (omega arith) ∙ ap Some (omega arith)
-
-pub counted_at : (n k : ℕ) → k < n → slice_get (counted 0 n) k ≡ Some k
-counted_at n k h = counted_from 0 n k h ∙ ap Some (omega arith)
-
-pub counted_past_from : (i n k : ℕ) → n ≤ k → slice_get (counted i n) k ≡ None
-counted_past_from i zero k h = refl
-counted_past_from i (suc n) zero h = absurd (omega arith)
-counted_past_from i (suc n) (suc k) h = counted_past_from (suc i) n k (omega arith)
-
-pub counted_past : (n k : ℕ) → n ≤ k → slice_get (counted 0 n) k ≡ None
-counted_past n k h = counted_past_from 0 n k h
 
 pub mapped_length : {A B : Type 0} (f : A → B) (xs : List A) → length (map f xs) ≡ length xs
 mapped_length f [] = refl
@@ -63,17 +43,6 @@ whole_array p b = ap (r.reach_of p) (array_is b) ∙ ap (r.Many (spans_of b.valu
 pub whole_array_by : (p : Path) (value : v.Value) (b : Box Elements Global) (spans : List Span) (tail : List t.Step) (n : ℕ) → value ≡ v.Array b → spans ≡ b.value.spans.items → tail ≡ [] → n ≡ length b.value.values.items →
     r.Many (spans_of spans) (map (element_path p (steps_of tail)) (counted 0 n)) ≡ r.reach_of p (value_of value)
 whole_array_by p value b spans tail n a s t l = rw (a, s, t, l) (sym (whole_array p b))
-
--- one of a list, and those behind it
-pub drop_at : (k : ℕ) (ns : List ℕ) (n : ℕ) → slice_get ns k ≡ Some n → drop k ns ≡ n ∷ drop (k + 1) ns
-drop_at k [] n h = cc
-drop_at zero (x ∷ ns) n h = let e : x ≡ n = cc in rw e refl
-drop_at (suc k) (x ∷ ns) n h = drop_at k ns n h ∙ ap (λ i. n ∷ drop i (x ∷ ns)) (let e : suc (k + 1) ≡ suc k + 1 = omega arith in e)
-
-got_at : (k : ℕ) (ns : List ℕ) (d : ℕ) → k < length ns → slice_get ns k ≡ Some (get_or ns k d)
-got_at k [] d h = absurd (omega arith)
-got_at zero (x ∷ ns) d h = refl
-got_at (suc k) (x ∷ ns) d h = got_at k ns d (omega arith)
 
 pub first_at : (ns : Numbers) (n k : ℕ) → ns ≡ numbers.First n → k < length (numbers_of ns) → slice_get (numbers_of ns) k ≡ Some k
 first_at ns n k e h = ap (λ x. slice_get (numbers_of x) k) e ∙ counted_at n k (omega (arith, counted_length 0 n, ap (λ x. length (numbers_of x)) e))

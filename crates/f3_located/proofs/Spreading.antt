@@ -4,7 +4,6 @@ use Rattle.std.specs.Prelude.{replicate, slice_get}
 use Rattle.f3_meaning_whole.specs.Value as m
 use Rattle.f3_meaning_whole.specs.Value.{listed, joined, spread}
 use Rattle.f3_meaning_whole.specs.Store as s
-use Rattle.f3_meaning_whole.specs.Store.{put, put_all}
 use Rattle.f3_data.specs.declared.value.Span.{Span}
 use Rattle.f3_data.specs.declared.value.Elements.{Elements}
 use Rattle.f3_data.specs.declared.value.Value as v
@@ -40,36 +39,6 @@ pub replicate_pred : (n : ℕ) (x : m.Value) → 0 < n → replicate n x ≡ x �
 replicate_pred zero x h = absurd (omega arith)
 replicate_pred (suc n) x h = ap (λ k. x ∷ replicate k x) (omega arith)
 
--- an element takes its value, then those behind it
-pub put_more : (p : s.Path) (tail : List s.Step) (ns : List ℕ) (k n : ℕ) (x : m.Value) (xs : List m.Value) (store : s.Store) → slice_get ns k ≡ Some n →
-    put_all (map (element_path p tail) (drop k ns)) (x ∷ xs) store ≡ put_all (map (element_path p tail) (drop (k + 1) ns)) xs (put store (element_path p tail n) x)
-put_more p tail ns k n x xs store h = ap (λ ms. put_all (map (element_path p tail) ms) (x ∷ xs) store) (drop_at k ns n h)
-
-drop_past : (k : ℕ) (ns : List ℕ) → length ns ≤ k → drop k ns ≡ []
-drop_past zero [] h = refl
-drop_past zero (n ∷ ns) h = absurd (omega arith)
-drop_past (suc k) [] h = refl
-drop_past (suc k) (n ∷ ns) h = drop_past k ns (omega arith)
-
-put_none : (vs ws : List m.Value) (store : s.Store) → put_all [] vs store ≡ put_all [] ws store
-put_none vs ws store = refl
-
--- no element is left
-put_past : (p : s.Path) (tail : List s.Step) (ns : List ℕ) (k : ℕ) (vs ws : List m.Value) (store : s.Store) → length ns ≤ k →
-    put_all (map (element_path p tail) (drop k ns)) vs store ≡ put_all (map (element_path p tail) (drop (k + 1) ns)) ws store
-put_past p tail ns k vs ws store h = ap (λ ms. put_all (map (element_path p tail) ms) vs store) (drop_past k ns h) ∙ put_none vs ws store
-    ∙ sym (ap (λ ms. put_all (map (element_path p tail) ms) ws store) (drop_past (k + 1) ns (omega arith)))
-
-past_of : (ns : List ℕ) (k : ℕ) → None ≡ slice_get ns k → length ns ≤ k
-past_of [] k h = omega arith
-past_of (n ∷ ns) zero h = cc
-past_of (n ∷ ns) (suc k) h = let p = past_of ns k h in omega arith
-
--- no element has the number
-pub put_missing : (p : s.Path) (tail : List s.Step) (ns : List ℕ) (k : ℕ) (vs ws : List m.Value) (store : s.Store) → None ≡ slice_get ns k →
-    put_all (map (element_path p tail) (drop (k + 1) ns)) ws store ≡ put_all (map (element_path p tail) (drop k ns)) vs store
-put_missing p tail ns k vs ws store h = sym (put_past p tail ns k vs ws store (past_of ns k h))
-
 all_cleared_is : (vs : List m.Value) → m.all_cleared (joined vs) ≡ joined (map m.cleared vs)
 all_cleared_is [] = refl
 all_cleared_is (x ∷ vs) = ap (m.more (m.cleared x)) (all_cleared_is vs)
@@ -98,11 +67,6 @@ copied_more f p tail ns k n vs ws x h e i =
     values_append : (xs ys : List v.Value) → values_of (xs ++ ys) ≡ values_of xs ++ values_of ys
     values_append [] ys = refl
     values_append (x ∷ xs) ys = ap (λ zs. value_of x ∷ zs) (values_append xs ys)
-
--- at the end no value is left, or no element
-pub put_nothing : (ps : List s.Path) (store : s.Store) → put_all ps [] store ≡ store
-put_nothing [] store = refl
-put_nothing (p ∷ ps) store = refl
 
 pub none_of : {A : Type 0} (xs : List A) → length xs ≡ 0 → xs ≡ []
 none_of [] h = refl

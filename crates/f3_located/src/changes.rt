@@ -1,25 +1,21 @@
 //! Changes of objects.
 
-ghost use Rattle.std.specs.Prelude.{◌≡◌, ℕ, ◌+◌, ◌<◌, List, ◌∷◌, [], true, drop, Some, IfOk, OnOk, length, map, replicate};
+ghost use Rattle.std.specs.Prelude.{◌≡◌, ℕ, ◌∷◌, [], true, IfOk, OnOk, length, map, replicate};
 ghost use Rattle.f3_meaning_whole.specs.Value as v;
 ghost use Rattle.f3_meaning_whole.specs.Value.{spread};
-ghost use Rattle.f3_meaning_whole.specs.Store as s;
-ghost use Rattle.f3_meaning_whole.specs.Store.{get, put, put_all};
-ghost use Rattle.f3_meaning_whole.specs.Arithmetic.{constant_value};
+ghost use Rattle.f3_meaning_whole.specs.Store.{get, put_all};
 ghost use Rattle.f3_meaning_whole.specs.Reference.{paths};
 ghost use Rattle.f3_located.specs.Inner.Kinds.{is_array};
-ghost use Rattle.f3_located.specs.Inner.Ways.{LeadsToElement, IsShort};
 ghost use Rattle.f3_data.specs.Values.{value_of, values_of};
 ghost use Rattle.f3_data.specs.Stores.{steps_of, path_of, store_of};
 ghost use Rattle.f3_data.specs.References.{element_path, numbers_of, reference_of};
 
-use crate::elements::{element_path, go_to, length_of, number_at, place_at};
+use crate::elements::{element_path, go_to, length_of, place_at};
 use crate::reads::push_copy;
 use f3_data::copies;
-use f3_data::reference::{Numbers, Reach, Reference, Section};
+use f3_data::reference::{Numbers, Reach, Reference};
 use f3_data::store::{Path, Step, Store};
 use f3_data::value::{Elements, Value, array};
-use f3_program::declarations::Constant;
 use std::alloc::{AllocError, Global};
 
 /// An object takes the first of these values, if there is one.
@@ -29,139 +25,6 @@ fn put_first(store: &mut Store, path: &Path, mut values: Vec<Value>)
     if !values.is_empty() {
         store.put(path, values.swap_remove(0));
     }
-}
-
-/// The part at a path becomes a scalar.
-#[inline(never)]
-fn set_scalar(store: &mut Store, path: &Path, scalar: Constant)
-    ensures { store_of store.new ≡ put (store_of store.old) (path_of path.now) (constant_value scalar) }
-{
-    store.set(path.root, &path.steps, scalar);
-}
-
-/// The part at a path takes a value, a scalar in place.
-fn put_value(store: &mut Store, path: &Path, value: Value)
-    ensures { store_of store.new ≡ put (store_of store.old) (path_of path.now) (value_of value) }
-{
-    match value {
-        Value::Number(number) => set_scalar(store, path, Constant::Number(number)),
-        Value::Truth(truth) => set_scalar(store, path, Constant::Truth(truth)),
-        other => store.put(path, other),
-    }
-}
-
-/// How elements of an array are come to where the way to it is short: from its root itself, or from what the root holds as an
-/// allocatable where the flag is set. None where the way is longer, or goes on behind the element.
-fn opening(steps: &[Step], tail: &[Step]) -> Option<bool>
-    ensures { (root : s.Root) → IsShort (record { root = root; steps = steps_of steps.now }) (steps_of tail.now) result }
-{
-    if !tail.is_empty() {
-        return None;
-    }
-    let Some((first, others)) = steps.split_first() else {
-        return Some(false);
-    };
-    match first {
-        Step::Contents if others.is_empty() => Some(true),
-        _ => None,
-    }
-}
-
-/// An element takes a value, a scalar in place, where the way to its array is short.
-#[inline(always)]
-fn put_element(
-    store: &mut Store,
-    path: &mut Path,
-    array: &Path,
-    is_opened: bool,
-    place: usize,
-    value: Value,
-)
-    requires { length array.now.steps.items < length path.old.steps.items }
-    ensures leads { (tail : List s.Step) → LeadsToElement (path_of array.now) tail (path_of path.old) → LeadsToElement (path_of array.now) tail (path_of path.new) }
-    ensures put { (tail : List s.Step) → LeadsToElement (path_of array.now) tail (path_of path.old) → IsShort (path_of array.now) tail (Some is_opened) → store_of store.new ≡ put (store_of store.old) (element_path (path_of array.now) tail place) (value_of value) }
-{
-    match value {
-        Value::Number(number) => {
-            store.set_element(array.root, is_opened, place, Constant::Number(number));
-        }
-        Value::Truth(truth) => {
-            store.set_element(array.root, is_opened, place, Constant::Truth(truth));
-        }
-        other => {
-            go_to(path, array, place);
-            store.put(path, other);
-        }
-    }
-}
-
-/// A part of an element takes a value.
-///
-/// The path is one to that part of an element, whatever element, before and after.
-#[inline(always)]
-fn put_in(
-    store: &mut Store,
-    path: &mut Path,
-    array: &Path,
-    opening: Option<bool>,
-    place: usize,
-    value: Value,
-)
-    requires { length array.now.steps.items < length path.old.steps.items }
-    ensures leads { (tail : List s.Step) → LeadsToElement (path_of array.now) tail (path_of path.old) → LeadsToElement (path_of array.now) tail (path_of path.new) }
-    ensures put { (tail : List s.Step) → LeadsToElement (path_of array.now) tail (path_of path.old) → IsShort (path_of array.now) tail opening → store_of store.new ≡ put (store_of store.old) (element_path (path_of array.now) tail place) (value_of value) }
-{
-    match opening {
-        Some(is_opened) => put_element(store, path, array, is_opened, place, value),
-        None => {
-            go_to(path, array, place);
-            put_value(store, path, value);
-        }
-    }
-}
-
-/// A part of the element of a number, among those that are meant, takes a value; nothing happens where there is none.
-///
-/// The path is one to that part of an element, whatever element, before and after.
-#[inline(always)]
-fn put_at(
-    store: &mut Store,
-    path: &mut Path,
-    array: &Path,
-    opening: Option<bool>,
-    numbers: &Numbers,
-    k: usize,
-    value: Value,
-)
-    requires { length array.now.steps.items < length path.old.steps.items }
-    ensures leads { (tail : List s.Step) → LeadsToElement (path_of array.now) tail (path_of path.old) → LeadsToElement (path_of array.now) tail (path_of path.new) }
-    ensures put { (tail : List s.Step) → LeadsToElement (path_of array.now) tail (path_of path.old) → IsShort (path_of array.now) tail opening → (xs : List v.Value) → put_all (map (element_path (path_of array.now) tail) (drop (k + 1) (numbers_of numbers.now))) xs (store_of store.new) ≡ put_all (map (element_path (path_of array.now) tail) (drop k (numbers_of numbers.now))) (value_of value ∷ xs) (store_of store.old) }
-{
-    match number_at(numbers, k) {
-        Some(place) => put_in(store, path, array, opening, place, value),
-        None => drop(value),
-    }
-}
-
-/// A part of elements of an array takes these values, each its own.
-#[tactic(auto, using(crate::proofs::Spreading::put_nothing))]
-fn put_each(
-    alloc: Global,
-    store: &mut Store,
-    array: &Path,
-    section: &Section,
-    values: Vec<Value>,
-) -> Result<(), AllocError>
-    ensures { OnOk result (store_of store.new ≡ put_all (map (element_path (path_of array.now) (steps_of section.now.tail.items)) (numbers_of section.now.numbers)) (values_of values.items) (store_of store.old)) }
-{
-    let mut path = element_path(alloc, array, 0, &section.tail)?;
-    let opening = opening(&array.steps, &section.tail);
-    let mut k = 0;
-    for value in values {
-        put_at(store, &mut path, array, opening, &section.numbers, k, value);
-        k += 1;
-    }
-    Ok(())
 }
 
 /// Copies of a value.
@@ -248,7 +111,8 @@ pub fn set(
         }
         Reach::Many(section) => {
             let values = spread_over(alloc, value, length_of(&section.numbers))?;
-            put_each(alloc, store, &reference.path, section, values)
+            store.put_each(&reference.path, &section.numbers, &section.tail, values);
+            Ok(())
         }
     }
 }
@@ -293,7 +157,7 @@ fn cleared_at(alloc: Global, store: &Store, path: &Path) -> Result<Value, AllocE
 }
 
 /// So of a part of elements of an array.
-#[tactic(auto, using(crate::proofs::Arrays::drop_at))]
+#[tactic(auto, using(f3_data::proofs::Counted::drop_at))]
 fn each_cleared(
     alloc: Global,
     store: &Store,
@@ -331,7 +195,8 @@ pub fn clear(alloc: Global, store: &mut Store, reference: &Reference) -> Result<
                 &section.numbers,
                 &section.tail,
             )?;
-            put_each(alloc, store, &reference.path, section, values)
+            store.put_each(&reference.path, &section.numbers, &section.tail, values);
+            Ok(())
         }
     }
 }

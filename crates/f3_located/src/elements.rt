@@ -1,6 +1,6 @@
 //! The elements that a reference means.
 
-ghost use Rattle.std.specs.Prelude.{◌≡◌, ℕ, ◌<◌, IfOk, List, MatchOption, length, None, Some, slice_get};
+ghost use Rattle.std.specs.Prelude.{◌≡◌, ℕ, ◌<◌, IfOk, List, length, Some, slice_get};
 ghost use Rattle.f3_meaning_whole.specs.Store as s;
 ghost use Rattle.f3_meaning_whole.specs.Reference.{paths};
 ghost use Rattle.f3_data.specs.Stores.{steps_of, path_of};
@@ -11,7 +11,7 @@ use f3_data::store::{Path, Step};
 use std::alloc::{AllocError, Global};
 
 /// How many elements there are.
-#[tactic(auto, using(crate::proofs::Arrays::counted_length))]
+#[tactic(auto, using(f3_data::proofs::Counted::counted_length))]
 pub fn length_of(numbers: &Numbers) -> usize
     ensures { result ≡ length (numbers_of numbers.now) }
 {
@@ -22,7 +22,7 @@ pub fn length_of(numbers: &Numbers) -> usize
 }
 
 /// The place of an element, by its number among those that are meant, from 0 on.
-#[tactic(auto, using(crate::proofs::Arrays::counted_at, crate::proofs::Arrays::counted_past))]
+#[tactic(auto, using(f3_data::proofs::Counted::counted_at, f3_data::proofs::Counted::counted_past))]
 pub fn number_at(numbers: &Numbers, k: usize) -> Option<usize>
     ensures { result ≡ slice_get (numbers_of numbers.now) k }
 {
@@ -33,7 +33,7 @@ pub fn number_at(numbers: &Numbers, k: usize) -> Option<usize>
 }
 
 /// The place of an element that there is.
-#[tactic(auto, using(crate::proofs::Arrays::counted_at))]
+#[tactic(auto, using(f3_data::proofs::Counted::counted_at))]
 pub fn place_at(numbers: &Numbers, k: usize) -> usize
     requires { k < length (numbers_of numbers.now) }
     ensures { slice_get (numbers_of numbers.now) k ≡ Some result }

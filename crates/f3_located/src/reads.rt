@@ -1,6 +1,6 @@
 //! What stands at references.
 
-ghost use Rattle.std.specs.Prelude.{◌≡◌, ℕ, ◌<◌, [], ◌∷◌, ◌++◌, IfOk, IfSome, OnOk, length, map, Some, slice_get, slice_index_or};
+ghost use Rattle.std.specs.Prelude.{◌≡◌, ℕ, ◌+◌, ◌<◌, [], ◌∷◌, ◌++◌, vec_len, vec_capacity, IfOk, IfSome, OnOk, length, map, Some, slice_get, slice_index_or};
 ghost use Rattle.f3_meaning_whole.specs.Value as v;
 ghost use Rattle.f3_meaning_whole.specs.Store as s;
 ghost use Rattle.f3_meaning_whole.specs.Reference.{held_at};
@@ -27,48 +27,34 @@ pub fn copy_at(alloc: Global, store: &Store, path: &Path) -> Result<Value, Alloc
     }
 }
 
-/// A copy of a value of any kind joins others.
-#[inline(never)]
-fn push_any(alloc: Global, copies: &mut Vec<Value>, value: &Value) -> Result<(), AllocError>
-    ensures { OnOk result (values_of copies.new.items ≡ values_of copies.old.items ++ value_of value.now ∷ []) }
-{
-    copies.push(copies::value(alloc, value)?)?;
-    Ok(())
-}
-
-/// A copy of a value joins others, without a call where it is a number and there is room.
+/// A copy of a value joins others, for which there is room.
 #[inline(always)]
 pub(crate) fn push_copy(
     alloc: Global,
     copies: &mut Vec<Value>,
     value: &Value,
 ) -> Result<(), AllocError>
-    ensures { OnOk result (values_of copies.new.items ≡ values_of copies.old.items ++ value_of value.now ∷ []) }
+    requires { vec_len copies.old < vec_capacity copies.old }
+    ensures items { OnOk result (values_of copies.new.items ≡ values_of copies.old.items ++ value_of value.now ∷ []) }
+    ensures len { OnOk result (vec_len copies.new ≡ vec_len copies.old + 1) }
+    ensures room { vec_capacity copies.new ≡ vec_capacity copies.old }
 {
     match value {
-        Value::Number(number) if copies.len() < copies.capacity() => {
-            copies.push_reserved(Value::Number(*number));
-        }
-        _ => push_any(alloc, copies, value)?,
+        Value::Number(number) => copies.push_reserved(Value::Number(*number)),
+        _ => copies.push_reserved(copies::value(alloc, value)?),
     }
     Ok(())
 }
 
-/// A copy of one of these values joins others: nothing, where there is none of the number.
-#[inline(always)]
-fn push_copy_among(
-    alloc: Global,
-    copies: &mut Vec<Value>,
-    values: &[Value],
-    place: usize,
-) -> Result<(), AllocError>
-    ensures { OnOk result (values_of copies.new.items ≡ values_of copies.old.items ++ slice_index_or (values_of values.now) place v.Unallocated ∷ []) }
+/// A copy of one of these values, whatever it is: nothing, where there is none of the number.
+#[inline(never)]
+fn copy_among(alloc: Global, values: &[Value], place: usize) -> Result<Value, AllocError>
+    ensures { IfOk result (λ x. value_of x ≡ slice_index_or (values_of values.now) place v.Unallocated) }
 {
     match object(values, place) {
-        Some(value) => push_copy(alloc, copies, value)?,
-        None => copies.push(Value::Unallocated)?,
+        Some(value) => copies::value(alloc, value),
+        None => Ok(Value::Unallocated),
     }
-    Ok(())
 }
 
 /// Copies of those of these values that are listed by their numbers.
@@ -81,7 +67,10 @@ fn copies_listed(
 {
     let mut copies = Vec::with_capacity(alloc, places.len())?;
     for place in places {
-        push_copy_among(alloc, &mut copies, values, *place)?;
+        match object(values, *place) {
+            Some(Value::Number(number)) => copies.push_reserved(Value::Number(*number)),
+            _ => copies.push_reserved(copy_among(alloc, values, *place)?),
+        }
     }
     Ok(copies)
 }
@@ -92,7 +81,10 @@ fn copies_of_first(alloc: Global, values: &[Value], count: usize) -> Result<Vec<
 {
     let mut copies = Vec::with_capacity(alloc, count)?;
     for place in 0..count {
-        push_copy_among(alloc, &mut copies, values, place)?;
+        match object(values, place) {
+            Some(Value::Number(number)) => copies.push_reserved(Value::Number(*number)),
+            _ => copies.push_reserved(copy_among(alloc, values, place)?),
+        }
     }
     Ok(copies)
 }
@@ -132,7 +124,7 @@ fn elements_at<'a>(store: &'a Store, path: &Path) -> Option<&'a [Value]>
 }
 
 /// Copies of what stands in a part of elements of an array, found by its way from the root.
-#[tactic(auto, using(crate::proofs::Arrays::drop_at))]
+#[tactic(auto, using(f3_data::proofs::Counted::drop_at))]
 fn copies_in_each(
     alloc: Global,
     store: &Store,

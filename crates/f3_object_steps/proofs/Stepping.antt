@@ -1,5 +1,5 @@
 -- Subscripts, one behind another.
-use Rattle.std.proofs.Common.{◌≡◌, ◌≢◌, ℕ, zero, suc, ◌-◌, ◌/◌, ◌<◌, ℤ, pos, negsuc, unsigned_abs, Bool, true, false, ◌⊎◌, inl, inr, T, List, [], ◌∷◌, ◌++◌, refl, sym, ap, subst, ◌∙◌, arith, map, append_assoc, ◌&&◌}
+use Rattle.std.proofs.Common.{◌≡◌, ◌≢◌, ℕ, zero, suc, ◌+◌, ◌-◌, ◌*◌, ◌/◌, ◌<◌, ◌≤◌, ℤ, pos, negsuc, unsigned_abs, Bool, true, false, ◌⊎◌, inl, inr, T, List, [], ◌∷◌, ◌++◌, refl, sym, ap, subst, ◌∙◌, arith, map, append_assoc, ◌&&◌}
 use Rattle.std.proofs.lemmas.Int.{ints}
 use Rattle.std.specs.Prelude.{◌+ℤ◌, ◌-ℤ◌, ◌<ℤ◌, ◌≤ℤ◌, int_le, int_lt, nat_abs}
 use Rattle.f3_arithmetic.proofs.Distances.{downward}
@@ -124,7 +124,89 @@ offsets_behind lower step o n left xs h e =
     ∙ ap (λ m. xs ++ m ∷ map (λ z. nat_abs (z -ℤ lower)) (subscripts_from lower n (left - 1) step)) (sym (distance lower o))
     ∙ sym (ap (λ zs. xs ++ map (λ z. nat_abs (z -ℤ lower)) zs) (from_more lower step o n left h e))
 
--- the first that is inside, and those behind it
+-- ---- from the first to a last that is inside, or is not
+
+pub up_is : (step : ℤ) → pos 0 ≤ℤ step → step ≡ pos (unsigned_abs step)
+up_is (pos n) h = refl
+up_is (negsuc n) h = absurd (omega (arith, ints))
+
+down_is : (step : ℤ) → step <ℤ pos 0 → pos (unsigned_abs step) +ℤ step ≡ pos 0
+down_is (pos n) h = absurd (omega (arith, ints))
+down_is (negsuc n) h = omega (arith, ints)
+
+pub up_within : (o d left e : ℕ) → 0 < left → o + left * d < e → o + d < e
+up_within o d zero e h l = absurd (omega arith)
+up_within o d (suc k) e h l = omega arith
+
+pub up_next : (o d left e : ℕ) → 0 < left → o + left * d < e → (o + d) + (left - 1) * d < e
+up_next o d zero e h l = absurd (omega arith)
+up_next o d (suc k) e h l = let one : suc k - 1 ≡ k = omega arith in rw one (omega arith)
+
+pub down_within : (o d left : ℕ) → 0 < left → left * d ≤ o → d ≤ o
+down_within o d zero h l = absurd (omega arith)
+down_within o d (suc k) h l = omega arith
+
+pub down_next : (o d left : ℕ) → 0 < left → left * d ≤ o → (left - 1) * d ≤ o - d
+down_next o d zero h l = absurd (omega arith)
+down_next o d (suc k) h l = let one : suc k - 1 ≡ k = omega arith in rw one (omega arith)
+
+pub up_behind : (step : ℤ) (o : ℕ) → pos 0 ≤ℤ step → pos (o + unsigned_abs step) ≡ pos o +ℤ step
+up_behind step o h = let e = up_is step h in omega (arith, ints)
+
+pub down_behind : (step : ℤ) (o : ℕ) → step <ℤ pos 0 → unsigned_abs step ≤ o → pos (o - unsigned_abs step) ≡ pos o +ℤ step
+down_behind step o h l = let e = down_is step h in omega (arith, ints)
+
+before_or : (k n : ℕ) → (k < n) ⊎ (n ≤ k)
+before_or zero zero = inr (omega arith)
+before_or zero (suc n) = inl (omega arith)
+before_or (suc k) zero = inr (omega arith)
+before_or (suc k) (suc n) = elim (before_or k n) [ inl l ↦ inl (omega arith) | inr l ↦ inr (omega arith) ]
+
+pub past_up : (s : Span) (step : ℤ) (o left : ℕ) → pos 0 ≤ℤ step → o < s.extent → s.extent ≤ o + left * unsigned_abs step →
+    is_inside s (subscripts_from s.lower o left step) ≡ false
+past_up s step o zero u i h = absurd (omega arith)
+past_up s step o (suc k) u i h = elim (before_or (o + unsigned_abs step) s.extent) [
+  | inl l ↦
+      let one : suc k - 1 ≡ k = omega arith in
+      sym (inside_behind s step o (o + unsigned_abs step) (suc k) i (omega arith) (up_behind step o u))
+      ∙ ap (λ n. is_inside s (subscripts_from s.lower (o + unsigned_abs step) n step)) one
+      ∙ past_up s step (o + unsigned_abs step) k u l (omega arith)
+  | inr l ↦ let e = up_is step u in outside_behind s step o (suc k) i (omega arith) (inr (omega (arith, ints)))
+]
+
+pub past_down : (s : Span) (step : ℤ) (o left : ℕ) → step <ℤ pos 0 → o < s.extent → o < left * unsigned_abs step →
+    is_inside s (subscripts_from s.lower o left step) ≡ false
+past_down s step o zero u i h = absurd (omega arith)
+past_down s step o (suc k) u i h = elim (before_or o (unsigned_abs step)) [
+  | inl l ↦ let e = down_is step u in outside_behind s step o (suc k) i (omega arith) (inl (omega (arith, ints)))
+  | inr l ↦
+      let one : suc k - 1 ≡ k = omega arith in
+      sym (inside_behind s step o (o - unsigned_abs step) (suc k) i (omega arith) (down_behind step o u l))
+      ∙ ap (λ n. is_inside s (subscripts_from s.lower (o - unsigned_abs step) n step)) one
+      ∙ past_down s step (o - unsigned_abs step) k u (omega arith) (omega arith)
+]
+
+-- as far as all that are inside reach, and farther
+pub past_all : (s : Span) (step : ℤ) (o left : ℕ) → o < s.extent → s.extent ≤ left * unsigned_abs step →
+    is_inside s (subscripts_from s.lower o left step) ≡ false
+past_all s (pos n) o left i h = past_up s (pos n) o left (omega (arith, ints)) i (omega arith)
+past_all s (negsuc n) o left i h = past_down s (negsuc n) o left (omega (arith, ints)) i (omega arith)
+
+each_one : (left d : ℕ) → 0 < d → left ≤ left * d
+each_one zero d h = omega arith
+each_one (suc k) d h = let e = each_one k d h in omega arith
+
+moves_by : (step : ℤ) → step ≢ pos 0 → 0 < unsigned_abs step
+moves_by (pos zero) h = absurd (h refl)
+moves_by (pos (suc n)) h = omega arith
+moves_by (negsuc n) h = omega arith
+
+pub past_many : (s : Span) (step : ℤ) (o left : ℕ) → step ≢ pos 0 → o < s.extent → s.extent ≤ left →
+    is_inside s (subscripts_from s.lower o left step) ≡ false
+past_many s step o left m i h =
+    let e = each_one left (unsigned_abs step) (moves_by step m) in past_all s step o left i (omega arith)
+
+-- ---- the first that is inside, and those behind it
 absolute : (d : ℤ) → pos 0 ≤ℤ d → d ≡ pos (nat_abs d)
 absolute (pos n) h = refl
 absolute (negsuc n) h = absurd (omega (arith, ints))

@@ -1,6 +1,7 @@
 //! The subscripts that are selected in a dimension.
 
-ghost use Rattle.std.specs.Prelude.{◌≡◌, ◌≢◌, pos, ◌+◌, ◌-◌, ◌+ℤ◌, ◌-ℤ◌, ◌<ℤ◌, ◌≤ℤ◌, ◌<◌, ◌^◌, neg_ℤ, ◌&&◌, int_le, int_lt, nat_abs, ◌⊎◌, map, true, false, IfOk, MatchOption, OnSome, unwrap_or};
+ghost use Rattle.std.specs.Prelude.{◌≡◌, ◌≢◌, pos, ◌+◌, ◌-◌, ◌*◌, ◌-ℤ◌, ◌<ℤ◌, ◌≤ℤ◌, ◌<◌, ◌≤◌, ◌^◌, neg_ℤ, ◌&&◌, int_le, int_lt, nat_abs, map, true, false, IfOk, MatchOption, OnSome, unwrap_or};
+ghost use Rattle.std.specs.Int.RustNames.{unsigned_abs};
 ghost use Rattle.f3_meaning_whole.specs.Arithmetic as a;
 ghost use Rattle.f3_meaning_whole.specs.Act.{end_of, is_inside, steps_by_zero, subscripts_in};
 ghost use Rattle.f3_data.specs.Values.{span_of};
@@ -10,9 +11,6 @@ ghost use Rattle.f3_object_steps.specs.Walks.{IsNear, subscripts_of, subscripts_
 use f3_cells::cell::Chosen;
 use f3_data::value::Span;
 use std::alloc::{AllocError, Global};
-
-/// For how many subscripts there is room at most, before it is known whether they are inside.
-const ROOM: u128 = 1 << 16;
 
 /// The subscripts that are left: the next one, how many there are, and how far each is from the one before.
 #[derive(Clone, Copy, PartialEq, Eq, Debug)]
@@ -81,6 +79,7 @@ pub fn walk_of(span: Span, chosen: Chosen) -> Walk
     requires { steps_by_zero (chosen_of chosen) ≡ false }
     ensures subscripts { subscripts_of result ≡ subscripts_in (span_of span) (chosen_of chosen) }
     ensures near { IsNear result.next }
+    ensures moves { result.step ≢ pos 0 }
 {
     match chosen {
         Chosen::At(subscript) => Walk {
@@ -124,48 +123,96 @@ pub fn next_offset(span: Span, walk: Walk) -> Option<u64>
     offset_of(span, walk.next)
 }
 
-/// How far the subscript behind another is from the lower bound of a dimension: none, where it is out of bounds.
-fn offset_behind(span: Span, offset: u64, walk: Walk) -> Option<u64>
-    requires { offset < span.extent }
-    ensures { MatchOption result (((pos offset +ℤ walk.step) <ℤ pos 0) ⊎ (pos span.extent ≤ℤ (pos offset +ℤ walk.step))) (λ o. (pos o ≡ pos offset +ℤ walk.step) × (o < span.extent)) }
+/// How far each subscript is from the one before, upwards or downwards.
+fn distance_of(walk: Walk) -> u64
+    ensures { result ≡ unsigned_abs walk.step }
 {
-    let distance = walk.step.unsigned_abs();
-    if walk.step < 0 {
-        return offset.checked_sub(distance);
-    }
-    if distance < span.extent - offset {
-        Some(offset + distance)
-    } else {
-        None
-    }
+    walk.step.unsigned_abs()
 }
 
-/// The subscripts of a walk whose first is inside, by how far they are from the lower bound of a dimension: none, where some are
-/// out of bounds.
+/// The subscripts upwards from one to a last that is inside, by how far they are from the lower bound of a dimension.
+fn offsets_up(
+    alloc: Global,
+    span: Span,
+    walk: Walk,
+    first: u64,
+    behind: u64,
+) -> Result<Vec<usize>, AllocError>
+    requires up { pos 0 ≤ℤ walk.step }
+    requires few { behind < span.extent }
+    requires last { first + behind * unsigned_abs walk.step < span.extent }
+    ensures { IfOk result (λ v. (is_inside (span_of span) (subscripts_from span.lower first behind walk.step) ≡ true) × (v.items ≡ map (λ z. nat_abs (z -ℤ span.lower)) (subscripts_from span.lower first behind walk.step))) }
+{
+    let distance = distance_of(walk);
+    let mut offsets = Vec::with_capacity(alloc, behind as usize + 1)?;
+    let mut offset = first;
+    let mut left = behind;
+    while left > 0 {
+        offsets.push_reserved(offset as usize);
+        offset += distance;
+        left -= 1;
+    }
+    offsets.push_reserved(offset as usize);
+    Ok(offsets)
+}
 
+/// The same downwards.
+fn offsets_down(
+    alloc: Global,
+    span: Span,
+    walk: Walk,
+    first: u64,
+    behind: u64,
+) -> Result<Vec<usize>, AllocError>
+    requires down { walk.step <ℤ pos 0 }
+    requires few { behind < span.extent }
+    requires first { first < span.extent }
+    requires last { behind * unsigned_abs walk.step ≤ first }
+    ensures { IfOk result (λ v. (is_inside (span_of span) (subscripts_from span.lower first behind walk.step) ≡ true) × (v.items ≡ map (λ z. nat_abs (z -ℤ span.lower)) (subscripts_from span.lower first behind walk.step))) }
+{
+    let distance = distance_of(walk);
+    let mut offsets = Vec::with_capacity(alloc, behind as usize + 1)?;
+    let mut offset = first;
+    let mut left = behind;
+    while left > 0 {
+        offsets.push_reserved(offset as usize);
+        offset -= distance;
+        left -= 1;
+    }
+    offsets.push_reserved(offset as usize);
+    Ok(offsets)
+}
+
+/// The subscripts of a walk whose first is inside, by how far they are from the lower bound of a dimension: none, where the last
+/// is out of bounds, and so some are.
 fn offsets_from(
     alloc: Global,
     span: Span,
     walk: Walk,
     first: u64,
 ) -> Result<Option<Vec<usize>>, AllocError>
-    requires { first < span.extent }
+    requires inside { first < span.extent }
+    requires moves { walk.step ≢ pos 0 }
     ensures { IfOk result (λ found. MatchOption found (is_inside (span_of span) (subscripts_from span.lower first (walk.left - 1) walk.step) ≡ false) (λ v. (is_inside (span_of span) (subscripts_from span.lower first (walk.left - 1) walk.step) ≡ true) × (v.items ≡ map (λ z. nat_abs (z -ℤ span.lower)) (subscripts_from span.lower first (walk.left - 1) walk.step)))) }
 {
-    let mut left = walk.left.saturating_sub(1);
-    let room = left.min(span.extent as u128).min(ROOM) + 1;
-    let mut offsets = Vec::with_capacity(alloc, room as usize)?;
-    let mut offset = first;
-    while left > 0 {
-        offsets.push(offset as usize)?;
-        let Some(next) = offset_behind(span, offset, walk) else {
-            return Ok(None);
-        };
-        offset = next;
-        left -= 1;
+    let behind = walk.left.saturating_sub(1);
+    if behind >= span.extent as u128 {
+        return Ok(None);
     }
-    offsets.push(offset as usize)?;
-    Ok(Some(offsets))
+    let Some(way) = (behind as u64).checked_mul(distance_of(walk)) else {
+        return Ok(None);
+    };
+    if walk.step < 0 {
+        if way > first {
+            return Ok(None);
+        }
+        Ok(Some(offsets_down(alloc, span, walk, first, behind as u64)?))
+    } else {
+        if way >= span.extent - first {
+            return Ok(None);
+        }
+        Ok(Some(offsets_up(alloc, span, walk, first, behind as u64)?))
+    }
 }
 
 /// The selected subscripts, by how far they are from the lower bound of a dimension: none, where some are out of bounds.

@@ -1,33 +1,27 @@
-use Rattle.std.proofs.Common.{◌≡◌, ◌<◌, ◌-◌, ◌++◌, ◌∙◌, map, sym, ap, arith}
-use Rattle.std.specs.Prelude.{◌-ℤ◌, nat_abs}
-use Rattle.f3_meaning_whole.specs.Act.{is_inside}
+use Rattle.std.proofs.Common.{◌≡◌, ◌-◌, ◌*◌, refl, rules, arith}
+use Rattle.std.specs.Int.RustNames.{unsigned_abs}
 use Rattle.f3_data.specs.Values.{span_of}
-use Rattle.f3_object_steps.specs.Walks.{subscripts_from}
-use Rattle.f3_object_steps.proofs.Stepping.{inside_behind, outside_behind, offsets_behind, last_inside, last_offset}
+use Rattle.f3_object_steps.proofs.Stepping.{past_all, past_down, past_many, past_up}
 use Rattle.f3_object_steps.proofs.subscripts.offsets_from.Goals as goal
+
+pub returns-then-behind-span : goal.returns-then-behind-span
+returns-then-behind-span c =
+    past_many (span_of c.args.span) c.args.walk.step c.args.first (c.args.walk.left - 1) c.requires.moves c.requires.inside (omega (arith, c.saturating_sub-behind.ensures))
 
 pub returns-in_default : goal.returns-in_default
 returns-in_default c =
-    let some : 0 < c.loop-left.left = omega arith in
-    sym c.loop-left.invariant.0 ∙ outside_behind (span_of c.args.span) c.args.walk.step c.loop-left.offset c.loop-left.left c.loop-left.invariant.2 some c.in_default.ensures
+    let e : c.saturating_sub-behind.result ≡ c.args.walk.left - 1 = omega (arith, c.saturating_sub-behind.ensures) in
+    let p : c.saturating_sub-behind.result * c.distance_of.result ≡ (c.args.walk.left - 1) * unsigned_abs c.args.walk.step = rw (e, c.distance_of.ensures) refl in
+    past_all (span_of c.args.span) c.args.walk.step c.args.first (c.args.walk.left - 1) c.requires.inside (omega (arith, p, c.in_default.ensures))
 
-pub loop-left-preserved : goal.loop-left-preserved
-loop-left-preserved c =
-    let some : 0 < c.loop-left.left = omega arith in (
-      inside_behind (span_of c.args.span) c.args.walk.step c.loop-left.offset c.in-Some.next c.loop-left.left c.loop-left.invariant.2 some c.in-Some.ensures.0 ∙ c.loop-left.invariant.0,
-      ap (λ us. us ++ map (λ z. nat_abs (z -ℤ c.args.span.lower)) (subscripts_from c.args.span.lower c.in-Some.next (c.loop-left.left - 1) c.args.walk.step)) c.in_ok-push.ensures.items
-          ∙ offsets_behind c.args.span.lower c.args.walk.step c.loop-left.offset c.in-Some.next c.loop-left.left c.loop-left.offsets.items some c.in-Some.ensures.0 ∙ c.loop-left.invariant.1,
-      c.in-Some.ensures.1,
-    )
+pub returns-then-way-first : goal.returns-then-way-first
+returns-then-way-first c =
+    let e : c.saturating_sub-behind.result ≡ c.args.walk.left - 1 = omega (arith, c.saturating_sub-behind.ensures) in
+    let p : c.saturating_sub-behind.result * c.distance_of.result ≡ (c.args.walk.left - 1) * unsigned_abs c.args.walk.step = rw (e, c.distance_of.ensures) refl in
+    past_down (span_of c.args.span) c.args.walk.step c.args.first (c.args.walk.left - 1) (search rules) c.requires.inside (omega (arith, p, c.in-Some.ensures))
 
-pub returns : goal.returns
-returns c =
-    let none : c.loop-left.left ≡ 0 = omega arith in (
-      sym c.loop-left.invariant.0
-          ∙ ap (λ k. is_inside (span_of c.args.span) (subscripts_from c.args.span.lower c.loop-left.offset k c.args.walk.step)) none
-          ∙ last_inside (span_of c.args.span) c.args.walk.step c.loop-left.offset c.loop-left.invariant.2,
-      c.in_ok-push-2.ensures.items
-          ∙ ap (λ us. c.loop-left.offsets.items ++ us) (sym (last_offset c.args.span.lower c.args.walk.step c.loop-left.offset))
-          ∙ ap (λ k. c.loop-left.offsets.items ++ map (λ z. nat_abs (z -ℤ c.args.span.lower)) (subscripts_from c.args.span.lower c.loop-left.offset k c.args.walk.step)) (sym none)
-          ∙ c.loop-left.invariant.1,
-    )
+pub returns-then-way-span : goal.returns-then-way-span
+returns-then-way-span c =
+    let e : c.saturating_sub-behind.result ≡ c.args.walk.left - 1 = omega (arith, c.saturating_sub-behind.ensures) in
+    let p : c.saturating_sub-behind.result * c.distance_of.result ≡ (c.args.walk.left - 1) * unsigned_abs c.args.walk.step = rw (e, c.distance_of.ensures) refl in
+    past_up (span_of c.args.span) c.args.walk.step c.args.first (c.args.walk.left - 1) (search rules) c.requires.inside (omega (arith, p, c.in-Some.ensures))
