@@ -1,5 +1,5 @@
 -- Elements of arrays, in memory and in the meaning.
-use Rattle.std.proofs.Common.{get_or, append_assoc, ◌≡◌, drop, ℕ, zero, suc, ◌+◌, ◌<◌, ◌≤◌, List, [], ◌∷◌, ◌++◌, length, refl, sym, ap, ◌∙◌, rules, arith, Vec, Box, Global, map, None, Some}
+use Rattle.std.proofs.Common.{get_or, append_assoc, ◌≡◌, ℕ, suc, ◌<◌, List, [], ◌∷◌, ◌++◌, length, refl, sym, ap, ◌∙◌, rules, arith, Vec, Box, Global, map, Some}
 use Rattle.std.specs.Prelude.{slice_get}
 use Rattle.f3_meaning_whole.specs.Value as m
 use Rattle.f3_meaning_whole.specs.Value.{joined}
