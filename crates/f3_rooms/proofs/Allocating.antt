@@ -1,22 +1,22 @@
 -- An allocatable that holds nothing gets a new block of zeros.
-use Rattle.std.proofs.Common.{◌≡◌, ◌≢◌, inl, inr, ℕ, zero, suc, ◌+◌, ◌*◌, ◌<◌, ◌≤◌, ℤ, pos, Bool, true, false, nat_eq, List, [], ◌∷◌, length, get_or, replicate, refl, sym, ap, subst, ◌∙◌, arith}
+use Rattle.std.proofs.Common.{◌≡◌, ◌≢◌, inl, inr, ℕ, zero, suc, ◌+◌, ◌*◌, ◌<◌, ◌≤◌, pos, Bool, true, false, nat_eq, List, [], ◌∷◌, length, get_or, replicate, refl, sym, ap, subst, ◌∙◌, arith}
 use Rattle.std.proofs.lemmas.Bool.{eqb-true}
 use Rattle.std.proofs.lemmas.List.{length-replicate}
 use Rattle.std.specs.Prelude.{None, Some, if◌then◌else◌}
 use Rattle.std.specs.FinMap.{get as find, empty}
-use Rattle.f3_heap_laws.specs.Blocks.{Live, IsLive, words_of, with_taken}
+use Rattle.f3_heap_laws.specs.Blocks.{Live, words_of, with_taken}
 use Rattle.f3_heap_laws.proofs.Laws.{live-insert, live-insert_same, words-insert_same, words-insert_other, fresh-apart}
-use Rattle.f3_meaning_whole.specs.Value.{Span, Value, Allocated}
+use Rattle.f3_meaning_whole.specs.Value.{Span, Allocated}
 use Rattle.f3_meaning_whole.specs.Shape.{Shape}
 use Rattle.f3_meaning_whole.specs.Store.{Root, Step, put}
-use Rattle.f3_rooms.specs.Held.{Held, Empty, Holds, blocks_in, times}
+use Rattle.f3_rooms.specs.Held.{Held, Empty, Holds, times}
 use Rattle.f3_rooms.specs.Forms.{Form, Allocatable, form_words, laid_words, words_for}
-use Rattle.f3_rooms.specs.Values.{word, laid, formed, object}
+use Rattle.f3_rooms.specs.Values.{formed, object}
 use Rattle.f3_rooms.specs.Rooms.{Rooms, store_of, blocks_of}
 use Rattle.f3_rooms.specs.Places.{Found, value_at, found, rooms_with}
 use Rattle.f3_rooms.specs.Sound.{IsForm, IsObject, IsAllocated, IsSound}
 use Rattle.f3_rooms.specs.Laws.{path_at, Replaces, with_held_in, with_holder, blank, Becomes, AreZeros, ObjectsAreAllocated}
-use Rattle.f3_rooms.proofs.Within.{size_of, store_owns, part_lies}
+use Rattle.f3_rooms.proofs.Within.{size_of, part_lies}
 use Rattle.f3_rooms.proofs.Stores.{parts_are_replaced}
 use Rattle.f3_rooms.proofs.Living.{all_live, new_none}
 use Rattle.f3_rooms.proofs.Zeros.{laid_alike, laid_bare, object_alike, object_bare}

@@ -1,23 +1,22 @@
 -- Words behind variables.
-use Rattle.std.proofs.Common.{◌≡◌, ◌≢◌, ◌⊎◌, inl, inr, ℕ, zero, suc, ◌+◌, ◌-◌, ◌<◌, ◌≤◌, ℤ, pos, Bool, true, false, List, [], ◌∷◌, ◌++◌, length, map, nat_eq, nat_lt, refl, sym, ap, subst, ◌∙◌, arith, if◌then◌else◌}
+use Rattle.std.proofs.Common.{◌≡◌, ◌≢◌, ◌⊎◌, inl, inr, ℕ, zero, suc, ◌+◌, ◌-◌, ◌<◌, ◌≤◌, ℤ, pos, Bool, true, false, List, [], ◌∷◌, ◌++◌, length, map, nat_eq, refl, sym, ap, subst, ◌∙◌, arith, if◌then◌else◌}
 use Rattle.std.proofs.lemmas.Bool.{lt-ltb, le-ltb}
 use Rattle.std.proofs.lemmas.Bool.Decides.{nat_tests}
 use Rattle.std.proofs.lemmas.List.{length-set, get_or-set_other}
-use Rattle.std.specs.Prelude.{Option, None, Some, slice_index_or, slice_set}
+use Rattle.std.specs.Prelude.{Some, slice_index_or}
 use Rattle.f3_program.specs.declared.declarations.Base.{Base}
 use Rattle.f3_program.specs.declared.declarations.Declared.{Declared}
-use Rattle.f3_heap_laws.specs.Blocks.{Live, IsLive, words_of, with_words}
+use Rattle.f3_heap_laws.specs.Blocks.{Live, words_of}
 use Rattle.f3_heap_laws.proofs.Laws.{get-insert_other, live-insert, words-insert_same}
-use Rattle.f3_meaning_whole.specs.Value.{Span, Value}
 use Rattle.f3_meaning_whole.specs.Shape.{Shape, Whole, Logical, Record, shape_in}
 use Rattle.f3_meaning_whole.specs.Store.{Static, Local, Step, Store}
 use Rattle.f3_rooms.specs.Held.{Held, Row, first, others, blocks_in, times}
 use Rattle.f3_rooms.specs.Forms.{Form, Laid, Allocatable, form_of, form_words, words_for, room, total}
 use Rattle.f3_rooms.specs.Values.{word, object, variable, variables}
-use Rattle.f3_rooms.specs.Rooms.{Room, Slot, Known, Stands, Rooms, room_values, slot_values, level_values, store_of}
-use Rattle.f3_rooms.specs.Places.{Found, in_form, in_object, in_variable, in_variables, in_level, with_word}
-use Rattle.f3_rooms.specs.Sound.{IsObject, AreVariables, IsRoom, IsLevel, AreLevels, IsSound}
-use Rattle.f3_rooms.specs.Laws.{IsBehind, ExtrasChangeNothing}
+use Rattle.f3_rooms.specs.Rooms.{Room, Slot, Known, Stands, room_values, level_values}
+use Rattle.f3_rooms.specs.Places.{Found, in_form, in_object, in_variables, in_level, with_word}
+use Rattle.f3_rooms.specs.Sound.{IsObject, AreVariables, IsRoom, IsLevel, AreLevels}
+use Rattle.f3_rooms.specs.Laws.{ExtrasChangeNothing}
 use Rattle.f3_rooms.proofs.Framing.{Kept, Same, object_stays, formed_stays, object_persists, form_persists}
 use Rattle.f3_rooms.proofs.Keeping.{as_it_was}
 
@@ -85,9 +84,9 @@ module _ (ts : List Shape) (m : Live) (block i : ℕ) (z : ℤ) where
   same_clear : (b o k : ℕ) → (b ≡ block → o + k ≤ i) → Same m now b o k
   same_clear b o k few j from before = elim (split b block) [
     | inl e ↦
-      let le : o + k ≤ i = few e in
-      ap (λ c. word now c j) e ∙ ap (λ ws. slice_index_or ws j (pos 0)) (words-insert_same m block _) ∙ get_or-set_other (words_of m block) i j z (pos 0) (omega arith)
-      ∙ ap (λ c. word m c j) (sym e)
+        let le : o + k ≤ i = few e in
+        ap (λ c. word now c j) e ∙ ap (λ ws. slice_index_or ws j (pos 0)) (words-insert_same m block _) ∙ get_or-set_other (words_of m block) i j z (pos 0) (omega arith)
+        ∙ ap (λ c. word m c j) (sym e)
     | inr ne ↦ (as_it_was m now b (get-insert_other m block _ b ne)).same j
   ]
 
@@ -123,9 +122,10 @@ module _ (ts : List Shape) (m : Live) (block i : ℕ) (z : ℤ) where
   variables_clear [] b o hs ways are = are
   variables_clear (d ∷ ds) b o hs ways are =
       let s : Shape = shape_in ts d.kind.of in
-      let c = head_clear d ds b o hs ways in
-      (form_persists m now (form_of d) (words_for s) (IsObject m s) (IsObject now s) (object_persists m now s) b o (first hs) (same_clear b o (room ts d) c.0) (kept_clear (first hs) c.1) are.0,
-      variables_clear ds b (o + room ts d) (others hs) (λ k. ways (suc k)) are.1)
+      let c = head_clear d ds b o hs ways in (
+        form_persists m now (form_of d) (words_for s) (IsObject m s) (IsObject now s) (object_persists m now s) b o (first hs) (same_clear b o (room ts d) c.0) (kept_clear (first hs) c.1) are.0,
+        variables_clear ds b (o + room ts d) (others hs) (λ k. ways (suc k)) are.1,
+      )
 
   room_clear : (r : Room) → Ways r.declared r.block 0 r.held → IsRoom ts m r → IsRoom ts now r
   room_clear r ways is = record {
@@ -168,12 +168,13 @@ module _ (ts : List Shape) (m : Live) (block i : ℕ) (z : ℤ) where
 
 pub extras_change_nothing : ExtrasChangeNothing
 extras_change_nothing ts m x sound block i z behind =
-    let n : Live = with_word m block i z in
-    (ap (λ vs. let s : Store = record { statics = vs; levels = map (level_values ts n) x.levels } in s)
-    (values_clear ts m block i z (x.statics).declared (x.statics).block 0 (x.statics).held (λ k. behind (Static k)))
-    ∙ ap (λ ls. let s : Store = record { statics = room_values ts m x.statics; levels = ls } in s) (levels_same ts m block i z x.levels (λ j k. behind (Local j k))),
-    record {
-      statics = room_clear ts m block i z x.statics (λ k. behind (Static k)) sound.statics;
-      levels = levels_clear ts m block i z x.levels (λ j k. behind (Local j k)) sound.levels;
-      apart = sound.apart;
-    })
+    let n : Live = with_word m block i z in (
+      ap (λ vs. let s : Store = record { statics = vs; levels = map (level_values ts n) x.levels } in s)
+          (values_clear ts m block i z (x.statics).declared (x.statics).block 0 (x.statics).held (λ k. behind (Static k)))
+          ∙ ap (λ ls. let s : Store = record { statics = room_values ts m x.statics; levels = ls } in s) (levels_same ts m block i z x.levels (λ j k. behind (Local j k))),
+      record {
+        statics = room_clear ts m block i z x.statics (λ k. behind (Static k)) sound.statics;
+        levels = levels_clear ts m block i z x.levels (λ j k. behind (Local j k)) sound.levels;
+        apart = sound.apart;
+      },
+    )

@@ -135,9 +135,10 @@ module _ (m n : Live) where
   pub each_persists : (k w : ℕ) (P Q : Fact) → Persists w P Q → (b o : ℕ) (hs : Row) → Same m n b o (k * w) → Kept m n (blocks_in_all hs)
       → Each k w P b o hs → Each k w Q b o hs
   each_persists zero w P Q stays b o hs same kept has = has
-  each_persists (suc k) w P Q stays b o hs same kept has =
-      (stays b o (first hs) (λ i l r. same i l (omega arith)) (kept_first m n hs kept) has.0,
-      each_persists k w P Q stays b (o + w) (others hs) (λ i l r. same i (omega arith) (omega arith)) (kept_others m n hs kept) has.1)
+  each_persists (suc k) w P Q stays b o hs same kept has = (
+    stays b o (first hs) (λ i l r. same i l (omega arith)) (kept_first m n hs kept) has.0,
+    each_persists k w P Q stays b (o + w) (others hs) (λ i l r. same i (omega arith) (omega arith)) (kept_others m n hs kept) has.1,
+  )
 
   pub laid_persist : (rank : ℕ) (ss : List Span) (w : ℕ) (P Q : Fact) → Persists w P Q → Persists (laid_words rank ss w) (AreLaid rank ss w P) (AreLaid rank ss w Q)
   laid_persist zero ss w P Q stays b o h same kept has = stays b o h same kept has
@@ -145,9 +146,11 @@ module _ (m n : Live) where
 
   pub bounds_persist : (b o : ℕ) (ss : List Span) → Same m n b o (2 * length ss) → TellBounds m b o ss → TellBounds n b o ss
   bounds_persist b o [] same has = has
-  bounds_persist b o (s ∷ ss) same has =
-      (same o (omega arith) (omega arith) ∙ has.0, same (o + 1) (omega arith) (omega arith) ∙ has.1,
-      bounds_persist b (o + 2) ss (λ i l r. same i (omega arith) (omega arith)) has.2)
+  bounds_persist b o (s ∷ ss) same has = (
+    same o (omega arith) (omega arith) ∙ has.0,
+    same (o + 1) (omega arith) (omega arith) ∙ has.1,
+    bounds_persist b (o + 2) ss (λ i l r. same i (omega arith) (omega arith)) has.2,
+  )
 
   pub holder_persists : (rank w : ℕ) (P Q : Fact) → Persists w P Q → Persists (1 + 2 * rank) (IsHolder m rank w P) (IsHolder n rank w Q)
   holder_persists rank w P Q stays b o Empty same kept has = same o (omega arith) (omega arith) ∙ has
@@ -179,17 +182,19 @@ module _ (m n : Live) where
         → AreComponents m parts b o hs → AreComponents n parts b o hs
     components_persist nothing b o hs same kept has = has
     components_persist (and c s rest) b o hs same kept has =
-        let k : ℕ = form_words (form_of c.declared) (words_for s) in
-        (form_persists (form_of c.declared) (words_for s) (IsObject m s) (IsObject n s) (object_persists s) b o (first hs) (λ i l r. same i l (omega arith)) (kept_first m n hs kept) has.0,
-        components_persist rest b (o + k) (others hs) (λ i l r. same i (omega arith) (omega arith)) (kept_others m n hs kept) has.1)
+        let k : ℕ = form_words (form_of c.declared) (words_for s) in (
+          form_persists (form_of c.declared) (words_for s) (IsObject m s) (IsObject n s) (object_persists s) b o (first hs) (λ i l r. same i l (omega arith)) (kept_first m n hs kept) has.0,
+          components_persist rest b (o + k) (others hs) (λ i l r. same i (omega arith) (omega arith)) (kept_others m n hs kept) has.1,
+        )
 
   pub variables_persist : (ts : List Shape) (ds : List Declared) (b o : ℕ) (hs : Row) → Same m n b o (total ts ds) → Kept m n (blocks_in_all hs)
       → AreVariables ts m ds b o hs → AreVariables ts n ds b o hs
   variables_persist ts [] b o hs same kept has = has
   variables_persist ts (d ∷ ds) b o hs same kept has =
-      let s : Shape = shape_in ts d.kind.of in
-      (form_persists (form_of d) (words_for s) (IsObject m s) (IsObject n s) (object_persists s) b o (first hs) (λ i l r. same i l (omega arith)) (kept_first m n hs kept) has.0,
-      variables_persist ts ds b (o + room ts d) (others hs) (λ i l r. same i (omega arith) (omega arith)) (kept_others m n hs kept) has.1)
+      let s : Shape = shape_in ts d.kind.of in (
+        form_persists (form_of d) (words_for s) (IsObject m s) (IsObject n s) (object_persists s) b o (first hs) (λ i l r. same i l (omega arith)) (kept_first m n hs kept) has.0,
+        variables_persist ts ds b (o + room ts d) (others hs) (λ i l r. same i (omega arith) (omega arith)) (kept_others m n hs kept) has.1,
+      )
 
 -- ---- rooms
 

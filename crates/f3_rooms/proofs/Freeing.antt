@@ -1,19 +1,19 @@
 -- What an allocatable holds is given back with all beneath.
-use Rattle.std.proofs.Common.{◌≡◌, ◌≢◌, inl, inr, ℕ, ◌+◌, ◌*◌, ◌<◌, ◌≤◌, ℤ, pos, List, [], ◌∷◌, length, get_or, is_some, refl, sym, ap, subst, ◌∙◌, arith}
+use Rattle.std.proofs.Common.{◌≡◌, inl, inr, ℕ, ◌+◌, ◌*◌, ◌<◌, ◌≤◌, pos, List, [], ◌∷◌, length, get_or, is_some, refl, sym, ap, subst, ◌∙◌, arith}
 use Rattle.std.specs.Prelude.{Some}
 use Rattle.std.specs.FinMap.{get as find, remove}
-use Rattle.f3_heap_laws.specs.Blocks.{Live, IsLive, words_in, words_of}
+use Rattle.f3_heap_laws.specs.Blocks.{Live, words_in, words_of}
 use Rattle.f3_heap_laws.proofs.Laws.{get-remove_other}
-use Rattle.f3_meaning_whole.specs.Value.{Span, Value, Unallocated}
+use Rattle.f3_meaning_whole.specs.Value.{Unallocated}
 use Rattle.f3_meaning_whole.specs.Shape.{Shape}
 use Rattle.f3_meaning_whole.specs.Store.{Root, Step, put}
-use Rattle.f3_rooms.specs.Held.{Held, Empty, Holds, blocks_in, times}
+use Rattle.f3_rooms.specs.Held.{Empty, blocks_in, times}
 use Rattle.f3_rooms.specs.Forms.{Form, Allocatable, form_words, words_for}
 use Rattle.f3_rooms.specs.Values.{word, formed, object}
 use Rattle.f3_rooms.specs.Rooms.{Rooms, store_of, blocks_of}
-use Rattle.f3_rooms.specs.Places.{Found, value_at, found, with_word, rooms_with}
+use Rattle.f3_rooms.specs.Places.{Found, found, with_word, rooms_with}
 use Rattle.f3_rooms.specs.Sound.{IsForm, IsObject, IsSound}
-use Rattle.f3_rooms.specs.Laws.{path_at, Replaces, with_held_in, without, Becomes, ObjectsAreFreed}
+use Rattle.f3_rooms.specs.Laws.{path_at, Replaces, without, Becomes, ObjectsAreFreed}
 use Rattle.f3_rooms.proofs.Within.{one_more, size_of, store_owns, part_lies}
 use Rattle.f3_rooms.proofs.Stores.{part_replaced}
 use Rattle.f3_rooms.proofs.Living.{all_live}

@@ -1,12 +1,10 @@
 -- Where the blocks of variables are as they were, the store is.
-use Rattle.std.proofs.Common.{◌≡◌, ℕ, ◌+◌, ◌<◌, pos, List, [], ◌∷◌, ◌++◌, length, map, is_some, refl, ap, ◌∙◌}
+use Rattle.std.proofs.Common.{◌≡◌, ℕ, pos, List, [], ◌∷◌, length, map, is_some, refl, ap, ◌∙◌}
 use Rattle.std.specs.Prelude.{slice_index_or}
 use Rattle.std.specs.FinMap.{get as find}
 use Rattle.f3_heap_laws.specs.Blocks.{Live, words_in}
-use Rattle.f3_meaning_whole.specs.Value.{Value}
 use Rattle.f3_meaning_whole.specs.Shape.{Shape}
 use Rattle.f3_meaning_whole.specs.Store.{Store}
-use Rattle.f3_rooms.specs.Held.{times}
 use Rattle.f3_rooms.specs.Rooms.{Slot, Rooms, room_values, level_values, room_blocks, level_blocks, levels_blocks, blocks_of, store_of}
 use Rattle.f3_rooms.specs.Sound.{IsSound}
 use Rattle.f3_rooms.specs.Laws.{Keeps, KeptBlocksKeep}

@@ -1,14 +1,13 @@
 -- Levels that begin and end.
-use Rattle.std.proofs.Common.{◌≡◌, ℕ, zero, suc, ◌+◌, ◌<◌, ◌≤◌, List, [], ◌∷◌, ◌++◌, map, take, refl, sym, ap, ◌∙◌, arith}
+use Rattle.std.proofs.Common.{◌≡◌, ℕ, zero, suc, ◌+◌, ◌≤◌, List, [], ◌∷◌, ◌++◌, take, sym, ap, ◌∙◌, arith}
 use Rattle.std.proofs.lemmas.List.{map-append, take-map}
 use Rattle.f3_heap_laws.specs.Blocks.{Live}
-use Rattle.f3_meaning_whole.specs.Value.{Value}
 use Rattle.f3_meaning_whole.specs.Shape.{Shape}
 use Rattle.f3_meaning_whole.specs.Store.{Store}
 use Rattle.f3_rooms.specs.Held.{times}
-use Rattle.f3_rooms.specs.Rooms.{Slot, Rooms, room_values, level_values, room_blocks, level_blocks, levels_blocks, blocks_of, store_of}
+use Rattle.f3_rooms.specs.Rooms.{Slot, Rooms, room_values, level_values, room_blocks, level_blocks, levels_blocks, blocks_of}
 use Rattle.f3_rooms.specs.Sound.{IsLevel, AreLevels, IsSound}
-use Rattle.f3_rooms.specs.Laws.{with_level, before_level, LevelsBegin, LevelsEnd}
+use Rattle.f3_rooms.specs.Laws.{before_level, LevelsBegin, LevelsEnd}
 use Rattle.f3_rooms.proofs.Framing.{times_append}
 use Rattle.f3_rooms.proofs.Keeping.{kept_all, store_stays, rooms_persist}
 
@@ -28,19 +27,20 @@ times_more q (k ∷ ls) l =
 
 pub levels_begin : LevelsBegin
 levels_begin ts m n x l sound keeps is apart =
-    let old : IsSound ts n x = rooms_persist ts m n x sound (kept_all m n x keeps) in
-    (ap (λ ls. let s : Store = record { statics = room_values ts n x.statics; levels = ls } in s) (map-append (level_values ts n) x.levels (l ∷ []))
-    ∙ ap (λ s. let t : Store = record { statics = s.statics; levels = s.levels ++ level_values ts n l ∷ [] } in t) (store_stays ts m n x (kept_all m n x keeps)),
-    record {
-      statics = old.statics;
-      levels = levels_more ts n x.levels l old.levels is;
-      apart = λ q.
-          let e = times_append q (room_blocks x.statics) (levels_blocks (x.levels ++ l ∷ [])) in
-          let f = times_append q (room_blocks x.statics) (levels_blocks x.levels) in
-          let g = times_more q x.levels l in
-          let h = apart q in
-          omega arith;
-    })
+    let old : IsSound ts n x = rooms_persist ts m n x sound (kept_all m n x keeps) in (
+      ap (λ ls. let s : Store = record { statics = room_values ts n x.statics; levels = ls } in s) (map-append (level_values ts n) x.levels (l ∷ []))
+          ∙ ap (λ s. let t : Store = record { statics = s.statics; levels = s.levels ++ level_values ts n l ∷ [] } in t) (store_stays ts m n x (kept_all m n x keeps)),
+      record {
+        statics = old.statics;
+        levels = levels_more ts n x.levels l old.levels is;
+        apart = λ q.
+            let e = times_append q (room_blocks x.statics) (levels_blocks (x.levels ++ l ∷ [])) in
+            let f = times_append q (room_blocks x.statics) (levels_blocks x.levels) in
+            let g = times_more q x.levels l in
+            let h = apart q in
+            omega arith;
+      },
+    )
 
 -- ---- fewer
 
@@ -72,7 +72,8 @@ before_sound ts m x k sound = record {
 
 pub levels_end : LevelsEnd
 levels_end ts m n x k sound keeps =
-    let y : Rooms = before_level x k in
-    (store_stays ts m n y (kept_all m n y keeps)
-    ∙ ap (λ ls. let s : Store = record { statics = room_values ts m x.statics; levels = ls } in s) (sym (take-map (level_values ts m) k x.levels)),
-    rooms_persist ts m n y (before_sound ts m x k sound) (kept_all m n y keeps))
+    let y : Rooms = before_level x k in (
+      store_stays ts m n y (kept_all m n y keeps)
+          ∙ ap (λ ls. let s : Store = record { statics = room_values ts m x.statics; levels = ls } in s) (sym (take-map (level_values ts m) k x.levels)),
+      rooms_persist ts m n y (before_sound ts m x k sound) (kept_all m n y keeps),
+    )

@@ -1,5 +1,5 @@
 -- Each block in which variables stand, or what they hold, is live.
-use Rattle.std.proofs.Common.{◌≡◌, ◌⊎◌, inl, inr, ℕ, zero, suc, ◌+◌, ◌<◌, ◌≤◌, Bool, true, false, List, [], ◌∷◌, ◌++◌, is_some, sym, ap, subst, refl, ◌∙◌, arith}
+use Rattle.std.proofs.Common.{◌≡◌, ℕ, zero, suc, ◌+◌, ◌<◌, Bool, true, false, List, [], ◌∷◌, ◌++◌, ap, subst, refl, arith}
 use Rattle.std.proofs.lemmas.Bool.Decides.{nat_tests}
 use Rattle.std.specs.Prelude.{None, nat_eq, if◌then◌else◌}
 use Rattle.std.specs.FinMap.{get as find}
@@ -9,7 +9,7 @@ use Rattle.f3_meaning_whole.specs.Value.{Span, count}
 use Rattle.f3_meaning_whole.specs.Shape.{Shape, Whole, Logical, Record, Parts, nothing, and, shape_in}
 use Rattle.f3_rooms.specs.Held.{Held, Row, Empty, Holds, Parts as Divided, end, IsDivided, parts_of, first, others, blocks_in, blocks_in_all, times}
 use Rattle.f3_rooms.specs.Forms.{Form, Laid, Allocatable, form_of, form_words, words_for, room}
-use Rattle.f3_rooms.specs.Rooms.{Room, Slot, Known, Stands, Rooms, room_blocks, slot_blocks, level_blocks, levels_blocks, blocks_of}
+use Rattle.f3_rooms.specs.Rooms.{Room, Slot, Known, Stands, Rooms, room_blocks, level_blocks, levels_blocks, blocks_of}
 use Rattle.f3_rooms.specs.Sound.{Fact, Each, AreLaid, IsForm, IsObject, AreComponents, AreVariables, IsRoom, IsLevel, AreLevels, IsSound}
 use Rattle.f3_rooms.proofs.Framing.{times_append, times_row}
 

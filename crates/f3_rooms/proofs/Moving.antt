@@ -1,13 +1,13 @@
 -- What an allocatable holds goes over to another.
-use Rattle.std.proofs.Common.{◌≡◌, ◌≢◌, inl, inr, ℕ, ◌+◌, ◌*◌, ◌<◌, ◌≤◌, ℤ, pos, List, [], ◌∷◌, length, refl, sym, ap, subst, ◌∙◌, arith}
+use Rattle.std.proofs.Common.{◌≡◌, ◌≢◌, inl, inr, ℕ, ◌+◌, ◌*◌, ◌<◌, ◌≤◌, pos, List, length, refl, sym, ap, subst, ◌∙◌, arith}
 use Rattle.std.specs.Prelude.{Some}
-use Rattle.f3_heap_laws.specs.Blocks.{Live, IsLive, words_of}
-use Rattle.f3_meaning_whole.specs.Value.{Span, Value, Allocated, Unallocated}
+use Rattle.f3_heap_laws.specs.Blocks.{Live, words_of}
+use Rattle.f3_meaning_whole.specs.Value.{Span, Allocated, Unallocated}
 use Rattle.f3_meaning_whole.specs.Shape.{Shape}
 use Rattle.f3_meaning_whole.specs.Store.{Store, Root, Step, get, put}
 use Rattle.f3_rooms.specs.Held.{Held, Empty, Holds, blocks_in, times}
-use Rattle.f3_rooms.specs.Forms.{Form, Allocatable, form_words, laid_words, words_for}
-use Rattle.f3_rooms.specs.Values.{word, laid, formed, object}
+use Rattle.f3_rooms.specs.Forms.{Form, Allocatable, form_words, words_for}
+use Rattle.f3_rooms.specs.Values.{laid, formed, object}
 use Rattle.f3_rooms.specs.Rooms.{Rooms, store_of, blocks_of}
 use Rattle.f3_rooms.specs.Places.{Found, value_at, found, with_word, rooms_with}
 use Rattle.f3_rooms.specs.Sound.{IsForm, IsObject, IsHolder, IsAllocated, IsSound}
@@ -123,8 +123,7 @@ module _ (ts : List Shape) (m : Live) (x : Rooms) (sound : IsSound ts m x) (r q 
   moves : (store_of ts n (rooms_with y q other u) ≡ put (put (store_of ts m x) (path_at r way) Unallocated) (path_at q other) (get (store_of ts m x) (path_at r way)))
       × IsSound ts n (rooms_with y q other u)
   moves =
-      let t = parts_are_replaced ts mid n y empty.sound q other g to u replaces in
-      (
+      let t = parts_are_replaced ts mid n y empty.sound q other g to u replaces in (
         t.store ∙ ap (put (store_of ts mid y) (path_at q other)) value
             ∙ ap (λ (s : Store). put s (path_at q other) (get (store_of ts m x) (path_at r way))) empty.store,
         t.sound,

@@ -1,17 +1,16 @@
 -- A scalar is one word.
-use Rattle.std.proofs.Common.{◌≡◌, inl, inr, ℕ, ◌+◌, ◌<◌, ◌≤◌, ℤ, pos, true, List, [], length, refl, sym, ap, subst, ◌∙◌, arith}
+use Rattle.std.proofs.Common.{◌≡◌, inl, inr, ℕ, ◌+◌, ◌≤◌, ℤ, true, List, length, refl, sym, ap, subst, ◌∙◌, arith}
 use Rattle.std.specs.Prelude.{Some}
-use Rattle.f3_heap_laws.specs.Blocks.{Live, IsLive, words_of}
-use Rattle.f3_meaning_whole.specs.Value.{Value}
+use Rattle.f3_heap_laws.specs.Blocks.{Live, words_of}
 use Rattle.f3_meaning_whole.specs.Shape.{Shape, Whole, Logical, Record}
-use Rattle.f3_meaning_whole.specs.Store.{Root, Step, get, put}
-use Rattle.f3_rooms.specs.Held.{Held, Empty, blocks_in, times}
-use Rattle.f3_rooms.specs.Forms.{Form, Laid, form_words, words_for}
+use Rattle.f3_meaning_whole.specs.Store.{Root, Step, put}
+use Rattle.f3_rooms.specs.Held.{Held}
+use Rattle.f3_rooms.specs.Forms.{Form, form_words, words_for}
 use Rattle.f3_rooms.specs.Values.{word, object, formed}
-use Rattle.f3_rooms.specs.Rooms.{Rooms, store_of, blocks_of}
-use Rattle.f3_rooms.specs.Places.{Found, value_at, IsScalar, is_scalar_shape, scalar_in, found, with_word, rooms_with}
+use Rattle.f3_rooms.specs.Rooms.{Rooms, store_of}
+use Rattle.f3_rooms.specs.Places.{Found, value_at, IsScalar, is_scalar_shape, scalar_in, found, with_word}
 use Rattle.f3_rooms.specs.Sound.{IsForm, IsObject, IsSound}
-use Rattle.f3_rooms.specs.Laws.{path_at, Replaces, IsReplaced, IsPut, ScalarsArePut}
+use Rattle.f3_rooms.specs.Laws.{path_at, Replaces, IsPut, ScalarsArePut}
 use Rattle.f3_rooms.proofs.Reading.{parts_are_found}
 use Rattle.f3_rooms.proofs.Within.{size_of, store_owns, part_lies}
 use Rattle.f3_rooms.proofs.Stores.{parts_are_replaced}

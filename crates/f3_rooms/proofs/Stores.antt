@@ -181,17 +181,19 @@ module _ (ts : List Shape) (m n : Live) (f : Found) (u : Held) where
       let cs : List ℕ = levels_blocks x.levels in
       let t = room_turns x.statics i way e sound.statics (open_fewer m n f u (blocks_of x) bs (λ q. let s = times_append q bs cs in omega arith) opened) in
       let kept : Kept m n cs = kept_beside m n f u (blocks_of x) bs cs opened (room_owns f ts x.statics i way e) (λ q. let s = times_append q bs cs in omega arith) in
-      let counted : IsCounted x (rooms_with x (Static i) way u) = λ q. let c = t.counted q in let s = times_append q bs cs in let a = times_append q (room_blocks (room_with x.statics i way u)) cs in omega arith in
-      (record {
-        store = ap (λ vs. let s : Store = record { statics = vs; levels = map (level_values ts n) x.levels } in s) t.value
-            ∙ ap (λ ls. let s : Store = record { statics = changed (room_values ts m x.statics) i way; levels = ls } in s) (levels_stay ts m n x.levels kept);
-        sound = record {
-          statics = t.sound;
-          levels = levels_persist ts m n x.levels kept sound.levels;
-          apart = once x (rooms_with x (Static i) way u) sound r counted;
-        };
-        found = t.found;
-      }, counted)
+      let counted : IsCounted x (rooms_with x (Static i) way u) = λ q. let c = t.counted q in let s = times_append q bs cs in let a = times_append q (room_blocks (room_with x.statics i way u)) cs in omega arith in (
+        record {
+          store = ap (λ vs. let s : Store = record { statics = vs; levels = map (level_values ts n) x.levels } in s) t.value
+              ∙ ap (λ ls. let s : Store = record { statics = changed (room_values ts m x.statics) i way; levels = ls } in s) (levels_stay ts m n x.levels kept);
+          sound = record {
+            statics = t.sound;
+            levels = levels_persist ts m n x.levels kept sound.levels;
+            apart = once x (rooms_with x (Static i) way u) sound r counted;
+          };
+          found = t.found;
+        },
+        counted,
+      )
 
   local_replaced : (x : Rooms) → IsSound ts m x → (level i : ℕ) (way : List Step) → found ts x (Local level i) way ≡ Some f → Replaces m n x f u
       → IsReplaced ts m n x (Local level i) way f u × IsCounted x (rooms_with x (Local level i) way u)
@@ -202,18 +204,20 @@ module _ (ts : List Shape) (m n : Live) (f : Found) (u : Held) where
       let t = levels_turn x.levels level i way e sound.levels (open_fewer m n f u (blocks_of x) cs (λ q. let s = times_append q bs cs in omega arith) opened) in
       let kept : Kept m n bs = kept_beside m n f u (blocks_of x) cs bs opened (owned_level f ts x.levels level i way e) (λ q. let s = times_append q bs cs in omega arith) in
       let counted : IsCounted x (rooms_with x (Local level i) way u) = λ q. let c = t.counted q in let s = times_append q bs cs in
-          let a = times_append q bs (levels_blocks (level_changed x.levels level i way)) in omega arith in
-      (record {
-        store = ap (λ vs. let s : Store = record { statics = vs; levels = map (level_values ts n) (level_changed x.levels level i way) } in s) (room_stays ts m n x.statics kept)
-            ∙ ap (λ ls. let s : Store = record { statics = room_values ts m x.statics; levels = ls } in s)
-            (t.value ∙ ap (λ vs. slice_set (map (level_values ts m) x.levels) level (changed vs i way)) (sym (level_is ts m x.levels level)));
-        sound = record {
-          statics = room_persists ts m n x.statics kept sound.statics;
-          levels = t.sound;
-          apart = once x (rooms_with x (Local level i) way u) sound r counted;
-        };
-        found = t.found;
-      }, counted)
+      let a = times_append q bs (levels_blocks (level_changed x.levels level i way)) in omega arith in (
+        record {
+          store = ap (λ vs. let s : Store = record { statics = vs; levels = map (level_values ts n) (level_changed x.levels level i way) } in s) (room_stays ts m n x.statics kept)
+              ∙ ap (λ ls. let s : Store = record { statics = room_values ts m x.statics; levels = ls } in s)
+              (t.value ∙ ap (λ vs. slice_set (map (level_values ts m) x.levels) level (changed vs i way)) (sym (level_is ts m x.levels level)));
+          sound = record {
+            statics = room_persists ts m n x.statics kept sound.statics;
+            levels = t.sound;
+            apart = once x (rooms_with x (Local level i) way u) sound r counted;
+          };
+          found = t.found;
+        },
+        counted,
+      )
 
 pub part_replaced : (ts : List Shape) (m n : Live) (x : Rooms) → IsSound ts m x → (r : Root) (way : List Step) (f : Found) → found ts x r way ≡ Some f
     → (u : Held) → Replaces m n x f u

@@ -1,10 +1,10 @@
 -- What is held in a part, put there again, changes nothing.
 use Rattle.std.proofs.Common.{◌≡◌, ℕ, zero, suc, ◌+◌, ◌*◌, ◌-◌, Bool, true, false, List, [], ◌∷◌, ◌++◌, length, refl, sym, ap, subst, ◌∙◌, arith}
-use Rattle.std.specs.Prelude.{Option, None, Some, nat_lt, if◌then◌else◌, slice_index_or, slice_set, map}
+use Rattle.std.specs.Prelude.{None, Some, nat_lt, if◌then◌else◌, slice_index_or, slice_set, map}
 use Rattle.f3_program.specs.declared.declarations.Base.{Base}
 use Rattle.f3_program.specs.declared.declarations.Declared.{Declared}
 use Rattle.f3_heap_laws.specs.Blocks.{Live}
-use Rattle.f3_meaning_whole.specs.Value.{Span, Value, Composite, Array, Allocated, more, joined, count}
+use Rattle.f3_meaning_whole.specs.Value.{Span, Composite, Array, Allocated, more, joined, count}
 use Rattle.f3_meaning_whole.specs.Shape.{Shape, Whole, Logical, Record, Parts, nothing, and, shape_in}
 use Rattle.f3_meaning_whole.specs.Store.{Store, Root, Static, Local, Step, Component, Element, Contents}
 use Rattle.f3_rooms.specs.Held.{Held, Row, Empty, Holds, Parts as Divided, parts_of, first, others, part_at, with_part_at, with_held}
@@ -67,16 +67,18 @@ module _ (m n : Live) (f : Found) where
     form_unmoved (Allocatable rank) b o Empty (Contents ∷ way) e was = none_found f e
     form_unmoved (Allocatable rank) b o (Divided hs) (Contents ∷ way) e was = none_found f e
     form_unmoved (Allocatable rank) b o (Holds c ss h) (Contents ∷ way) e was =
-        let t = laid_unmoved rank ss c 0 h way e was.within in
-        (ap Allocated t.0, λ has. record {
-          names = has.names;
-          named = has.named;
-          bounds = has.bounds;
-          ranked = has.ranked;
-          live = has.live;
-          words = has.words;
-          within = t.1 has.within;
-        })
+        let t = laid_unmoved rank ss c 0 h way e was.within in (
+          ap Allocated t.0,
+          λ has. record {
+            names = has.names;
+            named = has.named;
+            bounds = has.bounds;
+            ranked = has.ranked;
+            live = has.live;
+            words = has.words;
+            within = t.1 has.within;
+          },
+        )
 
   mutual
     object_unmoved : (s : Shape) (of : Base) → Unmoved (in_object s of) (object n s) (IsObject m s) (IsObject n s)

@@ -2,7 +2,7 @@
 use Rattle.std.proofs.Common.{◌≡◌, ◌≢◌, inl, inr, ℕ, ◌+◌, ◌*◌, ◌<◌, ◌≤◌, ℤ, pos, List, [], ◌∷◌, length, get_or, refl, sym, ap, subst, ◌∙◌, arith}
 use Rattle.std.proofs.lemmas.Bool.{cases_eq}
 use Rattle.std.proofs.lemmas.List.{get_or-set_same, get_or-set_other, length-set}
-use Rattle.std.specs.Prelude.{◌⊎◌, slice_index_or, slice_set}
+use Rattle.std.specs.Prelude.{◌⊎◌, slice_set}
 use Rattle.f3_heap_laws.specs.Blocks.{Live, IsLive, words_of}
 use Rattle.f3_heap_laws.proofs.Laws.{words-insert_same, words-insert_other, live-insert}
 use Rattle.f3_meaning_whole.specs.Value.{Span}
@@ -86,8 +86,7 @@ bounds_told m block o (s ∷ ss) long =
     let two : Live = with_word one block (o + 1) (pos s.extent) in
     let first : length (words_of one block) ≡ length (words_of m block) = put_long m block o s.lower block in
     let second : length (words_of two block) ≡ length (words_of one block) = put_long one block (o + 1) (pos s.extent) block in
-    let rest = written_bounds two block (o + 2) ss in
-    (
+    let rest = written_bounds two block (o + 2) ss in (
       rest.same block o (λ e. inl (omega arith)) ∙ put_apart one block (o + 1) (pos s.extent) block o (λ e is. omega arith) ∙ put_there m block o s.lower (omega arith),
       rest.same block (o + 1) (λ e. inl (omega arith)) ∙ put_there one block (o + 1) (pos s.extent) (omega arith),
       bounds_told two block (o + 2) ss (omega arith),

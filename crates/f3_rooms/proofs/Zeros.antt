@@ -102,16 +102,18 @@ mutual
   components_bare m nothing b o z = refl
   components_bare m (and c s rest) b o z =
       let k : ℕ = form_words (form_of c.declared) (words_for s) in
-      let j : ℕ = words_for_parts rest in
-      (form_bare m (words_for s) (IsObject m s) (object_bare m s) (form_of c.declared) b o (zeros_front m b o k j z),
-      components_bare m rest b (o + k) (zeros_behind m b o k j z))
+      let j : ℕ = words_for_parts rest in (
+        form_bare m (words_for s) (IsObject m s) (object_bare m s) (form_of c.declared) b o (zeros_front m b o k j z),
+        components_bare m rest b (o + k) (zeros_behind m b o k j z),
+      )
 
 variables_bare : (ts : List Shape) (m : Live) (ds : List Declared) (b o : ℕ) → AreZeros m b o (total ts ds) → AreVariables ts m ds b o end
 variables_bare ts m [] b o z = refl
 variables_bare ts m (d ∷ ds) b o z =
-    let s : Shape = shape_in ts d.kind.of in
-    (form_bare m (words_for s) (IsObject m s) (object_bare m s) (form_of d) b o (zeros_front m b o (room ts d) (total ts ds) z),
-    variables_bare ts m ds b (o + room ts d) (zeros_behind m b o (room ts d) (total ts ds) z))
+    let s : Shape = shape_in ts d.kind.of in (
+      form_bare m (words_for s) (IsObject m s) (object_bare m s) (form_of d) b o (zeros_front m b o (room ts d) (total ts ds) z),
+      variables_bare ts m ds b (o + room ts d) (zeros_behind m b o (room ts d) (total ts ds) z),
+    )
 
 pub zeros_are_blank : ZerosAreBlank
 zeros_are_blank ts m ds b o z = (variables_alike ts m ds b o 0 z, variables_bare ts m ds b o z)

@@ -1,14 +1,14 @@
 -- Laws of variables in words of blocks.
-use Rattle.std.specs.Prelude.{⊤, ◌≡◌, ◌≤◌, ◌<◌, ◌⊎◌, ℕ, ◌+◌, ℤ, pos, List, [], ◌∷◌, ◌++◌, length, take, Option, None, Some}
+use Rattle.std.specs.Prelude.{⊤, ◌≡◌, ◌≤◌, ◌<◌, ◌⊎◌, ℕ, ◌+◌, ℤ, pos, List, [], ◌∷◌, ◌++◌, length, take, None, Some}
 use Rattle.std.specs.FinMap.{get as find, remove, empty}
 use Rattle.f3_program.specs.declared.declarations.Declared.{Declared}
 use Rattle.f3_heap_laws.specs.Blocks.{Live, IsLive, words_of, with_taken}
 use Rattle.f3_meaning_whole.specs.Value.{Span, Value, Unallocated, Allocated}
 use Rattle.f3_meaning_whole.specs.Shape.{Shape, Whole, Logical, Record, Parts, nothing, and, shape_in, initial_of, initial_declared}
-use Rattle.f3_meaning_whole.specs.Store.{Root, Store, Step, Path, get, put}
+use Rattle.f3_meaning_whole.specs.Store.{Root, Step, Path, get, put}
 use Rattle.f3_rooms.specs.Held.{Held, Empty, Holds, end, blocks_in, times}
-use Rattle.f3_rooms.specs.Forms.{Form, Allocatable, form_words, laid_words, words_for, room, total}
-use Rattle.f3_rooms.specs.Values.{word, laid, formed, object, variable, variables}
+use Rattle.f3_rooms.specs.Forms.{Allocatable, form_words, laid_words, words_for, total}
+use Rattle.f3_rooms.specs.Values.{word, laid, object, variable, variables}
 use Rattle.f3_rooms.specs.Rooms.{Slot, Rooms, level_values, level_blocks, blocks_of, store_of}
 use Rattle.f3_rooms.specs.Places.{Found, IsScalar, found, value_at, scalar_in, with_word, rooms_with}
 use Rattle.f3_rooms.specs.Sound.{IsForm, IsObject, IsLevel, AreVariables, IsSound}
@@ -99,7 +99,7 @@ abbrev pub ObjectsAreAllocated : Type 0
 ObjectsAreAllocated = (ts : List Shape) (m : Live) (x : Rooms) → IsSound ts m x → (r : Root) (way : List Step) (f : Found) → found ts x r way ≡ Some f
     → (rank : ℕ) → f.form ≡ Allocatable rank → f.held ≡ Empty → (c : ℕ) (ss : List Span) → length ss ≡ rank → find m c ≡ None → 0 < c
     → Becomes ts m (with_holder (with_taken m c (laid_words rank ss (words_for f.shape))) f.block f.at c ss) x (rooms_with x r way (Holds c ss Empty)) r way
-      (Allocated (blank rank ss f.shape))
+    (Allocated (blank rank ss f.shape))
 
 -- One that holds something holds nothing, and the blocks of that and of all beneath are gone (6.3.3).
 abbrev pub ObjectsAreFreed : Type 0
@@ -113,7 +113,7 @@ ObjectsMove = (ts : List Shape) (m : Live) (x : Rooms) → IsSound ts m x → (r
     → found ts x r way ≡ Some f → (rank : ℕ) → f.form ≡ Allocatable rank → (c : ℕ) (ss : List Span) (h : Held) → f.held ≡ Holds c ss h
     → found ts (rooms_with x r way Empty) q other ≡ Some g → g.form ≡ Allocatable rank → g.held ≡ Empty → g.shape ≡ f.shape
     → (store_of ts (with_holder (with_word m f.block f.at (pos 0)) g.block g.at c ss) (rooms_with (rooms_with x r way Empty) q other (Holds c ss h))
-      ≡ put (put (store_of ts m x) (path_at r way) Unallocated) (path_at q other) (get (store_of ts m x) (path_at r way)))
+    ≡ put (put (store_of ts m x) (path_at r way) Unallocated) (path_at q other) (get (store_of ts m x) (path_at r way)))
     × IsSound ts (with_holder (with_word m f.block f.at (pos 0)) g.block g.at c ss) (rooms_with (rooms_with x r way Empty) q other (Holds c ss h))
 
 -- ---- what else changes nothing

@@ -7,7 +7,7 @@ use Rattle.f3_heap_laws.specs.Blocks.{Live, words_of, with_words}
 use Rattle.f3_meaning_whole.specs.Value.{Span, Value, Number, Truth, Unallocated, count}
 use Rattle.f3_meaning_whole.specs.Shape.{Shape, Whole, Logical, Record, Parts, nothing, and, shape_in}
 use Rattle.f3_meaning_whole.specs.Store.{Root, Static, Local, Step, Component, Element, Contents}
-use Rattle.f3_rooms.specs.Held.{Held, Row, Empty, Holds, parts_of, first, others, part_at, with_held, with_part_at}
+use Rattle.f3_rooms.specs.Held.{Held, Row, Holds, parts_of, first, others, part_at, with_held, with_part_at}
 use Rattle.f3_rooms.specs.Forms.{Form, Laid, Allocatable, form_of, form_words, words_for, room}
 use Rattle.f3_rooms.specs.Values.{is_set, formed, object}
 use Rattle.f3_rooms.specs.Rooms.{Room, Slot, Known, Stands, Rooms}

@@ -5,7 +5,7 @@ use Rattle.f3_heap_laws.specs.Blocks.{Live}
 use Rattle.f3_meaning_whole.specs.Value.{Value}
 use Rattle.f3_meaning_whole.specs.Shape.{Shape}
 use Rattle.f3_meaning_whole.specs.Store.{Store}
-use Rattle.f3_rooms.specs.Held.{Held, Row, blocks_in_all}
+use Rattle.f3_rooms.specs.Held.{Row, blocks_in_all}
 use Rattle.f3_rooms.specs.Values.{variables}
 
 -- variables, one after another from the first word of a block on, and what the allocatables among them and beneath hold

@@ -1,6 +1,6 @@
 -- Blocks in which the words of variables stand, each in its own.
 use Rattle.std.proofs.Common.{zero, suc}
-use Rattle.std.specs.Prelude.{⊤, ◌≡◌, ℕ, ◌+◌, ◌<◌, ◌≤◌, ℤ, pos, List, [], ◌∷◌, length}
+use Rattle.std.specs.Prelude.{⊤, ◌≡◌, ℕ, ◌+◌, ◌<◌, ◌≤◌, pos, List, [], ◌∷◌, length}
 use Rattle.f3_program.specs.declared.declarations.Declared.{Declared}
 use Rattle.f3_heap_laws.specs.Blocks.{Live, IsLive, words_of}
 use Rattle.f3_meaning_whole.specs.Value.{Span, count}
