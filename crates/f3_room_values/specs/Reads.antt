@@ -1,14 +1,16 @@
 -- What is read from the words of variables, with what allocatables hold beneath.
-use Rattle.std.specs.Prelude.{◌≡◌, ℕ, zero, suc, ◌+◌, ◌*◌, List, [], ◌∷◌, map}
+use Rattle.std.specs.Prelude.{◌≡◌, ℕ, zero, suc, ◌+◌, ◌*◌, ℤ, List, [], ◌∷◌, map}
+use Rattle.f3_program.specs.declared.declarations.Base.{Base}
+use Rattle.f3_program.specs.declared.declarations.Base.TheVariants as base
 use Rattle.f3_program.specs.declared.declarations.Component.{Component}
 use Rattle.f3_program.specs.declared.declarations.Declared.{Declared}
 use Rattle.f3_heap_laws.specs.Blocks.{Live}
 use Rattle.f3_meaning_whole.specs.Arithmetic.{natural}
 use Rattle.f3_meaning_whole.specs.Shape.{Shape, shape_in}
-use Rattle.f3_meaning_whole.specs.Value.{Span, Value}
+use Rattle.f3_meaning_whole.specs.Value.{Span, Value, Number, Truth}
 use Rattle.f3_rooms.specs.Held.{Held, Row}
 use Rattle.f3_rooms.specs.Forms.{form_of, words_for, total}
-use Rattle.f3_rooms.specs.Values.{word, elements, variables}
+use Rattle.f3_rooms.specs.Values.{word, is_set, elements, variables}
 use Rattle.f3_rooms.specs.Sound.{Fact, Each, IsForm, IsObject, AreVariables}
 
 -- the words of a variable, from one of a block on, with this held in it
@@ -23,6 +25,13 @@ Reading = ℕ → ℕ → Held → Value
 pub record IsRead (n : ℕ) (P : Fact) (f : Reading) (b o : ℕ) (v : Value) (next : ℕ) : Type 0 where
   pub value : (h : Held) → P b o h → v ≡ f b o h
   pub behind : next ≡ o + n
+
+-- the scalar of a type that is not derived: 0 is .FALSE., any other word .TRUE. (own rule)
+abbrev pub scalar_of : Base → ℤ → Value
+scalar_of base.Integer z = Number z
+scalar_of base.Long z = Number z
+scalar_of base.Logical z = Truth (is_set z)
+scalar_of (base.Derived t) z = Number z
 
 -- so were so many objects, one behind another
 pub record AreRead (many n : ℕ) (P : Fact) (f : Reading) (b o : ℕ) (vs : List Value) (next : ℕ) : Type 0 where
