@@ -9,7 +9,7 @@ use Rattle.f3_program.specs.declared.declarations.Derived.{Derived}
 use Rattle.f3_heap_laws.specs.Blocks.{Live, IsLive, words_of}
 use Rattle.f3_meaning_whole.specs.Value.{Span, Value, Composite, Array, Unallocated, Allocated, more, joined, count}
 use Rattle.f3_meaning_whole.specs.Shape.{Shape, Record, shape_in, shapes_of, parts_in, spans_declared}
-use Rattle.f3_shaping.proofs.Trees.{tree_is}
+use Rattle.f3_room_values.proofs.Trees.{tree_is}
 use Rattle.f3_rooms.specs.Held.{Held, Row, Empty, Holds, Parts as Divided, parts_of, first, others}
 use Rattle.f3_rooms.specs.Forms.{Form, Laid, Allocatable, form_of, form_words, laid_words, words_for, words_for_parts, room, total}
 use Rattle.f3_rooms.specs.Values.{word, elements, laid, holding, formed, object, components, variable, variables}
@@ -137,7 +137,7 @@ module _ (m : Live) (rank n : ℕ) (P : Fact) (b o : ℕ) where
 
     pub own_value : (f : Reading) (v : Value) (next : ℕ) → LaidRead n P f rank ss own 0 v next → Allocated v ≡ holding rank n f h
     own_value f v next r =
-        ap Allocated (r.value k.inner own_held.1 ∙ ap (λ us. laid rank us n f own 0 k.inner) own_spans) ∙ ap (holding rank n f) (sym k.is)
+        ap Allocated (r.value k.inner (subst (λ us. AreLaid rank us n P own 0 k.inner) (sym own_spans) (k.holds).within) ∙ ap (λ us. laid rank us n f own 0 k.inner) own_spans) ∙ ap (holding rank n f) (sym k.is)
 
 -- ---- variables
 

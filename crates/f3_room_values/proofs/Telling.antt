@@ -2,12 +2,10 @@
 use Rattle.std.proofs.Common.{◌≡◌, ℕ, zero, suc, ◌+◌, ◌*◌, ◌≤◌, ℤ, pos, List, [], ◌∷◌, ◌++◌, length, refl, sym, ap, subst, ◌∙◌, arith}
 use Rattle.f3_program.specs.declared.declarations.Base.{Base}
 use Rattle.f3_program.specs.declared.declarations.Base.TheVariants as base
-use Rattle.f3_program.specs.declared.declarations.Derived.{Derived}
 use Rattle.f3_heap_laws.specs.Blocks.{Live}
 use Rattle.f3_meaning_whole.specs.Arithmetic.{natural}
 use Rattle.f3_meaning_whole.specs.Value.{Span, Value, Number}
-use Rattle.f3_meaning_whole.specs.Shape.{Shape, Whole, Logical, Record, shape_in, shapes_of, initial_of}
-use Rattle.f3_shaping.proofs.Trees.{number_past}
+use Rattle.f3_meaning_whole.specs.Shape.{Shape, Whole, shape_in}
 use Rattle.f3_rooms.specs.Forms.{words_for}
 use Rattle.f3_rooms.specs.Values.{word, object}
 use Rattle.f3_rooms.specs.Sound.{TellBounds, IsObject}
@@ -29,15 +27,7 @@ scalar_read ts m base.Long b o z v next not is e f = record { value = λ h has. 
 scalar_read ts m base.Logical b o z v next not is e f = record { value = λ h has. e ∙ ap (scalar_of base.Logical) is; behind = f }
 scalar_read ts m (base.Derived t) b o z v next not is e f = absurd (not t refl)
 
--- a type that is not there
-whole_is : (s : Shape) → Number (pos 0) ≡ initial_of s → s ≡ Whole
-whole_is Whole e = refl
-whole_is Logical e = cc
-whole_is (Record t parts) e = cc
-
-pub past_types : (xs : List Derived) (of : Base) (t : ℕ) → of ≡ base.Derived t → length xs ≤ t → shape_in (shapes_of xs) of ≡ Whole
-past_types xs of t is past = ap (shape_in (shapes_of xs)) is ∙ whole_is (shape_in (shapes_of xs) (base.Derived t)) (number_past xs t past)
-
+-- a number, of a type that is not there
 pub number_read : (s : Shape) (m : Live) (b o : ℕ) (z : ℤ) (v : Value) (next : ℕ) → s ≡ Whole → z ≡ word m b o → v ≡ Number z → next ≡ o + 1
     → IsRead (words_for s) (IsObject m s) (object m s) b o v next
 number_read s m b o z v next whole is e f =
