@@ -1,18 +1,18 @@
 -- Objects, arrays of them and allocatables, as they were read.
-use Rattle.std.proofs.Common.{◌≡◌, ℕ, zero, suc, ◌+◌, ◌*◌, ◌<◌, ◌≤◌, ℤ, pos, Bool, true, false, List, [], ◌∷◌, length, take, refl, sym, ap, subst, ◌∙◌, arith, get_or}
+use Rattle.std.proofs.Common.{◌≡◌, ℕ, zero, suc, ◌+◌, ◌*◌, ◌<◌, ◌≤◌, ℤ, pos, true, false, List, [], ◌∷◌, length, take, refl, sym, ap, subst, ◌∙◌, arith, get_or}
 use Rattle.std.specs.Prelude.{if◌then◌else◌}
 use Rattle.f3_program.specs.declared.declarations.Base.{Base}
 use Rattle.f3_program.specs.declared.declarations.Base.TheVariants as base
 use Rattle.f3_program.specs.declared.declarations.Component.{Component}
 use Rattle.f3_program.specs.declared.declarations.Declared.{Declared}
 use Rattle.f3_program.specs.declared.declarations.Derived.{Derived}
-use Rattle.f3_heap_laws.specs.Blocks.{Live, IsLive, words_of}
+use Rattle.f3_heap_laws.specs.Blocks.{Live, words_of}
 use Rattle.f3_meaning_whole.specs.Value.{Span, Value, Composite, Array, Unallocated, Allocated, more, joined, count}
 use Rattle.f3_meaning_whole.specs.Shape.{Shape, Record, shape_in, shapes_of, parts_in, spans_declared}
 use Rattle.f3_room_values.proofs.Trees.{tree_is}
 use Rattle.f3_rooms.specs.Held.{Held, Row, Empty, Holds, Parts as Divided, parts_of, first, others}
-use Rattle.f3_rooms.specs.Forms.{Form, Laid, Allocatable, form_of, form_words, laid_words, words_for, words_for_parts, room, total}
-use Rattle.f3_rooms.specs.Values.{word, elements, laid, holding, formed, object, components, variable, variables}
+use Rattle.f3_rooms.specs.Forms.{Laid, Allocatable, form_of, form_words, laid_words, words_for, words_for_parts, room, total}
+use Rattle.f3_rooms.specs.Values.{word, laid, holding, formed, object, components, variable, variables}
 use Rattle.f3_rooms.specs.Sound.{Fact, Each, AreLaid, IsAllocated, IsHolder, IsForm, IsObject, AreComponents, AreVariables}
 use Rattle.f3_room_values.specs.Reads.{IsVariable, Reading, IsRead, AreRead, VariablesRead, declared_each, bounds_told}
 use Rattle.f3_room_values.proofs.Telling.{ranked_bounds}

@@ -1,5 +1,5 @@
 -- Variables and elements one behind another, of which some were read.
-use Rattle.std.proofs.Common.{◌≡◌, ℕ, zero, suc, ◌+◌, ◌*◌, ◌<◌, ◌≤◌, List, [], ◌∷◌, ◌++◌, length, map, drop, refl, sym, ap, subst, ◌∙◌, arith, get_or, add-one, append_assoc}
+use Rattle.std.proofs.Common.{◌≡◌, ℕ, zero, suc, ◌+◌, ◌*◌, ◌<◌, ◌≤◌, List, [], ◌∷◌, ◌++◌, length, drop, refl, sym, ap, subst, ◌∙◌, arith, get_or, add-one, append_assoc}
 use Rattle.std.proofs.lemmas.List.{drop_all}
 use Rattle.std.proofs.Math.Nat.{suc-mul, mul-le-mul_right}
 use Rattle.f3_program.specs.declared.declarations.Component.{Component}
@@ -51,9 +51,9 @@ module _ (ts : List Shape) (m : Live) (b : ℕ) where
       → LeavesFrom ts m ds b start (i + 1) behind us
   next_variable ds d start i at behind vs us v l this one e = record {
     behind = let far : total ts (drop i ds) ≡ room ts d + total ts (drop (i + 1) ds) = ap (total ts) this in
-      omega (arith, l.behind, one.behind);
+        omega (arith, l.behind, one.behind);
     left = λ hs has. next_left d (drop (i + 1) ds) at behind vs us (variables ts m ds b start hs) v
-    (subst (λ xs. Leaves ts m xs b at vs (variables ts m ds b start hs)) this (l.left hs has)) one e;
+        (subst (λ xs. Leaves ts m xs b at vs (variables ts m ds b start hs)) this (l.left hs has)) one e;
   }
 
   -- the next has its words among those of all, and something is held in it
@@ -147,9 +147,9 @@ module _ (many n : ℕ) (P : Fact) (f : Reading) (b : ℕ) where
       → LeavesEachFrom many n P f b start (k + 1) behind us
   next_element start k at behind vs us v l lt one e = record {
     behind = let more : suc k * n ≡ k * n + n = suc-mul k n in
-      let same : suc k ≡ k + 1 = omega arith in
-      let on : behind ≡ start + suc k * n = omega (arith, l.behind, one.behind) in
-      subst (λ i. behind ≡ start + i * n) same on;
+        let same : suc k ≡ k + 1 = omega arith in
+        let on : behind ≡ start + suc k * n = omega (arith, l.behind, one.behind) in
+        subst (λ i. behind ≡ start + i * n) same on;
     left = λ hs has. next_each k at behind vs us (elements many n f b start hs) v lt (l.left hs has) one e;
   }
 

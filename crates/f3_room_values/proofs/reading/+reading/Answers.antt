@@ -1,4 +1,4 @@
-use Rattle.std.proofs.Common.{rules, arith, FitsSigned, ◌≡◌, ◌≤◌, ◌+◌, ◌*◌, ◌∷◌, [], length, refl, sym, ap, subst, ◌∙◌}
+use Rattle.std.proofs.Common.{rules, arith, FitsSigned, ◌≡◌, ◌≤◌, ◌+◌, ◌∷◌, [], length, refl, sym, ap, subst, ◌∙◌}
 use Rattle.std.specs.Int.{w64}
 use Rattle.std.proofs.lemmas.Int.{to_z-of_z}
 use Rattle.std.proofs.lemmas.List.{map-append}
