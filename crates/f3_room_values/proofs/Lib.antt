@@ -1,0 +1,4 @@
+pub mod Trees
+pub mod Telling
+pub mod Leaving
+pub mod Arranging
