@@ -1,8 +1,8 @@
 -- Several parts of one object that take values, and the object that takes another.
-use Rattle.std.proofs.Common.{append_assoc, ◌≡◌, ℕ, zero, suc, ◌+◌, List, [], ◌∷◌, ◌++◌, refl, sym, ap, ◌∙◌, arith, map, None, Some, drop}
+use Rattle.std.proofs.Common.{◌≡◌, ℕ, zero, suc, ◌+◌, List, [], ◌∷◌, ◌++◌, refl, sym, ap, ◌∙◌, map, None, Some, drop}
 use Rattle.std.specs.Prelude.{slice_get, slice_index_or, slice_set}
-use Rattle.f3_meaning_whole.specs.Value.{Value, Number, Truth, Composite, Array, Unallocated, Allocated, Values, none, more, joined}
-use Rattle.f3_meaning_whole.specs.Store.{Root, Static, Local, Store, Path, Step, Component, Element, Contents, at_root, with_root, part, part_at, with_part, with_part_at, get, put, put_all}
+use Rattle.f3_meaning_whole.specs.Value.{Value, Number, Truth, Composite, Array, Unallocated, Allocated, Values, none, more}
+use Rattle.f3_meaning_whole.specs.Store.{Root, Static, Local, Store, Path, Step, Component, Element, Contents, at_root, part, part_at, with_part, with_part_at, get, put, put_all}
 use Rattle.f3_data.specs.References.{element_path}
 use Rattle.f3_data.specs.Each.{row_with, with_each}
 use Rattle.f3_data.proofs.Counted.{drop_at, none_left, none_behind}

@@ -1,5 +1,5 @@
 -- Elements that take values, each its own.
-use Rattle.std.specs.Prelude.{ℕ, List, [], ◌∷◌}
+use Rattle.std.specs.Prelude.{ℕ, List, ◌∷◌}
 use Rattle.f3_meaning_whole.specs.Value.{Value, Array, Values}
 use Rattle.f3_meaning_whole.specs.Store.{Step, with_part_at}
 

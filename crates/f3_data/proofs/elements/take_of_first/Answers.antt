@@ -1,4 +1,4 @@
-use Rattle.std.proofs.Common.{sym, ◌∙◌}
+use Rattle.std.proofs.Common.{sym}
 use Rattle.f3_data.specs.Values.{value_of}
 use Rattle.f3_data.specs.Stores.{steps_of}
 use Rattle.f3_data.specs.References.{counted}

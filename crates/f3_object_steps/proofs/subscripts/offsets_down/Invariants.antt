@@ -1,4 +1,4 @@
-use Rattle.std.proofs.Common.{◌≡◌, ◌<◌, ◌≤◌, ◌-◌, ◌++◌, ◌+◌, ◌*◌, map, vec_len, vec_capacity}
+use Rattle.std.proofs.Common.{◌≡◌, ◌<◌, ◌≤◌, ◌++◌, ◌+◌, ◌*◌, map, vec_len, vec_capacity}
 use Rattle.std.specs.Prelude.{◌-ℤ◌, nat_abs}
 use Rattle.f3_meaning_whole.specs.Act.{is_inside}
 use Rattle.f3_data.specs.Values.{span_of}

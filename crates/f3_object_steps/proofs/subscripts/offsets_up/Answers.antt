@@ -1,5 +1,4 @@
-use Rattle.std.proofs.Common.{◌≡◌, ◌<◌, ◌≤◌, ◌-◌, ◌+◌, ◌*◌, ◌++◌, ◌∙◌, pos, map, sym, ap, rules, arith}
-use Rattle.std.specs.Int.RustNames.{unsigned_abs}
+use Rattle.std.proofs.Common.{◌≡◌, ◌<◌, ◌-◌, ◌+◌, ◌++◌, ◌∙◌, pos, map, sym, ap, rules, arith}
 use Rattle.std.specs.Prelude.{◌+ℤ◌, ◌-ℤ◌, nat_abs}
 use Rattle.f3_meaning_whole.specs.Act.{is_inside}
 use Rattle.f3_data.specs.Values.{span_of}
