@@ -1,0 +1,5 @@
+pub mod Trees
+pub mod Tables
+pub mod Ways
+pub mod Counting
+pub mod Telling

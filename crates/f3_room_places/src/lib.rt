@@ -1,0 +1,6 @@
+//! How a machine finds parts of variables in words of blocks of a heap, reads them and writes them, with no allocation.
+#![tactic(auto)]
+
+pub mod bounds;
+pub mod place;
+pub mod types;

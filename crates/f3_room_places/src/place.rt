@@ -1,0 +1,48 @@
+//! Places of parts of variables.
+
+ghost use Rattle.std.specs.Prelude.{◌≡◌};
+ghost use Rattle.f3_heap_laws.specs.Blocks.{Live};
+ghost use Rattle.f3_rooms.specs.Forms.{form_of};
+ghost use Rattle.f3_room_places.specs.Places.{IsFormed, without_bounds};
+
+use crate::types::Types;
+use f3_heap::BlockId;
+use f3_program::declarations::{Base, Declared, Dimension};
+
+/// The bounds of an array: those that are declared, or those that words of a block tell from one on, of each dimension its lower bound
+/// and its extent.
+#[derive(Clone, Copy)]
+pub enum Bounds<'a> {
+    Declared(&'a [Dimension]),
+    Told(BlockId, usize),
+}
+
+/// One object, or, of a rank of 1 and more, an array; or an allocatable of a rank.
+#[derive(Clone, Copy)]
+pub enum Form<'a> {
+    Laid(usize, Bounds<'a>),
+    Allocatable(usize),
+}
+
+/// Where a part of a variable stands: from a word of a block on. Its type is among these types.
+#[derive(Clone, Copy)]
+pub struct Place<'a> {
+    pub block: BlockId,
+    pub at: usize,
+    pub types: Types<'a>,
+    pub of: Base,
+    pub form: Form<'a>,
+}
+
+/// How what is declared so is laid out.
+pub(crate) fn form_of(declared: &Declared) -> Form<'_>
+    ensures { (m : Live) → IsFormed m result (without_bounds (form_of declared.now)) }
+{
+    if declared.kind.is_allocatable {
+        return Form::Allocatable(declared.kind.rank);
+    }
+    Form::Laid(
+        declared.kind.rank,
+        Bounds::Declared(&declared.dimensions),
+    )
+}
