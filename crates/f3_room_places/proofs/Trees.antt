@@ -53,7 +53,7 @@ newer_behind : (ss : List Shape) (ts : List Derived) → shapes_from ss ts ≡ s
 unfolding newer
 newer_behind ss [] = sym (append-nil ss)
 newer_behind ss (t ∷ ts) =
-    let r : Shape = Record (length ss) (parts_in ss t.components.items) in newer_behind (ss ++ r ∷ []) ts ∙ append_assoc {xs = ss} {ys = r ∷ []}
+    let r : Shape = Record (length ss) (parts_in ss t.components.items) in newer_behind (ss ++ r ∷ []) ts ∙ simp append_assoc
 
 newer_before : (ss : List Shape) (ts : List Derived) (k : ℕ) → newer ss (take k ts) ≡ take k (newer ss ts)
 unfolding newer

@@ -3,4 +3,5 @@
 
 pub mod bounds;
 pub mod place;
+mod stepping;
 pub mod types;

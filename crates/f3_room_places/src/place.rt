@@ -1,8 +1,8 @@
 //! Places of parts of variables.
 
-ghost use Rattle.std.specs.Prelude.{◌≡◌};
+ghost use Rattle.std.specs.Prelude.{◌≡◌, []};
 ghost use Rattle.f3_heap_laws.specs.Blocks.{Live};
-ghost use Rattle.f3_rooms.specs.Forms.{form_of};
+ghost use Rattle.f3_rooms.specs.Forms.{Laid, form_of};
 ghost use Rattle.f3_room_places.specs.Places.{IsFormed, without_bounds};
 
 use crate::types::Types;
@@ -45,4 +45,11 @@ pub(crate) fn form_of(declared: &Declared) -> Form<'_>
         declared.kind.rank,
         Bounds::Declared(&declared.dimensions),
     )
+}
+
+/// One object.
+pub(crate) fn one_object<'a>() -> Form<'a>
+    ensures { (m : Live) → IsFormed m result (Laid 0 []) }
+{
+    Form::Laid(0, Bounds::Declared(&[]))
 }
