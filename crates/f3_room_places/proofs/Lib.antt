@@ -3,3 +3,5 @@ pub mod Tables
 pub mod Ways
 pub mod Counting
 pub mod Telling
+pub mod Components
+pub mod Reached

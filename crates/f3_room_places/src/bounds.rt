@@ -45,12 +45,12 @@ fn has_told<B: Blocks>(heap: &B, block: BlockId, at: usize, rank: usize, element
 }
 
 /// The same of bounds of an array of a rank.
-pub(crate) fn has_element<B: Blocks>(heap: &B, rank: usize, bounds: Bounds<'_>, element: usize) -> bool
+pub(crate) fn has_element<B: Blocks>(heap: &B, rank: usize, bounds: &Bounds<'_>, element: usize) -> bool
     requires array { 0 < rank }
-    requires bounds { (ss : List m.Span) × AreBounds (B.blocks heap.now) rank bounds ss }
-    ensures { (ss : List m.Span) → AreBounds (B.blocks heap.now) rank bounds.entry ss → result ≡ nat_lt element (count ss) }
+    requires bounds { (ss : List m.Span) × AreBounds (B.blocks heap.now) rank bounds.now ss }
+    ensures { (ss : List m.Span) → AreBounds (B.blocks heap.now) rank bounds.now ss → result ≡ nat_lt element (count ss) }
 {
-    match bounds {
+    match *bounds {
         Bounds::Declared(dimensions) => has_declared(dimensions, element),
         Bounds::Told(block, at) => has_told(heap, block, at, rank, element),
     }

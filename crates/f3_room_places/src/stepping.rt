@@ -24,7 +24,9 @@ fn component<'a, B: Blocks>(heap: &B, place: &Place<'a>, component: usize) -> Op
     let Base::Derived(number) = place.of else {
         return None;
     };
-    let (declared, offset) = component_of(place.types, number, component)?;
+    let Some((declared, offset)) = component_of(place.types, number, component) else {
+        return None;
+    };
     prove!(place.at <= heap.length(place.block));
     Some(Place {
         block: place.block,
@@ -40,10 +42,10 @@ fn element<'a, B: Blocks>(heap: &B, place: &Place<'a>, number: usize) -> Option<
     requires { Stands (B.blocks heap.now) place.now }
     ensures { (f : Found) → IsPlace (B.blocks heap.now) place.now f → IsReached (B.blocks heap.now) result (further f (m.Element number ∷ [])) }
 {
-    let Form::Laid(rank, bounds) = place.form else {
+    let Form::Laid(rank, bounds) = &place.form else {
         return None;
     };
-    if rank == 0 || !has_element(heap, rank, bounds, number) {
+    if *rank == 0 || !has_element(heap, *rank, bounds, number) {
         return None;
     }
     prove!(place.at <= heap.length(place.block));
