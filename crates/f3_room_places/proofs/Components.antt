@@ -133,3 +133,6 @@ pub declared_is : (ts : List Derived) (t k : ℕ) (x : Derived) (c : Component) 
 declared_is ts t k x c a b =
     ap (λ (o : Option Derived). option_map (λ (c : Component). c.declared) (option_and_then (λ (x : Derived). slice_get x.components.items k) o)) a
     ∙ ap (option_map (λ (c : Component). c.declared)) b
+
+pub type_there : (ts : List Derived) (t k : ℕ) (d : Declared) → declared_at ts t k ≡ Some d → t < length ts
+type_there ts t k d e = let is = component_is ts t k d e in slice_get_within ts t is.0 ((is.2).of)

@@ -1,29 +1,32 @@
 -- Parts to which steps lead.
-use Rattle.std.proofs.Common.{◌≡◌, ℕ, zero, suc, ◌+◌, ◌*◌, ◌<◌, ◌≤◌, List, [], ◌∷◌, length, take, refl, sym, ap, subst, ◌∙◌, arith, inl, inr}
-use Rattle.std.specs.Prelude.{Option, None, Some, slice_index_or}
+use Rattle.std.proofs.Common.{◌≡◌, ℕ, zero, suc, ◌+◌, ◌*◌, ◌<◌, ◌≤◌, List, [], ◌∷◌, length, take, refl, sym, ap, subst, ◌∙◌, arith, inl, inr, true}
+use Rattle.std.proofs.lemmas.Bool.{ltb-true}
+use Rattle.std.specs.Prelude.{Option, None, Some, slice_index_or, nat_lt, if◌then◌else◌}
 use Rattle.f3_program.specs.declared.declarations.Base.{Base}
 use Rattle.f3_program.specs.declared.declarations.Base.TheVariants as base
 use Rattle.f3_program.specs.declared.declarations.Component.{Component}
 use Rattle.f3_program.specs.declared.declarations.Declared.{Declared}
 use Rattle.f3_program.specs.declared.declarations.Derived.{Derived}
 use Rattle.f3_heap_laws.specs.Blocks.{Live, IsLive, words_of}
+use Rattle.f3_meaning_whole.specs.Value.{Span, count}
 use Rattle.f3_meaning_whole.specs.Shape.{Shape, Whole, Logical, Record, Parts, parts_in, shape_in, shapes_of}
 use Rattle.f3_meaning_whole.specs.Store as step
 use Rattle.f3_rooms.specs.Held.{Held, parts_of, part_at}
 use Rattle.f3_rooms.specs.Forms as room
 use Rattle.f3_rooms.specs.Forms.{form_of, form_words, words_for, words_for_parts}
 use Rattle.f3_rooms.specs.Places.{Found, in_object, in_component}
-use Rattle.f3_rooms.specs.Sound.{Fact, IsForm, IsObject, AreComponents}
+use Rattle.f3_rooms.specs.Sound.{Fact, Each, IsForm, IsObject, AreComponents}
 use Rattle.f3_rooms.specs.Laws.{IsWithin}
+use Rattle.f3_rooms.proofs.Within.{each_at, room_for}
 use Rattle.f3_room_places.specs.declared.types.Types.{Types}
 use Rattle.f3_room_places.specs.declared.place.Bounds.{Bounds}
 use Rattle.f3_room_places.specs.declared.place.Form as place
 use Rattle.f3_room_places.specs.declared.place.Form.TheVariants.{Laid, Allocatable}
 use Rattle.f3_room_places.specs.declared.place.Place.{Place}
-use Rattle.f3_room_places.specs.Places.{IsFormed, IsPlace, IsReached, HasTables, further, shapes, without_bounds}
+use Rattle.f3_room_places.specs.Places.{AreBounds, IsFormed, IsPlace, IsReached, HasTables, further, shapes, without_bounds}
 use Rattle.f3_room_places.specs.Components.{declared_at, offset_at}
 use Rattle.f3_room_places.proofs.Trees.{trees_before}
-use Rattle.f3_room_places.proofs.Ways.{whole}
+use Rattle.f3_room_places.proofs.Ways.{whole, object_whole}
 use Rattle.f3_room_places.proofs.Components.{IsComponent, component_is, component_found, component_formed, no_component, not_there, type_is, start, start_moved, start_within}
 
 -- the same part, its type and its form by these names
@@ -130,3 +133,83 @@ module _ (m : Live) (p : Place) (f : Found) (is : IsPlace m p f) (bounds : Bound
           within = whole_within m (form_of c.declared) (shape_in ts c.declared.kind.of) c.declared.kind.of f.block (start parts f.at k) (part_at (parts_of f.held) k) there.live ends
           (component_formed ts m x.components.items f.block f.at (parts_of f.held) k c its.is has.1);
         })
+
+module _ (m : Live) (p : Place) (bounds : Bounds) (rank : ℕ) (laid : p.form ≡ Laid rank bounds) (one : rank ≡ 0) (t : ℕ) (of : p.of ≡ base.Derived t) (k : ℕ) where
+  one_laid : p.form ≡ Laid 0 bounds
+  one_laid = laid ∙ ap (λ n. Laid n bounds) one
+
+  pub absent_component : declared_at p.types.derived.now t k ≡ None → (f : Found) → IsPlace m p f → IsReached m None (further f (step.Component k ∷ []))
+  absent_component none f is = no_component_reached m p f is bounds one_laid t of k none
+
+  module _ (d : Declared) (at : ℕ) (there : declared_at p.types.derived.now t k ≡ Some d) (begins : at ≡ offset_at (shape_in (shapes p.types) (base.Derived t)) k) where
+    pub offset_fits : (f : Found) → IsPlace m p f → p.at + at ≤ length (words_of m p.block)
+    offset_fits f is =
+        let found = component_is p.types.derived.now t k d there in
+        subst (λ o. p.at + o ≤ length (words_of m p.block)) (sym begins) (component_fits m p f is bounds one_laid t of k found.0 found.1 found.2)
+
+    pub present_component : (types : Types) (form : place.Form) → HasTables types → shapes types ≡ take t (shapes p.types) → ((n : Live) → IsFormed n form (without_bounds (form_of d)))
+        → (f : Found) → IsPlace m p f
+        → IsReached m (Some (record { block = p.block; at = p.at + at; types = types; of = d.kind.of; form = form })) (further f (step.Component k ∷ []))
+    present_component types form tables before formed f is =
+        let found = component_is p.types.derived.now t k d there in
+        let same : (found.1).declared ≡ d = found.3 in
+        subst (λ (e : Declared). IsReached m (Some (record { block = p.block; at = p.at + at; types = types; of = e.kind.of; form = form })) (further f (step.Component k ∷ []))) same
+        (component_reached m p f is bounds one_laid t of k found.0 found.1 found.2 (p.at + at) types form (ap (λ o. p.at + o) begins) tables before
+        (subst (λ (e : Declared). IsFormed m form (without_bounds (form_of e))) (sym same) (formed m)))
+
+-- ---- elements
+
+-- an array, and its bounds
+record IsArray (m : Live) (rank : ℕ) (bounds : Bounds) (form : room.Form) (r : ℕ) (ss : List Span) : Type 0 where
+  is : form ≡ room.Laid (suc r) ss
+  told : AreBounds m rank bounds ss
+
+array_formed : (m : Live) (rank : ℕ) (bounds : Bounds) → (rank ≡ 0 → ⊥) → (form : room.Form) → IsFormed m (Laid rank bounds) form → (r : ℕ) × (ss : List Span) × IsArray m rank bounds form r ss
+array_formed m rank bounds some (room.Laid zero ss) is = absurd (some is.0)
+array_formed m rank bounds some (room.Laid (suc r) ss) is = (r, ss, record { is = refl; told = subst (λ k. AreBounds m k bounds ss) (sym is.0) is.1 })
+array_formed m rank bounds some (room.Allocatable r) is = absurd is
+
+module _ (m : Live) (p : Place) (rank : ℕ) (bounds : Bounds) (laid : p.form ≡ Laid rank bounds) (some : rank ≡ 0 → ⊥) (k w : ℕ)
+    (there : (ss : List Span) → AreBounds m rank bounds ss → true ≡ nat_lt k (count ss)) (words : w ≡ words_for (shape_in (shapes p.types) p.of)) where
+  pub present_element : (form : place.Form) → ((n : Live) → IsFormed n form (room.Laid 0 [])) → (f : Found) → IsPlace m p f
+      → IsReached m (Some (record { block = p.block; at = p.at + k * w; types = p.types; of = p.of; form = form })) (further f (step.Element k ∷ []))
+  present_element form formed f is =
+      let array = array_formed m rank bounds some f.form (subst (λ form. IsFormed m form f.form) laid is.form) in
+      let r : ℕ = array.0 in
+      let ss : List Span = array.1 in
+      let its : IsArray m rank bounds f.form r ss = array.2 in
+      let n : ℕ = words_for f.shape in
+      let same : f ≡ named f f.shape (room.Laid (suc r) ss) = same_part f f.shape (room.Laid (suc r) ss) refl its.is in
+      let has : IsWithin m (named f f.shape (room.Laid (suc r) ss)) = subst (IsWithin m) same is.within in
+      let lies : f.at + count ss * n ≤ length (words_of m f.block) = has.within in
+      let formed_so : IsForm m (room.Laid (suc r) ss) n (IsObject m f.shape) f.block f.at f.held = has.form in
+      let below = there ss its.told in
+      let lt = ltb-true k (count ss) (sym below) in
+      let few = room_for (count ss) n k lt in
+      let size : w ≡ n = words ∙ ap words_for (sym is.shape) in
+      let q : Place = record { block = p.block; at = p.at + k * w; types = p.types; of = p.of; form = form } in
+      let reaches : further f (step.Element k ∷ []) ≡ Some (whole (room.Laid 0 []) f.shape f.of f.block (f.at + k * n) (part_at (parts_of f.held) k))
+      = ap (λ (g : Found). further g (step.Element k ∷ [])) same
+          ∙ ap (λ t. if t then in_object f.shape f.of f.block (f.at + k * n) (part_at (parts_of f.held) k) [] else None) (sym below)
+          ∙ object_whole f.shape f.of f.block (f.at + k * n) (part_at (parts_of f.held) k) in
+      subst (IsReached m (Some q)) (sym reaches) (record {
+        block = is.block;
+        at = ap (λ o. o + k * n) is.at ∙ ap (λ j. p.at + k * j) (sym size);
+        of = is.of;
+        shape = is.shape;
+        form = formed m;
+        tables = is.tables;
+        within = whole_within m (room.Laid 0 []) f.shape f.of f.block (f.at + k * n) (part_at (parts_of f.held) k) has.live (omega arith)
+        (each_at (count ss) n (IsObject m f.shape) f.block f.at (parts_of f.held) k lt formed_so.1);
+      })
+
+-- ---- further steps
+
+module _ (m : Live) where
+  pub stays : (p : Place) (f : Found) → IsPlace m p f → IsReached m (Some p) (further f [])
+  stays p f is = by f.form refl (is.form)
+    where
+      by : (form : room.Form) → f.form ≡ form → IsFormed m p.form f.form → IsReached m (Some p) (further f [])
+      by (room.Laid zero ss) e formed = ?
+      by (room.Laid (suc rank) ss) e formed = subst (λ (g : Found). IsReached m (Some p) (further g [])) (sym (same_part f f.shape (room.Laid (suc rank) ss) refl e)) (subst (IsPlace m p) (same_part f f.shape (room.Laid (suc rank) ss) refl e) is)
+      by (room.Allocatable rank) e formed = subst (λ (g : Found). IsReached m (Some p) (further g [])) (sym (same_part f f.shape (room.Allocatable rank) refl e)) (subst (IsPlace m p) (same_part f f.shape (room.Allocatable rank) refl e) is)

@@ -2,6 +2,7 @@
 #![tactic(auto)]
 
 pub mod bounds;
+pub mod finding;
 pub mod place;
 mod stepping;
 pub mod types;

@@ -18,9 +18,12 @@ fn component<'a, B: Blocks>(heap: &B, place: &Place<'a>, component: usize) -> Op
     requires { Stands (B.blocks heap.now) place.now }
     ensures { (f : Found) → IsPlace (B.blocks heap.now) place.now f → IsReached (B.blocks heap.now) result (further f (m.Component component ∷ [])) }
 {
-    let Form::Laid(0, _) = place.form else {
+    let Form::Laid(rank, _) = &place.form else {
         return None;
     };
+    if *rank > 0 {
+        return None;
+    }
     let Base::Derived(number) = place.of else {
         return None;
     };
