@@ -26,7 +26,7 @@ use Rattle.f3_room_places.specs.declared.place.Place.{Place}
 use Rattle.f3_room_places.specs.Places.{AreBounds, IsFormed, IsPlace, IsReached, HasTables, further, shapes, without_bounds}
 use Rattle.f3_room_places.specs.Components.{declared_at, offset_at}
 use Rattle.f3_room_places.proofs.Trees.{trees_before}
-use Rattle.f3_room_places.proofs.Ways.{whole, object_whole}
+use Rattle.f3_room_places.proofs.Ways.{whole, object_whole, onward, further_onward}
 use Rattle.f3_room_places.proofs.Components.{IsComponent, component_is, component_found, component_formed, no_component, not_there, type_is, start, start_moved, start_within}
 
 -- the same part, its type and its form by these names
@@ -205,11 +205,40 @@ module _ (m : Live) (p : Place) (rank : ℕ) (bounds : Bounds) (laid : p.form �
 
 -- ---- further steps
 
+none_of : (m : Live) (form : place.Form) (ss : List Span) → IsFormed m form (room.Laid 0 ss) → ss ≡ []
+none_of m (Laid rank bounds) ss is = is.1
+none_of m (Allocatable rank) ss is = absurd is
+
+
 module _ (m : Live) where
   pub stays : (p : Place) (f : Found) → IsPlace m p f → IsReached m (Some p) (further f [])
   stays p f is = by f.form refl (is.form)
     where
       by : (form : room.Form) → f.form ≡ form → IsFormed m p.form f.form → IsReached m (Some p) (further f [])
-      by (room.Laid zero ss) e formed = ?
+      by (room.Laid zero ss) e formed =
+          let bare : room.Laid zero ss ≡ room.Laid 0 [] = ap (room.Laid 0) (none_of m p.form ss (subst (IsFormed m p.form) e formed)) in
+          let same : f ≡ named f f.shape (room.Laid 0 []) = same_part f f.shape (room.Laid 0 []) refl (e ∙ bare) in
+          subst (IsReached m (Some p)) (sym (ap (λ (g : Found). further g []) same ∙ object_whole f.shape f.of f.block f.at f.held)) (subst (IsPlace m p) same is)
       by (room.Laid (suc rank) ss) e formed = subst (λ (g : Found). IsReached m (Some p) (further g [])) (sym (same_part f f.shape (room.Laid (suc rank) ss) refl e)) (subst (IsPlace m p) (same_part f f.shape (room.Laid (suc rank) ss) refl e) is)
       by (room.Allocatable rank) e formed = subst (λ (g : Found). IsReached m (Some p) (further g [])) (sym (same_part f f.shape (room.Allocatable rank) refl e)) (subst (IsPlace m p) (same_part f f.shape (room.Allocatable rank) refl e) is)
+
+  -- what is reached from what a step leads to is reached by that step
+  pub steps_on : (p : Place) (one : step.Step) (way : List step.Step) (next : Place) (o : Option Place) (f : Found) → IsReached m (Some next) (further f (one ∷ []))
+      → ((g : Found) → IsPlace m next g → IsReached m o (further g way)) → IsReached m o (further f (one ∷ way))
+  steps_on p one way next o f reached rest = by (further f (one ∷ [])) refl reached
+    where
+      by : (found : Option Found) → further f (one ∷ []) ≡ found → IsReached m (Some next) found → IsReached m o (further f (one ∷ way))
+      by None e is = absurd is
+      by (Some g) e is = subst (IsReached m o) (sym (further_onward f one way ∙ ap (λ x. onward x way) e)) (rest g is)
+
+  pub steps_none : (one : step.Step) (way : List step.Step) (f : Found) → IsReached m None (further f (one ∷ [])) → IsReached m None (further f (one ∷ way))
+  steps_none one way f reached = by (further f (one ∷ [])) refl reached
+    where
+      by : (found : Option Found) → further f (one ∷ []) ≡ found → IsReached m None found → IsReached m None (further f (one ∷ way))
+      by None e is = none_reached m _ (further_onward f one way ∙ ap (λ x. onward x way) e)
+      by (Some g) e is = absurd is
+
+  -- it stands where it was found
+  pub stands_next : (next : Place) (found : Option Found) → IsReached m (Some next) found → (g : Found) × IsPlace m next g
+  stands_next next None is = absurd is
+  stands_next next (Some g) is = (g, is)

@@ -7,7 +7,7 @@ ghost use Rattle.f3_data.specs.Stores.{steps_of};
 ghost use Rattle.f3_room_places.specs.Places.{HasTables, IsPlace, IsReached, Stands, further, shapes};
 ghost use Rattle.f3_room_places.specs.Starts.{IsRoomOf, starts_from};
 
-use crate::place::{Place, form_of};
+use crate::place::{Place, form_of, same_place};
 use crate::stepping::stepped;
 use crate::types::Types;
 use f3_data::store::Step;
@@ -15,17 +15,17 @@ use f3_heap::{BlockId, Blocks};
 use f3_program::declarations::Declared;
 
 /// A part of a part of a variable, if there is one (ISO/IEC 1539-1:2004, 6.1, 6.2).
-pub fn further<'a, B: Blocks>(heap: &B, place: Place<'a>, steps: &[Step]) -> Option<Place<'a>>
-    requires { Stands (B.blocks heap.now) place }
-    ensures { (f : Found) → IsPlace (B.blocks heap.now) place.entry f → IsReached (B.blocks heap.now) result (further f (steps_of steps.now)) }
+pub fn further<'a, B: Blocks>(heap: &B, place: &Place<'a>, steps: &[Step]) -> Option<Place<'a>>
+    requires { Stands (B.blocks heap.now) place.now }
+    ensures { (f : Found) → IsPlace (B.blocks heap.now) place.now f → IsReached (B.blocks heap.now) result (further f (steps_of steps.now)) }
 {
     let Some((step, rest)) = steps.split_first() else {
-        return Some(place);
+        return Some(same_place(place));
     };
-    let Some(next) = stepped(heap, &place, *step) else {
+    let Some(next) = stepped(heap, place, *step) else {
         return None;
     };
-    further(heap, next, rest)
+    further(heap, &next, rest)
 }
 
 /// A part of the variable of a number, among those that stand one after another from the first word of a block on, each from its start.
@@ -55,5 +55,5 @@ pub fn find<'a, B: Blocks>(
         of: variable.kind.of,
         form: form_of(variable),
     };
-    further(heap, place, steps)
+    further(heap, &place, steps)
 }

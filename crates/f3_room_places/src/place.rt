@@ -53,3 +53,36 @@ pub(crate) fn one_object<'a>() -> Form<'a>
 {
     Form::Laid(0, Bounds::Declared(&[]))
 }
+
+/// The same bounds.
+fn same_bounds<'a>(bounds: &Bounds<'a>) -> Bounds<'a>
+    ensures { result ≡ bounds.now }
+{
+    match *bounds {
+        Bounds::Declared(dimensions) => Bounds::Declared(dimensions),
+        Bounds::Told(block, at) => Bounds::Told(block, at),
+    }
+}
+
+/// The same form.
+fn same_form<'a>(form: &Form<'a>) -> Form<'a>
+    ensures { result ≡ form.now }
+{
+    match form {
+        Form::Laid(rank, bounds) => Form::Laid(*rank, same_bounds(bounds)),
+        Form::Allocatable(rank) => Form::Allocatable(*rank),
+    }
+}
+
+/// The same place.
+pub(crate) fn same_place<'a>(place: &Place<'a>) -> Place<'a>
+    ensures { result ≡ place.now }
+{
+    Place {
+        block: place.block,
+        at: place.at,
+        types: place.types,
+        of: place.of,
+        form: same_form(&place.form),
+    }
+}
