@@ -8,7 +8,7 @@ use Rattle.f3_program.specs.declared.declarations.Component.{Component}
 use Rattle.f3_program.specs.declared.declarations.Declared.{Declared}
 use Rattle.f3_program.specs.declared.declarations.Derived.{Derived}
 use Rattle.f3_heap_laws.specs.Blocks.{Live}
-use Rattle.f3_meaning_whole.specs.Shape.{Shape, Whole, Logical, Record, Parts, nothing, and, parts_in, shape_in, shapes_of}
+use Rattle.f3_meaning_whole.specs.Shape.{Shape, Whole, Record, Parts, parts_in, shape_in, shapes_of}
 use Rattle.f3_meaning_whole.specs.Store.{Step}
 use Rattle.f3_rooms.specs.Held.{Row, first, others, part_at}
 use Rattle.f3_rooms.specs.Forms.{form_of, form_words, words_for, words_for_parts}

@@ -5,3 +5,4 @@ pub mod Counting
 pub mod Telling
 pub mod Components
 pub mod Reached
+pub mod Variables

@@ -1,7 +1,7 @@
 -- Parts to which steps lead.
-use Rattle.std.proofs.Common.{◌≡◌, ℕ, zero, suc, ◌+◌, ◌*◌, ◌<◌, ◌≤◌, List, [], ◌∷◌, length, take, refl, sym, ap, subst, ◌∙◌, arith, inl, inr, true}
+use Rattle.std.proofs.Common.{◌≡◌, ℕ, zero, suc, ◌+◌, ◌*◌, ◌≤◌, List, [], ◌∷◌, length, take, refl, sym, ap, subst, ◌∙◌, arith, inl, inr, true}
 use Rattle.std.proofs.lemmas.Bool.{ltb-true}
-use Rattle.std.specs.Prelude.{Option, None, Some, slice_index_or, nat_lt, if◌then◌else◌}
+use Rattle.std.specs.Prelude.{Option, None, Some, nat_lt, if◌then◌else◌}
 use Rattle.f3_program.specs.declared.declarations.Base.{Base}
 use Rattle.f3_program.specs.declared.declarations.Base.TheVariants as base
 use Rattle.f3_program.specs.declared.declarations.Component.{Component}
@@ -9,13 +9,13 @@ use Rattle.f3_program.specs.declared.declarations.Declared.{Declared}
 use Rattle.f3_program.specs.declared.declarations.Derived.{Derived}
 use Rattle.f3_heap_laws.specs.Blocks.{Live, IsLive, words_of}
 use Rattle.f3_meaning_whole.specs.Value.{Span, count}
-use Rattle.f3_meaning_whole.specs.Shape.{Shape, Whole, Logical, Record, Parts, parts_in, shape_in, shapes_of}
+use Rattle.f3_meaning_whole.specs.Shape.{Shape, Whole, Record, Parts, parts_in, shape_in, shapes_of}
 use Rattle.f3_meaning_whole.specs.Store as step
 use Rattle.f3_rooms.specs.Held.{Held, parts_of, part_at}
 use Rattle.f3_rooms.specs.Forms as room
 use Rattle.f3_rooms.specs.Forms.{form_of, form_words, words_for, words_for_parts}
-use Rattle.f3_rooms.specs.Places.{Found, in_object, in_component}
-use Rattle.f3_rooms.specs.Sound.{Fact, Each, IsForm, IsObject, AreComponents}
+use Rattle.f3_rooms.specs.Places.{Found, in_object}
+use Rattle.f3_rooms.specs.Sound.{Fact, IsForm, IsObject}
 use Rattle.f3_rooms.specs.Laws.{IsWithin}
 use Rattle.f3_rooms.proofs.Within.{each_at, room_for}
 use Rattle.f3_room_places.specs.declared.types.Types.{Types}
@@ -223,9 +223,9 @@ module _ (m : Live) where
       by (room.Allocatable rank) e formed = subst (λ (g : Found). IsReached m (Some p) (further g [])) (sym (same_part f f.shape (room.Allocatable rank) refl e)) (subst (IsPlace m p) (same_part f f.shape (room.Allocatable rank) refl e) is)
 
   -- what is reached from what a step leads to is reached by that step
-  pub steps_on : (p : Place) (one : step.Step) (way : List step.Step) (next : Place) (o : Option Place) (f : Found) → IsReached m (Some next) (further f (one ∷ []))
+  pub steps_on : (one : step.Step) (way : List step.Step) (next : Place) (o : Option Place) (f : Found) → IsReached m (Some next) (further f (one ∷ []))
       → ((g : Found) → IsPlace m next g → IsReached m o (further g way)) → IsReached m o (further f (one ∷ way))
-  steps_on p one way next o f reached rest = by (further f (one ∷ [])) refl reached
+  steps_on one way next o f reached rest = by (further f (one ∷ [])) refl reached
     where
       by : (found : Option Found) → further f (one ∷ []) ≡ found → IsReached m (Some next) found → IsReached m o (further f (one ∷ way))
       by None e is = absurd is

@@ -1,7 +1,6 @@
 -- Bounds that words tell.
-use Rattle.std.proofs.Common.{◌≡◌, ◌≢◌, ℕ, zero, suc, ◌+◌, ◌-◌, ◌*◌, ◌<◌, ◌≤◌, ◌/◌, pos, Bool, true, false, nat_lt, List, [], ◌∷◌, length, refl, sym, ap, subst, ◌∙◌, arith}
-use Rattle.std.specs.Prelude.{slice_index_or}
-use Rattle.f3_heap_laws.specs.Blocks.{Live, IsLive, words_of}
+use Rattle.std.proofs.Common.{◌≡◌, ◌≢◌, ℕ, ◌+◌, ◌-◌, ◌*◌, ◌≤◌, ◌/◌, pos, Bool, false, nat_lt, List, [], ◌∷◌, length, sym, ap, ◌∙◌, arith}
+use Rattle.f3_heap_laws.specs.Blocks.{Live, words_of}
 use Rattle.f3_meaning_whole.specs.Value.{Span, count}
 use Rattle.f3_rooms.specs.Values.{word}
 use Rattle.f3_rooms.specs.Sound.{TellBounds}

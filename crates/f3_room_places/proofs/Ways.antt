@@ -1,5 +1,5 @@
 -- Parts of parts.
-use Rattle.std.proofs.Common.{◌≡◌, ℕ, zero, suc, ◌+◌, ◌*◌, ◌<◌, ◌≤◌, Bool, true, false, List, [], ◌∷◌, length, refl, sym, ap, subst, ◌∙◌, arith}
+use Rattle.std.proofs.Common.{◌≡◌, ℕ, zero, suc, ◌+◌, ◌*◌, Bool, true, false, List, [], ◌∷◌, refl, sym, ap, ◌∙◌}
 use Rattle.std.specs.Prelude.{Option, None, Some, nat_lt, if◌then◌else◌}
 use Rattle.f3_program.specs.declared.declarations.Base.{Base}
 use Rattle.f3_meaning_whole.specs.Value.{Span, count}
@@ -7,7 +7,7 @@ use Rattle.f3_meaning_whole.specs.Shape.{Shape, Whole, Logical, Record, Parts, n
 use Rattle.f3_meaning_whole.specs.Store.{Step, Component, Element, Contents}
 use Rattle.f3_rooms.specs.Held.{Held, Row, Empty, Holds, Parts as Divided, parts_of, first, others, part_at}
 use Rattle.f3_rooms.specs.Forms.{Form, Laid, Allocatable, form_of, form_words, words_for}
-use Rattle.f3_rooms.specs.Places.{Found, Onward, in_laid, in_form, in_object, in_component}
+use Rattle.f3_rooms.specs.Places.{Found, in_laid, in_form, in_object, in_component}
 use Rattle.f3_room_places.specs.Places.{without_bounds, further}
 
 -- an object that is laid out so, as a part of itself
