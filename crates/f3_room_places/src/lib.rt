@@ -4,5 +4,7 @@
 pub mod bounds;
 pub mod finding;
 pub mod place;
+pub mod reading;
 mod stepping;
 pub mod types;
+pub mod writing;
