@@ -6,3 +6,4 @@ pub mod Telling
 pub mod Components
 pub mod Reached
 pub mod Variables
+pub mod Put

@@ -61,7 +61,7 @@ pub(crate) fn has_element<B: Blocks>(heap: &B, rank: usize, bounds: &Bounds<'_>,
 
 /// How many dimensions an array of a rank has, and 0 of one object.
 pub(crate) fn rank_of(rank: usize, bounds: &Bounds<'_>) -> usize
-    ensures { (m : Live) (ss : List m.Span) → AreBounds m rank bounds.now ss → result ≡ length ss }
+    ensures { (live : Live) (ss : List m.Span) → AreBounds live rank bounds.now ss → result ≡ length ss }
 {
     if rank == 0 {
         return 0;
