@@ -93,6 +93,7 @@ component_is ts t k d e = by (slice_get ts t) refl e
         → (x : Derived) × (c : Component) × IsComponent ts t k x c × (c.declared ≡ d)
     within x a None b e = absurd (cc)
     within x a (Some c) b e = (x, c, record { of = a; is = b }, some_is _ _ e)
+
     by : (o : Option Derived) → slice_get ts t ≡ o → option_map (λ (c : Component). c.declared) (option_and_then (λ (x : Derived). slice_get x.components.items k) o) ≡ Some d
         → (x : Derived) × (c : Component) × IsComponent ts t k x c × (c.declared ≡ d)
     by None a e = absurd (cc)
@@ -109,6 +110,7 @@ not_there ts t k e = by (slice_get ts t) refl e
         → (shape_in (shapes_of ts) (base.Derived t) ≡ Whole) ⊎ ((x : Derived) × (slice_get ts t ≡ Some x) × (slice_get x.components.items k ≡ None))
     within x a None b e = inr (x, a, b)
     within x a (Some c) b e = absurd (cc)
+
     by : (o : Option Derived) → slice_get ts t ≡ o → option_map (λ (c : Component). c.declared) (option_and_then (λ (x : Derived). slice_get x.components.items k) o) ≡ None
         → (shape_in (shapes_of ts) (base.Derived t) ≡ Whole) ⊎ ((x : Derived) × (slice_get ts t ≡ Some x) × (slice_get x.components.items k ≡ None))
     by None a e = inl (past_types ts t (none_past ts t a))

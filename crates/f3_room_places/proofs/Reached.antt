@@ -77,10 +77,10 @@ module _ (m : Live) (p : Place) (f : Found) (is : IsPlace m p f) (bounds : Bound
   no_component_reached k none = elim (not_there p.types.derived.now t k none) [
     | inl past ↦ none_reached m _ (ap (λ (g : Found). further g (step.Component k ∷ [])) (same_part f Whole (room.Laid 0 []) (of_type ∙ past) one_object))
     | inr lacks ↦
-      let ts : List Shape = shapes_of (take t p.types.derived.now) in
-      let s : Shape = Record t (parts_in ts (lacks.0).components.items) in
-      none_reached m _ (ap (λ (g : Found). further g (step.Component k ∷ [])) (same_part f s (room.Laid 0 []) (of_type ∙ type_is p.types.derived.now t lacks.0 lacks.1) one_object)
-      ∙ no_component ts (lacks.0).components.items f.block f.at (parts_of f.held) k [] lacks.2)
+        let ts : List Shape = shapes_of (take t p.types.derived.now) in
+        let s : Shape = Record t (parts_in ts (lacks.0).components.items) in
+        none_reached m _ (ap (λ (g : Found). further g (step.Component k ∷ [])) (same_part f s (room.Laid 0 []) (of_type ∙ type_is p.types.derived.now t lacks.0 lacks.1) one_object)
+        ∙ no_component ts (lacks.0).components.items f.block f.at (parts_of f.held) k [] lacks.2)
   ]
 
   module _ (k : ℕ) (x : Derived) (c : Component) (its : IsComponent p.types.derived.now t k x c) where
@@ -131,7 +131,7 @@ module _ (m : Live) (p : Place) (f : Found) (is : IsPlace m p f) (bounds : Bound
           form = formed;
           tables = tables;
           within = whole_within m (form_of c.declared) (shape_in ts c.declared.kind.of) c.declared.kind.of f.block (start parts f.at k) (part_at (parts_of f.held) k) there.live ends
-          (component_formed ts m x.components.items f.block f.at (parts_of f.held) k c its.is has.1);
+              (component_formed ts m x.components.items f.block f.at (parts_of f.held) k c its.is has.1);
         })
 
 module _ (m : Live) (p : Place) (bounds : Bounds) (rank : ℕ) (laid : p.form ≡ Laid rank bounds) (one : rank ≡ 0) (t : ℕ) (of : p.of ≡ base.Derived t) (k : ℕ) where
@@ -190,8 +190,8 @@ module _ (m : Live) (p : Place) (rank : ℕ) (bounds : Bounds) (laid : p.form �
       let q : Place = record { block = p.block; at = p.at + k * w; types = p.types; of = p.of; form = form } in
       let reaches : further f (step.Element k ∷ []) ≡ Some (whole (room.Laid 0 []) f.shape f.of f.block (f.at + k * n) (part_at (parts_of f.held) k))
       = ap (λ (g : Found). further g (step.Element k ∷ [])) same
-          ∙ ap (λ t. if t then in_object f.shape f.of f.block (f.at + k * n) (part_at (parts_of f.held) k) [] else None) (sym below)
-          ∙ object_whole f.shape f.of f.block (f.at + k * n) (part_at (parts_of f.held) k) in
+      ∙ ap (λ t. if t then in_object f.shape f.of f.block (f.at + k * n) (part_at (parts_of f.held) k) [] else None) (sym below)
+      ∙ object_whole f.shape f.of f.block (f.at + k * n) (part_at (parts_of f.held) k) in
       subst (IsReached m (Some q)) (sym reaches) (record {
         block = is.block;
         at = ap (λ o. o + k * n) is.at ∙ ap (λ j. p.at + k * j) (sym size);
@@ -200,7 +200,7 @@ module _ (m : Live) (p : Place) (rank : ℕ) (bounds : Bounds) (laid : p.form �
         form = formed m;
         tables = is.tables;
         within = whole_within m (room.Laid 0 []) f.shape f.of f.block (f.at + k * n) (part_at (parts_of f.held) k) has.live (omega arith)
-        (each_at (count ss) n (IsObject m f.shape) f.block f.at (parts_of f.held) k lt formed_so.1);
+            (each_at (count ss) n (IsObject m f.shape) f.block f.at (parts_of f.held) k lt formed_so.1);
       })
 
 -- ---- further steps
@@ -208,7 +208,6 @@ module _ (m : Live) (p : Place) (rank : ℕ) (bounds : Bounds) (laid : p.form �
 none_of : (m : Live) (form : place.Form) (ss : List Span) → IsFormed m form (room.Laid 0 ss) → ss ≡ []
 none_of m (Laid rank bounds) ss is = is.1
 none_of m (Allocatable rank) ss is = absurd is
-
 
 module _ (m : Live) where
   pub stays : (p : Place) (f : Found) → IsPlace m p f → IsReached m (Some p) (further f [])

@@ -85,7 +85,7 @@ module _ (m : Live) (types : Types) (block : ℕ) (ds : List Declared) (i : ℕ)
           form = formed m;
           tables = tables;
           within = whole_within m (form_of d) (own (shapes types) d) d.kind.of r.block (start (shapes types) r.declared 0 i) (part_at r.held i) stands.live (omega arith)
-          (variable_formed (shapes types) m r.declared r.block 0 r.held i d its stands.variables);
+              (variable_formed (shapes types) m r.declared r.block 0 r.held i d its stands.variables);
         }
 
     pub some_stands : (r : Room) × IsRoomOf (shapes types) m block ds r → Stands m variable_place

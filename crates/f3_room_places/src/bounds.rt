@@ -48,7 +48,12 @@ fn has_told<B: Blocks>(heap: &B, block: BlockId, at: usize, rank: usize, element
 }
 
 /// The same of bounds of an array of a rank.
-pub(crate) fn has_element<B: Blocks>(heap: &B, rank: usize, bounds: &Bounds<'_>, element: usize) -> bool
+pub(crate) fn has_element<B: Blocks>(
+    heap: &B,
+    rank: usize,
+    bounds: &Bounds<'_>,
+    element: usize,
+) -> bool
     requires array { 0 < rank }
     requires bounds { (ss : List m.Span) × AreBounds (B.blocks heap.now) rank bounds.now ss }
     ensures { (ss : List m.Span) → AreBounds (B.blocks heap.now) rank bounds.now ss → result ≡ nat_lt element (count ss) }
@@ -86,7 +91,13 @@ fn declared_span(dimensions: &[Dimension], dimension: usize) -> Option<Span>
 }
 
 /// A dimension that words tell.
-fn told_span<B: Blocks>(heap: &B, block: BlockId, at: usize, rank: usize, dimension: usize) -> Option<Span>
+fn told_span<B: Blocks>(
+    heap: &B,
+    block: BlockId,
+    at: usize,
+    rank: usize,
+    dimension: usize,
+) -> Option<Span>
     requires { (ss : List m.Span) × AreTold (B.blocks heap.now) block at rank ss }
     ensures { (ss : List m.Span) → AreTold (B.blocks heap.now) block at rank ss → option_map span_of result ≡ slice_get ss dimension }
 {
@@ -101,7 +112,12 @@ fn told_span<B: Blocks>(heap: &B, block: BlockId, at: usize, rank: usize, dimens
 }
 
 /// The bounds in a dimension, counted from 0, of an array of a rank, if it has so many.
-pub(crate) fn span_of<B: Blocks>(heap: &B, rank: usize, bounds: &Bounds<'_>, dimension: usize) -> Option<Span>
+pub(crate) fn span_of<B: Blocks>(
+    heap: &B,
+    rank: usize,
+    bounds: &Bounds<'_>,
+    dimension: usize,
+) -> Option<Span>
     requires { (ss : List m.Span) × AreBounds (B.blocks heap.now) rank bounds.now ss }
     ensures { (ss : List m.Span) → AreBounds (B.blocks heap.now) rank bounds.now ss → option_map span_of result ≡ slice_get ss dimension }
 {

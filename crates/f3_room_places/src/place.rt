@@ -41,10 +41,7 @@ pub(crate) fn form_of(declared: &Declared) -> Form<'_>
     if declared.kind.is_allocatable {
         return Form::Allocatable(declared.kind.rank);
     }
-    Form::Laid(
-        declared.kind.rank,
-        Bounds::Declared(&declared.dimensions),
-    )
+    Form::Laid(declared.kind.rank, Bounds::Declared(&declared.dimensions))
 }
 
 /// One object.

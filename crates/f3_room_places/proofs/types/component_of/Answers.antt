@@ -16,7 +16,7 @@ index-requires-2 c =
     let y = get_or c.args.types.tables.now c.args.number c.index-types-number-2.result in
     let each : length y.offsets.items ≡ length x.components.items
     = offsets_each ts c.args.number c.args.component x y (slice_get-get_or ts c.args.number c.index-types-number.result (omega arith))
-        (is_table ts c.args.types.tables.now c.requires c.args.number c.index-types-number-2.result (omega arith)) in
+    (is_table ts c.args.types.tables.now c.requires c.args.number c.index-types-number-2.result (omega arith)) in
     let shorter : c.args.component < length x.components.items = omega (arith, c.len.ensures) in
     let shorter' : c.args.component < length y.offsets.items = omega arith in
     omega arith
@@ -32,8 +32,7 @@ returns c =
     let table = is_table ts c.args.types.tables.now c.requires c.args.number c.index-types-number-2.result (omega arith) in
     let each : length y.offsets.items ≡ length x.components.items = offsets_each ts c.args.number k x y at table in
     let shorter : k < length x.components.items = omega (arith, c.len.ensures) in
-    let as_short : k < length y.offsets.items = omega arith in
-    (
+    let as_short : k < length y.offsets.items = omega arith in (
       declared_is ts c.args.number k x c.index.result.now at (slice_get_read x.components.items (length x.components.items) k c.index.result.now refl shorter c.index.ensures),
       get_or_read y.offsets.items k c.index-2.result.now as_short c.index-2.ensures 0 ∙ offset_is ts c.args.number k x y at table,
     )
