@@ -1,6 +1,6 @@
 //! Bounds of arrays.
 
-ghost use Rattle.std.specs.Prelude.{◌≡◌, ◌<◌, ◌+◌, ℕ, pos, List, length, nat_lt, MatchOption, slice_index_or, slice_get};
+ghost use Rattle.std.specs.Prelude.{◌≡◌, ◌<◌, ◌+◌, ℕ, pos, List, length, nat_lt, slice_index_or, slice_get};
 ghost use Rattle.std.specs.Option.{option_map};
 ghost use Rattle.f3_heap_laws.specs.Blocks.{Live, IsLive, words_of};
 ghost use Rattle.f3_data.specs.Values.{span_of};

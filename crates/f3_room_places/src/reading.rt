@@ -1,6 +1,6 @@
 //! What stands at a place.
 
-ghost use Rattle.std.specs.Prelude.{◌≡◌, ℕ, length, slice_get};
+ghost use Rattle.std.specs.Prelude.{◌≡◌, length, slice_get};
 ghost use Rattle.std.specs.Option.{option_map};
 ghost use Rattle.f3_heap_laws.specs.Blocks.{Live};
 ghost use Rattle.f3_meaning_whole.specs.Value.{is_allocated, spans_of};

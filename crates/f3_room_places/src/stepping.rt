@@ -1,6 +1,6 @@
 //! One step from a part of a variable to a part of that.
 
-ghost use Rattle.std.specs.Prelude.{◌∷◌, [], ◌≤◌, length};
+ghost use Rattle.std.specs.Prelude.{◌∷◌, []};
 ghost use Rattle.f3_rooms.specs.Places.{Found};
 ghost use Rattle.f3_meaning_whole.specs.Store as m;
 ghost use Rattle.f3_data.specs.Stores.{step_of};
