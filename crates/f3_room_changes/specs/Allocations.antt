@@ -29,11 +29,11 @@ pub record Gets (ts : List Shape) (m n : Live) (x : Rooms) (r : Root) (way : Lis
   pub found : found ts (rooms_with x r way u) r way ≡ Some (with_held_in f u)
 
 -- an allocatable that holds nothing, and how many words an object of its type with these bounds has
-pub record IsVacant (ts : List Shape) (m : Live) (x : Rooms) (r : Root) (way : List Step) (f : Found) (b o : ℕ) (ss : List Span) (words : ℕ) : Type 0 where
+pub record IsVacant (ts : List Shape) (m : Live) (x : Rooms) (r : Root) (way : List Step) (f : Found) (b o : ℕ) (ss : List Span) (n : ℕ) : Type 0 where
   pub here : IsAt ts m x r way f b o
   pub form : f.form ≡ Allocatable (length ss)
   pub held : f.held ≡ Empty
-  pub words : words ≡ laid_words (length ss) ss (words_for f.shape)
+  pub words : n ≡ laid_words (length ss) ss (words_for f.shape)
 
 -- such an allocatable has got an object of zeros in a new block, whose name is an answer that the heap's rule allows (6.3.1)
 pub record Allocates (ts : List Shape) (m n : Live) (x : Rooms) (r : Root) (way : List Step) (f : Found) (ss : List Span) (A : Answer → Type 0) : Type 0 where
