@@ -26,6 +26,7 @@ allocated ts m n x r way f b o ss k v A c fresh named allowed is =
       block = c;
       fresh = fresh;
       allowed = allowed;
+      is = all;
       gets = record {
         becomes = subst (λ (n : Live). Becomes ts m n x (rooms_with x r way (Holds c ss Empty)) r way (Allocated (blank (length ss) ss f.shape))) (sym all) done;
         found = part_found ts x r way f (Holds c ss Empty) v.here.found;

@@ -6,7 +6,7 @@ use Rattle.std.proofs.lemmas.List.{drop_more, drop_all}
 use Rattle.f3_heap_laws.specs.Blocks.{Live, IsLive, words_of}
 use Rattle.f3_meaning_whole.specs.Exec.{too_many}
 use Rattle.f3_data.specs.declared.value.Span.{Span}
-use Rattle.f3_data.specs.Values.{span_of, spans_of}
+use Rattle.f3_data.specs.Values.{spans_of}
 use Rattle.f3_rooms.specs.Places.{with_word}
 use Rattle.f3_rooms.specs.Laws.{with_bounds}
 use Rattle.f3_rooms.proofs.Words.{put_live, put_long}

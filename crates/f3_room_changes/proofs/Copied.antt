@@ -1,7 +1,7 @@
 -- Parts that are cleared, and copies of parts.
-use Rattle.std.proofs.Common.{◌≡◌, ◌≢◌, ℕ, ◌+◌, ◌<◌, ◌≤◌, pos, List, [], replicate, refl, sym, ap, subst, ◌∙◌, arith}
+use Rattle.std.proofs.Common.{◌≡◌, ◌≢◌, ℕ, pos, List, [], replicate, refl, sym, ap, subst, ◌∙◌, arith}
 use Rattle.f3_heap_laws.specs.Blocks.{Live, words_of, with_words}
-use Rattle.f3_heap_laws.specs.Answers.{Answer, Take}
+use Rattle.f3_heap_laws.specs.Answers.{Take}
 use Rattle.f3_heap_laws.proofs.Laws.{get-insert_other, live-insert_same, words-insert_same, pins-insert_same}
 use Rattle.f3_meaning_whole.specs.Value.{Value}
 use Rattle.f3_meaning_whole.specs.Shape.{Shape}
@@ -22,7 +22,7 @@ use Rattle.f3_room_objects.proofs.Bounds.{bounds_bare}
 use Rattle.f3_room_objects.proofs.Growing.{trees_have_their_blocks}
 use Rattle.f3_room_objects.proofs.Putting.{tree_put, copies_are_put, parts_are_ready}
 use Rattle.f3_room_objects.proofs.Values.{read_part}
-use Rattle.f3_room_changes.specs.Allocations.{IsAt, IsLaid, IsCopyable}
+use Rattle.f3_room_changes.specs.Allocations.{IsLaid, IsCopyable}
 use Rattle.f3_room_changes.proofs.Places.{moved_to, moved_from, at_within}
 
 abbrev Zeroed : Live → Live → Layout → ℕ → ℕ → Type 0
@@ -48,7 +48,7 @@ module _ (ts : List Shape) (m : Live) (x : Rooms) (q r : Root) (other way : List
   pub ready : Ready m b o c i l (tree_at m g) (tree_at m f)
   ready =
       let own = parts_are_ready ts m x k.target.sound r q way other f g k.target.found k.source.here.found k.form k.shape elsewhere
-          (ap (λ j. times j (blocks_in g.held)) k.target.block ∙ k.beneath) k.bare in
+      (ap (λ j. times j (blocks_in g.held)) k.target.block ∙ k.beneath) k.bare in
       moved_to (λ b o. Ready m b o c i l (tree_at m g) (tree_at m f)) g b o k.source.here.block k.source.here.word
       (moved_to (λ c i. Ready m g.block g.at c i l (tree_at m g) (tree_at m f)) f c i k.target.block k.target.word
       (subst (λ l. Ready m g.block g.at f.block f.at l (tree_at m g) (tree_at m f)) like own))
@@ -77,7 +77,9 @@ module _ (ts : List Shape) (m : Live) (x : Rooms) (q r : Root) (other way : List
 
     pub emptied : Empties m n c i l → (v : Value) × Puts ts m n x r way f v
     emptied e =
-        let v : Value = read_part f.form f.shape (value e.rest) in
-        (v, tree_put ts m n x k.target.sound r way f k.target.found e.rest (subst (λ l. Fits l e.rest) (sym like) e.fits) (bounds_bare e.rest e.bare)
-        (λ q. let z = e.bare q in omega arith)
-        (bare_written e.rest e.bare (moved_from (λ c i. n ≡ with_words m c (with_words_at (words_of m c) i (words e.rest))) f c i k.target.block k.target.word e.is)) v refl)
+        let v : Value = read_part f.form f.shape (value e.rest) in (
+          v,
+          tree_put ts m n x k.target.sound r way f k.target.found e.rest (subst (λ l. Fits l e.rest) (sym like) e.fits) (bounds_bare e.rest e.bare)
+              (λ q. let z = e.bare q in omega arith)
+              (bare_written e.rest e.bare (moved_from (λ c i. n ≡ with_words m c (with_words_at (words_of m c) i (words e.rest))) f c i k.target.block k.target.word e.is)) v refl,
+        )

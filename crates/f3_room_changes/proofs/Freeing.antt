@@ -1,8 +1,7 @@
 -- Parts whose blocks were given back.
-use Rattle.std.proofs.Common.{◌≡◌, ℕ, ◌+◌, ◌<◌, Bool, true, List, refl, sym, ap, subst, ◌∙◌, arith}
-use Rattle.std.specs.Prelude.{Some}
+use Rattle.std.proofs.Common.{◌≡◌, ℕ, true, List, refl, sym, ap, subst, ◌∙◌, arith}
 use Rattle.f3_heap_laws.specs.Blocks.{Live, pins_of}
-use Rattle.f3_meaning_whole.specs.Value.{Value, Unallocated, cleared}
+use Rattle.f3_meaning_whole.specs.Value.{Unallocated, cleared}
 use Rattle.f3_meaning_whole.specs.Shape.{Shape}
 use Rattle.f3_meaning_whole.specs.Store.{Root, Step, get, put}
 use Rattle.f3_desc.specs.Shape.{Shape as Layout}

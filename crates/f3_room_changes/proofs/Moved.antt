@@ -1,15 +1,15 @@
 -- What allocatables hold, moved to others.
-use Rattle.std.proofs.Common.{◌≡◌, ◌≢◌, ◌⊎◌, inl, inr, ℕ, ◌+◌, ◌*◌, ◌<◌, ◌≤◌, pos, List, length, refl, sym, ap, subst, ◌∙◌, arith}
-use Rattle.std.specs.Prelude.{Option, None, Some}
-use Rattle.f3_heap_laws.specs.Blocks.{Live, words_of}
+use Rattle.std.proofs.Common.{◌≡◌, ◌⊎◌, inl, inr, ℕ, ◌+◌, ◌*◌, ◌<◌, ◌≤◌, pos, List, refl, sym, ap, subst, ◌∙◌, arith}
+use Rattle.std.specs.Prelude.{None, Some}
+use Rattle.f3_heap_laws.specs.Blocks.{Live}
 use Rattle.f3_meaning_whole.specs.Value.{Unallocated}
 use Rattle.f3_meaning_whole.specs.Shape.{Shape}
 use Rattle.f3_meaning_whole.specs.Store.{Root, Step, get, put}
-use Rattle.f3_desc.specs.Shape.{Shape as Layout, Holder}
-use Rattle.f3_objects.specs.Tree.{Tree, first_block, times as times_beneath}
+use Rattle.f3_desc.specs.Shape.{Holder}
+use Rattle.f3_objects.specs.Tree.{first_block, times as times_beneath}
 use Rattle.f3_objects.specs.Holds.{Holds as HoldsTree, Moves}
 use Rattle.f3_rooms.specs.Held.{Held, Empty, Holds, blocks_in, times}
-use Rattle.f3_rooms.specs.Forms.{Form, Allocatable, form_words, words_for}
+use Rattle.f3_rooms.specs.Forms.{Form, words_for}
 use Rattle.f3_rooms.specs.Values.{word}
 use Rattle.f3_rooms.specs.Rooms.{Rooms, store_of, blocks_of}
 use Rattle.f3_rooms.specs.Places.{Found, with_word, rooms_with}
@@ -20,7 +20,6 @@ use Rattle.f3_rooms.proofs.Living.{all_live}
 use Rattle.f3_rooms.proofs.Within.{store_owns, part_lies}
 use Rattle.f3_rooms.proofs.Words.{put_long, put_apart}
 use Rattle.f3_room_objects.specs.Trees.{formed_as, layout_for, layout_of, object_tree, formed_tree, tree_at}
-use Rattle.f3_room_objects.specs.Laws.{IsApart}
 use Rattle.f3_room_objects.proofs.Growing.{parts_hold_trees, trees_have_their_blocks}
 use Rattle.f3_room_objects.proofs.Moving.{moves_are_moves}
 use Rattle.f3_room_changes.specs.Allocations.{IsMovable, IsMoved}
@@ -109,7 +108,7 @@ module _ (ts : List Shape) (m : Live) (x : Rooms) (r q : Root) (way other : List
   pub moved : (n : Live) → Moves m n b o c i rank (layout_for f.shape) (tree_at m f) → IsMoved ts m n x r q way other f g
   moved n moves =
       let own = moved_from (λ b o. Moves m n b o g.block g.at rank (layout_for f.shape) (tree_at m f)) f b o k.here.block k.here.word
-          (moved_from (λ c i. Moves m n b o c i rank (layout_for f.shape) (tree_at m f)) g c i k.block k.word moves) in
+      (moved_from (λ c i. Moves m n b o c i rank (layout_for f.shape) (tree_at m f)) g c i k.block k.word moves) in
       let done = moves_are_moves ts m n x k.here.sound r q way other f g k.here.found rank k.form k.name k.spans k.contents k.held k.there k.same_form k.vacant k.same_shape aside own in
       record {
         store = subst (λ h. store_of ts n (rooms_with y q other h) ≡ put (put (store_of ts m x) (path_at r way) Unallocated) (path_at q other) (get (store_of ts m x) (path_at r way))) (sym k.held) done.0;

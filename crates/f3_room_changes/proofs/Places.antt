@@ -1,18 +1,16 @@
 -- Parts at words of blocks.
-use Rattle.std.proofs.Common.{◌≡◌, ℕ, ◌+◌, ◌*◌, ◌<◌, ◌≤◌, List, length, refl, sym, ap, subst, ◌∙◌, arith}
-use Rattle.std.specs.Prelude.{◌↔◌, Some, Result, Ok, Err, OnOk, OnErr}
+use Rattle.std.proofs.Common.{◌≡◌, ℕ, ◌+◌, ◌*◌, ◌<◌, ◌≤◌, List, length, sym, subst, arith}
+use Rattle.std.specs.Prelude.{◌↔◌, Result, Ok, Err, OnOk, OnErr}
 use Rattle.f3_heap_laws.specs.Blocks.{Live, IsLive, words_of, pins_of}
 use Rattle.f3_meaning_whole.specs.Shape.{Shape}
 use Rattle.f3_meaning_whole.specs.Store.{Root, Step}
 use Rattle.f3_desc.specs.Shape.{Shape as Layout, width}
-use Rattle.f3_objects.specs.Tree.{Tree, times as times_beneath}
-use Rattle.f3_objects.specs.Holds.{Holds as HoldsTree, Frees, Replaces as TreeReplaces, NonePinned}
+use Rattle.f3_objects.specs.Holds.{Holds as HoldsTree, NonePinned}
 use Rattle.f3_objects.proofs.Trees.{size-fits}
 use Rattle.f3_rooms.specs.Held.{blocks_in, times}
 use Rattle.f3_rooms.specs.Forms.{Form, Allocatable, form_words, words_for}
 use Rattle.f3_rooms.specs.Rooms.{Rooms}
-use Rattle.f3_rooms.specs.Places.{Found, found}
-use Rattle.f3_rooms.specs.Sound.{IsSound}
+use Rattle.f3_rooms.specs.Places.{Found}
 use Rattle.f3_rooms.specs.Laws.{IsWithin}
 use Rattle.f3_rooms.proofs.Within.{part_lies}
 use Rattle.f3_room_objects.specs.Trees.{layout_of, tree_at}

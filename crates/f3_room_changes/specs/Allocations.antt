@@ -1,7 +1,7 @@
 -- Parts of variables that a machine changes, in blocks of a heap (ISO/IEC 1539-1:2004, 6.3).
 use Rattle.std.specs.Prelude.{◌≡◌, ◌≢◌, ◌+◌, ◌*◌, ◌≤◌, ◌⊎◌, ℕ, List, length, None, Some}
 use Rattle.std.specs.FinMap.{get as find}
-use Rattle.f3_heap_laws.specs.Blocks.{Live}
+use Rattle.f3_heap_laws.specs.Blocks.{Live, with_taken}
 use Rattle.f3_heap_laws.specs.Answers.{Answer, Taken}
 use Rattle.f3_meaning_whole.specs.Value.{Span, Value, Unallocated, Allocated}
 use Rattle.f3_meaning_whole.specs.Shape.{Shape}
@@ -40,6 +40,7 @@ pub record Allocates (ts : List Shape) (m n : Live) (x : Rooms) (r : Root) (way 
   pub block : ℕ
   pub fresh : find m block ≡ None
   pub allowed : A (Taken block)
+  pub is : n ≡ with_holder (with_taken m block (laid_words (length ss) ss (words_for f.shape))) f.block f.at block ss
   pub gets : Gets ts m n x r way f (Holds block ss Empty) (Allocated (blank (length ss) ss f.shape))
 
 -- a part of a variable of a sound store, laid out so

@@ -1,12 +1,14 @@
 //! Giving back what allocatables hold.
 
-ghost use Rattle.std.specs.Prelude.{◌≡◌, ◌↔◌, ◌<◌, ℕ, List, IsOk, OnOk, is_ok};
+ghost use Rattle.std.specs.Prelude.{◌≡◌, ◌↔◌, ◌<◌, ◌+◌, ℕ, List, IsOk, OnOk, is_ok};
 ghost use Rattle.f3_heap_laws.specs.Blocks.{pins_of};
+ghost use Rattle.f3_heap_laws.specs.Account.{used_by};
 ghost use Rattle.f3_meaning_whole.specs.Value.{Unallocated, cleared};
 ghost use Rattle.f3_meaning_whole.specs.Shape.{Shape};
 ghost use Rattle.f3_meaning_whole.specs.Store.{Root, Step, get};
 ghost use Rattle.f3_desc.specs.Shape.{whole};
 ghost use Rattle.f3_desc.specs.Layout.{pieces_of};
+ghost use Rattle.f3_objects.specs.Tree.{footprint};
 ghost use Rattle.f3_objects.specs.Holds.{Frees};
 ghost use Rattle.f3_rooms.specs.Held.{Empty, blocks_in, times};
 ghost use Rattle.f3_rooms.specs.Forms.{Allocatable};
@@ -48,6 +50,9 @@ pub fn deallocate<B: Blocks>(
     ensures freed { (ts : List Shape) (x : Rooms) (r : Root) (way : List Step) (f : Found)
         → IsLaid ts (B.blocks heap.old) x r way f block at (whole (pieces_of layout.now))
         → Frees (B.blocks heap.old) (B.blocks heap.new) block at (tree_at (B.blocks heap.old) f) (is_ok result) }
+    ensures used { OnOk result ((ts : List Shape) (x : Rooms) (r : Root) (way : List Step) (f : Found)
+        → IsLaid ts (B.blocks heap.old) x r way f block at (whole (pieces_of layout.now))
+        → used_by (B.blocks heap.new) + footprint (tree_at (B.blocks heap.old) f) ≡ used_by (B.blocks heap.old)) }
     ensures kept { B.kept heap.new ≡ B.kept heap.old }
 {
     free_tree(heap, block, at, layout)

@@ -1,4 +1,4 @@
-use Rattle.std.proofs.Common.{◌≡◌, ◌+◌, ◌<◌, ◌^◌, ℤ, get_or, refl, pos, ap, ◌∙◌, arith, rules, w64}
+use Rattle.std.proofs.Common.{◌+◌, ◌<◌, ◌^◌, get_or, refl, pos, ap, ◌∙◌, arith, rules, w64}
 use Rattle.std.proofs.lemmas.Int.{to_z-of_z}
 use mir.Val.{SFits}
 use Rattle.f3_data.specs.declared.value.Span.{Span}

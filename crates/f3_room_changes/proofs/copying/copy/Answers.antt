@@ -1,10 +1,5 @@
-use Rattle.std.proofs.Common.{◌≡◌, ◌+◌}
 use Rattle.f3_desc.specs.Shape.{whole}
 use Rattle.f3_desc.specs.Layout.{pieces_of}
-use Rattle.f3_heap_laws.specs.Account.{used_by}
-use Rattle.f3_heap_laws.specs.Answers.{sizes, Took, Tried}
-use Rattle.f3_objects.specs.Tree.{Tree, footprint}
-use Rattle.f3_objects.specs.Copies.{Ready, Copies, Empties, Refuses, faults}
 use Rattle.f3_room_objects.specs.Trees.{tree_at}
 use Rattle.f3_room_changes.proofs.Copied.{ready, copied, emptied}
 use Rattle.f3_room_changes.proofs.Places.{when_ok, when_err}

@@ -1,11 +1,10 @@
 use Rattle.std.proofs.Common.{Bool, subst}
-use Rattle.std.specs.Prelude.{is_ok}
 use Rattle.f3_desc.specs.Shape.{whole}
 use Rattle.f3_desc.specs.Layout.{pieces_of}
 use Rattle.f3_objects.specs.Holds.{Frees}
 use Rattle.f3_objects.proofs.Freeing.{on_ok}
 use Rattle.f3_room_objects.specs.Trees.{tree_at}
-use Rattle.f3_room_changes.proofs.Places.{laid_holds, laid_pins}
+use Rattle.f3_room_changes.proofs.Places.{laid_holds, laid_pins, when_ok}
 use Rattle.f3_room_changes.proofs.Freeing.{freed, deallocated}
 use Rattle.f3_room_changes.proofs.deallocating.deallocate.Goals as goal
 
@@ -43,3 +42,8 @@ returns-clause-unpinned g c = λ ts x r way f k.
     let a = c.free_tree.ensures.unpinned (tree_at m f) (laid_holds ts m x r way f c.args.block c.args.at l k) in
     let b = laid_pins ts m x r way f c.args.block c.args.at l k in
     (λ o. b.0 (a.0 o), λ p. a.1 (b.1 p))
+
+pub returns-clause-used : goal.returns-clause-used
+returns-clause-used g c = when_ok c.free_tree.result _ _ (λ made ts x r way f k.
+    let m = g.B.Blocks.blocks c.args.heap.now in
+    made (tree_at m f) (laid_holds ts m x r way f c.args.block c.args.at (whole (pieces_of c.args.layout.now)) k)) c.free_tree.ensures.used
