@@ -1,24 +1,17 @@
 -- What owners of modules rely on, of each program that accepted sources spell.
-use Rattle.std.specs.Prelude.{◌≡◌, ℕ, Bool, true, false, List, length, Some, slice_get}
+use Rattle.std.specs.Prelude.{◌≡◌, ℕ, Bool, true, List, Some, slice_get}
 use Rattle.f3_places.specs.declared.source.Source.{Source}
 use Rattle.f3_program.specs.declared.declarations.Base.{Base}
 use Rattle.f3_program.specs.declared.declarations.Component.{Component}
 use Rattle.f3_program.specs.declared.declarations.Derived.{Derived}
-use Rattle.f3_program.specs.declared.expression.Expression.{Expression}
 use Rattle.f3_program.specs.declared.program.Static as x
 use Rattle.f3_program.specs.declared.program.Program.{Program}
-use Rattle.f3_meaning_whole.specs.Value.{Value}
-use Rattle.f3_meaning_whole.specs.Store.{Root, Static, Step, Path, within, components, get}
-use Rattle.f3_meaning_whole.specs.Ran.{Event, Change, Stage, World, Gives}
-use Rattle.f3_meaning_whole.specs.Act.{Here, Passed, whole, derived_of}
-use Rattle.f3_meaning_whole.specs.Eval.{value}
-use Rattle.f3_meaning_whole.specs.Run.{run_of, changes, setting_of, calls_of}
+use Rattle.f3_meaning_whole.specs.Store.{Static, Step, Path, within, components, get}
+use Rattle.f3_meaning_whole.specs.Ran.{Event, Change, Stage}
+use Rattle.f3_meaning_whole.specs.Act.{whole, derived_of}
+use Rattle.f3_meaning_whole.specs.Run.{run_of, changes}
 use Rattle.f3_meaning_whole.specs.Permitted.{Each, Permitted, IsLawful}
-use Rattle.f3_meaning_laws.specs.Laws.{AreStages, along, IsNotOwn, IsNotAbove, IsNotBy, IsThere}
-use Rattle.f3_pure_laws.specs.Laws.{IsQuiet, NeverStops, AreNewFree, IsPassedFree, is_new}
-use Rattle.f3_pure_laws.specs.Pure.{definable_in, IsPure}
-use Rattle.f3_pure_laws.specs.References.{Refers}
-use Rattle.f3_unbroken_laws.specs.Laws.{pure_in}
+use Rattle.f3_meaning_laws.specs.Laws.{AreStages, along, IsNotOwn, IsNotAbove, IsNotBy}
 use Rattle.f3_compile.specs.Compiles.{Means}
 
 -- the program that accepted sources spell is lawful
@@ -52,31 +45,3 @@ PrivateStays = (sources : List Source) (p : Program) → Means sources p
     → Each (IsNotAbove q) (changes between)
     → Each (λ (d : Change). Each (IsNotBy t.home of k) d.reference.makers) (changes between)
     → get second.store (within q (Step.Component k)) ≡ get first.store (within q (Step.Component k))
-
--- ---- functions and pure procedures (12.6)
-
--- the program that accepted sources spell is pure: its functions, and its procedures with the prefix PURE
-abbrev pub AcceptedIsPure : Type 0
-AcceptedIsPure = (sources : List Source) (p : Program) (m : Means sources p) → IsPure p (pure_in m.tree)
-
--- The evaluation of an expression leaves the store as it was, whatever functions it refers to.
-abbrev pub FunctionsChangeNothing : Type 0
-FunctionsChangeNothing = (sources : List Source) (p : Program) → Means sources p → (depth n : ℕ) (e : Expression) → Refers p e
-    → (here : Here) (w after : World) (v : Value) → ((value (setting_of p) (calls_of depth (setting_of p) n) e here).from w).end ≡ Gives v after
-    → after.store ≡ w.store
-
--- It prints nothing and does not stop; and what it changes, also where it fails, is on levels that began within it.
-abbrev pub FunctionsAreQuiet : Type 0
-FunctionsAreQuiet = (sources : List Source) (p : Program) → Means sources p → (depth n : ℕ) (e : Expression) → Refers p e → (here : Here) (w : World)
-    → Each (IsQuiet (length w.store.levels) (is_new (length w.store.levels))) ((value (setting_of p) (calls_of depth (setting_of p) n) e here).from w).out
-    × NeverStops ((value (setting_of p) (calls_of depth (setting_of p) n) e here).from w).end
-
--- What stood before a call of a procedure with the prefix PURE holds after it what it held, unless it is free: whatever is free, if what
--- begins within it is, and what is passed to dummies that may be defined.
-abbrev pub PureProceduresKeep : Type 0
-PureProceduresKeep = (sources : List Source) (p : Program) (m : Means sources p) (depth n f : ℕ) → pure_in m.tree f ≡ true
-    → (ps : List Passed) (here : Here) (w after : World) (v : Value) (free : Root → Bool) → AreNewFree (length w.store.levels) free
-    → Each (IsPassedFree (definable_in p f) free) ps
-    → ((calls_of depth (setting_of p) n here f ps).from w).end ≡ Gives v after
-    → (length after.store.levels ≡ length w.store.levels)
-    × ((q : Path) → IsThere q.root w.store → free q.root ≡ false → get after.store q ≡ get w.store q)

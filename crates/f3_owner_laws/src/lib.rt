@@ -2,7 +2,6 @@
 #![tactic(auto)]
 
 ghost use Rattle.f3_owner_laws.specs.Laws.{AcceptedIsLawful, ChangesArePermitted, PrivateStays, ProtectedStays};
-ghost use Rattle.f3_owner_laws.specs.Laws.{AcceptedIsPure, FunctionsAreQuiet, FunctionsChangeNothing, PureProceduresKeep};
 
 use f3_meaning_laws::laws;
 
@@ -40,36 +39,4 @@ pub fn private_stays()
 {
     accepted_is_lawful();
     laws::private_stays();
-}
-
-/// The program that accepted sources spell is pure: its functions, and its procedures with the prefix PURE, do what pure ones may (12.6).
-pub fn accepted_is_pure()
-    ensures { AcceptedIsPure }
-{
-    f3_quiet_laws::accepted_is_pure();
-}
-
-/// In a run of accepted sources the evaluation of an expression leaves the store as it was, whatever functions it refers to.
-pub fn functions_change_nothing()
-    ensures { FunctionsChangeNothing }
-{
-    accepted_is_pure();
-    f3_pure_laws::functions_change_nothing();
-}
-
-/// It prints nothing and does not stop; and what it changes, also where it fails, is on levels that began within it.
-pub fn functions_are_quiet()
-    ensures { FunctionsAreQuiet }
-{
-    accepted_is_pure();
-    f3_pure_laws::functions_are_quiet();
-}
-
-/// What stood before a call of a procedure with the prefix PURE, and was not passed to a dummy that may be defined, holds after it what it
-/// held.
-pub fn pure_procedures_keep()
-    ensures { PureProceduresKeep }
-{
-    accepted_is_pure();
-    f3_pure_laws::pure_calls_keep();
 }

@@ -1,4 +1,0 @@
-use Rattle.f3_owner_laws.proofs.functions_are_quiet.Goals as goal
-
-pub returns : goal.returns
-returns c = λ sources p m. c.functions_are_quiet.ensures p _ (c.accepted_is_pure.ensures sources p m)
