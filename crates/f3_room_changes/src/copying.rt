@@ -27,7 +27,7 @@ use f3_objects::{TreeFault, copy_tree};
 /// # Errors
 ///
 /// `Full` or `Memory`, as the heap answered the first take that it refused. What was taken is then
-/// given back, and the other part has some value, in which nothing is allocated.
+/// given back, and the other part has some value.
 pub fn copy<B: Blocks>(
     heap: &mut B,
     from: BlockId,
