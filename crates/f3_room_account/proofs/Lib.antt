@@ -1,0 +1,3 @@
+pub mod Counting
+pub mod Using
+pub mod Leaving
