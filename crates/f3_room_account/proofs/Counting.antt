@@ -18,6 +18,10 @@ use Rattle.f3_room_account.specs.StoreWords.{words_in_all, words_in_laid, words_
 use Rattle.f3_room_account.specs.Laws.{UsedIsWords}
 use Rattle.f3_room_account.proofs.Using.{taken, taken_append, used_is_taken}
 
+nothing_behind : (vs : List Value) → vs ++ [] ≡ vs
+nothing_behind [] = refl
+nothing_behind (v ∷ vs) = ap (λ us. v ∷ us) (nothing_behind vs)
+
 module _ (m : Live) where
   taken_row : (hs : Row) → taken m (blocks_in_all hs) ≡ taken m (blocks_in (first hs)) + taken m (blocks_in_all (others hs))
   taken_row end = refl
@@ -87,6 +91,9 @@ module _ (m : Live) where
         let k = taken_row hs in
         omega arith
 
+    pub variables_held : (x : Room) → AreVariables ts m x.declared x.block 0 x.held → taken m (blocks_in_all x.held) ≡ words_in_variables ts x.declared (room_values ts m x)
+    variables_held x has = variables_count x.declared x.block 0 x.held [] has ∙ ap (words_in_variables ts x.declared) (nothing_behind (room_values ts m x))
+
     behind_variables : (ds : List Declared) (b o : ℕ) (hs : Row) (us : List Value) → drop (length ds) (variables ts m ds b o hs ++ us) ≡ us
     behind_variables [] b o hs us = refl
     behind_variables (d ∷ ds) b o hs us = behind_variables ds b (o + room ts d) (others hs) us
@@ -113,10 +120,6 @@ module _ (m : Live) where
         let i = levels_count ls has.1 in
         let k = taken_append m (level_blocks l) (levels_blocks ls) in
         omega arith
-
-nothing_behind : (vs : List Value) → vs ++ [] ≡ vs
-nothing_behind [] = refl
-nothing_behind (v ∷ vs) = ap (λ us. v ∷ us) (nothing_behind vs)
 
 store_counts : (ts : List Shape) (m : Live) (x : Rooms) → IsSound ts m x → taken m (blocks_of x) ≡ store_words ts (plan_of m x) (store_of ts m x)
 store_counts ts m x sound =

@@ -1,14 +1,19 @@
 -- Where nothing is allocated in values, they ask for no words.
-use Rattle.std.proofs.Common.{◌≡◌, ℕ, zero, suc, List, [], ◌∷◌, ap, sym, refl, ◌∙◌, arith}
+use Rattle.std.proofs.Common.{◌≡◌, ℕ, zero, suc, ◌<◌, List, [], ◌∷◌, ◌++◌, length, ap, sym, subst, refl, ◌∙◌, arith}
 use Rattle.std.specs.Prelude.{map}
 use Rattle.f3_program.specs.declared.declarations.Declared.{Declared}
+use Rattle.f3_heap_laws.specs.Blocks.{Live, words_of}
+use Rattle.f3_heap_laws.specs.Account.{r as taken_by}
 use Rattle.f3_meaning_whole.specs.Value.{Value, Number, Truth, Composite, Array, Unallocated, Allocated, Values, none, more, cleared, all_cleared}
 use Rattle.f3_meaning_whole.specs.Shape.{Shape, Whole, Logical, Record, Parts, nothing, and, shape_in}
+use Rattle.f3_rooms.specs.Held.{blocks_in_all, times}
 use Rattle.f3_rooms.specs.Forms.{Form, Laid, Allocatable, form_of, words_for}
-use Rattle.f3_rooms.specs.Rooms.{room_values, level_values}
+use Rattle.f3_rooms.specs.Rooms.{Slot, room_values, level_values, levels_blocks, blocks_of}
+use Rattle.f3_rooms.proofs.Allocating.{only_one}
 use Rattle.f3_room_account.specs.StoreWords.{Plan, words_in_all, words_in_laid, words_in_form, words_beneath, words_beneath_all, words_in_variables, words_in_levels, plan_of}
 use Rattle.f3_room_account.specs.Laws.{NothingIsLeft}
-use Rattle.f3_room_account.proofs.Counting.{used_is_words}
+use Rattle.f3_room_account.proofs.Using.{taken}
+use Rattle.f3_room_account.proofs.Counting.{used_is_words, variables_held}
 
 abbrev Leaves : (Value → ℕ) → Type 0
 Leaves f = (v : Value) → f (cleared v) ≡ 0
@@ -69,10 +74,25 @@ levels_leave ts p ls e = ap (words_in_levels ts p.levels) e ∙ by p.levels
     by [] = refl
     by (l ∷ ls) = refl
 
+-- a block takes some words
+some_words : (w : ℕ) → 0 < taken_by w
+some_words w = omega arith
+
+none_taken : (m : Live) (bs : List ℕ) → taken m bs ≡ 0 → bs ≡ []
+none_taken m [] e = refl
+none_taken m (b ∷ bs) e = let some = some_words (length (words_of m b)) in absurd (omega arith)
+
+no_levels : (ts : List Shape) (m : Live) (ls : List (List Slot)) → map (level_values ts m) ls ≡ [] → ls ≡ []
+no_levels ts m [] e = refl
+no_levels ts m (l ∷ ls) e = absurd (let n : length (map (level_values ts m) (l ∷ ls)) ≡ 0 = ap length e in omega arith)
+
 pub nothing_is_left : NothingIsLeft
 nothing_is_left ts m x sound all ended bare =
     let vs : List Value = room_values ts m x.statics in
     let e = used_is_words ts m x sound all in
     let v : words_in_variables ts (x.statics).declared vs ≡ 0 = sym (ap (words_in_variables ts (x.statics).declared) bare) ∙ variables_leave ts (x.statics).declared vs in
     let l = levels_leave ts (plan_of m x) (map (level_values ts m) x.levels) ended in
-    omega arith
+    let held : blocks_in_all (x.statics).held ≡ [] = none_taken m (blocks_in_all (x.statics).held) (variables_held m ts x.statics (sound.statics).variables ∙ v) in
+    let blocks : blocks_of x ≡ (x.statics).block ∷ [] = ap (λ bs. ((x.statics).block ∷ bs) ++ levels_blocks x.levels) held
+    ∙ ap (λ ls. (x.statics).block ∷ levels_blocks ls) (no_levels ts m x.levels ended) in
+    (omega arith, λ b live. only_one b (x.statics).block (subst (λ bs. 0 < times b bs) blocks (all b live)))

@@ -1,3 +1,5 @@
 pub mod Counting
 pub mod Using
 pub mod Leaving
+pub mod Exchanging
+pub mod Keeping
