@@ -1,0 +1,70 @@
+-- Laws of pins.
+use Rattle.std.specs.Prelude.{◌≡◌, ◌≤◌, ◌<◌, ℕ, ◌+◌, ◌-◌, not, false, nat_eq, List, [], ◌∷◌, ◌++◌, Some}
+use Rattle.f3_heap_laws.specs.Blocks.{Live, IsLive, pins_of, with_pins}
+use Rattle.f3_meaning_whole.specs.Value.{Span}
+use Rattle.f3_meaning_whole.specs.Shape.{Shape}
+use Rattle.f3_meaning_whole.specs.Store.{Root, Step}
+use Rattle.f3_meaning_whole.specs.Reference.{Reference, is_pinned}
+use Rattle.f3_rooms.specs.Held.{Held, Holds, blocks_in, times}
+use Rattle.f3_rooms.specs.Rooms.{Rooms, blocks_of, store_of}
+use Rattle.f3_rooms.specs.Places.{Found, found, rooms_with}
+use Rattle.f3_rooms.specs.Sound.{IsSound}
+use Rattle.f3_rooms.specs.Laws.{path_at}
+use Rattle.f3_room_pins.specs.Pins.{blocks_along, blocks_lent, ArePinned, AreThere}
+
+-- A way goes through each block at most once.
+abbrev pub BlocksAreOnce : Type 0
+BlocksAreOnce = (ts : List Shape) (m : Live) (x : Rooms) → IsSound ts m x → (r : Root) (way : List Step) (b : ℕ) → times b (blocks_along ts x r way) ≤ 1
+
+-- The block of what an allocatable holds is not pinned exactly where the language does not call it pinned.
+abbrev pub PinnedIsLent : Type 0
+PinnedIsLent = (ts : List Shape) (m : Live) (x : Rooms) (lent : List Reference) → IsSound ts m x → ArePinned ts m x lent → (r : Root) (way : List Step) (f : Found)
+    → found ts x r way ≡ Some f → (c : ℕ) (ss : List Span) (h : Held) → f.held ≡ Holds c ss h → nat_eq (pins_of m c) 0 ≡ not (is_pinned (path_at r way) lent)
+
+-- Then no block of all that is held there is pinned.
+abbrev pub AllAreFree : Type 0
+AllAreFree = (ts : List Shape) (m : Live) (x : Rooms) (lent : List Reference) → IsSound ts m x → ArePinned ts m x lent → (r : Root) (way : List Step) (f : Found)
+    → found ts x r way ≡ Some f → (c : ℕ) (ss : List Span) (h : Held) → f.held ≡ Holds c ss h → is_pinned (path_at r way) lent ≡ false
+    → (b : ℕ) → 0 < times b (blocks_in f.held) → pins_of m b ≡ 0
+
+-- ---- lending
+
+-- each of these blocks is pinned once more
+abbrev pub with_pinned : List ℕ → Live → Live
+with_pinned [] m = m
+with_pinned (b ∷ bs) m = with_pinned bs (with_pins m b (pins_of m b + 1))
+
+-- or once less
+abbrev pub with_unpinned : List ℕ → Live → Live
+with_unpinned [] m = m
+with_unpinned (b ∷ bs) m = with_unpinned bs (with_pins m b (pins_of m b - 1))
+
+-- pins have changed: these are lent now, and the store is as it was
+pub record ArePinnedNow (ts : List Shape) (m n : Live) (x : Rooms) (lent : List Reference) : Type 0 where
+  pub pinned : ArePinned ts n x lent
+  pub store : store_of ts n x ≡ store_of ts m x
+  pub sound : IsSound ts n x
+  pub live : (b : ℕ) → IsLive n b → IsLive m b
+
+-- One more reference is lent: each block along its way is pinned once more.
+abbrev pub LendingPins : Type 0
+LendingPins = (ts : List Shape) (m : Live) (x : Rooms) (lent : List Reference) (l : Reference) → IsSound ts m x → ArePinned ts m x lent
+    → ArePinnedNow ts m (with_pinned (blocks_lent ts x l) m) x (l ∷ lent)
+
+-- One of those that are lent ends: each is pinned once less.
+abbrev pub EndingUnpins : Type 0
+EndingUnpins = (ts : List Shape) (m : Live) (x : Rooms) (before behind : List Reference) (l : Reference) → IsSound ts m x → ArePinned ts m x (before ++ l ∷ behind)
+    → ArePinnedNow ts m (with_unpinned (blocks_lent ts x l) m) x (before ++ behind)
+
+-- ---- changes
+
+-- What is held in a part is now this, whose blocks are not pinned; all others are pinned as they were.
+pub record KeepsPins (m n : Live) (x : Rooms) (f : Found) (u : Held) : Type 0 where
+  pub others : (b : ℕ) → times b (blocks_in f.held) < times b (blocks_of x) → pins_of n b ≡ pins_of m b
+  pub held : (b : ℕ) → 0 < times b (blocks_in u) → pins_of n b ≡ 0
+
+-- Where no block that was held there was pinned, each is pinned as it should be, and what is lent is there.
+abbrev pub ChangesKeepPins : Type 0
+ChangesKeepPins = (ts : List Shape) (m n : Live) (x : Rooms) (lent : List Reference) → IsSound ts m x → ArePinned ts m x lent → AreThere ts x lent
+    → (r : Root) (way : List Step) (f : Found) → found ts x r way ≡ Some f → ((b : ℕ) → 0 < times b (blocks_in f.held) → pins_of m b ≡ 0)
+    → (u : Held) → KeepsPins m n x f u → ArePinned ts n (rooms_with x r way u) lent × AreThere ts (rooms_with x r way u) lent

@@ -1,0 +1,15 @@
+//! Laws of pins.
+
+ghost use Rattle.f3_room_pins.specs.Laws.{BlocksAreOnce, PinnedIsLent, AllAreFree};
+
+/// A path goes through each block at most once.
+pub fn blocks_are_once()
+    ensures { BlocksAreOnce }
+{}
+
+/// The block of what an allocatable holds is pinned exactly where a lent reference goes through its contents; where none does, no block
+/// of all that is held there is pinned.
+pub fn pinned_is_lent()
+    ensures exact { PinnedIsLent }
+    ensures beneath { AllAreFree }
+{}
