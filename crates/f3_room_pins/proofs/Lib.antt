@@ -2,3 +2,4 @@ pub mod Ways
 pub mod Apart
 pub mod Through
 pub mod Counting
+pub mod Lending

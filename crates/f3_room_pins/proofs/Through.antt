@@ -7,13 +7,14 @@ use Rattle.f3_heap_laws.specs.Blocks.{Live}
 use Rattle.f3_meaning_whole.specs.Value.{Span}
 use Rattle.f3_meaning_whole.specs.Shape.{Shape}
 use Rattle.f3_meaning_whole.specs.Store.{Root, Step, Component, Element, Contents}
-use Rattle.f3_rooms.specs.Held.{Held, Empty, Holds, Parts as Divided, times}
-use Rattle.f3_rooms.specs.Rooms.{Rooms}
+use Rattle.f3_rooms.specs.Held.{Held, Empty, Holds, Parts as Divided, blocks_in, times}
+use Rattle.f3_rooms.specs.Rooms.{Rooms, blocks_of}
 use Rattle.f3_rooms.specs.Places.{Found, found}
 use Rattle.f3_rooms.specs.Sound.{IsSound}
 use Rattle.f3_rooms.proofs.Allocating.{at_most_one}
 use Rattle.f3_rooms.proofs.Framing.{times_append, one_here}
-use Rattle.f3_room_pins.specs.Pins.{block_in, block_at, blocks_behind}
+use Rattle.f3_rooms.proofs.Within.{store_owns}
+use Rattle.f3_room_pins.specs.Pins.{block_in, block_at, blocks_behind, blocks_along}
 use Rattle.f3_room_pins.specs.Laws.{BlocksAreOnce}
 use Rattle.f3_room_pins.proofs.Ways.{stepped}
 use Rattle.f3_room_pins.proofs.Apart.{is_holding, only_one}
@@ -110,6 +111,15 @@ module _ (ts : List Shape) (x : Rooms) (r : Root) where
       let i = enters_so (front ++ Contents ∷ []) mid after d f ss h (ap (found ts x r) (stepped front Contents mid) ∙ e) held in
       let a = times_append d (block_at (found ts x r front)) (blocks_behind ts x r (front ++ Contents ∷ []) (mid ++ Contents ∷ after)) in
       omega arith
+
+-- so it is a block of the store
+pub in_store : (ts : List Shape) (x : Rooms) (r : Root) (way : List Step) (d : ℕ) → 0 < times d (blocks_along ts x r way) → 0 < times d (blocks_of x)
+in_store ts x r way d some =
+    let t = enters ts x r [] way d some in
+    let e = (store_owns ts x r t.mid t.part t.found).counted d in
+    let h : times d (blocks_in t.part.held) ≡ times d (d ∷ blocks_in t.beneath) = ap (λ k. times d (blocks_in k)) t.held in
+    let o = one_here d (blocks_in t.beneath) in
+    omega arith
 
 -- a way does not come back to a block
 module _ (ts : List Shape) (m : Live) (x : Rooms) (sound : IsSound ts m x) (r : Root) (b : ℕ) where

@@ -1,6 +1,6 @@
 //! Laws of pins.
 
-ghost use Rattle.f3_room_pins.specs.Laws.{BlocksAreOnce, PinnedIsLent, AllAreFree};
+ghost use Rattle.f3_room_pins.specs.Laws.{BlocksAreOnce, PinnedIsLent, AllAreFree, LendingPins, EndingUnpins};
 
 /// A path goes through each block at most once.
 pub fn blocks_are_once()
@@ -12,4 +12,10 @@ pub fn blocks_are_once()
 pub fn pinned_is_lent()
     ensures exact { PinnedIsLent }
     ensures beneath { AllAreFree }
+{}
+
+/// Where a reference is lent, each block along its path is pinned once more, and where that ends, once less.
+pub fn lending_is_pinning()
+    ensures begin { LendingPins }
+    ensures end { EndingUnpins }
 {}
