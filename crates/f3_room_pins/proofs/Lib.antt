@@ -3,3 +3,5 @@ pub mod Apart
 pub mod Through
 pub mod Counting
 pub mod Lending
+pub mod Fronts
+pub mod Changing

@@ -1,6 +1,6 @@
 //! Laws of pins.
 
-ghost use Rattle.f3_room_pins.specs.Laws.{BlocksAreOnce, PinnedIsLent, AllAreFree, LendingPins, EndingUnpins};
+ghost use Rattle.f3_room_pins.specs.Laws.{BlocksAreOnce, PinnedIsLent, AllAreFree, LendingPins, EndingUnpins, ChangesKeepPins};
 
 /// A path goes through each block at most once.
 pub fn blocks_are_once()
@@ -18,4 +18,10 @@ pub fn pinned_is_lent()
 pub fn lending_is_pinning()
     ensures begin { LendingPins }
     ensures end { EndingUnpins }
+{}
+
+/// Where something else becomes held in a part, and no lent reference goes through what was held there, each block is pinned as often as it
+/// should be, and each path that is lent still leads where it led.
+pub fn changes_keep_pins()
+    ensures { ChangesKeepPins }
 {}
