@@ -1,8 +1,10 @@
 -- Where no lent path goes through what was held in a part, lent paths go through the same blocks when something else is held there.
-use Rattle.std.proofs.Common.{◌≡◌, inl, inr, ℕ, zero, suc, ◌≤◌, ◌<◌, Bool, true, false, List, [], ◌∷◌, ◌++◌, refl, sym, ap, subst, ◌∙◌, arith}
+use Rattle.std.proofs.Common.{◌≡◌, ℤ, pos, inl, inr, ℕ, zero, suc, ◌≤◌, ◌<◌, Bool, true, false, List, [], ◌∷◌, ◌++◌, refl, sym, ap, subst, ◌∙◌, arith}
+use Rattle.std.proofs.lemmas.Bool.{cases_eq}
 use Rattle.std.proofs.lemmas.List.{append-nil, append_assoc}
-use Rattle.std.specs.Prelude.{Some}
-use Rattle.f3_heap_laws.specs.Blocks.{Live, pins_of}
+use Rattle.std.specs.Prelude.{None, Some, slice_set}
+use Rattle.f3_heap_laws.specs.Blocks.{Block, Live, words_of, pins_of}
+use Rattle.f3_heap_laws.proofs.Laws.{pins-insert_same, pins-insert_other}
 use Rattle.f3_meaning_whole.specs.Value.{Span}
 use Rattle.f3_meaning_whole.specs.Shape.{Shape, Whole, Logical, Record}
 use Rattle.f3_meaning_whole.specs.Store.{Root, Path, Step, Component, Element, Contents, same_root}
@@ -10,18 +12,19 @@ use Rattle.f3_meaning_whole.specs.Reference.{Reference}
 use Rattle.f3_rooms.specs.Held.{Held, Empty, Holds, Parts as Divided, with_held, blocks_in, times}
 use Rattle.f3_rooms.specs.Forms.{Form, Laid, Allocatable}
 use Rattle.f3_rooms.specs.Rooms.{Rooms, blocks_of}
-use Rattle.f3_rooms.specs.Places.{Found, in_form, in_object, found, rooms_with}
+use Rattle.f3_rooms.specs.Places.{Found, in_form, in_object, found, with_word, rooms_with}
 use Rattle.f3_rooms.specs.Sound.{IsSound}
 use Rattle.f3_rooms.specs.Laws.{with_held_in}
 use Rattle.f3_rooms.specs.Ways.{part_of}
 use Rattle.f3_rooms.proofs.Aside.{other_parts_stand, other_variables_stand}
 use Rattle.f3_rooms.proofs.Framing.{one_here}
+use Rattle.f3_rooms.proofs.Freeing.{emptied}
 use Rattle.f3_rooms.proofs.Onward.{parts_have_parts}
 use Rattle.f3_rooms.proofs.Reading.{none_found}
 use Rattle.f3_rooms.proofs.Within.{store_owns, form_inside, object_inside}
 use Rattle.f3_room_account.proofs.Exchanging.{blocks_exchanged}
 use Rattle.f3_room_pins.specs.Pins.{block_in, block_at, blocks_behind, blocks_along, blocks_lent, times_lent, ArePinned, IsThere, AreThere}
-use Rattle.f3_room_pins.specs.Laws.{ChangesKeepPins}
+use Rattle.f3_room_pins.specs.Laws.{StaysAt, StayAt, KeepsLent, ChangesKeepPins, MovesKeepPins}
 use Rattle.f3_room_pins.proofs.Ways.{same_roots, stepped, Lies, Aside, Onward, Before, lie}
 use Rattle.f3_room_pins.proofs.Apart.{is_holding, only_contents}
 use Rattle.f3_room_pins.proofs.Through.{enters_so, in_store}
@@ -118,14 +121,14 @@ module _ (ts : List Shape) (m : Live) (x : Rooms) (sound : IsSound ts m x) (r : 
       ap (λ bs. bs ++ blocks_behind ts y p.root (front ++ Contents ∷ []) after) (same_at p there free front after is)
       ∙ ap (λ cs. block_at (found ts x p.root front) ++ cs) (same_blocks p there free (front ++ Contents ∷ []) after (is ∙ sym (stepped front Contents after)))
 
-  -- and it is still there
-  still_there : (p : Path) → IsThere ts x p → IsFree p → IsThere ts y p
-  still_there p there free = by (same_root r p.root) refl
+  -- and it leads to the same part
+  stays_at : (p : Path) → IsThere ts x p → IsFree p → StaysAt ts x y p
+  stays_at p there free e some = by (same_root r p.root) refl
     where
-      after_it : r ≡ p.root → (e : Found) → found ts x r p.steps ≡ Some e → Lies way p.steps → (g : Found) × (found ts y r p.steps ≡ Some g)
-      after_it root e some (Aside a) = (e, other_parts_stand ts x r way p.steps f u at a ∙ some)
-      after_it root e some (Before step more is) = (_, ap (λ w. found ts (rooms_with x r w u) r p.steps) is ∙ front_stays ts x r p.steps (step ∷ more) e u some)
-      after_it root e some (Onward more is) =
+      after_it : r ≡ p.root → found ts x r p.steps ≡ Some e → Lies way p.steps → (h : Held) × (found ts y r p.steps ≡ Some (with_held_in e h))
+      after_it root some (Aside a) = (e.held, other_parts_stand ts x r way p.steps f u at a ∙ some)
+      after_it root some (Before step more is) = (_, ap (λ w. found ts (rooms_with x r w u) r p.steps) is ∙ front_stays ts x r p.steps (step ∷ more) e u some)
+      after_it root some (Onward more is) =
           let p' : part_of f more ≡ Some e = sym (parts_have_parts ts x r way more f at) ∙ ap (found ts x r) (sym is) ∙ some in
           let now : found ts y r way ≡ Some (with_held_in f u) = ap (λ w. found ts (rooms_with x r w u) r way) (sym (append-nil way)) ∙ front_stays ts x r way [] f u at in
           elim (same_onward f u more e p') [
@@ -133,16 +136,23 @@ module _ (ts : List Shape) (m : Live) (x : Rooms) (sound : IsSound ts m x) (r : 
             | inr goes ↦ (goes.0, ap (found ts y r) is ∙ parts_have_parts ts y r way more (with_held_in f u) now ∙ goes.1)
           ]
 
-      by : (t : Bool) → same_root r p.root ≡ t → IsThere ts y p
-      by false e = elim there [
-        | inl none ↦ inl (other_variables_stand ts x r p.root way [] u e ∙ none)
-        | inr some ↦ inr (some.0, other_variables_stand ts x r p.root way p.steps u e ∙ some.1)
-      ]
-      by true e = let root = same_roots r p.root e in elim there [
-        | inl none ↦ let g = front_found ts x r [] way f at in none_found g.0 (sym none ∙ ap (λ k. found ts x k []) (sym root) ∙ g.1)
-        | inr some ↦ let g = after_it root some.0 (ap (λ k. found ts x k p.steps) root ∙ some.1) (lie way p.steps) in
-            inr (g.0, ap (λ k. found ts y k p.steps) (sym root) ∙ g.1)
-      ]
+      by : (t : Bool) → same_root r p.root ≡ t → (h : Held) × (found ts y p.root p.steps ≡ Some (with_held_in e h))
+      by false n = (e.held, other_variables_stand ts x r p.root way p.steps u n ∙ some)
+      by true n =
+          let root = same_roots r p.root n in
+          let g = after_it root (ap (λ k. found ts x k p.steps) root ∙ some) (lie way p.steps) in
+          (g.0, ap (λ k. found ts y k p.steps) (sym root) ∙ g.1)
+
+  -- so it is still there
+  still_there : (p : Path) → IsThere ts x p → IsFree p → IsThere ts y p
+  still_there p there free = elim there [
+    | inl none ↦ by none (same_root r p.root) refl
+    | inr some ↦ let g = stays_at p (inr some) free some.0 some.1 in inr (with_held_in some.0 g.0, g.1)
+  ]
+    where
+      by : found ts x p.root [] ≡ None → (t : Bool) → same_root r p.root ≡ t → IsThere ts y p
+      by none false e = inl (other_variables_stand ts x r p.root way [] u e ∙ none)
+      by none true e = let g = front_found ts x r [] way f at in none_found g.0 (sym none ∙ ap (λ k. found ts x k []) (sym (same_roots r p.root e)) ∙ g.1)
 
   -- ---- all that are lent
 
@@ -166,6 +176,10 @@ module _ (ts : List Shape) (m : Live) (x : Rooms) (sound : IsSound ts m x) (r : 
   all_there [] there free = tt
   all_there (l ∷ ls) there free = (still_there l.path there.0 (first_free l ls free), all_there ls there.1 (others_free l ls free))
 
+  all_stay : (lent : List Reference) → AreThere ts x lent → AreFree lent → StayAt ts x y lent
+  all_stay [] there free = tt
+  all_stay (l ∷ ls) there free = (stays_at l.path there.0 (first_free l ls free), all_stay ls there.1 (others_free l ls free))
+
 -- what is no block of the store is on no lent path
 none_lent : (ts : List Shape) (x : Rooms) (b : ℕ) → times b (blocks_of x) ≡ 0 → (lent : List Reference) → times_lent ts x b lent ≡ 0
 none_lent ts x b none [] = refl
@@ -176,7 +190,11 @@ none_lent ts x b none (l ∷ ls) = let i = none_lent ts x b none ls in let z = b
     by (suc k) goes = absurd (let s = goes (omega arith) in omega arith)
 
 pub changes_keep_pins : ChangesKeepPins
-changes_keep_pins ts m n x lent sound pinned there r way f at bare u keeps = (all_pinned, all_there ts m x sound r way f at u lent there free)
+changes_keep_pins ts m n x lent sound pinned there r way f at bare u keeps = record {
+  pinned = all_pinned;
+  there = all_there ts m x sound r way f at u lent there free;
+  same = all_stay ts m x sound r way f at u lent there free;
+}
   where
     free : AreFree ts m x sound r way f at u lent
     free d some = let c = (store_owns ts x r way f at).counted d in sym (pinned d (omega arith)) ∙ bare d some
@@ -192,3 +210,34 @@ changes_keep_pins ts m n x lent sound pinned there r way f at bare u keeps = (al
 
     all_pinned : ArePinned ts n (rooms_with x r way u) lent
     all_pinned b some = as_was b (times b (blocks_in u)) (times b (blocks_in f.held)) refl refl some ∙ sym (all_same ts m x sound r way f at u lent there free b)
+
+-- ---- moves
+
+stay_then : (ts : List Shape) (x y z : Rooms) (lent : List Reference) → StayAt ts x y lent → StayAt ts y z lent → StayAt ts x z lent
+stay_then ts x y z [] first next = tt
+stay_then ts x y z (l ∷ ls) first next = (
+  λ f at. let g = first.0 f at in let h = next.0 (with_held_in f g.0) g.1 in (h.0, h.1),
+  stay_then ts x y z ls first.1 next.1,
+)
+
+same_pins : (m : Live) (block at : ℕ) (z : ℤ) (b : ℕ) → pins_of (with_word m block at z) b ≡ pins_of m b
+same_pins m block at z b =
+    let new : Block = record { words = slice_set (words_of m block) at z; pins = pins_of m block } in
+    elim (cases_eq b block) [
+      | inl e ↦ subst (λ c. pins_of (with_word m block at z) c ≡ pins_of m c) (sym e) (pins-insert_same m block new)
+      | inr ne ↦ pins-insert_other m block new b ne
+    ]
+
+pub moves_keep_pins : MovesKeepPins
+moves_keep_pins ts m n x lent sound pinned there r q way other f g from rank form bare to none same =
+    let y : Rooms = rooms_with x r way Empty in
+    let mid : Live = with_word m f.block f.at (pos 0) in
+    let emptied' = emptied ts m x sound r way f from rank form m (λ b z. refl) in
+    let pins : (b : ℕ) → pins_of mid b ≡ pins_of m b = same_pins m f.block f.at (pos 0) in
+    let first : KeepsLent ts mid x y lent = changes_keep_pins ts m mid x lent sound pinned there r way f from bare Empty (record { others = λ b lt. pins b; held = λ b lt. absurd (omega arith) }) in
+    let second : KeepsLent ts n y (rooms_with y q other f.held) lent = changes_keep_pins ts mid n y lent emptied'.sound first.pinned first.there q other g to
+    (λ b lt. absurd (let z : times b (blocks_in g.held) ≡ 0 = ap (λ h. times b (blocks_in h)) none in omega arith)) f.held (record {
+      others = λ b lt. let e = blocks_exchanged ts m x sound r way f from Empty b in same b (omega arith) ∙ sym (pins b);
+      held = λ b lt. let c = (store_owns ts x r way f from).counted b in same b (omega arith) ∙ bare b lt;
+    }) in
+    record { pinned = second.pinned; there = second.there; same = stay_then ts x y (rooms_with y q other f.held) lent first.same second.same }

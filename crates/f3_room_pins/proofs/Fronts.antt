@@ -182,18 +182,21 @@ later s way is = (s ∷ is.0, ((is.1).0, ap (λ w. s ∷ w) (is.1).1))
 
 module _ (f : Found) where
   abbrev Same : Onward → Type 0
-  Same go = (b o : ℕ) (h k : Held) (way : List Step) → go b o h way ≡ Some f → HasContents way ⊎ ((g : Found) × (go b o k way ≡ Some g))
+  Same go = (b o : ℕ) (h k : Held) (way : List Step) → go b o h way ≡ Some f → HasContents way ⊎ ((j : Held) × (go b o k way ≡ Some (with_held_in f j)))
+
+  itself_so : (g : Found) (k : Held) → Some g ≡ Some f → Some (with_held_in g k) ≡ Some (with_held_in f k)
+  itself_so g k e = ap (λ j. Some (with_held_in j k)) (one_found g f e)
 
   module _ (s : Shape) (of : Base) (same : Same (in_object s of)) where
     laid_same : (rank : ℕ) (ss : List Span) → Same (in_laid rank ss s of (in_object s of))
     laid_same zero ss b o h k way e = same b o h k way e
-    laid_same (suc rank) ss b o h k [] e = inr (_, refl)
+    laid_same (suc rank) ss b o h k [] e = inr (k, itself_so _ k e)
     laid_same (suc rank) ss b o h k (Component i ∷ way) e = none_found f e
     laid_same (suc rank) ss b o h k (Contents ∷ way) e = none_found f e
     laid_same (suc rank) ss b o h k (Element i ∷ way) e = by (nat_lt i (count ss)) e
       where
         by : (t : Bool) → (if t then in_object s of b (o + i * words_for s) (part_at (parts_of h) i) way else None) ≡ Some f
-            → HasContents (Element i ∷ way) ⊎ ((g : Found) × ((if t then in_object s of b (o + i * words_for s) (part_at (parts_of k) i) way else None) ≡ Some g))
+            → HasContents (Element i ∷ way) ⊎ ((j : Held) × ((if t then in_object s of b (o + i * words_for s) (part_at (parts_of k) i) way else None) ≡ Some (with_held_in f j)))
         by false e = none_found f e
         by true e = elim (same b (o + i * words_for s) (part_at (parts_of h) i) (part_at (parts_of k) i) way e) [
           | inl has ↦ inl (later (Element i) way has)
@@ -202,14 +205,14 @@ module _ (f : Found) where
 
     form_same : (form : Form) → Same (in_form form s of (in_object s of))
     form_same (Laid rank ss) b o h k way e = laid_same rank ss b o h k way e
-    form_same (Allocatable rank) b o h k [] e = inr (_, refl)
+    form_same (Allocatable rank) b o h k [] e = inr (k, itself_so _ k e)
     form_same (Allocatable rank) b o h k (Component i ∷ way) e = none_found f e
     form_same (Allocatable rank) b o h k (Element i ∷ way) e = none_found f e
     form_same (Allocatable rank) b o h k (Contents ∷ way) e = inl ([], (way, refl))
 
   mutual
     object_same : (s : Shape) (of : Base) → Same (in_object s of)
-    object_same s of b o h k [] e = inr (_, refl)
+    object_same s of b o h k [] e = inr (k, itself_so _ k e)
     object_same (Record t parts) of b o h k (Component i ∷ way) e = elim (component_same parts b o (parts_of h) (parts_of k) i way e) [
       | inl has ↦ inl (later (Component i) way has)
       | inr is ↦ inr is
@@ -220,10 +223,10 @@ module _ (f : Found) where
     object_same Logical of b o h k (step ∷ way) e = none_found f e
 
     component_same : (parts : Parts) (b o : ℕ) (hs ks : Row) (i : ℕ) (way : List Step) → in_component parts b o hs i way ≡ Some f
-        → HasContents way ⊎ ((g : Found) × (in_component parts b o ks i way ≡ Some g))
+        → HasContents way ⊎ ((j : Held) × (in_component parts b o ks i way ≡ Some (with_held_in f j)))
     component_same nothing b o hs ks i way e = none_found f e
     component_same (and c s rest) b o hs ks zero way e = form_same s c.declared.kind.of (object_same s c.declared.kind.of) (form_of c.declared) b o (first hs) (first ks) way e
     component_same (and c s rest) b o hs ks (suc i) way e = component_same rest b (o + form_words (form_of c.declared) (words_for s)) (others hs) (others ks) i way e
 
-pub same_onward : (f : Found) (u : Held) (way : List Step) (g : Found) → part_of f way ≡ Some g → HasContents way ⊎ ((k : Found) × (part_of (with_held_in f u) way ≡ Some k))
+pub same_onward : (f : Found) (u : Held) (way : List Step) (g : Found) → part_of f way ≡ Some g → HasContents way ⊎ ((k : Held) × (part_of (with_held_in f u) way ≡ Some (with_held_in g k)))
 same_onward f u way g e = form_same g f.shape f.of (object_same g f.shape f.of) f.form f.block f.at f.held u way e

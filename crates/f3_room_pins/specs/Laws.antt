@@ -1,15 +1,16 @@
 -- Laws of pins.
-use Rattle.std.specs.Prelude.{◌≡◌, ◌≤◌, ◌<◌, ℕ, ◌+◌, ◌-◌, not, false, nat_eq, List, [], ◌∷◌, ◌++◌, Some}
+use Rattle.std.specs.Prelude.{⊤, ◌≡◌, ◌≤◌, ◌<◌, ℕ, ◌+◌, ◌-◌, not, false, nat_eq, List, [], ◌∷◌, ◌++◌, Some}
 use Rattle.f3_heap_laws.specs.Blocks.{Live, IsLive, pins_of, with_pins}
 use Rattle.f3_meaning_whole.specs.Value.{Span}
 use Rattle.f3_meaning_whole.specs.Shape.{Shape}
-use Rattle.f3_meaning_whole.specs.Store.{Root, Step}
+use Rattle.f3_meaning_whole.specs.Store.{Root, Path, Step}
 use Rattle.f3_meaning_whole.specs.Reference.{Reference, is_pinned}
-use Rattle.f3_rooms.specs.Held.{Held, Holds, blocks_in, times}
+use Rattle.f3_rooms.specs.Held.{Held, Empty, Holds, blocks_in, times}
+use Rattle.f3_rooms.specs.Forms.{Allocatable}
 use Rattle.f3_rooms.specs.Rooms.{Rooms, blocks_of, store_of}
 use Rattle.f3_rooms.specs.Places.{Found, found, rooms_with}
 use Rattle.f3_rooms.specs.Sound.{IsSound}
-use Rattle.f3_rooms.specs.Laws.{path_at}
+use Rattle.f3_rooms.specs.Laws.{path_at, with_held_in}
 use Rattle.f3_room_pins.specs.Pins.{blocks_along, blocks_lent, ArePinned, AreThere}
 
 -- A way goes through each block at most once.
@@ -63,8 +64,33 @@ pub record KeepsPins (m n : Live) (x : Rooms) (f : Found) (u : Held) : Type 0 wh
   pub others : (b : ℕ) → times b (blocks_in f.held) < times b (blocks_of x) → pins_of n b ≡ pins_of m b
   pub held : (b : ℕ) → 0 < times b (blocks_in u) → pins_of n b ≡ 0
 
--- Where no block that was held there was pinned, each is pinned as it should be, and what is lent is there.
+-- a path leads to the same part as before, in which something else may be held now
+abbrev pub StaysAt : List Shape → Rooms → Rooms → Path → Type 0
+StaysAt ts x y p = (f : Found) → found ts x p.root p.steps ≡ Some f → (h : Held) × (found ts y p.root p.steps ≡ Some (with_held_in f h))
+
+abbrev pub StayAt : List Shape → Rooms → Rooms → List Reference → Type 0
+StayAt ts x y [] = ⊤
+StayAt ts x y (l ∷ ls) = StaysAt ts x y l.path × StayAt ts x y ls
+
+-- each block is pinned as it should be, and what is lent is there, where it was
+pub record KeepsLent (ts : List Shape) (n : Live) (x y : Rooms) (lent : List Reference) : Type 0 where
+  pub pinned : ArePinned ts n y lent
+  pub there : AreThere ts y lent
+  pub same : StayAt ts x y lent
+
+-- no block of what is held in a part is pinned
+abbrev pub IsUnpinned : Live → Found → Type 0
+IsUnpinned m f = (b : ℕ) → 0 < times b (blocks_in f.held) → pins_of m b ≡ 0
+
+-- Something else is held in a part, where no block of what was held there was pinned.
 abbrev pub ChangesKeepPins : Type 0
 ChangesKeepPins = (ts : List Shape) (m n : Live) (x : Rooms) (lent : List Reference) → IsSound ts m x → ArePinned ts m x lent → AreThere ts x lent
-    → (r : Root) (way : List Step) (f : Found) → found ts x r way ≡ Some f → ((b : ℕ) → 0 < times b (blocks_in f.held) → pins_of m b ≡ 0)
-    → (u : Held) → KeepsPins m n x f u → ArePinned ts n (rooms_with x r way u) lent × AreThere ts (rooms_with x r way u) lent
+    → (r : Root) (way : List Step) (f : Found) → found ts x r way ≡ Some f → IsUnpinned m f → (u : Held) → KeepsPins m n x f u
+    → KeepsLent ts n x (rooms_with x r way u) lent
+
+-- What an allocatable holds goes over to another that holds nothing, where no block of it was pinned, and no pins change (13.7.82).
+abbrev pub MovesKeepPins : Type 0
+MovesKeepPins = (ts : List Shape) (m n : Live) (x : Rooms) (lent : List Reference) → IsSound ts m x → ArePinned ts m x lent → AreThere ts x lent
+    → (r q : Root) (way other : List Step) (f g : Found) → found ts x r way ≡ Some f → (rank : ℕ) → f.form ≡ Allocatable rank → IsUnpinned m f
+    → found ts (rooms_with x r way Empty) q other ≡ Some g → g.held ≡ Empty → ((b : ℕ) → 0 < times b (blocks_of x) → pins_of n b ≡ pins_of m b)
+    → KeepsLent ts n x (rooms_with (rooms_with x r way Empty) q other f.held) lent

@@ -1,6 +1,6 @@
 //! Laws of pins.
 
-ghost use Rattle.f3_room_pins.specs.Laws.{BlocksAreOnce, PinnedIsLent, AllAreFree, LendingPins, EndingUnpins, ChangesKeepPins};
+ghost use Rattle.f3_room_pins.specs.Laws.{BlocksAreOnce, PinnedIsLent, AllAreFree, LendingPins, EndingUnpins, ChangesKeepPins, MovesKeepPins};
 
 /// A path goes through each block at most once.
 pub fn blocks_are_once()
@@ -20,8 +20,9 @@ pub fn lending_is_pinning()
     ensures end { EndingUnpins }
 {}
 
-/// Where something else becomes held in a part, and no lent reference goes through what was held there, each block is pinned as often as it
-/// should be, and each path that is lent still leads where it led.
+/// Where something else becomes held in a part, or what it holds goes over to another, and no block of what was held there is pinned, each
+/// block is pinned as often as it should be, and each path that is lent leads to the part to which it led.
 pub fn changes_keep_pins()
-    ensures { ChangesKeepPins }
+    ensures changes { ChangesKeepPins }
+    ensures moves { MovesKeepPins }
 {}
