@@ -181,7 +181,7 @@ module _ (ts : List Shape) (m : Live) (x : Rooms) (sound : IsSound ts m x) (r : 
   all_stay (l ∷ ls) there free = (stays_at l.path there.0 (first_free l ls free), all_stay ls there.1 (others_free l ls free))
 
 -- what is no block of the store is on no lent path
-none_lent : (ts : List Shape) (x : Rooms) (b : ℕ) → times b (blocks_of x) ≡ 0 → (lent : List Reference) → times_lent ts x b lent ≡ 0
+pub none_lent : (ts : List Shape) (x : Rooms) (b : ℕ) → times b (blocks_of x) ≡ 0 → (lent : List Reference) → times_lent ts x b lent ≡ 0
 none_lent ts x b none [] = refl
 none_lent ts x b none (l ∷ ls) = let i = none_lent ts x b none ls in let z = by (times b (blocks_lent ts x l)) (in_store ts x l.path.root l.path.steps b) in omega arith
   where

@@ -5,3 +5,4 @@ pub mod Counting
 pub mod Lending
 pub mod Fronts
 pub mod Changing
+pub mod Levels

@@ -1,16 +1,16 @@
 -- Laws of pins.
-use Rattle.std.specs.Prelude.{⊤, ◌≡◌, ◌≤◌, ◌<◌, ℕ, ◌+◌, ◌-◌, not, false, nat_eq, List, [], ◌∷◌, ◌++◌, Some}
+use Rattle.std.specs.Prelude.{⊤, ◌≡◌, ◌≤◌, ◌<◌, ℕ, ◌+◌, ◌-◌, not, false, nat_eq, List, [], ◌∷◌, ◌++◌, length, Some}
 use Rattle.f3_heap_laws.specs.Blocks.{Live, IsLive, pins_of, with_pins}
 use Rattle.f3_meaning_whole.specs.Value.{Span}
 use Rattle.f3_meaning_whole.specs.Shape.{Shape}
-use Rattle.f3_meaning_whole.specs.Store.{Root, Path, Step}
+use Rattle.f3_meaning_whole.specs.Store.{Root, Static, Local, Path, Step}
 use Rattle.f3_meaning_whole.specs.Reference.{Reference, is_pinned}
 use Rattle.f3_rooms.specs.Held.{Held, Empty, Holds, blocks_in, times}
 use Rattle.f3_rooms.specs.Forms.{Allocatable}
-use Rattle.f3_rooms.specs.Rooms.{Rooms, blocks_of, store_of}
+use Rattle.f3_rooms.specs.Rooms.{Slot, Rooms, level_blocks, blocks_of, store_of}
 use Rattle.f3_rooms.specs.Places.{Found, found, rooms_with}
 use Rattle.f3_rooms.specs.Sound.{IsSound}
-use Rattle.f3_rooms.specs.Laws.{path_at, with_held_in}
+use Rattle.f3_rooms.specs.Laws.{path_at, with_held_in, with_level, before_level}
 use Rattle.f3_room_pins.specs.Pins.{blocks_along, blocks_lent, ArePinned, AreThere}
 
 -- A way goes through each block at most once.
@@ -94,3 +94,26 @@ MovesKeepPins = (ts : List Shape) (m n : Live) (x : Rooms) (lent : List Referenc
     → (r q : Root) (way other : List Step) (f g : Found) → found ts x r way ≡ Some f → (rank : ℕ) → f.form ≡ Allocatable rank → IsUnpinned m f
     → found ts (rooms_with x r way Empty) q other ≡ Some g → g.held ≡ Empty → ((b : ℕ) → 0 < times b (blocks_of x) → pins_of n b ≡ pins_of m b)
     → KeepsLent ts n x (rooms_with (rooms_with x r way Empty) q other f.held) lent
+
+-- ---- levels
+
+-- a variable that lives for the whole run, or on one of the first levels
+abbrev pub IsBefore : ℕ → Root → Type 0
+IsBefore k (Static i) = ⊤
+IsBefore k (Local level i) = level < k
+
+abbrev pub AreBefore : ℕ → List Reference → Type 0
+AreBefore k [] = ⊤
+AreBefore k (l ∷ ls) = IsBefore k l.path.root × AreBefore k ls
+
+-- A level begins, whose blocks are not pinned; what is lent is of the variables before it.
+abbrev pub LevelsBeginUnpinned : Type 0
+LevelsBeginUnpinned = (ts : List Shape) (m n : Live) (x : Rooms) (lent : List Reference) (l : List Slot) → ArePinned ts m x lent → AreThere ts x lent
+    → AreBefore (length x.levels) lent → ((b : ℕ) → times b (blocks_of x) + times b (level_blocks l) ≤ 1)
+    → ((b : ℕ) → 0 < times b (blocks_of x) → pins_of n b ≡ pins_of m b) → ((b : ℕ) → 0 < times b (level_blocks l) → pins_of n b ≡ 0)
+    → KeepsLent ts n x (with_level x l) lent
+
+-- Levels end, and what is lent is of the variables before them.
+abbrev pub LevelsEndUnpinned : Type 0
+LevelsEndUnpinned = (ts : List Shape) (m n : Live) (x : Rooms) (lent : List Reference) (k : ℕ) → ArePinned ts m x lent → AreThere ts x lent → AreBefore k lent
+    → ((b : ℕ) → 0 < times b (blocks_of (before_level x k)) → pins_of n b ≡ pins_of m b) → KeepsLent ts n x (before_level x k) lent

@@ -1,6 +1,6 @@
 //! Laws of pins.
 
-ghost use Rattle.f3_room_pins.specs.Laws.{BlocksAreOnce, PinnedIsLent, AllAreFree, LendingPins, EndingUnpins, ChangesKeepPins, MovesKeepPins};
+ghost use Rattle.f3_room_pins.specs.Laws.{BlocksAreOnce, PinnedIsLent, AllAreFree, LendingPins, EndingUnpins, ChangesKeepPins, MovesKeepPins, LevelsBeginUnpinned, LevelsEndUnpinned};
 
 /// A path goes through each block at most once.
 pub fn blocks_are_once()
@@ -25,4 +25,10 @@ pub fn lending_is_pinning()
 pub fn changes_keep_pins()
     ensures changes { ChangesKeepPins }
     ensures moves { MovesKeepPins }
+{}
+
+/// So it is where a level begins whose blocks are not pinned, and where levels end of whose variables nothing is lent.
+pub fn levels_keep_pins()
+    ensures begin { LevelsBeginUnpinned }
+    ensures end { LevelsEndUnpinned }
 {}
