@@ -31,13 +31,13 @@ use Rattle.f3_room_pins.proofs.Through.{enters_so, in_store}
 use Rattle.f3_room_pins.proofs.Fronts.{front_found, front_stays, same_onward}
 
 -- where a way enters the contents of a part, something is held there
-record IsHeld (f : Found) : Type 0 where
-  block : ℕ
-  spans : List Span
-  beneath : Held
-  held : f.held ≡ Holds block spans beneath
+pub record IsHeld (f : Found) : Type 0 where
+  pub block : ℕ
+  pub spans : List Span
+  pub beneath : Held
+  pub held : f.held ≡ Holds block spans beneath
 
-is_held : (f g : Found) (way : List Step) → part_of f (Contents ∷ way) ≡ Some g → IsHeld f
+pub is_held : (f g : Found) (way : List Step) → part_of f (Contents ∷ way) ≡ Some g → IsHeld f
 is_held f g way e = by f.form f.shape f.held refl e
   where
     by : (form : Form) (s : Shape) (h : Held) → f.held ≡ h → in_form form s f.of (in_object s f.of) f.block f.at h (Contents ∷ way) ≡ Some g → IsHeld f

@@ -19,11 +19,11 @@ use Rattle.f3_rooms.proofs.Onward.{parts_have_parts}
 use Rattle.f3_rooms.proofs.Within.{store_owns}
 use Rattle.f3_room_pins.specs.Pins.{blocks_along, blocks_lent, times_lent}
 use Rattle.f3_room_pins.specs.Laws.{PinnedIsLent, AllAreFree}
-use Rattle.f3_room_pins.proofs.Ways.{never, same_roots, root_itself, enters, enters_so}
+use Rattle.f3_room_pins.proofs.Ways.{never, both_left, both_right, same_roots, root_itself, enters, enters_so}
 use Rattle.f3_room_pins.proofs.Apart.{IsHolding, is_holding, only_beneath, only_contents}
 use Rattle.f3_room_pins.proofs.Through.{Enters, enters as through, enters_so as through_so}
 
-either_true : (a b : Bool) → a ≡ true → (a || b) ≡ true
+pub either_true : (a b : Bool) → a ≡ true → (a || b) ≡ true
 either_true true b e = refl
 either_true false b e = never e
 
@@ -42,18 +42,10 @@ module _ (ts : List Shape) (m : Live) (x : Rooms) (sound : IsSound ts m x) (r : 
   -- a path through the contents goes through the block
   goes : (p : Path) → goes_through p (within (path_at r way) Contents) ≡ true → 0 < times c (blocks_along ts x p.root p.steps)
   goes p e =
-      let root : p.root ≡ r = same_roots p.root r (left (same_root p.root r) (begins_with p.steps (way ++ Contents ∷ [])) e) in
-      let on = enters p.steps way (right (same_root p.root r) (begins_with p.steps (way ++ Contents ∷ [])) e) in
+      let root : p.root ≡ r = same_roots p.root r (both_left (same_root p.root r) (begins_with p.steps (way ++ Contents ∷ [])) e) in
+      let on = enters p.steps way (both_right (same_root p.root r) (begins_with p.steps (way ++ Contents ∷ [])) e) in
       subst (λ w. 0 < times c (blocks_along ts x p.root w)) (sym on.1)
       (subst (λ q. 0 < times c (blocks_along ts x q (way ++ Contents ∷ on.0))) (sym root) (through_so ts x r [] way on.0 c f ss h at held))
-    where
-      left : (a b : Bool) → (a && b) ≡ true → a ≡ true
-      left true b e = refl
-      left false b e = e
-
-      right : (a b : Bool) → (a && b) ≡ true → b ≡ true
-      right true b e = e
-      right false b e = never e
 
   -- a path through a block that is held there goes through the contents
   comes : (p : Path) (d : ℕ) → 0 < times d (blocks_in f.held) → 0 < times d (blocks_along ts x p.root p.steps) → goes_through p (within (path_at r way) Contents) ≡ true

@@ -6,3 +6,4 @@ pub mod Lending
 pub mod Fronts
 pub mod Changing
 pub mod Levels
+pub mod Vacant

@@ -22,11 +22,16 @@ abbrev pub PinnedIsLent : Type 0
 PinnedIsLent = (ts : List Shape) (m : Live) (x : Rooms) (lent : List Reference) → IsSound ts m x → ArePinned ts m x lent → (r : Root) (way : List Step) (f : Found)
     → found ts x r way ≡ Some f → (c : ℕ) (ss : List Span) (h : Held) → f.held ≡ Holds c ss h → nat_eq (pins_of m c) 0 ≡ not (is_pinned (path_at r way) lent)
 
--- Then no block of all that is held there is pinned.
+-- Where it does not, no block of all that is held there is pinned.
 abbrev pub AllAreFree : Type 0
 AllAreFree = (ts : List Shape) (m : Live) (x : Rooms) (lent : List Reference) → IsSound ts m x → ArePinned ts m x lent → (r : Root) (way : List Step) (f : Found)
     → found ts x r way ≡ Some f → (c : ℕ) (ss : List Span) (h : Held) → f.held ≡ Holds c ss h → is_pinned (path_at r way) lent ≡ false
     → (b : ℕ) → 0 < times b (blocks_in f.held) → pins_of m b ≡ 0
+
+-- Where an allocatable holds nothing, and what is lent is there, the language does not call it pinned.
+abbrev pub VacantIsFree : Type 0
+VacantIsFree = (ts : List Shape) (x : Rooms) (lent : List Reference) → AreThere ts x lent → (r : Root) (way : List Step) (f : Found) → found ts x r way ≡ Some f
+    → f.held ≡ Empty → is_pinned (path_at r way) lent ≡ false
 
 -- ---- lending
 

@@ -1,6 +1,6 @@
 //! Laws of pins.
 
-ghost use Rattle.f3_room_pins.specs.Laws.{BlocksAreOnce, PinnedIsLent, AllAreFree, LendingPins, EndingUnpins, ChangesKeepPins, MovesKeepPins, LevelsBeginUnpinned, LevelsEndUnpinned};
+ghost use Rattle.f3_room_pins.specs.Laws.{BlocksAreOnce, PinnedIsLent, AllAreFree, VacantIsFree, LendingPins, EndingUnpins, ChangesKeepPins, MovesKeepPins, LevelsBeginUnpinned, LevelsEndUnpinned};
 
 /// A path goes through each block at most once.
 pub fn blocks_are_once()
@@ -8,10 +8,11 @@ pub fn blocks_are_once()
 {}
 
 /// The block of what an allocatable holds is pinned exactly where a lent reference goes through its contents; where none does, no block
-/// of all that is held there is pinned.
+/// of all that is held there is pinned. None goes through the contents of one that holds nothing.
 pub fn pinned_is_lent()
     ensures exact { PinnedIsLent }
     ensures beneath { AllAreFree }
+    ensures vacant { VacantIsFree }
 {}
 
 /// Where a reference is lent, each block along its path is pinned once more, and where that ends, once less.
