@@ -3,3 +3,4 @@ pub mod Using
 pub mod Leaving
 pub mod Exchanging
 pub mod Keeping
+pub mod Writing

@@ -72,7 +72,7 @@ dead_stays m (b ∷ bs) q e = dead_stays (remove m b) bs q (elim (cases_eq q b) 
   | inr ne ↦ get-remove_other m b q ne ∙ e
 ])
 
-own_dead : (m : Live) (bs : List ℕ) (q : ℕ) → 0 < times q bs → get (without bs m) q ≡ None
+pub own_dead : (m : Live) (bs : List ℕ) (q : ℕ) → 0 < times q bs → get (without bs m) q ≡ None
 own_dead m [] q some = absurd (omega arith)
 own_dead m (b ∷ bs) q some = elim (cases_eq q b) [
   | inl is ↦ dead_stays (remove m b) bs q (let P : ℕ → Type 0 = λ x. get (remove m b) x ≡ None in subst P (sym is) (get-remove_same m b))
@@ -83,7 +83,7 @@ own_dead m (b ∷ bs) q some = elim (cases_eq q b) [
     by ne true e some = absurd (ne (grind (arith, nat_tests)))
     by ne false e some = omega arith
 
-others_live : (m : Live) (bs : List ℕ) (q : ℕ) → times q bs ≡ 0 → get (without bs m) q ≡ get m q
+pub others_live : (m : Live) (bs : List ℕ) (q : ℕ) → times q bs ≡ 0 → get (without bs m) q ≡ get m q
 others_live m [] q z = refl
 others_live m (b ∷ bs) q z =
     let ne : q ≢ b = λ e. let o = one_more q b bs e in omega arith in
