@@ -220,7 +220,7 @@ stay_then ts x y z (l ∷ ls) first next = (
   stay_then ts x y z ls first.1 next.1,
 )
 
-same_pins : (m : Live) (block at : ℕ) (z : ℤ) (b : ℕ) → pins_of (with_word m block at z) b ≡ pins_of m b
+pub same_pins : (m : Live) (block at : ℕ) (z : ℤ) (b : ℕ) → pins_of (with_word m block at z) b ≡ pins_of m b
 same_pins m block at z b =
     let new : Block = record { words = slice_set (words_of m block) at z; pins = pins_of m block } in
     elim (cases_eq b block) [

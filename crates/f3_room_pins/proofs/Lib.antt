@@ -7,3 +7,4 @@ pub mod Fronts
 pub mod Changing
 pub mod Levels
 pub mod Vacant
+pub mod Writing

@@ -1,6 +1,7 @@
 -- Laws of pins.
-use Rattle.std.specs.Prelude.{⊤, ◌≡◌, ◌≤◌, ◌<◌, ℕ, ◌+◌, ◌-◌, not, false, nat_eq, List, [], ◌∷◌, ◌++◌, length, Some}
-use Rattle.f3_heap_laws.specs.Blocks.{Live, IsLive, pins_of, with_pins}
+use Rattle.std.specs.Prelude.{⊤, ◌≡◌, ◌≤◌, ◌<◌, ℕ, ◌+◌, ◌-◌, ℤ, pos, not, false, nat_eq, List, [], ◌∷◌, ◌++◌, length, None, Some}
+use Rattle.std.specs.FinMap.{get as find}
+use Rattle.f3_heap_laws.specs.Blocks.{Live, IsLive, pins_of, with_pins, with_taken}
 use Rattle.f3_meaning_whole.specs.Value.{Span}
 use Rattle.f3_meaning_whole.specs.Shape.{Shape}
 use Rattle.f3_meaning_whole.specs.Store.{Root, Static, Local, Path, Step}
@@ -8,9 +9,9 @@ use Rattle.f3_meaning_whole.specs.Reference.{Reference, is_pinned}
 use Rattle.f3_rooms.specs.Held.{Held, Empty, Holds, blocks_in, times}
 use Rattle.f3_rooms.specs.Forms.{Allocatable}
 use Rattle.f3_rooms.specs.Rooms.{Slot, Rooms, level_blocks, blocks_of, store_of}
-use Rattle.f3_rooms.specs.Places.{Found, found, rooms_with}
+use Rattle.f3_rooms.specs.Places.{Found, found, with_word, rooms_with}
 use Rattle.f3_rooms.specs.Sound.{IsSound}
-use Rattle.f3_rooms.specs.Laws.{path_at, with_held_in, with_level, before_level}
+use Rattle.f3_rooms.specs.Laws.{path_at, with_held_in, with_holder, without, with_level, before_level}
 use Rattle.f3_room_pins.specs.Pins.{blocks_along, blocks_lent, ArePinned, AreThere}
 
 -- A way goes through each block at most once.
@@ -99,6 +100,26 @@ MovesKeepPins = (ts : List Shape) (m n : Live) (x : Rooms) (lent : List Referenc
     → (r q : Root) (way other : List Step) (f g : Found) → found ts x r way ≡ Some f → (rank : ℕ) → f.form ≡ Allocatable rank → IsUnpinned m f
     → found ts (rooms_with x r way Empty) q other ≡ Some g → g.held ≡ Empty → ((b : ℕ) → 0 < times b (blocks_of x) → pins_of n b ≡ pins_of m b)
     → KeepsLent ts n x (rooms_with (rooms_with x r way Empty) q other f.held) lent
+
+-- So it is where one word is another, and where an allocatable is allocated, freed, or moved, in words (f3_rooms, Laws).
+abbrev pub WordsKeepPins : Type 0
+WordsKeepPins = (ts : List Shape) (m : Live) (x : Rooms) (lent : List Reference) → ArePinned ts m x lent → (b i : ℕ) (z : ℤ) → ArePinned ts (with_word m b i z) x lent
+
+abbrev pub AllocatingKeepsPins : Type 0
+AllocatingKeepsPins = (ts : List Shape) (m : Live) (x : Rooms) (lent : List Reference) → IsSound ts m x → ArePinned ts m x lent → AreThere ts x lent
+    → (r : Root) (way : List Step) (f : Found) → found ts x r way ≡ Some f → f.held ≡ Empty → (c n : ℕ) (ss : List Span) → find m c ≡ None
+    → KeepsLent ts (with_holder (with_taken m c n) f.block f.at c ss) x (rooms_with x r way (Holds c ss Empty)) lent
+
+abbrev pub FreeingKeepsPins : Type 0
+FreeingKeepsPins = (ts : List Shape) (m : Live) (x : Rooms) (lent : List Reference) → IsSound ts m x → ArePinned ts m x lent → AreThere ts x lent
+    → (r : Root) (way : List Step) (f : Found) → found ts x r way ≡ Some f → IsUnpinned m f
+    → KeepsLent ts (with_word (without (blocks_in f.held) m) f.block f.at (pos 0)) x (rooms_with x r way Empty) lent
+
+abbrev pub MovingKeepsPins : Type 0
+MovingKeepsPins = (ts : List Shape) (m : Live) (x : Rooms) (lent : List Reference) → IsSound ts m x → ArePinned ts m x lent → AreThere ts x lent
+    → (r q : Root) (way other : List Step) (f g : Found) → found ts x r way ≡ Some f → (rank : ℕ) → f.form ≡ Allocatable rank
+    → (c : ℕ) (ss : List Span) (h : Held) → f.held ≡ Holds c ss h → IsUnpinned m f → found ts (rooms_with x r way Empty) q other ≡ Some g → g.held ≡ Empty
+    → KeepsLent ts (with_holder (with_word m f.block f.at (pos 0)) g.block g.at c ss) x (rooms_with (rooms_with x r way Empty) q other (Holds c ss h)) lent
 
 -- ---- levels
 

@@ -1,6 +1,7 @@
 //! Laws of pins.
 
 ghost use Rattle.f3_room_pins.specs.Laws.{BlocksAreOnce, PinnedIsLent, AllAreFree, VacantIsFree, LendingPins, EndingUnpins, ChangesKeepPins, MovesKeepPins, LevelsBeginUnpinned, LevelsEndUnpinned};
+ghost use Rattle.f3_room_pins.specs.Laws.{WordsKeepPins, AllocatingKeepsPins, FreeingKeepsPins, MovingKeepsPins};
 
 /// A path goes through each block at most once.
 pub fn blocks_are_once()
@@ -26,6 +27,14 @@ pub fn lending_is_pinning()
 pub fn changes_keep_pins()
     ensures changes { ChangesKeepPins }
     ensures moves { MovesKeepPins }
+{}
+
+/// So it is where a word is written, and where what an allocatable holds is allocated, freed or moved (ISO/IEC 1539-1:2004, 6.3, 13.7.82).
+pub fn words_keep_pins()
+    ensures words { WordsKeepPins }
+    ensures allocating { AllocatingKeepsPins }
+    ensures freeing { FreeingKeepsPins }
+    ensures moving { MovingKeepsPins }
 {}
 
 /// So it is where a level begins whose blocks are not pinned, and where levels end of whose variables nothing is lent.
