@@ -1,0 +1,29 @@
+//! Of which kinds the objects of a store are, and where references lead.
+#![tactic(auto)]
+
+ghost use Rattle.f3_store_kinds.specs.Laws.{ChangesKeep, LevelsBegin, LevelsEnd, PutsKeep, ReadsHold};
+
+/// Where an object of a kind takes a value of its kind, the store is of the same kinds as before (own rule).
+pub fn puts_keep()
+    ensures { PutsKeep }
+{}
+
+/// So where the objects that a reference reaches take each a value of its kind (own rule).
+pub fn changes_keep()
+    ensures { ChangesKeep }
+{}
+
+/// A level that begins adds its kinds, and references lead to where they led (own rule).
+pub fn levels_begin()
+    ensures { LevelsBegin }
+{}
+
+/// Levels that end take their kinds with them, and paths from objects on other levels lead to where they led (own rule).
+pub fn levels_end()
+    ensures { LevelsEnd }
+{}
+
+/// What is read at a reference is of the kind to which it leads, or there is nothing; of an array each element is so (own rule).
+pub fn reads_hold()
+    ensures { ReadsHold }
+{}
