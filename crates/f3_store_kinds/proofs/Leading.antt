@@ -6,9 +6,8 @@ use Rattle.f3_program.specs.declared.declarations.Kind.{Kind}
 use Rattle.f3_meaning_whole.specs.Store.{Root, Static, Local, Path}
 use Rattle.f3_meaning_whole.specs.Reference.{Reach, One, Many, Reference}
 use Rattle.f3_meaning_whole.specs.Formed.{found, of_kind}
-use Rattle.f3_cell_kinds.specs.Ways.{kind_along}
 use Rattle.f3_cell_kinds.proofs.Asked.{some_same, found_is}
-use Rattle.f3_store_kinds.specs.Typing.{Typing, kind_at, cut, extended, IsBefore, LeadsTo, AllLeadTo, IsArray, LeadsBy, Leads, AllLead}
+use Rattle.f3_store_kinds.specs.Typing.{Typing, kind_by, kind_at, cut, extended, IsBefore, LeadsTo, AllLeadTo, IsArray, LeadsBy, Leads, AllLead}
 
 -- what one has on its levels, the other has there too
 pub record Within (g h : Typing) : Type 0 where
@@ -77,8 +76,8 @@ module _ (types : List Derived) where
 
   pub path_more : (g h : Typing) (k : Kind) (p : Path) → Within g h → LeadsTo types g k p → LeadsTo types h k p
   path_more g h k p w e =
-      let f = found_is (kind_at g p.root) (kind_along types p.steps) k e in
-      ap (λ (o : Option Kind). found o (kind_along types p.steps)) (kind_more g h p.root f.0 w f.1) ∙ f.2
+      let f = found_is (kind_at g p.root) (kind_by types p.steps) k e in
+      ap (λ (o : Option Kind). found o (kind_by types p.steps)) (kind_more g h p.root f.0 w f.1) ∙ f.2
 
   paths_more : (g h : Typing) (k : Kind) (ps : List Path) → Within g h → AllLeadTo types g k ps → AllLeadTo types h k ps
   paths_more g h k [] w e = tt
@@ -103,8 +102,8 @@ module _ (types : List Derived) where
   -- a path from an object on another level
   pub path_kept : (n : ℕ) (g : Typing) (k : Kind) (p : Path) → IsBefore n p.root → LeadsTo types g k p → LeadsTo types (cut n g) k p
   path_kept n g k p b e =
-      let f = found_is (kind_at g p.root) (kind_along types p.steps) k e in
-      ap (λ (o : Option Kind). found o (kind_along types p.steps)) (by_root p.root f.0 b f.1) ∙ f.2
+      let f = found_is (kind_at g p.root) (kind_by types p.steps) k e in
+      ap (λ (o : Option Kind). found o (kind_by types p.steps)) (by_root p.root f.0 b f.1) ∙ f.2
     where
       by_root : (t : Root) (j : Kind) → IsBefore n t → kind_at g t ≡ Some j → kind_at (cut n g) t ≡ Some j
       by_root (Static i) j b e = e

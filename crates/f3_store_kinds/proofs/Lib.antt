@@ -1,3 +1,5 @@
+pub mod Ways
 pub mod Stores
 pub mod Leading
 pub mod Reading
+pub mod Objects

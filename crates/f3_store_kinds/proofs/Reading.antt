@@ -6,11 +6,15 @@ use Rattle.f3_meaning_whole.specs.Value.{Span, Value, Array, Values, joined, lis
 use Rattle.f3_meaning_whole.specs.Store.{Store, Path, get, put_all}
 use Rattle.f3_meaning_whole.specs.Reference.{Reach, One, Many, Reference, paths_by, paths, held_at}
 use Rattle.f3_meaning_whole.specs.Formed.{of_kind}
-use Rattle.f3_cell_kinds.specs.Holds.{IsOf}
-use Rattle.f3_store_kinds.specs.Typing.{Typing, cut, extended, IsBefore, each_kind, AreOf, AllOf, IsTyped, LeadsTo, AllLeadTo, LeadsBy, Leads, IsOrNone, AllOrNone}
-use Rattle.f3_store_kinds.specs.Laws.{PutsKeep, ChangesKeep, LevelsBegin, LevelsEnd, ReadsHold}
+use Rattle.f3_meaning_whole.specs.Ran.{World, End, Gives, Ran}
+use Rattle.f3_cell_kinds.specs.Effect.{held_kind}
+use Rattle.f3_cell_kinds.specs.Holds.{Refers, IsOf}
+use Rattle.f3_cell_kinds.proofs.Calm.{Calm, IsCalm}
+use Rattle.f3_store_kinds.specs.Typing.{Typing, cut, extended, IsBefore, each_kind, AreOf, AllOf, IsTyped, LeadsTo, AllLeadTo, LeadsBy, Leads, EachLeads, IsOrNone, AllOrNone}
+use Rattle.f3_store_kinds.specs.Laws.{PutsKeep, ChangesKeep, LevelsBegin, LevelsEnd, ReadsHold, ComponentsLead, ContentsLead, ElementsLead}
 use Rattle.f3_store_kinds.proofs.Stores.{read_is, put_is, puts_are, begun_is, ended_is}
 use Rattle.f3_store_kinds.proofs.Leading.{within_more, leads_more, path_kept}
+use Rattle.f3_store_kinds.proofs.Objects.{PartLeads, component_calm, contents_calm, picks_calm, each_calm}
 
 module _ (types : List Derived) (g : Typing) where
   -- the objects that a reference reaches
@@ -45,4 +49,20 @@ pub reads_hold : ReadsHold
 reads_hold types g store h = (
   λ k p e. read_is types g store k p h e,
   λ k p ss ps e. (joined (map (get store) ps), refl, all_read types g store (of_kind k.of 0) ps h e.1),
+)
+
+-- what is given so
+calm_end : {A : Type 0} {P : A → Type 0} {r : Ran A} {x : A} {u : World} (w : World) → Calm P w.store r → (r.from w).end ≡ Gives x u → P x
+calm_end {P = P} w h e = (subst (λ (y : End _). IsCalm P w.store y) e (h.by w refl)).0
+
+pub components_lead : ComponentsLead
+components_lead types g s k n c maker r q w u typed held at h e is = calm_end w (component_calm types g s k n c maker r w.store typed held at h.1 e) is
+
+pub contents_lead : ContentsLead
+contents_lead types g k here r q w u typed held h e is = (calm_end w (contents_calm types g k r here w.store typed held h e) is).1
+
+pub elements_lead : ElementsLead
+elements_lead types g k here r q cs w u held = (
+  λ h e is. calm_end w (picks_calm types g k r cs here w.store held r.reach refl h.1 e) is,
+  λ rank ss some h e is. calm_end w (each_calm types g k rank ss r cs here w.store held some h.1 e) is,
 )

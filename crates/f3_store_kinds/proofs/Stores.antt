@@ -7,10 +7,9 @@ use Rattle.f3_meaning_whole.specs.Value.{Value, Unallocated}
 use Rattle.f3_meaning_whole.specs.Store.{Store, Root, Static, Local, Step, Path, at_root, with_root, part, with_part, get, put, put_all}
 use Rattle.f3_meaning_whole.specs.Formed.{found}
 use Rattle.f3_cell_kinds.specs.Holds.{IsOf}
-use Rattle.f3_cell_kinds.specs.Ways.{kind_along}
 use Rattle.f3_cell_kinds.proofs.Asked.{some_same, found_is}
-use Rattle.f3_cell_kinds.proofs.Changing.{part_is, changed_is}
-use Rattle.f3_store_kinds.specs.Typing.{Typing, kind_at, cut, extended, IsBefore, AreOf, AreLevels, AllOf, IsTyped, kind_of_path, LeadsTo, AllLeadTo, IsOrNone}
+use Rattle.f3_store_kinds.proofs.Ways.{part_is, changed_is}
+use Rattle.f3_store_kinds.specs.Typing.{Typing, kind_by, kind_at, cut, extended, IsBefore, AreOf, AreLevels, AllOf, IsTyped, kind_of_path, LeadsTo, AllLeadTo, IsOrNone}
 
 module _ (types : List Derived) where
   -- ---- lists of values
@@ -63,8 +62,8 @@ module _ (types : List Derived) where
   -- ---- parts
 
   -- the kind of the root of a path, and where its way leads from there
-  pub root_of_path : (g : Typing) (p : Path) (k : Kind) → LeadsTo types g k p → (j : Kind) × (kind_at g p.root ≡ Some j) × (kind_along types p.steps j ≡ Some k)
-  root_of_path g p k e = found_is (kind_at g p.root) (kind_along types p.steps) k e
+  pub root_of_path : (g : Typing) (p : Path) (k : Kind) → LeadsTo types g k p → (j : Kind) × (kind_at g p.root ≡ Some j) × (kind_by types p.steps j ≡ Some k)
+  root_of_path g p k e = found_is (kind_at g p.root) (kind_by types p.steps) k e
 
   pub read_is : (g : Typing) (store : Store) (k : Kind) (p : Path) → IsTyped types g store → LeadsTo types g k p → IsOrNone types k (get store p)
   read_is g store k p h e =

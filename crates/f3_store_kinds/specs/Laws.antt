@@ -11,7 +11,7 @@ use Rattle.f3_meaning_whole.specs.Act.{Setting, Here, Chosen, component, compone
 use Rattle.f3_meaning_whole.specs.Formed.{of_kind, is_scalar}
 use Rattle.f3_cell_kinds.specs.Effect.{held_kind}
 use Rattle.f3_cell_kinds.specs.Holds.{IsOf, Refers}
-use Rattle.f3_store_kinds.specs.Typing.{Typing, cut, extended, IsBefore, each_kind, AreOf, AllOf, IsTyped, LeadsTo, LeadsBy, Leads, IsOrNone, AllOrNone}
+use Rattle.f3_store_kinds.specs.Typing.{Typing, cut, extended, IsBefore, each_kind, AreOf, AllOf, IsTyped, LeadsTo, LeadsBy, Leads, EachLeads, IsOrNone, AllOrNone}
 
 -- Where an object of a kind takes a value of its kind, the store is of the same kinds as before.
 abbrev pub PutsKeep : Type 0
@@ -41,3 +41,22 @@ ReadsHold = (types : List Derived) (g : Typing) (store : Store) → IsTyped type
     ((k : Kind) (p : Path) → LeadsBy types g k p One → IsOrNone types k (held_at store p One))
     × ((k : Kind) (p : Path) (ss : List Span) (ps : List Path) → LeadsBy types g k p (Many ss ps) →
     (vs : Values) × (held_at store p (Many ss ps) ≡ Array (shown ss) vs) × AllOrNone types (of_kind k.of 0) (listed vs))
+
+-- A component of what leads leads to an object of its kind: that of one object, or of each element of an array.
+abbrev pub ComponentsLead : Type 0
+ComponentsLead = (types : List Derived) (g : Typing) (s : Setting) (k : Kind) (n : ℕ) (c : Component) (maker : Maker) (r q : Reference) (w u : World) →
+    IsTyped types g w.store → k.is_allocatable ≡ false → component_of types k.of n ≡ Some c → Refers k r → Leads types g k r →
+    ((component s n maker r).from w).end ≡ Gives q u →
+    (nat_eq k.rank 0 ≡ true → Leads types g c.declared.kind q) × (nat_eq k.rank 0 ≡ false → EachLeads types g c.declared.kind q)
+
+-- So does what an allocatable holds.
+abbrev pub ContentsLead : Type 0
+ContentsLead = (types : List Derived) (g : Typing) (k : Kind) (here : Here) (r q : Reference) (w u : World) → IsTyped types g w.store →
+    k.is_allocatable ≡ true → Refers k r → Leads types g k r → ((contents r here).from w).end ≡ Gives q u → Leads types g (held_kind k) q
+
+-- Elements and sections of what leads lead to elements of its type, and so do elements of a component of each element of an array.
+abbrev pub ElementsLead : Type 0
+ElementsLead = (types : List Derived) (g : Typing) (k : Kind) (here : Here) (r q : Reference) (cs : List Chosen) (w u : World) → k.is_allocatable ≡ false →
+    (Refers k r → Leads types g k r → ((picks r r.reach cs here).from w).end ≡ Gives q u → EachLeads types g (of_kind k.of 0) q)
+    × ((rank : ℕ) (ss : List Span) → nat_eq rank 0 ≡ false → Refers (of_kind k.of rank) r → EachLeads types g k r →
+    ((picks_in_each ss r cs here).from w).end ≡ Gives q u → Leads types g (of_kind k.of rank) q)

@@ -1,2 +1,3 @@
 pub mod Typing
+pub mod Accords
 pub mod Laws

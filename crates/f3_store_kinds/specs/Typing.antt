@@ -1,13 +1,15 @@
 -- Of which kinds the objects of a store are, and where references lead.
-use Rattle.std.specs.Prelude.{⊤, ◌≡◌, ◌⊎◌, ◌<◌, ℕ, true, false, nat_lt, List, [], ◌∷◌, ◌++◌, take, Option, Some, slice_get}
+use Rattle.std.specs.Prelude.{⊤, ◌≡◌, ◌⊎◌, ◌<◌, ℕ, true, false, nat_lt, if◌then◌else◌, List, [], ◌∷◌, ◌++◌, take, Option, Some, None, slice_get}
+use Rattle.f3_program.specs.declared.declarations.Component as m
 use Rattle.f3_program.specs.declared.declarations.Derived.{Derived}
 use Rattle.f3_program.specs.declared.declarations.Kind.{Kind}
 use Rattle.f3_meaning_whole.specs.Value.{Value, Unallocated}
-use Rattle.f3_meaning_whole.specs.Store.{Store, Root, Static, Local, Path}
+use Rattle.f3_meaning_whole.specs.Store.{Store, Root, Static, Local, Path, Step, Component, Element, Contents}
 use Rattle.f3_meaning_whole.specs.Reference.{Reach, One, Many, Reference}
-use Rattle.f3_meaning_whole.specs.Formed.{found, of_kind}
+use Rattle.f3_meaning_whole.specs.Act.{component_of}
+use Rattle.f3_meaning_whole.specs.Formed.{found, of_kind, is_scalar}
+use Rattle.f3_cell_kinds.specs.Effect.{held_kind}
 use Rattle.f3_cell_kinds.specs.Holds.{IsOf}
-use Rattle.f3_cell_kinds.specs.Ways.{kind_along}
 
 -- the kinds of what lives for the whole run, and of what lives on each level
 pub record Typing : Type 0 where
@@ -37,6 +39,15 @@ abbrev pub each_kind : Kind → Reach → Kind
 each_kind k One = k
 each_kind k (Many ss ps) = of_kind k.of 0
 
+-- The kind to which a way leads from an object of a kind, by the declarations on the way, whether it is there or not. An element of what
+-- is no array is never there; its kind is told all the same.
+abbrev pub kind_by : List Derived → List Step → Kind → Option Kind
+kind_by types [] k = Some k
+kind_by types (Component n ∷ way) k =
+    if is_scalar k then found (component_of types k.of n) (λ (c : m.Component). kind_by types way c.declared.kind) else None
+kind_by types (Element n ∷ way) k = if k.is_allocatable then None else kind_by types way (of_kind k.of 0)
+kind_by types (Contents ∷ way) k = if k.is_allocatable then kind_by types way (held_kind k) else None
+
 module _ (types : List Derived) where
   -- values of kinds, one of each
   abbrev pub AreOf : List Kind → List Value → Type 0
@@ -61,7 +72,7 @@ module _ (types : List Derived) where
 
   -- the kind of what stands at a path, by its root and the declarations on the way
   abbrev pub kind_of_path : Typing → Path → Option Kind
-  kind_of_path g p = found (kind_at g p.root) (kind_along types p.steps)
+  kind_of_path g p = found (kind_at g p.root) (kind_by types p.steps)
 
   abbrev pub LeadsTo : Typing → Kind → Path → Type 0
   LeadsTo g k p = kind_of_path g p ≡ Some k
@@ -85,6 +96,14 @@ module _ (types : List Derived) where
   -- A reference leads to an object of a kind.
   abbrev pub Leads : Typing → Kind → Reference → Type 0
   Leads g k r = LeadsBy g k r.path r.reach
+
+  -- to a component of this kind of one object, or of each element of an array
+  abbrev pub EachBy : Typing → Kind → Path → Reach → Type 0
+  EachBy g k p One = LeadsTo g k p
+  EachBy g k p (Many ss ps) = IsArray g p × AllLeadTo g k ps
+
+  abbrev pub EachLeads : Typing → Kind → Reference → Type 0
+  EachLeads g k r = EachBy g k r.path r.reach
 
   -- one for each
   abbrev pub AllLead : Typing → List Kind → List Reference → Type 0

@@ -1,7 +1,7 @@
 //! Of which kinds the objects of a store are, and where references lead.
 #![tactic(auto)]
 
-ghost use Rattle.f3_store_kinds.specs.Laws.{ChangesKeep, LevelsBegin, LevelsEnd, PutsKeep, ReadsHold};
+ghost use Rattle.f3_store_kinds.specs.Laws.{ChangesKeep, ComponentsLead, ContentsLead, ElementsLead, LevelsBegin, LevelsEnd, PutsKeep, ReadsHold};
 
 /// Where an object of a kind takes a value of its kind, the store is of the same kinds as before (own rule).
 pub fn puts_keep()
@@ -26,4 +26,21 @@ pub fn levels_end()
 /// What is read at a reference is of the kind to which it leads, or there is nothing; of an array each element is so (own rule).
 pub fn reads_hold()
     ensures { ReadsHold }
+{}
+
+/// A component of what leads leads to an object of its kind: that of one object, or of each element of an array
+/// (ISO/IEC 1539-1:2004, 6.1.2; own rule).
+pub fn components_lead()
+    ensures { ComponentsLead }
+{}
+
+/// What an allocatable holds leads to an object of its type and rank (own rule).
+pub fn contents_lead()
+    ensures { ContentsLead }
+{}
+
+/// Elements and sections of what leads lead to elements of its type, and so do elements of a component of each element of an array
+/// (ISO/IEC 1539-1:2004, 6.2.2; own rule).
+pub fn elements_lead()
+    ensures { ElementsLead }
 {}
