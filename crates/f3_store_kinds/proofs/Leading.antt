@@ -7,7 +7,7 @@ use Rattle.f3_meaning_whole.specs.Store.{Root, Static, Local, Path}
 use Rattle.f3_meaning_whole.specs.Reference.{Reach, One, Many, Reference}
 use Rattle.f3_meaning_whole.specs.Formed.{found, of_kind}
 use Rattle.f3_cell_kinds.proofs.Asked.{some_same, found_is}
-use Rattle.f3_store_kinds.specs.Typing.{Typing, kind_by, kind_at, cut, extended, IsBefore, LeadsTo, AllLeadTo, IsArray, LeadsBy, Leads, AllLead}
+use Rattle.f3_store_kinds.specs.Typing.{Typing, kind_by, kind_at, cut, extended, IsBefore, LeadsTo, AllLeadTo, IsArray, LeadsBy, Leads, EachBy, EachLeads, AllLead}
 
 -- what one has on its levels, the other has there too
 pub record Within (g h : Typing) : Type 0 where
@@ -92,6 +92,13 @@ module _ (types : List Derived) where
 
   pub leads_more : (g h : Typing) (k : Kind) (r : Reference) → Within g h → Leads types g k r → Leads types h k r
   leads_more g h k r w e = by_more g h k r.path r.reach w e
+
+  each_by_more : (g h : Typing) (k : Kind) (p : Path) (reach : Reach) → Within g h → EachBy types g k p reach → EachBy types h k p reach
+  each_by_more g h k p One w e = path_more g h k p w e
+  each_by_more g h k p (Many ss ps) w e = (array_more g h p w e.0, paths_more g h k ps w e.1)
+
+  pub each_more : (g h : Typing) (k : Kind) (r : Reference) → Within g h → EachLeads types g k r → EachLeads types h k r
+  each_more g h k r w e = each_by_more g h k r.path r.reach w e
 
   pub all_more : (g h : Typing) (ks : List Kind) (rs : List Reference) → Within g h → AllLead types g ks rs → AllLead types h ks rs
   all_more g h [] [] w e = tt

@@ -3,3 +3,8 @@ pub mod Stores
 pub mod Leading
 pub mod Reading
 pub mod Objects
+pub mod After
+pub mod Still
+pub mod Taking
+pub mod Holding
+pub mod Check

@@ -63,12 +63,13 @@ module _ (types : List Derived) where
   CellsLead sites Rest g level names o [] [] = InScope types (IsNamed g level names) o × Rest g
   CellsLead sites Rest g level names o [] (To back place ∷ below) = InScope types (IsNamed g level names) o
       × CellsLead sites Rest g level names (sites back).scope (drop 1 (sites back).cells) below
+  CellsLead sites Rest g level names o [] (c ∷ below) = ⊥
+  CellsLead sites Rest g level names o (x ∷ xs) [] = ⊥
   CellsLead sites Rest g level names o (cell.Outside c ∷ xs) (state.Outside outer ∷ below) = InScope types (IsNamed g level names) o
       × CellsLead sites Rest g outer.level outer.names (Told c) xs below
   CellsLead sites Rest g level names o (cell.Level ks ∷ xs) (state.Level from rs ∷ below) = AllLead types g ks rs
       × CellsLead sites Rest (cut from g) level names o xs below
   CellsLead sites Rest g level names o (x ∷ xs) (c ∷ below) = CellLeads g x c × CellsLead sites Rest g level names o xs below
-  CellsLead sites Rest g level names o xs cs = ⊥
 
   -- each caller, where it goes on, less the value that it is given
   abbrev pub FramesLead : (sites : ℕ → Site) → Typing → List Frame → Type 0

@@ -1,3 +1,4 @@
 pub mod Typing
 pub mod Accords
+pub mod Clean
 pub mod Laws
