@@ -69,3 +69,12 @@ both_end P Q store Beyond h k = tt
 
 pub both : {A : Type 0} {P Q : A → Type 0} {store : Store} {r : Ran A} → Calm P store r → Yields Q r → Calm (λ x. P x × Q x) store r
 both {P = P} {Q = Q} {store = store} {r = r} h k = record { by = λ w e. both_end P Q store (r.from w).end (h.by w e) (k.by w) }
+
+so_end : {A : Type 0} (P Q : A → Type 0) (store : Store) (end : End A) → ((x : A) → P x → Q x) → IsCalm P store end → IsCalm Q store end
+so_end P Q store (Gives x w) f h = (f x h.0, h.1)
+so_end P Q store (Fails error place) f h = tt
+so_end P Q store (Stops code) f h = tt
+so_end P Q store Beyond f h = tt
+
+pub calm_so : {A : Type 0} {P Q : A → Type 0} {store : Store} {r : Ran A} → ((x : A) → P x → Q x) → Calm P store r → Calm Q store r
+calm_so {P = P} {Q = Q} {store = store} {r = r} f h = record { by = λ w e. so_end P Q store (r.from w).end f (h.by w e) }

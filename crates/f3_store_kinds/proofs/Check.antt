@@ -1,3 +1,5 @@
+use Rattle.f3_store_kinds.proofs.Stepping.{reach_one}
+use Rattle.f3_store_kinds.proofs.Known.{known_more}
 use Rattle.f3_store_kinds.proofs.Reading as r
 use Rattle.f3_store_kinds.proofs.Still.{Still}
 use Rattle.f3_store_kinds.proofs.Taking.{set_after}

@@ -32,6 +32,7 @@ use Rattle.f3_store_kinds.specs.Accords.{AllKnown, LevelsKnown, IsNamed, PassedL
 use Rattle.f3_store_kinds.specs.Clean.{IsPlain, ArePlain}
 use Rattle.f3_store_kinds.proofs.Leading.{Within, within_cut, within_both, path_more, leads_more, each_more, all_more}
 use Rattle.f3_store_kinds.proofs.After.{IsAfter, After}
+use Rattle.f3_store_kinds.proofs.Calling.{AllPassedLead, AllSelectedLead}
 
 append_none : {A : Type 0} (xs : List A) → xs ++ [] ≡ xs
 append_none [] = refl
@@ -54,7 +55,7 @@ module _ (types : List Derived) (sites : ℕ → Site) where
 
   -- ---- by a typing that has more
 
-  in_more : (g h : Typing) (level : ℕ) (names : List Reference) (o : Around) → Within g h → InScope types (IsNamed types g level names) o → InScope types (IsNamed types h level names) o
+  pub in_more : (g h : Typing) (level : ℕ) (names : List Reference) (o : Around) → Within g h → InScope types (IsNamed types g level names) o → InScope types (IsNamed types h level names) o
   in_more g h level names (Told c) w e = (w.levels level _ e.0, all_more types g h c.names names w e.1)
   in_more g h level names Untold w e = tt
   in_more g h level names InRoutine w e = tt
@@ -75,11 +76,11 @@ module _ (types : List Derived) (sites : ℕ → Site) where
   paths_more g h k [] w e = tt
   paths_more g h k (p ∷ ps) w e = (path_more types g h k p w e.0, paths_more g h k ps w e.1)
 
-  passed_more : (g h : Typing) (x : Given) (y : Passed) → Within g h → PassedLeads types g x y → PassedLeads types h x y
+  pub passed_more : (g h : Typing) (x : Given) (y : Passed) → Within g h → PassedLeads types g x y → PassedLeads types h x y
   passed_more g h x (meaning.Given n v) w e = tt
   passed_more g h x (meaning.Lent n r) w e = leads_more types g h x.kind r w e
 
-  selector_more : (g h : Typing) (k : Kind) (a : Association) → Within g h → SelectorLeads types g k a → SelectorLeads types h k a
+  pub selector_more : (g h : Typing) (k : Kind) (a : Association) → Within g h → SelectorLeads types g k a → SelectorLeads types h k a
   selector_more g h k (Holds of v) w e = e
   selector_more g h k (Means r) w e = leads_more types g h k r w e
 
@@ -91,6 +92,16 @@ module _ (types : List Derived) (sites : ℕ → Site) where
   cell_more g h (cell.Objects ks) (state.Objects rs) w e = all_more types g h ks rs w e
   cell_more g h (cell.Selector k) (state.Selector a) w e = selector_more g h k a w e
   cell_more g h x c w e = e
+
+  pub all_passed_more : (g h : Typing) (xs : List Given) (ys : List Passed) → Within g h → AllPassedLead types g xs ys → AllPassedLead types h xs ys
+  all_passed_more g h [] ys w e = tt
+  all_passed_more g h (x ∷ xs) [] w e = tt
+  all_passed_more g h (x ∷ xs) (y ∷ ys) w e = (passed_more g h x y w e.0, all_passed_more g h xs ys w e.1)
+
+  pub all_selected_more : (g h : Typing) (xs : List Kind) (ys : List Association) → Within g h → AllSelectedLead types g xs ys → AllSelectedLead types h xs ys
+  all_selected_more g h [] ys w e = tt
+  all_selected_more g h (x ∷ xs) [] w e = tt
+  all_selected_more g h (x ∷ xs) (y ∷ ys) w e = (selector_more g h x y w e.0, all_selected_more g h xs ys w e.1)
 
   -- what is beneath the cells of an activation holds by more too
   abbrev pub Keeping : (Typing → Type 0) → Type 0
@@ -312,14 +323,8 @@ module _ (p : Program) (sites : ℕ → Site) where
         at_extents n many (x ∷ ss) stack (let m : suc n + length ss ≡ many = e in omega arith) (record { by = t.1; leads = u.1 }) k
     at_extents (suc n) many ss (c ∷ stack) e s k = stays_so
 
-    -- those that are passed lead
-    abbrev pub AllPassedLead : List Given → List Passed → Type 0
-    AllPassedLead [] ps = Unit {0}
-    AllPassedLead (x ∷ xs) [] = Unit {0}
-    AllPassedLead (x ∷ xs) (y ∷ ys) = PassedLeads types g x y × AllPassedLead xs ys
-
     arguments_from : (f : List Passed → List Cell → Next) (gs : List Given) (h : List CellType) (j : ℕ) (xs : List Passed) (stack : List Cell) → Has (arguments_on gs h) stack →
-        ((ps : List Passed) (st : List Cell) → AllPassed types gs ps → AllPassedLead gs ps → Has h st → Keeps (on_many argument_of j (ps ++ xs) st f)) →
+        ((ps : List Passed) (st : List Cell) → AllPassed types gs ps → AllPassedLead types g gs ps → Has h st → Keeps (on_many argument_of j (ps ++ xs) st f)) →
         Keeps (on_many argument_of (length gs + j) xs stack f)
     arguments_from f [] h j xs stack s k =
         let e : j ≡ 0 + j = omega arith in
@@ -329,13 +334,13 @@ module _ (p : Program) (sites : ℕ → Site) where
         subst (λ n. Keeps (on_many argument_of n xs stack f)) e
         (arguments_from f gs (cell.Argument y ∷ h) (suc j) xs stack s (λ ps st are lead c. one ps st are lead c))
       where
-        one : (ps : List Passed) (st : List Cell) → AllPassed types gs ps → AllPassedLead gs ps → Has (cell.Argument y ∷ h) st → Keeps (on_many argument_of (suc j) (ps ++ xs) st f)
+        one : (ps : List Passed) (st : List Cell) → AllPassed types gs ps → AllPassedLead types g gs ps → Has (cell.Argument y ∷ h) st → Keeps (on_many argument_of (suc j) (ps ++ xs) st f)
         one ps [] are lead c = absurd c.by
         one ps (state.Argument z ∷ st) are lead c = k (z ∷ ps) st (c.by.0, are) (c.leads.0, lead) (record { by = c.by.1; leads = c.leads.1 })
         one ps (z ∷ st) are lead c = stays_so
 
     pub at_arguments : {f : List Passed → List Cell → Next} {rest : List CellType} (gs : List Given) (n : ℕ) (stack : List Cell) → length gs ≡ n → Has (arguments_on gs [] ++ rest) stack →
-        ((ps : List Passed) (st : List Cell) → AllPassed types gs ps → AllPassedLead gs ps → Has rest st → Keeps (f ps st)) → Keeps (on_many argument_of n [] stack f)
+        ((ps : List Passed) (st : List Cell) → AllPassed types gs ps → AllPassedLead types g gs ps → Has rest st → Keeps (f ps st)) → Keeps (on_many argument_of n [] stack f)
     at_arguments {f = f} {rest = rest} gs n stack many s k =
         let e : length gs + 0 ≡ n = omega (arith, many) in
         subst (λ n. Keeps (on_many argument_of n [] stack f)) e
@@ -365,13 +370,8 @@ module _ (p : Program) (sites : ℕ → Site) where
         subst (λ n. Keeps (on_many choice_of n [] stack f)) e
         (choices_from f bs h 0 [] stack s (λ ps st are c. subst (λ l. Keeps (f l st)) (sym (append_none ps)) (k ps st are c)))
 
-    abbrev pub AllSelectedLead : List Kind → List Association → Type 0
-    AllSelectedLead [] ps = Unit {0}
-    AllSelectedLead (x ∷ xs) [] = Unit {0}
-    AllSelectedLead (x ∷ xs) (y ∷ ys) = SelectorLeads types g x y × AllSelectedLead xs ys
-
     selectors_from : (f : List Association → List Cell → Next) (ks : List Kind) (h : List CellType) (j : ℕ) (xs : List Association) (stack : List Cell) → Has (selectors_on ks h) stack →
-        ((ps : List Association) (st : List Cell) → AllSelected types ks ps → AllSelectedLead ks ps → Has h st → Keeps (on_many selector_of j (ps ++ xs) st f)) →
+        ((ps : List Association) (st : List Cell) → AllSelected types ks ps → AllSelectedLead types g ks ps → Has h st → Keeps (on_many selector_of j (ps ++ xs) st f)) →
         Keeps (on_many selector_of (length ks + j) xs stack f)
     selectors_from f [] h j xs stack s k =
         let e : j ≡ 0 + j = omega arith in
@@ -381,13 +381,13 @@ module _ (p : Program) (sites : ℕ → Site) where
         subst (λ n. Keeps (on_many selector_of n xs stack f)) e
         (selectors_from f ks (cell.Selector y ∷ h) (suc j) xs stack s (λ ps st are lead c. one ps st are lead c))
       where
-        one : (ps : List Association) (st : List Cell) → AllSelected types ks ps → AllSelectedLead ks ps → Has (cell.Selector y ∷ h) st → Keeps (on_many selector_of (suc j) (ps ++ xs) st f)
+        one : (ps : List Association) (st : List Cell) → AllSelected types ks ps → AllSelectedLead types g ks ps → Has (cell.Selector y ∷ h) st → Keeps (on_many selector_of (suc j) (ps ++ xs) st f)
         one ps [] are lead c = absurd c.by
         one ps (state.Selector z ∷ st) are lead c = k (z ∷ ps) st (c.by.0, are) (c.leads.0, lead) (record { by = c.by.1; leads = c.leads.1 })
         one ps (z ∷ st) are lead c = stays_so
 
     pub at_selectors : {f : List Association → List Cell → Next} {rest : List CellType} (ks : List Kind) (n : ℕ) (stack : List Cell) → length ks ≡ n → Has (selectors_on ks [] ++ rest) stack →
-        ((ps : List Association) (st : List Cell) → AllSelected types ks ps → AllSelectedLead ks ps → Has rest st → Keeps (f ps st)) → Keeps (on_many selector_of n [] stack f)
+        ((ps : List Association) (st : List Cell) → AllSelected types ks ps → AllSelectedLead types g ks ps → Has rest st → Keeps (f ps st)) → Keeps (on_many selector_of n [] stack f)
     at_selectors {f = f} {rest = rest} ks n stack many s k =
         let e : length ks + 0 ≡ n = omega (arith, many) in
         subst (λ n. Keeps (on_many selector_of n [] stack f)) e

@@ -67,6 +67,34 @@ cut_more n g kss e =
     ap (λ (m : ℕ). cut m (record { statics = g.statics; levels = g.levels ++ kss })) e
     ∙ ap (λ (l : List (List Kind)). record { statics = g.statics; levels = l }) (take_front g.levels kss)
 
+take_both : {A : Type 0} (xs ys zs : List A) → take (length xs) ((xs ++ ys) ++ zs) ≡ xs
+take_both [] ys zs = refl
+take_both (x ∷ xs) ys zs = ap (λ l. x ∷ l) (take_both xs ys zs)
+
+-- two levels that begin and end
+pub cut_two : (n : ℕ) (g : Typing) (ks js : List Kind) → n ≡ length g.levels → cut n (extended (extended g ks) js) ≡ g
+cut_two n g ks js e =
+    ap (λ (m : ℕ). cut m (extended (extended g ks) js)) e
+    ∙ ap (λ (l : List (List Kind)). record { statics = g.statics; levels = l }) (take_both g.levels (ks ∷ []) (js ∷ []))
+
+get_first : {A : Type 0} (xs : List A) (y z : A) → slice_get ((xs ++ y ∷ []) ++ z ∷ []) (length xs) ≡ Some y
+get_first [] y z = refl
+get_first (x ∷ xs) y z = get_first xs y z
+
+get_second : {A : Type 0} (xs : List A) (y z : A) → slice_get ((xs ++ y ∷ []) ++ z ∷ []) (suc (length xs)) ≡ Some z
+get_second [] y z = refl
+get_second (x ∷ xs) y z = get_second xs y z
+
+-- the levels of values that are held, and of variables
+pub held_level : (n : ℕ) (g : Typing) (ks js : List Kind) → n ≡ length g.levels → slice_get (extended (extended g ks) js).levels n ≡ Some ks
+held_level n g ks js e = ap (λ m. slice_get (extended (extended g ks) js).levels m) e ∙ get_first g.levels ks js
+
+pub variables_level : (n : ℕ) (g : Typing) (ks js : List Kind) → n ≡ length g.levels → slice_get (extended (extended g ks) js).levels (suc n) ≡ Some js
+variables_level n g ks js e = ap (λ m. slice_get (extended (extended g ks) js).levels (suc m)) e ∙ get_second g.levels ks js
+
+pub last_level : (n : ℕ) (g : Typing) (ks : List Kind) → n ≡ length g.levels → slice_get (extended g ks).levels n ≡ Some ks
+last_level n g ks e = ap (λ m. slice_get (extended g ks).levels m) e ∙ get_behind g.levels ks []
+
 module _ (types : List Derived) where
   kind_more : (g h : Typing) (t : Root) (k : Kind) → Within g h → kind_at g t ≡ Some k → kind_at h t ≡ Some k
   kind_more g h (Static i) k w e = ap (λ (ks : List Kind). slice_get ks i) w.statics ∙ e

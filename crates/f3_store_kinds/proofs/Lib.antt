@@ -7,4 +7,7 @@ pub mod After
 pub mod Still
 pub mod Taking
 pub mod Holding
+pub mod Calling
+pub mod Known
+pub mod Stepping
 pub mod Check

@@ -1,5 +1,5 @@
 -- References to which statements come lead to objects of kinds.
-use Rattle.std.proofs.Common.{◌≡◌, ◌∙◌, sym, ap, ℕ, zero, suc, Bool, true, false, ◌&&◌, ◌||◌, not, List, [], ◌∷◌, ◌++◌, map, Option, Some, None, refl, subst, if◌then◌else◌, ◌⊎◌, inl, inr}
+use Rattle.std.proofs.Common.{◌≡◌, ◌∙◌, sym, ap, ℕ, zero, suc, Bool, true, false, ◌&&◌, ◌||◌, not, List, [], ◌∷◌, ◌++◌, map, length, Option, Some, None, refl, subst, if◌then◌else◌, ◌⊎◌, inl, inr}
 use Rattle.std.specs.Prelude.{nat_eq, nat_lt, slice_get, slice_index_or}
 use Rattle.std.proofs.lemmas.Bool.{eqb-true}
 use Rattle.f3_program.specs.declared.declarations.Base.{Base}
@@ -7,21 +7,36 @@ use Rattle.f3_program.specs.declared.declarations.Component as m
 use Rattle.f3_program.specs.declared.declarations.Derived.{Derived}
 use Rattle.f3_program.specs.declared.declarations.Kind.{Kind}
 use Rattle.f3_meaning_whole.specs.Value.{Span, Value, Number, Truth, Composite, Array, Unallocated, Allocated, Values, none, more}
-use Rattle.f3_meaning_whole.specs.Store.{Store, Root, Step, Component, Element, Contents, Path, within, get}
-use Rattle.f3_meaning_whole.specs.Reference.{Reach, One, Many, Reference, Maker, elements_from, reach_of, is_pinned}
+use Rattle.f3_meaning_whole.specs.Store as stores
+use Rattle.f3_program.specs.declared.declarations.Declared.{Declared}
+use Rattle.f3_program.specs.declared.expression.Name.{Name}
+use Rattle.f3_program.specs.declared.expression.Name.TheVariants as name
+use Rattle.f3_program.specs.declared.program.Program.{Program}
+use Rattle.f3_program.specs.declared.program.Static.{Static}
+use Rattle.f3_meaning_whole.specs.Store.{Store, Root, Local, Step, Component, Element, Contents, Path, within, get}
+use Rattle.f3_meaning_whole.specs.Reference.{Reach, One, Many, Reference, Maker, elements_from, reach_of, is_pinned, paths_by, paths}
 use Rattle.f3_meaning_whole.specs.Ran.{Ran, ◌>>=◌, gives, fails, looks}
 use Rattle.f3_meaning_whole.specs.declared.run_error.RunError.TheVariants.{InUse}
-use Rattle.f3_meaning_whole.specs.Act.{Setting, Here, Chosen, component, component_of, component_reach, component_path, contents, contents_by, opened, moved, added, elements_at, first_of, picked, picks, picks_in_each, in_each, places, some_zero_step, all_inside, places_in, spans_in}
-use Rattle.f3_meaning_whole.specs.Formed.{found, of_kind, is_scalar}
-use Rattle.f3_code.specs.Machine.{opens}
-use Rattle.f3_cell_kinds.specs.Effect.{held_kind}
+use Rattle.f3_meaning_whole.specs.Act.{Setting, Here, named, whole, Chosen, component, component_of, component_reach, component_path, contents, contents_by, opened, moved, added, elements_at, first_of, picked, picks, picks_in_each, in_each, places, some_zero_step, all_inside, places_in, spans_in}
+use Rattle.f3_meaning_whole.specs.Formed.{found, only, of_kind, is_scalar, kind_of_name, sectioned, count_ranges}
+use Rattle.f3_code.specs.Machine.{opens, selects}
+use Rattle.f3_cell_kinds.specs.Effect.{held_kind, part_kind}
 use Rattle.f3_cell_kinds.specs.Holds.{Reaches, Refers, IsOf}
-use Rattle.f3_cell_kinds.proofs.Asked.{some_same, found_is, kind_same}
+use Rattle.f3_cell_kinds.proofs.Asked.{some_same, found_is, only_is, and_is, not_is, truth_same, kind_same}
+use Rattle.f3_cell_kinds.proofs.Picking.{AllChosen, picks_yields}
+use Rattle.f3_cell_kinds.specs.Types.{Scope}
 use Rattle.f3_cell_kinds.proofs.Scalars.{no_rank, no_both}
 use Rattle.f3_cell_kinds.proofs.Reaching.{reach_is}
 use Rattle.f3_cell_kinds.proofs.Calm.{Calm, gives_calm, fails_calm, looks_calm, bind_calm, if_calm}
 use Rattle.f3_store_kinds.specs.Typing.{Typing, kind_at, kind_by, IsTyped, LeadsTo, AllLeadTo, IsArray, LeadsBy, Leads, EachBy, EachLeads, AllLead, IsOrNone}
+use Rattle.f3_store_kinds.specs.Accords.{IsNamed}
 use Rattle.f3_store_kinds.proofs.Stores.{read_is}
+use Rattle.f3_store_kinds.proofs.After.{both, calm_so}
+
+get_map : {A B : Type 0} (f : A → B) (xs : List A) (n : ℕ) (x : A) → slice_get xs n ≡ Some x → slice_get (map f xs) n ≡ Some (f x)
+get_map f [] n x e = cc
+get_map f (y ∷ xs) zero x e = let same : y ≡ x = cc in ap (λ z. Some (f z)) same
+get_map f (y ∷ xs) (suc n) x e = get_map f xs n x e
 
 module _ (types : List Derived) where
   -- ---- one step more
@@ -98,13 +113,17 @@ module _ (types : List Derived) where
 
     -- ---- components
 
+    abbrev pub IsMany : Reach → Type 0
+    IsMany One = ⊥
+    IsMany (Many ss ps) = Unit {0}
+
     abbrev pub PartLeads : Kind → Kind → Reference → Type 0
-    PartLeads k c q = (nat_eq k.rank 0 ≡ true → Leads types g c q) × (nat_eq k.rank 0 ≡ false → EachLeads types g c q)
+    PartLeads k c q = (nat_eq k.rank 0 ≡ true → Leads types g c q) × (nat_eq k.rank 0 ≡ false → EachLeads types g c q × IsMany q.reach)
 
     part_leads : (k : Kind) (n : ℕ) (c : m.Component) (p : Path) (reach : Reach) (store : Store) → IsTyped types g store → k.is_allocatable ≡ false →
         component_of types k.of n ≡ Some c → Reaches k reach → LeadsBy types g k p reach →
         (nat_eq k.rank 0 ≡ true → LeadsBy types g c.declared.kind (component_path reach p n) (component_reach reach p n store))
-        × (nat_eq k.rank 0 ≡ false → EachBy types g c.declared.kind (component_path reach p n) (component_reach reach p n store))
+        × (nat_eq k.rank 0 ≡ false → EachBy types g c.declared.kind (component_path reach p n) (component_reach reach p n store) × IsMany (component_reach reach p n store))
     part_leads k n c p One store typed held at h e =
         let one = one_rank k held h in
         let scalar : is_scalar k ≡ true = ap (λ (b : Bool). not b && nat_eq k.rank 0) held ∙ one in
@@ -113,7 +132,7 @@ module _ (types : List Derived) where
         λ t. absurd (no_both (nat_eq k.rank 0) one t))
     part_leads k n c p (Many ss ps) store typed held at h e = (
       (λ t. absurd (no_rank k.rank t h.1)),
-      λ t. (e.0, components_lead (of_kind k.of 0) n c ps refl at e.1),
+      λ t. ((e.0, components_lead (of_kind k.of 0) n c ps refl at e.1), tt),
     )
 
     pub component_calm : (w : Setting) (k : Kind) (n : ℕ) (c : m.Component) (maker : Maker) (r : Reference) (store : Store) → IsTyped types g store → k.is_allocatable ≡ false →
@@ -203,17 +222,79 @@ module _ (types : List Derived) where
         bind_calm (places_calm ss cs here store) (λ ns t. gives_calm _ (in_each_leads k rank r.path r.reach ns held some h e))
 
     -- a component that is no array, of each element of one
-    pub each_scalar : (k : Kind) (rank : ℕ) (p : Path) (reach : Reach) → is_scalar k ≡ true → nat_eq rank 0 ≡ false → Reaches (of_kind k.of rank) reach → EachBy types g k p reach →
-        LeadsBy types g (of_kind k.of rank) p reach
-    each_scalar k rank p One one some h e = absurd (no_both (nat_eq rank 0) h some)
-    each_scalar k rank p (Many ss ps) one some h e = (e.0, subst (λ (z : Kind). AllLeadTo types g z ps) (scalar_of k one) e.1)
-      where
-        scalar_of : (k : Kind) → is_scalar k ≡ true → k ≡ of_kind k.of 0
-        scalar_of k one = scalar_is k (first k.is_allocatable (nat_eq k.rank 0) one) (second k.is_allocatable (nat_eq k.rank 0) one)
-          where
-            first : (a b : Bool) → (not a && b) ≡ true → a ≡ false
-            first true b e = cc
-            first false b e = refl
-            second : (a b : Bool) → (not a && b) ≡ true → b ≡ true
-            second true b e = cc
-            second false b e = e
+    each_scalar : (k : Kind) (rank : ℕ) (p : Path) (reach : Reach) → is_scalar k ≡ true → IsMany reach → EachBy types g k p reach → LeadsBy types g (of_kind k.of rank) p reach
+    each_scalar k rank p One one some e = absurd some
+    each_scalar k rank p (Many ss ps) one some e = (e.0, subst (λ (z : Kind). AllLeadTo types g z ps) (scalar_is k (not_is _ (and_is _ _ one).0) (and_is _ _ one).1) e.1)
+
+    part_kind_by : (b : Bool) (k c j : Kind) (q : Reference) → nat_eq k.rank 0 ≡ b → (if b then Some c else only (is_scalar c) (of_kind c.of k.rank)) ≡ Some j → PartLeads k c q →
+        Leads types g j q
+    part_kind_by true k c j q one e h = subst (λ (z : Kind). Leads types g z q) (some_same e) (h.0 one)
+    part_kind_by false k c j q one e h =
+        let a = only_is _ _ j e in let f = h.1 one in
+        subst (λ (z : Kind). Leads types g z q) a.1 (each_scalar c k.rank q.path q.reach a.0 f.1 f.0)
+
+    pub part_kind_leads : (k c j : Kind) (q : Reference) → part_kind k c ≡ Some j → PartLeads k c q → Leads types g j q
+    part_kind_leads k c j q e h = part_kind_by (nat_eq k.rank 0) k c j q refl e h
+
+    -- elements of what is an array, or of what an allocatable holds
+    section_calm : (k : Kind) (r : Reference) (bs : List Bool) (cs : List Chosen) (here : Here) (store : Store) → k.is_allocatable ≡ false → length bs ≡ k.rank → nat_lt 0 k.rank ≡ true →
+        AllChosen bs cs → Refers k r → Leads types g k r → Calm (Leads types g (of_kind k.of (count_ranges bs))) store (picks r r.reach cs here)
+    section_calm k r bs cs here store held rank some are h e =
+        calm_so (λ q f. each_is k.of (count_ranges bs) q.path q.reach f.1.1 f.0)
+        (both (picks_calm k r cs here store held r.reach refl h.1 e) (picks_yields k r bs cs here held rank some are h.0 r.reach h.1))
+
+    selects_by : (is_opened : Bool) (k : Kind) (bs : List Bool) (cs : List Chosen) (r : Reference) (here : Here) (store : Store) → IsTyped types g store → is_opened ≡ k.is_allocatable →
+        length bs ≡ k.rank → nat_lt 0 k.rank ≡ true → AllChosen bs cs → Refers k r → Leads types g k r → Calm (Leads types g (of_kind k.of (count_ranges bs))) store (selects is_opened cs r here)
+    selects_by true k bs cs r here store typed held rank some are h e =
+        bind_calm (contents_calm k r here store typed (sym held) h e) (λ q f. section_calm (held_kind k) q bs cs here store refl rank some are f.0 f.1)
+    selects_by false k bs cs r here store typed held rank some are h e =
+        bind_calm {Q = λ q. Refers k q × Leads types g k q} (gives_calm r (h, e)) (λ q f. section_calm k q bs cs here store (sym held) rank some are f.0 f.1)
+
+    pub selects_calm : (p : Program) (is_opened : Bool) (k j : Kind) (bs : List Bool) (cs : List Chosen) (r : Reference) (here : Here) (store : Store) → IsTyped types g store →
+        sectioned p [] [] is_opened (Some bs) k ≡ Some j → AllChosen bs cs → Refers k r → Leads types g k r → Calm (Leads types g j) store (selects is_opened cs r here)
+    selects_calm p is_opened k j bs cs r here store typed e are h f =
+        let a = only_is _ _ j e in let b = and_is _ _ a.0 in let c = and_is _ _ b.1 in
+        subst (λ (z : Kind). Calm (Leads types g z) store (selects is_opened cs r here)) a.1
+        (selects_by is_opened k bs cs r here store typed (truth_same _ _ b.0) (eqb-true _ _ c.0) c.1 are h f)
+
+    -- ---- names
+
+    leads_at : (ks : List Kind) (rs : List Reference) (n : ℕ) (k : Kind) (q : Reference) → AllLead types g ks rs → slice_get ks n ≡ Some k → Leads types g k (slice_index_or rs n q)
+    leads_at [] rs n k q h e = cc
+    leads_at (j ∷ ks) [] n k q h e = absurd h
+    leads_at (j ∷ ks) (r ∷ rs) zero k q h e = let same : j ≡ k = cc in subst (λ (z : Kind). Leads types g z r) same h.0
+    leads_at (j ∷ ks) (r ∷ rs) (suc n) k q h e = leads_at ks rs n k q h.1 e
+
+    root_leads : (t : Root) (k : Kind) (store : Store) → IsTyped types g store → kind_at g t ≡ Some k → LeadsBy types g k (whole t) (reach_of (whole t) (get store (whole t)))
+    root_leads t k store typed e =
+        let to : LeadsTo types g k (whole t) = ap (λ (o : Option Kind). found o (kind_by types [])) e in
+        reach_leads k (whole t) (get store (whole t)) to (read_is types g store k (whole t) typed to)
+
+    pub named_calm : (w : Setting) (p : Program) (c : Scope) (x : Name) (here : Here) (k : Kind) (store : Store) → IsTyped types g store →
+        g.statics ≡ map (λ (y : Static). y.declared.kind) p.statics.items → IsNamed types g here.level here.names c → kind_of_name p c.variables c.names x ≡ Some k →
+        Calm (Leads types g k) store (named w x here)
+    named_calm w p c (name.Static n) here k store typed same known e =
+        let f = found_is (slice_get p.statics.items n) _ k e in
+        looks_calm _ (root_leads (stores.Static n) k store typed (ap (λ (ks : List Kind). slice_get ks n) same ∙ get_map (λ (y : Static). y.declared.kind) p.statics.items n f.0 f.1 ∙ f.2))
+    named_calm w p c (name.Local n) here k store typed same known e =
+        let f = found_is (slice_get c.variables n) _ k e in
+        looks_calm _ (root_leads (Local here.level n) k store typed
+        (ap (λ (o : Option (List Kind)). found o (λ (ks : List Kind). slice_get ks n)) known.0 ∙ get_map (λ (y : Declared). y.kind) c.variables n f.0 f.1 ∙ f.2))
+    named_calm w p c (name.Lent n) here k store typed same known e = gives_calm _ (leads_at c.names here.names n k _ known.1 e)
+
+    -- ---- elements
+
+    walk_by : (k : Kind) (p : Path) (reach : Reach) → k.is_allocatable ≡ false → Reaches k reach → LeadsBy types g k p reach → AllLeadTo types g (of_kind k.of 0) (paths_by p reach)
+    walk_by k p One held h e = (subst (λ (z : Kind). LeadsTo types g z p) (scalar_is k held (one_rank k held h)) e, tt)
+    walk_by k p (Many ss ps) held h e = e.1
+
+    pub walk_leads : (k : Kind) (r : Reference) → k.is_allocatable ≡ false → Reaches k r.reach → Leads types g k r → AllLeadTo types g (of_kind k.of 0) (paths r)
+    walk_leads k r held h e = walk_by k r.path r.reach held h e
+
+    one_by : (k : Kind) (p : Path) (reach : Reach) → k.is_allocatable ≡ true → Reaches k reach → LeadsBy types g k p reach → LeadsTo types g k p
+    one_by k p One held h e = e
+    one_by k p (Many ss ps) held h e = absurd (no_both k.is_allocatable held h.0)
+
+    -- an allocatable is one object
+    pub one_leads : (k : Kind) (r : Reference) → k.is_allocatable ≡ true → Reaches k r.reach → Leads types g k r → LeadsTo types g k r.path
+    one_leads k r held h e = one_by k r.path r.reach held h e

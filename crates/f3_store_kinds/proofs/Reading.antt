@@ -56,7 +56,8 @@ calm_end : {A : Type 0} {P : A → Type 0} {r : Ran A} {x : A} {u : World} (w : 
 calm_end {P = P} w h e = (subst (λ (y : End _). IsCalm P w.store y) e (h.by w refl)).0
 
 pub components_lead : ComponentsLead
-components_lead types g s k n c maker r q w u typed held at h e is = calm_end w (component_calm types g s k n c maker r w.store typed held at h.1 e) is
+components_lead types g s k n c maker r q w u typed held at h e is =
+    let f = calm_end w (component_calm types g s k n c maker r w.store typed held at h.1 e) is in (f.0, λ t. (f.1 t).0)
 
 pub contents_lead : ContentsLead
 contents_lead types g k here r q w u typed held h e is = (calm_end w (contents_calm types g k r here w.store typed held h e) is).1

@@ -14,12 +14,12 @@ use Rattle.f3_meaning_whole.specs.Store.{Store, get}
 use Rattle.f3_meaning_whole.specs.Reference.{Reference, held_at}
 use Rattle.f3_meaning_whole.specs.declared.run_error.RunError.{RunError}
 use Rattle.f3_meaning_whole.specs.declared.run_error.RunError.TheVariants.{StepIsZero}
-use Rattle.f3_meaning_whole.specs.Ran.{Event, Printed, World, Ran, ◌>>=◌, gives, fails, looks, asks, does, prints_bytes, each, replayed}
+use Rattle.f3_meaning_whole.specs.Ran.{Event, Printed, Asked, World, Ran, ◌>>=◌, gives, fails, looks, asks, does, prints_bytes, each, replayed}
 use Rattle.f3_meaning_whole.specs.Arithmetic.{converted, value_fits, divided, is_zero, power, apply, change_of}
 use Rattle.f3_meaning_whole.specs.Shape.{Parts, nothing, and, spans_declared}
 use Rattle.f3_meaning_whole.specs.Act.{Here, Passed, Given, Lent, claim, claim_for, read, begins, fitted, fitted_contents, fitted_argument, structure, passed_at}
 use Rattle.f3_meaning_whole.specs.Eval.{result, built, asked}
-use Rattle.f3_meaning_whole.specs.Exec.{text_of, print_value, unless_zero}
+use Rattle.f3_meaning_whole.specs.Exec.{text_of, print_value, request, unless_zero}
 use Rattle.f3_code.specs.Machine.{checked, tested}
 use Rattle.f3_cell_kinds.proofs.Calm.{Calm, gives_calm, fails_calm, looks_calm, bind_calm, if_calm, claim_for_calm}
 
@@ -41,7 +41,7 @@ module _ (store : Store) where
   unfolding asks
   asks_still = record { by = λ w e. (tt, e) }
 
-  then_still : {A B : Type 0} {m : Ran A} {f : A → Ran B} → Still store m → ((x : A) → Still store (f x)) → Still store (m >>= f)
+  pub then_still : {A B : Type 0} {m : Ran A} {f : A → Ran B} → Still store m → ((x : A) → Still store (f x)) → Still store (m >>= f)
   then_still h k = bind_calm h (λ x t. k x)
 
   if_still : {A : Type 0} (b : Bool) {x y : Ran A} → Still store x → Still store y → Still store (if b then x else y)
@@ -152,6 +152,13 @@ module _ (store : Store) where
 
   pub tested_still : (b : Bool) (error : RunError) (here : Here) → Still store (tested b error here)
   tested_still b error here = if_still b (gives_still tt) (fails_still error here.place)
+
+  refused_still : (b : Bool) → Still store (does (λ store. Asked b ∷ []))
+  unfolding does
+  refused_still b = record { by = λ w e. (tt, e) }
+
+  pub request_still : Still store request
+  request_still = then_still asks_still (λ b. then_still (refused_still b) (λ done. gives_still b))
 
   pub begins_still : (here : Here) → Still store (begins here)
   unfolding does

@@ -1,7 +1,7 @@
 -- Values that objects take.
-use Rattle.std.proofs.Common.{◌≡◌, ◌∙◌, sym, ap, ℕ, zero, suc, ◌*◌, ℤ, pos, Bool, true, false, ◌&&◌, ◌||◌, not, List, [], ◌∷◌, map, length, Option, Some, None, refl, subst, if◌then◌else◌, arith}
-use Rattle.std.specs.Prelude.{nat_eq, nat_lt, replicate}
-use Rattle.std.proofs.lemmas.Bool.{eqb-true, lt-ltb}
+use Rattle.std.proofs.Common.{◌≡◌, ◌∙◌, sym, ap, ℕ, zero, suc, ◌*◌, ℤ, pos, Bool, true, false, ◌&&◌, ◌||◌, not, List, [], ◌∷◌, map, length, Option, Some, None, ◌^◌, ◌<◌, negsuc, refl, subst, if◌then◌else◌, arith}
+use Rattle.std.specs.Prelude.{nat_eq, nat_lt, replicate, slice_get}
+use Rattle.std.proofs.lemmas.Bool.{eqb-true, ltb-true, lt-ltb}
 use Rattle.std.proofs.lemmas.List.{length-replicate}
 use Rattle.f3_places.specs.declared.source.Place.{Place}
 use Rattle.f3_program.specs.declared.declarations.Base.{Base}
@@ -15,9 +15,12 @@ use Rattle.f3_meaning_whole.specs.Reference.{Reach, One, Many, Reference, paths,
 use Rattle.f3_meaning_whole.specs.declared.run_error.RunError.{RunError}
 use Rattle.f3_meaning_whole.specs.declared.run_error.RunError.TheVariants.{Overflow, DivisionByZero, SubscriptOutOfBounds, NotAllocated, AlreadyAllocated, HeapHasNoRoom, ShapesDiffer, StepIsZero, InUse, CallsTooDeep, ArrayTooLarge}
 use Rattle.f3_meaning_whole.specs.Arithmetic.{fits, converted, value_fits}
-use Rattle.f3_meaning_whole.specs.Act.{Here, set, clear, enter, leave}
+use Rattle.f3_meaning_whole.specs.Act.{Here, set, clear, enter, leave, derived_of}
+use Rattle.f3_meaning_whole.specs.Permitted.{same_type}
+use Rattle.f3_meaning_whole.specs.Shape as Shape
+use Rattle.f3_meaning_whole.specs.Shape.{Shape, Whole, Logical, initial_of}
 use Rattle.f3_meaning_whole.specs.Exec.{vacant, status_number}
-use Rattle.f3_meaning_whole.specs.Formed.{alike, of_kind, is_scalar, is_number, is_whole_number}
+use Rattle.f3_meaning_whole.specs.Formed.{alike, is_before, of_kind, is_scalar, is_number, is_whole_number}
 use Rattle.f3_cell_kinds.specs.Effect.{held_kind}
 use Rattle.f3_cell_kinds.specs.Holds.{Reaches, IsOf, AreComponents, AreElements}
 use Rattle.f3_cell_kinds.proofs.Asked.{and_is, not_is, kind_same}
@@ -148,9 +151,71 @@ module _ (types : List Derived) where
 
   -- ---- types of values
 
-  -- a type of which there is a value, or of whose elements there is one
-  abbrev IsType : Base → Type 0
-  IsType of = (v : Value) × IsOf types (of_kind of 0) v
+  number_known : (n : ℕ) (of : Base) → is_number of ≡ true → is_before n of ≡ true
+  number_known n base.Integer e = refl
+  number_known n base.Long e = refl
+  number_known n base.Logical e = refl
+  number_known n (base.Derived t) e = cc
+
+  truth_known : (n : ℕ) (of : Base) → same_type of base.Logical ≡ true → is_before n of ≡ true
+  truth_known n base.Integer e = refl
+  truth_known n base.Long e = refl
+  truth_known n base.Logical e = refl
+  truth_known n (base.Derived t) e = cc
+
+  get_less : {A : Type 0} (xs : List A) (n : ℕ) (y : A) → slice_get xs n ≡ Some y → n < length xs
+  get_less [] n y e = cc
+  get_less (x ∷ xs) zero y e = omega arith
+  get_less (x ∷ xs) (suc n) y e = let h = get_less xs n y e in omega (arith, h)
+
+  derived_known : (of : Base) (y : Derived) → derived_of types of ≡ Some y → is_before (length types) of ≡ true
+  derived_known base.Integer y e = refl
+  derived_known base.Long y e = refl
+  derived_known base.Logical y e = refl
+  derived_known (base.Derived t) y e = lt-ltb t (length types) (get_less types t y e)
+
+  -- a type of which there is a scalar
+  type_known : (of : Base) (v : Value) → IsOf types (of_kind of 0) v → is_before (length types) of ≡ true
+  type_known of (Number z) h = number_known (length types) of h.0
+  type_known of (Truth b) h = truth_known (length types) of h
+  type_known of (Composite vs) h = derived_known of h.1 h.2
+  type_known of (Array ss vs) h = absurd (no_rank 0 refl h.1)
+  type_known of Unallocated h = absurd (no_both false h refl)
+  type_known of (Allocated v) h = absurd (no_both false h.0 refl)
+
+  none_spread : (k : Kind) (x : Shape) → AllOf types k (spread 0 (initial_of x))
+  none_spread k Whole = tt
+  none_spread k Logical = tt
+  none_spread k (Shape.Record t parts) = tt
+
+  -- the initial value of its type, for an object that stands
+  set_by : (k : Kind) (p : Path) (reach : Reach) (store : Store) (x : Shape) → k.is_allocatable ≡ false → Reaches k reach → IsOf types k (held_at store p reach) →
+      (is_before (length types) k.of ≡ true → IsOf types (of_kind k.of 0) (initial_of x)) → AllOf types (each_kind k reach) (spread (length (paths_by p reach)) (initial_of x))
+  set_by k p One store x held h is f =
+      let one : nat_eq k.rank 0 ≡ true = ap (λ (b : Bool). b || nat_eq k.rank 0) (sym held) ∙ h in
+      let same : k ≡ of_kind k.of 0 = kind_same k k.of 0 false refl (eqb-true k.rank 0 one) held in
+      taken_by k One p 0 (initial_of x) held h refl (f (type_known k.of (get store p) (subst (λ (z : Kind). IsOf types z (get store p)) same is)))
+  set_by k p (Many ss []) store x held h is f = none_spread (of_kind k.of 0) x
+  set_by k p (Many ss (q ∷ ps)) store x held h is f = taken_by k (Many ss (q ∷ ps)) p 0 (initial_of x) held h refl (f (type_known k.of (get store q) is.4.0))
+
+  pub set_all : (k : Kind) (r : Reference) (store : Store) (x : Shape) → k.is_allocatable ≡ false → Reaches k r.reach → IsOf types k (held_at store r.path r.reach) →
+      (is_before (length types) k.of ≡ true → IsOf types (of_kind k.of 0) (initial_of x)) → AllOf types (each_kind k r.reach) (spread (length (paths r)) (initial_of x))
+  set_all k r store x held h is f = set_by k r.path r.reach store x held h is f
+
+  -- a number of a type has at most 64 bits
+  below_word : (n : ℕ) → nat_lt n (2 ^ 31) ≡ true → nat_lt n (2 ^ 63) ≡ true
+  below_word n e = let h : n < 2147483648 = ltb-true n 2147483648 e in lt-ltb n 9223372036854775808 (omega arith)
+
+  fits_word : (t : Base) (z : ℤ) → fits t z ≡ true → fits base.Long z ≡ true
+  fits_word base.Integer (pos n) e = below_word n e
+  fits_word base.Integer (negsuc n) e = below_word n e
+  fits_word base.Long z e = e
+  fits_word base.Logical z e = e
+  fits_word (base.Derived t) z e = e
+
+  pub number_calm : {store : Store} (t : Base) (z : ℤ) (place : Place) → is_number t ≡ true → Calm (IsOf types (of_kind t 0)) store (converted t (Number z) place)
+  unfolding converted
+  number_calm t z place e = if_calm (fits t z) (λ f. gives_calm (Number z) (e, fits_word t z f)) (λ f. fails_calm _ place)
 
   pub alike_kind : (j k : Kind) (v : Value) → alike j.of k.of ≡ true → j.rank ≡ k.rank → j.is_allocatable ≡ k.is_allocatable → IsOf types k v → IsOf types j v
   alike_kind j k v e f g h = by k.is_allocatable refl v h

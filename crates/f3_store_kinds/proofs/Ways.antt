@@ -35,16 +35,16 @@ module _ (types : List Derived) where
   unless_is true x y e = cc
   unless_is false x y e = e
 
-  component_way : (k j : Kind) (n : ℕ) (way : List Step) → kind_by types (Component n ∷ way) k ≡ Some j →
+  pub component_way : (k j : Kind) (n : ℕ) (way : List Step) → kind_by types (Component n ∷ way) k ≡ Some j →
       (c : m.Component) × (component_of types k.of n ≡ Some c) × (kind_by types way c.declared.kind ≡ Some j)
   component_way k j n way e =
       let f = if_is (is_scalar k) (found (component_of types k.of n) (λ (c : m.Component). kind_by types way c.declared.kind)) j e in
       found_is (component_of types k.of n) (λ (c : m.Component). kind_by types way c.declared.kind) j f
 
-  element_way : (k j : Kind) (n : ℕ) (way : List Step) → kind_by types (Element n ∷ way) k ≡ Some j → kind_by types way (of_kind k.of 0) ≡ Some j
+  pub element_way : (k j : Kind) (n : ℕ) (way : List Step) → kind_by types (Element n ∷ way) k ≡ Some j → kind_by types way (of_kind k.of 0) ≡ Some j
   element_way k j n way e = unless_is k.is_allocatable (kind_by types way (of_kind k.of 0)) j e
 
-  contents_way : (k j : Kind) (way : List Step) → kind_by types (Contents ∷ way) k ≡ Some j → kind_by types way (held_kind k) ≡ Some j
+  pub contents_way : (k j : Kind) (way : List Step) → kind_by types (Contents ∷ way) k ≡ Some j → kind_by types way (held_kind k) ≡ Some j
   contents_way k j way e = if_is k.is_allocatable (kind_by types way (held_kind k)) j e
 
   mutual
