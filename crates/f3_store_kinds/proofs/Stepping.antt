@@ -19,12 +19,12 @@ use Rattle.f3_meaning_whole.specs.declared.run_error.RunError.{RunError}
 use Rattle.f3_meaning_whole.specs.declared.run_error.RunError.TheVariants.{NotAllocated, ShapesDiffer, InUse}
 use Rattle.f3_meaning_whole.specs.Ran.{Event, Ran, World, ◌>>=◌, gives, fails, looks, prints_bytes}
 use Rattle.f3_meaning_whole.specs.Arithmetic.{apply, change_of, converted}
-use Rattle.f3_meaning_whole.specs.Shape.{Whole}
+use Rattle.f3_meaning_whole.specs.Shape.{Whole, shape_in}
 use Rattle.f3_meaning_whole.specs.Act.{Setting, Here, Passed, Chosen, given, begins, enter, claim, claim_for, set, clear, leave, passed_at, structure, components_of, named, component, component_of, contents, read, moved, picks_in_each}
 use Rattle.f3_meaning_whole.specs.Act as meaning
 use Rattle.f3_meaning_whole.specs.Eval.{result, built, asked, by_reach, spans_of_component}
 use Rattle.f3_meaning_whole.specs.Exec.{Flow, Onward, Cycled, Left, Returned, unless_zero, print_value, vacant, status_number, take_over, held, dummies, held_by, associates, Association, declared_in, too_many}
-use Rattle.f3_meaning_whole.specs.Formed.{Given, takes, of_kind, kinds_of, sectioned, element_of_each, is_scalar, IsWellFormed}
+use Rattle.f3_meaning_whole.specs.Formed.{Given, takes, is_number, of_kind, kinds_of, sectioned, element_of_each, is_scalar, IsWellFormed}
 use Rattle.f3_core.specs.Exec.{allocate, is_held, result_at}
 use Rattle.f3_code.specs.declared.instruction.Instruction.{Instruction}
 use Rattle.f3_code.specs.declared.instruction.Instruction.TheVariants as i
@@ -62,7 +62,7 @@ use Rattle.f3_store_kinds.proofs.Still.{Still, gives_still, fails_still, looks_s
 use Rattle.f3_store_kinds.proofs.Taking.{taken_all, held_all, vacant_is, set_all, number_calm, status_is, converted_calm, set_after, clear_after, enter_after, leave_after}
 use Rattle.f3_store_kinds.proofs.Calling.{held_kinds, chosen_kinds, AllPassedLead, AllSelectedLead, called_lead, called_held, chosen_are, chosen_known, associates_lead, lead_append}
 use Rattle.f3_store_kinds.proofs.Known.{known_more, known_less, leads_known, parts_known, variables_known, arguments_known}
-use Rattle.f3_store_kinds.proofs.Holding.{plain_on, in_more, named_there, all_passed_more, all_selected_more, frames_more, rest_there, away, Right, Found, accord, Keeps, stays_so, goes_so, performing, performing_calm, if_keeps, Has, at_datum, at_object, at_each, at_bound, at_bounds, at_status, at_turns, at_elements, at_objects, at_level, at_outside, at_going, at_any, at_extents, at_arguments, at_choices, at_selectors}
+use Rattle.f3_store_kinds.proofs.Holding.{plain_off, plain_on, in_more, named_there, all_passed_more, all_selected_more, frames_more, rest_there, away, Right, Found, accord, Keeps, stays_so, goes_so, performing, performing_calm, if_keeps, Has, at_datum, at_object, at_each, at_bound, at_bounds, at_status, at_turns, at_elements, at_objects, at_level, at_outside, at_going, at_any, at_extents, at_arguments, at_choices, at_selectors}
 
 pub reach_one : {A : Type 0} {P : A → Type 0} (k : Kind) (reach : Reach) (x y : Ran A) (store : Store) → Reaches k reach → nat_eq k.rank 0 ≡ true → Calm P store x → Calm P store (by_reach reach x y)
 reach_one k One x y store h e f = f
@@ -404,3 +404,256 @@ module _ (limit : ℕ) (w : Setting) (p : Program) (code : Code) (sites : ℕ �
         static_types = acc.static_types;
         level_types = known_less types n g.levels acc.level_types;
       }) (tt, below)))))
+
+  -- ---- instructions
+
+  act_leads : (x : Instruction) → kinds.Goes p sites s.pc l x → IsClean x (map sort_of_type (sites s.pc).cells) → Kept (act limit w code x l.value here s)
+  act_leads (i.Push c) (fit, b) cl = goes b.next (tt, (had b.before).leads)
+  act_leads i.Plain (k, b) cl = datum s.stack (had b.before) (λ x st h q. goes b.next (tt, q.leads))
+  act_leads (i.Unary c t) (k, fit, b) cl = datum s.stack (had b.before) (λ x st h q.
+      still (change_of c t x here.place) (change_still s.world.store c t x here.place) (λ y u e. there b.next e (tt, q.leads)))
+  act_leads (i.Binary c t) (k, j, fit, b) cl = datum s.stack (had b.before) (λ y st f q. datum st q (λ x st' h q'.
+      still (apply c t x y here.place) (apply_still s.world.store c t x y here.place) (λ z u e. there b.next e (tt, q'.leads))))
+  act_leads (i.Array n) (gs, k, many, is, values, b) cl = at_arguments p sites Rest g s.here.level s.here.names K o r fits.end gs n s.stack many (had b.before) (λ ps st are lead q.
+      still (built (Array (record { lower = pos 1; extent = length (given ps) } ∷ []) (joined (given ps))) here)
+      (built_still s.world.store (Array (record { lower = pos 1; extent = length (given ps) } ∷ []) (joined (given ps))) here) (λ y u e. there b.next e (tt, q.leads)))
+  act_leads (i.Structure t n) (gs, k, many, is, whole, b) cl = at_arguments p sites Rest g s.here.level s.here.names K o r fits.end gs n s.stack many (had b.before) (λ ps st are lead q.
+      still (structure (components_of (slice_index_or w.shapes t Whole)) 0 ps here) (structure_still s.world.store (components_of (slice_index_or w.shapes t Whole)) 0 ps here)
+      (λ y u e. there b.next e (tt, q.leads)))
+  act_leads (i.Call f n) b cl = call_leads f n b
+  act_leads i.Result (k, b) cl = datum s.stack (had b.before) (λ x st h q.
+      still (result x here >>= λ y. built y here) (then_still s.world.store (result_still s.world.store x here) (λ y. built_still s.world.store y here)) (λ y u e. there b.next e (tt, q.leads)))
+  act_leads i.IsAllocated (k, held, b) cl = object s.stack (had b.before) (λ q st h e c.
+      still (looks (λ store. Truth (is_allocated (get store q.path)))) (looks_still s.world.store _) (λ y u e. there b.next e (tt, c.leads)))
+  act_leads i.BoundsOfValue (k, held, b) cl = datum s.stack (had b.before) (λ x st h q. goes b.next (tt, q.leads))
+  act_leads i.BoundsOfVariable (k, held, b) cl = object s.stack (had b.before) (λ q st h e c. goes b.next (tt, c.leads))
+  act_leads i.Size (n, b) cl = at_bounds p sites Rest g s.here.level s.here.names K o r fits.end s.stack (had b.before) (λ ss st q.
+      still (converted base.Integer (Number (pos (count ss))) here.place) (converted_still s.world.store base.Integer _ here.place) (λ y u e. there b.next e (tt, q.leads)))
+  act_leads (i.Bound c) (k, n, whole, b) cl = datum s.stack (had b.before) (λ x st h q. at_bounds p sites Rest g s.here.level s.here.names K o r fits.end st q (λ ss st' q'.
+      still (asked c ss (number_of x) here) (asked_still s.world.store c ss (number_of x) here) (λ y u e. there b.next e (tt, q'.leads))))
+  act_leads i.Load (k, held, b) cl = object s.stack (had b.before) (λ q st h e c. still (read q here) (read_still s.world.store q here) (λ y u e. there b.next e (tt, c.leads)))
+  act_leads (i.PassValue n) (k, b) cl = datum s.stack (had b.before) (λ x st h q. still (claim_for x here) (claim_for_still s.world.store x here) (λ y u e. there b.next e (tt, q.leads)))
+  act_leads (i.PassVariable n) (k, b) cl = object s.stack (had b.before) (λ q st h e c. goes b.next (e, c.leads))
+  act_leads (i.Refer x) b cl =
+      let c = in_is (sites s.pc).scope _ b in
+      let lead = c.2.2 in
+      performing_calm p sites (named w x here) s.world (named_calm types g w p c.0 x here c.2.0 s.world.store acc.store acc.statics (named_at c.0 c.1) c.2.1)
+      (λ q u h e. there lead.next e (h, (had lead.before).leads))
+  act_leads (i.Component n) (k, c, j, held, at_n, part, b) cl = object s.stack (had b.before) (λ q st h e d.
+      performing_calm p sites (component w n (Selected here.unit) q) s.world (component_calm types g w k n c (Selected here.unit) q s.world.store acc.store held at_n h.1 e)
+      (λ y u f e'. there b.next e' (part_kind_leads types g k c.declared.kind j y part f, d.leads)))
+  act_leads (i.ComponentOf n) (k, c, held, at_n, b) cl = object s.stack (had b.before) (λ q st h e d.
+      performing_calm p sites (component w n (Selected here.unit) q) s.world (component_calm types g w k n c (Selected here.unit) q s.world.store acc.store held at_n h.1 e)
+      (λ y u f e'. there b.next e' (part_cell_on (nat_eq k.rank 0) k c.declared.kind y (cell.Object k ∷ b.rest) (state.Object q ∷ st) refl f (e, d.leads))))
+  act_leads i.Contents (k, held, b) cl = object s.stack (had b.before) (λ q st h e c.
+      performing_calm p sites (contents q here) s.world (contents_calm types g k q here s.world.store acc.store held h e) (λ y u f e'. there b.next e' (f.1, c.leads)))
+  act_leads (i.Select is_opened n) (k, bs, j, many, part, b) cl = at_choices p sites Rest g s.here.level s.here.names K o r fits.end bs n s.stack many
+      (had (b.before ∙ sym (choices_over bs (cell.Object k ∷ []) b.rest))) (λ cs st are q. object st q (λ y st' h e c.
+      performing_calm p sites (selects is_opened cs y here) s.world (selects_calm types g p is_opened k j bs cs y here s.world.store acc.store part are h e)
+      (λ z u f e'. there b.next e' (f, c.leads))))
+  act_leads (i.SelectOf is_opened m n) (k, c, bs, j, many, held, at_m, part, b) cl = at_choices p sites Rest g s.here.level s.here.names K o r fits.end bs n s.stack many
+      (had (b.before ∙ sym (choices_over bs (part_cell k c.declared.kind ∷ cell.Object k ∷ []) b.rest))) (λ cs st are q. by_rank (nat_eq k.rank 0) refl cs st are q part)
+    where
+      by_rank : (t : Bool) → nat_eq k.rank 0 ≡ t → (cs : List Chosen) (st : List Cell) → AllChosen bs cs →
+          Cells ((if t then cell.Object c.declared.kind else cell.Each k.rank c.declared.kind) ∷ cell.Object k ∷ b.rest) st →
+          (if t then sectioned p [] [] is_opened (Some bs) c.declared.kind else element_of_each p [] [] is_opened (Some bs) k c.declared.kind) ≡ Some j →
+          Kept (on_object st (λ q st. on_object st (λ y st. performs (by_reach y.reach (selects is_opened cs q here)
+          (picks_in_each (spans_of_component (component_of w.program.types.items y.of m)) q cs here)) s.world (λ q. machine.on s (state.Object q ∷ st)))))
+      by_rank true one cs st are d part = object st d (λ q st1 h e d1. object st1 d1 (λ y st2 h2 e2 d2.
+          performing_calm p sites _ s.world (reach_one k y.reach _ _ s.world.store h2.1 one (selects_calm types g p is_opened c.declared.kind j bs cs q here s.world.store acc.store part are h e))
+          (λ z u f e'. there b.next e' (f, d2.leads))))
+      by_rank false one cs st are d part =
+          let a = only_is _ _ j part in let b1 = and_is _ _ a.0 in let b2 = and_is _ _ b1.1 in
+          at_each p sites Rest g s.here.level s.here.names K o r fits.end st d (λ q st1 h e d1. object st1 d1 (λ y st2 h2 e2 d2.
+          performing_calm p sites _ s.world (reach_many k y.reach _ _ s.world.store held h2.1 one
+          (subst (λ (z : Kind). Calm (typing.Leads types g z) s.world.store (picks_in_each (spans_of_component (component_of w.program.types.items y.of m)) q cs here)) a.1
+          (each_calm types g c.declared.kind k.rank _ q cs here s.world.store (not_is _ b2.0) one h.1 e)))
+          (λ z u f e'. there b.next e' (f, d2.leads))))
+  act_leads i.Subscript (k, whole, b) cl = datum s.stack (had b.before) (λ x st h q. goes b.next (tt, q.leads))
+  act_leads i.Limit (k, whole, b) cl = datum s.stack (had b.before) (λ x st h q. goes b.next (tt, q.leads))
+  act_leads i.NoLimit b cl = goes b.next (tt, (had b.before).leads)
+  act_leads i.Triplet (k, whole, b) cl = datum s.stack (had b.before) (λ x st h q. at_bound p sites Rest g s.here.level s.here.names K o r fits.end st q (λ z st' q'.
+      at_bound p sites Rest g s.here.level s.here.names K o r fits.end st' q' (λ y st'' q''. goes b.next (tt, q''.leads))))
+  act_leads i.TestShape (k, j, fit, b) cl = object s.stack (had b.before) (λ q st h e c. datum st c (λ x st' f c'.
+      still (tested (conforms (spans q.reach) x) ShapesDiffer here) (tested_still s.world.store _ ShapesDiffer here) (λ y u e. there b.next e (had b.before).leads)))
+  act_leads (i.ByState other unallocated) (k, j, held, fit, b) cl = object s.stack (had b.before) (λ q st h e c. datum st c (λ x st' f c'.
+      by_old (get s.world.store q.path) x f))
+    where
+      by_old : (old x : Value) → IsOf types j x → Kept (branches old x other unallocated s)
+      by_old (Allocated old) x f = if_keeps p sites (conforms (spans_of old) x) (λ t. goes b.next (had b.before).leads)
+          (λ t. goes (far_first sites s.pc b.rest (nat_lt 0 j.rank) _ _ (array_rank types j (spans_of old) x f t) b.far) (had b.before).leads)
+      by_old old x f = goes (far_last sites s.pc b.rest (nat_lt 0 j.rank) _ _ b.far) (had b.before).leads
+  act_leads (i.TestRank rank) (k, j, fit, b) cl = object s.stack (had b.before) (λ q st h e c. datum st c (λ x st' f c'.
+      performing_calm p sites (tested (nat_eq rank (length (spans_of x))) NotAllocated here) s.world
+      (if_calm {P = λ y. nat_eq rank (length (spans_of x)) ≡ true} (nat_eq rank (length (spans_of x))) (λ t. gives_calm tt t) (λ t. fails_calm _ here.place))
+      (λ y u t e. there (only_next sites s.pc b.rest (nat_eq rank j.rank) _
+      (subst (λ n. nat_eq rank n ≡ true) (rank_is types j x (takes_held k j fit) f) t) b.next) e (had b.before).leads)))
+  act_leads (i.New rank) (k, j, held, fit, same, same', start, b) cl = object s.stack (had b.before) (λ q st h e c. datum st c (λ x st' f c'.
+      changed (claim here >>= λ done. set q (Allocated (vacant rank (spans_of x) l.value)) here)
+      (calm_then (claim_still s.world.store here) (λ d t. new_after k q (spans_of x) l.value rank held same (rank_is types j x (takes_held k j fit) f ∙ same') start h e))
+      (λ y u right. accord p sites g b.next right (had b.before).leads)))
+  act_leads (i.Take of) (k, j, same, held, fit, b) cl = object s.stack (had b.before) (λ q st h e c. datum st c (λ x st' f c'.
+      changed (converted of x here.place >>= λ y. claim_for y here >>= λ done. set q y here)
+      (calm_then (converted_calm types of x here.place) (λ y is. calm_then (claim_for_still s.world.store y here) (λ d t. take_after k j of q x same held fit f h e y is)))
+      (λ y u right. accord p sites g b.next right c'.leads)))
+  act_leads (i.Fill of) (k, j, same, held, fit, b) cl = object s.stack (had b.before) (λ q st h e c. datum st c (λ x st' f c'.
+      changed (converted of x here.place >>= λ y. set q y here) (calm_then (converted_calm types of x here.place) (λ y is. take_after k j of q x same held fit f h e y is))
+      (λ y u right. accord p sites g b.next right c'.leads)))
+  act_leads i.Begin b cl = still (begins here) (begins_still s.world.store here) (λ y u e. there b.next e (had b.before).leads)
+  act_leads i.Drop (x, b) cl = at_any p sites Rest g s.here.level s.here.names K o r fits.end s.stack (clean_top (x ∷ b.rest) 1 b.before cl).0 (had b.before) (λ c st h q. goes b.next q.leads)
+  act_leads (i.Unwind n) (xs, many, b) cl = goes b.next (subst (λ k. Below b.rest (drop k s.stack)) many
+      (dropped xs b.rest s.stack (subst (λ k. ArePlain k (map sort_of_type (xs ++ b.rest))) (sym many) (clean_top (xs ++ b.rest) n b.before cl)) (had b.before).leads))
+    where
+      dropped : (xs rest : List CellType) (stack : List Cell) → ArePlain (length xs) (map sort_of_type (xs ++ rest)) → Below (xs ++ rest) stack → Below rest (drop (length xs) stack)
+      dropped [] rest stack e h = h
+      dropped (x ∷ xs) rest [] e h = absurd h
+      dropped (x ∷ xs) rest (c ∷ stack) e h = dropped xs rest stack e.1 (plain_off types sites Rest g s.here.level s.here.names o x (xs ++ rest) c stack e.0 h).1
+  act_leads i.Swap (x, y, b) cl =
+      let plain = clean_top (x ∷ y ∷ b.rest) 2 b.before cl in
+      at_any p sites Rest g s.here.level s.here.names K o r fits.end s.stack plain.0 (had b.before) (λ c st h q.
+      at_any p sites Rest g s.here.level s.here.names K o r fits.end st plain.1.0 q (λ d st' h' q'.
+      goes b.next (plain_on types sites Rest g s.here.level s.here.names o y (x ∷ b.rest) d (c ∷ st') plain.1.0 h'
+      (plain_on types sites Rest g s.here.level s.here.names o x b.rest c st' plain.0 h q'.leads))))
+  act_leads i.LendBoth (k, b) cl = object s.stack (had b.before) (λ q st h e c. object st c (λ q' st' h' e' c'. goes_by _ _ b.next (had b.before).leads))
+  act_leads i.TakeOver (k, held, b) cl = object s.stack (had b.before) (λ q st h e c. object st c (λ q' st' h' e' c'.
+      changed (looks (λ store. get store q'.path) >>= λ x. take_over w 0 no_calls q' q x here)
+      (calm_then (looks_calm {P = IsOrNone types k} (λ store. get store q'.path) (read_is types g s.world.store k q'.path acc.store (one_leads types g k q' held h'.1 e')))
+      (λ x is. over_after k q' q x held is h' e' h e))
+      (λ y u right. accord p sites g b.next right c'.leads)))
+  act_leads i.Dimension (k, j, whole, whole', b) cl = datum s.stack (had b.before) (λ x st h q. datum st q (λ y st' h' q'. goes b.next (tt, q'.leads)))
+  act_leads (i.Allocate rank n) (k, held, same, same', start, b) cl =
+      at_extents p sites Rest g s.here.level s.here.names K o r fits.end n n [] s.stack (let m : n + 0 ≡ n = omega arith in m)
+      (had (b.before ∙ sym (extents_over n (cell.Object k ∷ []) b.rest))) (λ ss st many q. object st q (λ q' st' h e c.
+      changed (allocate rank l.value q' ss here) (allocate_after k q' ss rank held same (many ∙ same') start h e) (λ y u right. accord p sites g b.next right (tt, c.leads))))
+  act_leads (i.TestFree d) (k, held, b) cl = object s.stack (had b.before) (λ q st h e c.
+      if_keeps p sites (is_allocated (get s.world.store q.path))
+      (λ t. if_keeps p sites (is_pinned q.path here.lent) (λ t'. goes b.far.0 (tt, c.leads)) (λ t'. goes b.next (had b.before).leads))
+      (λ t. goes b.far.0 (tt, c.leads)))
+  act_leads i.NoError b cl = goes b.next (tt, (had b.before).leads)
+  act_leads (i.SkipIfFailed d) b cl = at_status p sites Rest g s.here.level s.here.names K o r fits.end s.stack (had b.before) (λ x st q. by_status x st q)
+    where
+      by_status : (x : Option RunError) (st : List Cell) → Cells b.rest st → Kept (skips_failed x d s st)
+      by_status None st q = goes b.next q.leads
+      by_status (Some error) st q = goes b.far.0 (tt, q.leads)
+  act_leads i.Check b cl = at_status p sites Rest g s.here.level s.here.names K o r fits.end s.stack (had b.before) (λ x st q.
+      still (checked x here) (checked_still s.world.store x here) (λ y u e. there b.next e q.leads))
+  act_leads i.StoreStatus (k, whole, b) cl = object s.stack (had b.before) (λ q st h e c. at_status p sites Rest g s.here.level s.here.names K o r fits.end st c (λ x st' c'.
+      let a = and_is _ _ whole in
+      changed (set q (Number (pos (status_number x))) here) (set_after types g s.world.store k q (Number (pos (status_number x))) here acc.store e
+      (taken_all types k q 0 (Number (pos (status_number x))) (not_is _ (and_is _ _ a.0).0) h.1 refl (status_is types (of_kind k.of 0) x a.1)))
+      (λ y u right. accord p sites g b.next right c'.leads)))
+  act_leads i.PrintValue (k, shows, b) cl = datum s.stack (had b.before) (λ x st h q. still (print_value x) (print_still s.world.store x) (λ y u e. there b.next e q.leads))
+  act_leads (i.PrintByte c) b cl = still (prints_bytes (c ∷ [])) (prints_still s.world.store (c ∷ [])) (λ y u e. there b.next e (had b.before).leads)
+  act_leads (i.Stop n) b cl = stays_so p sites
+  act_leads i.SetPlace b cl = goes_by _ _ b.next (had b.before).leads
+  act_leads (i.GoOn d) b cl = goes b.far.0 (had b.before).leads
+  act_leads (i.SkipIfFalse d) b cl = datum s.stack (had b.before) (λ x st h q. if_keeps p sites (truth_of x) (λ t. goes b.next q.leads) (λ t. goes b.far.0 q.leads))
+  act_leads (i.SkipIfTrue d) b cl = datum s.stack (had b.before) (λ x st h q. if_keeps p sites (truth_of x) (λ t. goes b.far.0 q.leads) (λ t. goes b.next q.leads))
+  act_leads (i.Meets x) b cl =
+      let c = in_is o _ b in
+      goes c.2.3.next (tt, (had c.2.3.before).leads)
+  act_leads i.Selecting b cl = selecting_leads b
+  act_leads (i.Leave by d) b cl = leave_leads by d b
+  act_leads (i.Depart cycle exit) b cl = at_going p sites Rest g s.here.level s.here.names K o r fits.end s.stack (had b.before) (λ flow st q. by_flow flow st q)
+    where
+      by_flow : (flow : Flow) (st : List Cell) → Cells b.rest st → Kept (departs flow cycle exit s st)
+      by_flow Onward st q = goes b.far.0 q.leads
+      by_flow Cycled st q = goes b.far.1.0 q.leads
+      by_flow Left st q = goes b.far.1.1.0 q.leads
+      by_flow (Returned place) st q = goes_by _ _ b.next q.leads
+  act_leads i.SelectVariable (k, held, b) cl = object s.stack (had b.before) (λ q st h e c. goes b.next (e, c.leads))
+  act_leads (i.SelectValue of) (k, held, fit, b) cl = datum s.stack (had b.before) (λ x st h q.
+      still (claim_for x here) (claim_for_still s.world.store x here) (λ y u e. there b.next e (refl, q.leads)))
+  act_leads (i.Associate n) b cl = associate_leads n b
+  act_leads i.Associated (ks, b) cl = at_going p sites Rest g s.here.level s.here.names K o r fits.end s.stack (had b.before) (λ flow st q.
+      at_level p sites Rest g s.here.level s.here.names K o r fits.end st q (λ n rs st' h e below. goes b.next (e, (had b.before).leads)))
+  act_leads (i.NextObject d) (k, ks, b) cl = at_objects p sites Rest g s.here.level s.here.names K o r fits.end s.stack (had b.before) (λ rs st h e q. by_objects rs st h e q)
+    where
+      by_objects : (rs : List Reference) (st : List Cell) → AllRefer (k ∷ ks) rs → AllLead types g (k ∷ ks) rs → Cells b.rest st → Kept (next_object rs d s st)
+      by_objects [] st h e q = absurd h
+      by_objects (x ∷ rs) st h e q = goes b.next (e.0, (e.1, q.leads))
+  act_leads i.EndAssociate b cl = end_leads b
+  act_leads (i.Convert of) (k, whole, number, b) cl = datum s.stack (had b.before) (λ x st h q.
+      still (converted of x here.place) (converted_still s.world.store of x here.place) (λ y u e. there b.next e (tt, q.leads)))
+  act_leads i.TestStep (k, whole, b) cl = datum s.stack (had b.before) (λ x st h q.
+      still (unless_zero (number_of x) here) (unless_still s.world.store (number_of x) here) (λ y u e. there b.next e (had b.before).leads))
+  act_leads i.CountBegin (k, whole, b) cl = object s.stack (had b.before) (λ q st h e c. datum st c (λ by st1 h1 c1. datum st1 c1 (λ last st2 h2 c2.
+      datum st2 c2 (λ start st3 h3 c3. changed (set q start here) (set_after types g s.world.store k q start here acc.store e
+      (taken_all types k q 0 start (not_is _ (and_is _ _ (and_is _ _ whole).0).0) h.1 refl h3)) (λ y u right. accord p sites g b.next right (tt, c3.leads))))))
+  act_leads (i.CountNext d) b cl = at_turns p sites Rest g s.here.level s.here.names K o r fits.end s.stack (had b.before) (λ n by st q. by_turns n by st q)
+    where
+      by_turns : (n : ℕ) (by : ℤ) (st : List Cell) → Cells b.rest st → Kept (next_turn_at n by d s st)
+      by_turns zero by st q = goes b.far.0 (tt, q.leads)
+      by_turns (suc n) by st q = goes b.next (tt, q.leads)
+  act_leads (i.CountUp of) (k, whole, same, b) cl = object s.stack (had b.before) (λ q st h e c. at_turns p sites Rest g s.here.level s.here.names K o r fits.end st c (λ n by st' c'.
+      let a = and_is _ _ whole in
+      changed (looks (λ store. get store q.path) >>= λ old. converted of (Number (number_of old +ℤ by)) here.place >>= λ x. set q x here)
+      (calm_then (looks_still s.world.store (λ store. get store q.path)) (λ old t.
+      calm_then (number_calm types of (number_of old +ℤ by) here.place (subst (λ x. is_number x ≡ true) same a.1)) (λ x is.
+      set_after types g s.world.store k q x here acc.store e (taken_all types k q 0 x (not_is _ (and_is _ _ a.0).0) h.1 refl (subst (λ y. IsOf types (of_kind y 0) x) (sym same) is)))))
+      (λ y u right. accord p sites g b.next right c.leads)))
+  act_leads i.Lend (k, b) cl = object s.stack (had b.before) (λ q st h e c. goes_by _ _ b.next (had b.before).leads)
+  act_leads i.Unlend b cl = goes_by _ _ b.next (had b.before).leads
+  act_leads (i.SkipUnlessRank rank d) (k, held, b) cl = object s.stack (had b.before) (λ q st h e c.
+      let same = spans_rank k q.reach held h.1 in
+      let stay = cell.Object k ∷ [] in
+      if_keeps p sites (nat_eq rank (length (spans q.reach)))
+      (λ t. let u = subst (λ n. nat_eq rank n ≡ true) same t in
+      let lead = subst (λ a. Leads sites s.pc (either a (sites s.pc) stay stay d stay)) u b in goes lead.next (had lead.before).leads)
+      (λ t. let u = subst (λ n. nat_eq rank n ≡ false) same t in
+      let lead = subst (λ a. Leads sites s.pc (either a (sites s.pc) stay stay d stay)) u b in goes lead.far.0 (had lead.before).leads))
+  act_leads i.PassObject (k, b) cl = object s.stack (had b.before) (λ q st h e c. goes b.next (e, (had b.before).leads))
+  act_leads (i.Routine t) b cl = routine_leads t b
+  act_leads i.Back b cl = back_leads b
+  act_leads (i.WorkComponent n) (k, c, scalar, at_n, b) cl = object s.stack (had b.before) (λ q st h e d.
+      let a = and_is _ _ scalar in
+      performing_calm p sites (component w n Language q) s.world (component_calm types g w k n c Language q s.world.store acc.store (not_is _ a.0) at_n h.1 e)
+      (λ y u f e'. there b.next e' (f.0 a.1, (had b.before).leads)))
+  act_leads i.WalkBegin (k, held, b) cl = object s.stack (had b.before) (λ q st h e c. goes b.next (walk_leads types g k q held h.1 e, (had b.before).leads))
+  act_leads (i.WalkNext d) (k, b) cl = at_elements p sites Rest g s.here.level s.here.names K o r fits.end s.stack (had b.before) (λ ps st e q. object st q (λ x st' h f c.
+      by_elements ps x st' e f c))
+    where
+      by_elements : (ps : List Path) (x : Reference) (st : List Cell) → AllLeadTo types g (of_kind k.of 0) ps → typing.Leads types g k x → Cells b.rest st → Kept (next_element ps d x s st)
+      by_elements [] x st e f c = goes b.far.0 (f, c.leads)
+      by_elements (y ∷ ps) x st e f c = goes b.next (e.0, (e.1, (f, c.leads)))
+  act_leads (i.SkipUnlessAllocated d) (k, held, b) cl = object s.stack (had b.before) (λ q st h e c.
+      if_keeps p sites (is_allocated (get s.world.store q.path)) (λ t. goes b.next (had b.before).leads) (λ t. goes b.far.0 (had b.before).leads))
+  act_leads i.OpenContents (k, held, b) cl = object s.stack (had b.before) (λ q st h e c.
+      performing_calm p sites (opens q here) s.world (opens_calm types g k q here s.world.store acc.store held h e) (λ y u f e'. there b.next e' (f.1, (had b.before).leads)))
+  act_leads i.Free (k, held, b) cl = object s.stack (had b.before) (λ q st h e c.
+      changed (set q Unallocated here) (set_after types g s.world.store k q Unallocated here acc.store e (held_all types k q Unallocated held h.1 held))
+      (λ y u right. accord p sites g b.next right (had b.before).leads))
+  act_leads i.Clear (k, b) cl = standing b.before (λ q st h e is c.
+      changed (clear q here) (clear_after types g s.world.store k q here acc.store e is) (λ y u right. accord p sites g b.next right (had b.before).leads))
+  act_leads i.Set (k, held, start, b) cl = standing b.before (λ q st h e is c.
+      changed (set q l.value here) (set_after types g s.world.store k q l.value here acc.store e
+      (subst (λ v. AllOf types (each_kind k q.reach) (spread (length (paths q)) v)) (sym start)
+      (set_all types k q s.world.store (shape_in (setting_of p).shapes k.of) held h.1 is (λ known. initial_is p formed sense k.of known))))
+      (λ y u right. accord p sites g b.next right (had b.before).leads))
+  act_leads i.Discard b cl = goes b.next (had b.before).leads
+  act_leads i.Dummies b cl =
+      let c = in_is o _ b in
+      goes c.2.next ((named_at c.0 c.1).1, (had c.2.before).leads)
+  act_leads (i.ResultOf x) b cl =
+      let c = in_is (sites s.pc).scope _ b in
+      let lead = c.2.1 in
+      still (looks (result_at x s.here.level)) (looks_still s.world.store (result_at x s.here.level)) (λ y u e. there lead.next e (tt, (had lead.before).leads))
+  act_leads i.Outward b cl = outward_leads b
+  act_leads (i.NextArgument n d) (k, ks, b) cl = at_objects p sites Rest g s.here.level s.here.names K o r fits.end s.stack (had b.before)
+      (λ rs st h e q. by_objects rs (is_held (passed_at n (passed_in s.frames))) st h e q)
+    where
+      by_objects : (rs : List Reference) (held : Bool) (st : List Cell) → AllRefer (k ∷ ks) rs → AllLead types g (k ∷ ks) rs → Cells b.rest st → Kept (next_argument rs held d s st)
+      by_objects [] held st h e q = absurd h
+      by_objects (x ∷ rs) held st h e q = if_keeps p sites held (λ t. goes b.next (e.0, (e.1, q.leads))) (λ t. goes b.far.0 (e.1, q.leads))
+  act_leads i.Return b cl = return_leads b
+  act_leads (i.GoBack d) b cl = goes_so p sites (record {
+    typing = g;
+    is = record {
+      store = acc.store;
+      statics = acc.statics;
+      static_types = acc.static_types;
+      level_types = acc.level_types;
+      leads = subst (λ (z : Site). CellsLead types sites Rest g s.here.level s.here.names z.scope z.cells s.stack) (sym b) acc.leads;
+    };
+  })
+  act_leads i.Finish b cl = stays_so p sites
