@@ -10,4 +10,5 @@ pub mod Holding
 pub mod Calling
 pub mod Known
 pub mod Stepping
+pub mod Cleaning
 pub mod Check
