@@ -1,3 +1,4 @@
+use Rattle.f3_store_kinds.proofs.Running.{steps_accord}
 use Rattle.f3_store_kinds.proofs.Cleaning.{code_is_clean}
 use Rattle.f3_store_kinds.proofs.Stepping.{reach_one}
 use Rattle.f3_store_kinds.proofs.Known.{known_more}

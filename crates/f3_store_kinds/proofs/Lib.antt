@@ -11,4 +11,5 @@ pub mod Calling
 pub mod Known
 pub mod Stepping
 pub mod Cleaning
+pub mod Running
 pub mod Check

@@ -407,7 +407,7 @@ module _ (limit : ℕ) (w : Setting) (p : Program) (code : Code) (sites : ℕ �
 
   -- ---- instructions
 
-  act_leads : (x : Instruction) → kinds.Goes p sites s.pc l x → IsClean x (map sort_of_type (sites s.pc).cells) → Kept (act limit w code x l.value here s)
+  pub act_leads : (x : Instruction) → kinds.Goes p sites s.pc l x → IsClean x (map sort_of_type (sites s.pc).cells) → Kept (act limit w code x l.value here s)
   act_leads (i.Push c) (fit, b) cl = goes b.next (tt, (had b.before).leads)
   act_leads i.Plain (k, b) cl = datum s.stack (had b.before) (λ x st h q. goes b.next (tt, q.leads))
   act_leads (i.Unary c t) (k, fit, b) cl = datum s.stack (had b.before) (λ x st h q.

@@ -1,16 +1,33 @@
 -- The laws of kinds of stores.
-use Rattle.std.specs.Prelude.{⊤, ◌≡◌, ℕ, true, false, Bool, nat_eq, nat_lt, List, [], ◌∷◌, ◌++◌, length, take, Some, Option}
+use Rattle.std.specs.Prelude.{◌≡◌, ◌<◌, ℕ, true, false, Bool, nat_eq, List, [], ◌∷◌, ◌++◌, map, take, Some, slice_get}
 use Rattle.f3_program.specs.declared.declarations.Component.{Component}
 use Rattle.f3_program.specs.declared.declarations.Derived.{Derived}
 use Rattle.f3_program.specs.declared.declarations.Kind.{Kind}
+use Rattle.f3_program.specs.declared.program.Procedure.{Procedure}
+use Rattle.f3_program.specs.declared.program.Program.{Program}
+use Rattle.f3_program.specs.declared.program.Static.{Static}
 use Rattle.f3_meaning_whole.specs.Value.{Span, Value, Array, Values, joined, listed, shown}
 use Rattle.f3_meaning_whole.specs.Store.{Store, Path, put, put_all, get}
 use Rattle.f3_meaning_whole.specs.Reference.{Maker, One, Many, Reference, paths, held_at}
-use Rattle.f3_meaning_whole.specs.Ran.{World, End, Gives}
+use Rattle.f3_meaning_whole.specs.Ran.{Event, World, Gives}
 use Rattle.f3_meaning_whole.specs.Act.{Setting, Here, Chosen, component, component_of, contents, picks, picks_in_each}
-use Rattle.f3_meaning_whole.specs.Formed.{of_kind, is_scalar}
+use Rattle.f3_meaning_whole.specs.Formed.{of_kind, IsWellFormed}
+use Rattle.f3_meaning_whole.specs.Exec.{declared_in}
+use Rattle.f3_core.specs.Lower.{lowered_program}
+use Rattle.f3_code.specs.State.{Entry, Code, State, Goes}
+use Rattle.f3_code.specs.Machine.{step}
+use Rattle.f3_code.specs.Code.{program_code}
+use Rattle.f3_heights.specs.Room.{state_after}
+use Rattle.f3_cell_kinds.specs.Types.{Site}
+use Rattle.f3_cell_kinds.specs.Kinds.{AreKinds}
+use Rattle.f3_cell_kinds.specs.Sense.{MakesSense}
+use Rattle.f3_cell_kinds.specs.Stands.{Stands}
+use Rattle.f3_cell_kinds.specs.Laws.{site_at}
 use Rattle.f3_cell_kinds.specs.Effect.{held_kind}
-use Rattle.f3_cell_kinds.specs.Holds.{IsOf, Refers}
+use Rattle.f3_cell_kinds.specs.Holds.{IsOf, Refers, Fits}
+use Rattle.f3_store_kinds.specs.Accords.{declared_kinds, Accords}
+use Rattle.f3_store_kinds.specs.Clean.{AreClean}
+use Rattle.f3_store_kinds.specs.There.{CellsThere}
 use Rattle.f3_store_kinds.specs.Typing.{Typing, cut, extended, IsBefore, each_kind, AreOf, AllOf, IsTyped, LeadsTo, LeadsBy, Leads, EachLeads, IsOrNone, AllOrNone}
 
 -- Where an object of a kind takes a value of its kind, the store is of the same kinds as before.
@@ -60,3 +77,33 @@ ElementsLead = (types : List Derived) (g : Typing) (k : Kind) (here : Here) (r q
     (Refers k r → Leads types g k r → ((picks r r.reach cs here).from w).end ≡ Gives q u → EachLeads types g (of_kind k.of 0) q)
     × ((rank : ℕ) (ss : List Span) → nat_eq rank 0 ≡ false → Refers (of_kind k.of rank) r → EachLeads types g k r →
     ((picks_in_each ss r cs here).from w).end ≡ Gives q u → Leads types g (of_kind k.of rank) q)
+
+-- Each step, in a program that makes sense, leads from a state that accords with a typing, and in which objects stand, to one that accords
+-- with a typing. The code is clean, and its procedures begin with values of the kinds of their variables.
+abbrev pub StepsAccord : Type 0
+StepsAccord = (limit : ℕ) (w : Setting) (p : Program) (code : Code) (sites : ℕ → Site) → AreKinds p sites code → IsWellFormed p → MakesSense p → AreClean sites code →
+    ((f : ℕ) (q : Procedure) (e : Entry) → slice_get p.procedures.items f ≡ Some q → slice_get code.procedures f ≡ Some e →
+    AreOf p.types.items (declared_kinds (declared_in q)) e.initial) →
+    (s t : State) (out : List Event) (g : Typing) → Fits p.types.items sites s → Stands p sites s → Accords p sites g s → step limit w code s ≡ Goes out t →
+    (h : Typing) × Accords p sites h t
+
+-- The state in which a program that makes sense begins accords with the typing of what is declared.
+abbrev pub first_typing : Program → Typing
+first_typing p = record { statics = map (λ (y : Static). y.declared.kind) p.statics.items; levels = declared_kinds (declared_in p.main) ∷ [] }
+
+abbrev pub StartAccords : Type 0
+StartAccords = (limit : ℕ) (p : Program) → IsWellFormed p → MakesSense p → (answers : ℕ → Bool) (s : State) →
+    state_after limit (lowered_program p) (program_code (lowered_program p)) answers 0 ≡ Some s → Accords p (site_at p) (first_typing p) s
+
+-- In each state of each run of a program that makes sense the store holds values of kinds, and all references lead to objects of the kinds
+-- that are known for them, as long as objects have stood in the store before.
+abbrev pub StoresHold : Type 0
+StoresHold = (limit : ℕ) (p : Program) → IsWellFormed p → MakesSense p → (answers : ℕ → Bool) (k : ℕ) (s : State) →
+    ((j : ℕ) (t : State) → j < k → state_after limit (lowered_program p) (program_code (lowered_program p)) answers j ≡ Some t →
+    Stands p (site_at p) t) →
+    state_after limit (lowered_program p) (program_code (lowered_program p)) answers k ≡ Some s → (g : Typing) × Accords p (site_at p) g s
+
+-- In a state that accords with a typing the variables stand, and so do the objects on the stack where they are there.
+abbrev pub PartsStand : Type 0
+PartsStand = (p : Program) (sites : ℕ → Site) (s : State) (g : Typing) → Fits p.types.items sites s → Accords p sites g s →
+    CellsThere s.world.store (sites s.pc).cells s.stack → Stands p sites s
