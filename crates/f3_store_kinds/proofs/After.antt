@@ -1,9 +1,9 @@
 -- What holds behind parts of runs: of what they give, and of the store then.
-use Rattle.std.proofs.Common.{◌≡◌, ◌∙◌, sym, Bool, true, false, List, [], ◌∷◌, refl, subst, if◌then◌else◌}
+use Rattle.std.proofs.Common.{◌≡◌, sym, Bool, true, false, List, refl, subst, if◌then◌else◌}
 use Rattle.f3_places.specs.declared.source.Place.{Place}
 use Rattle.f3_meaning_whole.specs.Store.{Store}
 use Rattle.f3_meaning_whole.specs.declared.run_error.RunError.{RunError}
-use Rattle.f3_meaning_whole.specs.Ran.{Event, World, End, Gives, Fails, Stops, Beyond, Ran, go_on, ◌>>=◌, gives, fails, looks, does, replayed}
+use Rattle.f3_meaning_whole.specs.Ran.{Event, World, End, Gives, Fails, Stops, Beyond, Ran, go_on, ◌>>=◌, gives, fails, does, replayed}
 use Rattle.f3_cell_kinds.proofs.Yielding.{IsGiven, Yields}
 use Rattle.f3_cell_kinds.proofs.Calm.{IsCalm, Calm}
 

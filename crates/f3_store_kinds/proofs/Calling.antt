@@ -1,5 +1,5 @@
 -- Where the objects of dummies and associate names lead.
-use Rattle.std.proofs.Common.{◌≡◌, ◌∙◌, sym, ap, ℕ, zero, suc, ◌+◌, ℤ, Bool, true, false, ◌&&◌, List, [], ◌∷◌, ◌++◌, length, Option, Some, None, refl, subst, if◌then◌else◌, arith, length-append, inr}
+use Rattle.std.proofs.Common.{◌≡◌, ◌∙◌, sym, ap, ℕ, suc, ◌+◌, ℤ, Bool, true, false, List, [], ◌∷◌, ◌++◌, length, Option, Some, None, refl, subst, if◌then◌else◌, arith, length-append, inr}
 use Rattle.std.specs.Prelude.{nat_eq, slice_get}
 use Rattle.std.proofs.lemmas.Bool.{eqb-true}
 use Rattle.f3_program.specs.declared.declarations.Derived.{Derived}
@@ -19,7 +19,7 @@ use Rattle.f3_cell_kinds.specs.Effect.{truth}
 use Rattle.f3_cell_kinds.specs.Holds.{IsOf}
 use Rattle.f3_cell_kinds.proofs.Asked.{some_same, found_is, only_is, and_is, some_is, base_same, truth_same, kind_same}
 use Rattle.f3_cell_kinds.proofs.Reaching.{AllPassed, AllSelected}
-use Rattle.f3_store_kinds.specs.Typing.{Typing, kind_at, kind_by, AreOf, LeadsTo, LeadsBy, Leads, AllLead}
+use Rattle.f3_store_kinds.specs.Typing.{Typing, kind_by, AreOf, LeadsTo, LeadsBy, Leads, AllLead}
 use Rattle.f3_store_kinds.specs.Accords.{AllKnown, PassedLeads, SelectorLeads}
 use Rattle.f3_store_kinds.proofs.Leading.{get_behind}
 use Rattle.f3_store_kinds.proofs.Objects.{reach_leads}
@@ -114,12 +114,12 @@ module _ (types : List Derived) where
       let j : Kind = dummy_kind (slice_get ds n) in
       by_number (nat_eq n k) _ _ (λ (r : Reference). Leads types g d.kind r)
       (λ e.
-          let same : n ≡ k = eqb-true n k e in
-          let takes = takes_at ds d k x is (are.0.1 ∙ same) a.0 in
-          let there : slice_get (front ++ j ∷ held_kinds ds ps) slot ≡ Some j = ap (λ m. slice_get (front ++ j ∷ held_kinds ds ps) m) (sym many) ∙ get_behind front j (held_kinds ds ps) in
-          let kind : j ≡ d.kind = ap (λ m. dummy_kind (slice_get ds m)) same ∙ ap dummy_kind is in
-          reach_leads types g d.kind (whole (Local level slot)) v (subst (λ (z : Kind). LeadsTo types g z (whole (Local level slot))) kind (slot_leads g level slot _ j at there))
-              (inr (given_is d x v takes are.0.0 are.0.2)))
+      let same : n ≡ k = eqb-true n k e in
+      let takes = takes_at ds d k x is (are.0.1 ∙ same) a.0 in
+      let there : slice_get (front ++ j ∷ held_kinds ds ps) slot ≡ Some j = ap (λ m. slice_get (front ++ j ∷ held_kinds ds ps) m) (sym many) ∙ get_behind front j (held_kinds ds ps) in
+      let kind : j ≡ d.kind = ap (λ m. dummy_kind (slice_get ds m)) same ∙ ap dummy_kind is in
+      reach_leads types g d.kind (whole (Local level slot)) v (subst (λ (z : Kind). LeadsTo types g z (whole (Local level slot))) kind (slot_leads g level slot _ j at there))
+      (inr (given_is d x v takes are.0.0 are.0.2)))
       (λ e. argument_leads g ds d k gs ps (front ++ j ∷ []) level (suc slot) unit (omega (arith, length-append front (j ∷ []), many))
       (at ∙ ap (λ (l : List Kind). Some l) (sym (append_append front (j ∷ []) (held_kinds ds ps)))) is are.1 lead.1 a.1
       (skipped (nat_eq x.number k) (given_for k gs) (ap (λ m. nat_eq m k) are.0.1 ∙ e) one))
@@ -127,8 +127,8 @@ module _ (types : List Derived) where
       let a = and_is _ _ fits in
       by_number (nat_eq n k) _ _ (λ (r : Reference). Leads types g d.kind r)
       (λ e.
-          let takes = takes_at ds d k x is (are.0.1 ∙ eqb-true n k e) a.0 in
-          subst (λ (z : Kind). Leads types g z r) (lent_kind d x takes are.0.0) lead.0)
+      let takes = takes_at ds d k x is (are.0.1 ∙ eqb-true n k e) a.0 in
+      subst (λ (z : Kind). Leads types g z r) (lent_kind d x takes are.0.0) lead.0)
       (λ e. argument_leads g ds d k gs ps front level slot unit many at is are.1 lead.1 a.1
       (skipped (nat_eq x.number k) (given_for k gs) (ap (λ m. nat_eq m k) are.0.1 ∙ e) one))
 

@@ -1,5 +1,5 @@
 -- In the code of a program nothing but plain cells goes by itself.
-use Rattle.std.proofs.Common.{◌≡◌, ◌∙◌, sym, ap, ℕ, zero, suc, ◌+◌, Bool, true, false, List, [], ◌∷◌, ◌++◌, length, map, Option, Some, None, refl, subst, if◌then◌else◌}
+use Rattle.std.proofs.Common.{◌≡◌, sym, ℕ, zero, suc, ◌+◌, Bool, true, false, List, [], ◌∷◌, ◌++◌, length, Option, Some, None, subst, if◌then◌else◌}
 use Rattle.std.specs.Prelude.{nat_lt, slice_get, slice_index_or}
 use Rattle.f3_places.specs.declared.source.Place.{Place}
 use Rattle.f3_program.specs.declared.declarations.Kind.{Kind}
@@ -22,7 +22,6 @@ use Rattle.f3_code.specs.Code.{value_code, bounds_code, argument_code, arguments
 use Rattle.f3_sorts.specs.Effect.{Sort}
 use Rattle.f3_sorts.specs.Effect as sort
 use Rattle.f3_sorts.specs.Program.{allocate_sorts, argument_sorts, arguments_sorts, body_sorts, bounds_sorts, bytes_sorts, case_sorts, chosen_sorts, code_sorts, deallocate_sorts, departing_sorts, dimensions_sorts, discards_sorts, each_sorts, finish_sorts, free_sorts, if_sorts, items_sorts, last_sorts, leaving_sorts, limits_sorts, locate_sorts, main_sorts, procedures_sorts, program_sorts, ranges_sorts, routines_sorts, select_of_sorts, select_sorts, selectors_sorts, status_sorts, subscript_sorts, transfer_sorts, turns_sorts, up_sorts, value_sorts, while_sorts, work_sorts}
-use Rattle.f3_cell_kinds.specs.Types.{sort_of_type}
 use Rattle.f3_cell_kinds.specs.Laws.{site_at}
 use Rattle.f3_cell_kinds.proofs.Sorting.{kinds_have_sorts}
 use Rattle.f3_store_kinds.specs.Clean.{ArePlain, IsClean, AreClean}

@@ -1,6 +1,5 @@
 -- What instructions do keeps to where references lead: the parts.
-use Rattle.std.proofs.Common.{◌≡◌, ◌∙◌, refl, ap, ℕ, zero, suc, ◌+◌, ℤ, Bool, true, false, List, [], ◌∷◌, ◌++◌, length, drop, Option, Some, sym, subst, if◌then◌else◌, arith, map}
-use Rattle.std.specs.Prelude.{slice_get}
+use Rattle.std.proofs.Common.{◌≡◌, refl, ap, ℕ, zero, suc, ◌+◌, ℤ, Bool, true, false, List, [], ◌∷◌, ◌++◌, length, drop, Option, sym, subst, if◌then◌else◌, arith, map}
 use Rattle.f3_program.specs.declared.declarations.Base.{Base}
 use Rattle.f3_program.specs.declared.declarations.Derived.{Derived}
 use Rattle.f3_program.specs.declared.declarations.Kind.{Kind}
@@ -21,15 +20,15 @@ use Rattle.f3_code.specs.Machine.{ends_so, performs, on_datum, on_object, on_bou
 use Rattle.f3_cell_kinds.specs.Types.{Scope, Around, Told, Untold, InRoutine, CellType, Site, sort_of_type, arguments_on, choices_on, selectors_on}
 use Rattle.f3_cell_kinds.specs.Types as cell
 use Rattle.f3_cell_kinds.specs.Effect.{extents_on}
-use Rattle.f3_cell_kinds.specs.Holds.{Refers, AllRefer, IsOf, IsPassed, IsSelector, Knows, Is, InScope, Stand}
+use Rattle.f3_cell_kinds.specs.Holds.{Refers, AllRefer, IsOf, InScope, Stand}
 use Rattle.f3_cell_kinds.proofs.Calm.{IsCalm, Calm}
-use Rattle.f3_cell_kinds.proofs.Given.{arguments_over, choices_over}
-use Rattle.f3_cell_kinds.proofs.OfActions.{extents_over, selectors_over}
+use Rattle.f3_cell_kinds.proofs.Given.{arguments_over}
+use Rattle.f3_cell_kinds.proofs.OfActions.{selectors_over}
 use Rattle.f3_cell_kinds.proofs.Picking.{AllChosen}
 use Rattle.f3_cell_kinds.proofs.Reaching.{AllPassed, AllSelected}
 use Rattle.f3_store_kinds.specs.Typing.{Typing, cut, AllLeadTo, EachLeads, Leads, AllLead, IsTyped}
 use Rattle.f3_store_kinds.specs.Accords.{AllKnown, LevelsKnown, IsNamed, PassedLeads, SelectorLeads, CellLeads, CellsLead, FramesLead, Accords}
-use Rattle.f3_store_kinds.specs.Clean.{IsPlain, ArePlain}
+use Rattle.f3_store_kinds.specs.Clean.{IsPlain}
 use Rattle.f3_store_kinds.proofs.Leading.{Within, within_cut, within_both, path_more, leads_more, each_more, all_more}
 use Rattle.f3_store_kinds.proofs.After.{IsAfter, After}
 use Rattle.f3_store_kinds.proofs.Calling.{AllPassedLead, AllSelectedLead}

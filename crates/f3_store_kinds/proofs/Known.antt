@@ -1,6 +1,6 @@
 -- Allocatables of types that there are.
-use Rattle.std.proofs.Common.{◌≡◌, ◌∙◌, sym, ap, ℕ, zero, suc, ◌+◌, ◌<◌, ◌≤◌, Bool, true, false, ◌&&◌, not, List, [], ◌∷◌, ◌++◌, length, take, map, Option, Some, None, refl, subst, if◌then◌else◌, arith}
-use Rattle.std.specs.Prelude.{nat_eq, nat_lt, slice_get}
+use Rattle.std.proofs.Common.{◌≡◌, ◌∙◌, sym, ap, ℕ, zero, suc, ◌+◌, ◌<◌, ◌≤◌, Bool, true, false, ◌&&◌, List, [], ◌∷◌, ◌++◌, length, take, Some, refl, subst, arith}
+use Rattle.std.specs.Prelude.{slice_get}
 use Rattle.std.proofs.lemmas.Bool.{ltb-true, lt-ltb}
 use Rattle.f3_program.specs.declared.declarations.Base.{Base}
 use Rattle.f3_program.specs.declared.declarations.Base.TheVariants as base
@@ -17,7 +17,7 @@ use Rattle.f3_meaning_whole.specs.Store.{Root, Step, Component, Element, Content
 use Rattle.f3_meaning_whole.specs.Reference.{Reach, One, Many, Reference}
 use Rattle.f3_meaning_whole.specs.Act.{Passed, Given, Lent, component_of, derived_of}
 use Rattle.f3_meaning_whole.specs.Exec.{declared_in}
-use Rattle.f3_meaning_whole.specs.Formed.{all, found, of_kind, is_before, is_declared, are_declared, are_types, is_procedure, is_well_formed, IsWellFormed}
+use Rattle.f3_meaning_whole.specs.Formed.{all, of_kind, is_before, is_declared, are_declared, are_types, is_procedure, IsWellFormed}
 use Rattle.f3_cell_kinds.specs.Effect.{held_kind}
 use Rattle.f3_cell_kinds.specs.Holds.{Reaches}
 use Rattle.f3_cell_kinds.proofs.Asked.{some_same, found_is, and_is}
@@ -25,7 +25,7 @@ use Rattle.f3_cell_kinds.proofs.Initials.{components_declared}
 use Rattle.f3_cell_kinds.proofs.Parting.{component_found}
 use Rattle.f3_cell_kinds.proofs.Scalars.{no_both}
 use Rattle.f3_cell_kinds.specs.Sense.{MakesSense}
-use Rattle.f3_store_kinds.specs.Typing.{Typing, kind_at, kind_by, cut, extended, LeadsTo, LeadsBy, Leads}
+use Rattle.f3_store_kinds.specs.Typing.{Typing, kind_at, kind_by, LeadsTo, LeadsBy, Leads}
 use Rattle.f3_store_kinds.specs.Accords.{declared_kinds, IsKnown, AllKnown, LevelsKnown}
 use Rattle.f3_store_kinds.proofs.Ways.{component_way, element_way, contents_way}
 use Rattle.f3_store_kinds.proofs.Calling.{held_kinds, dummy_kind}

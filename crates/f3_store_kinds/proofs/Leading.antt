@@ -1,12 +1,12 @@
 -- References that lead by one typing lead by those that have more.
-use Rattle.std.proofs.Common.{◌≡◌, ◌∙◌, sym, ap, ℕ, zero, suc, ◌<◌, List, [], ◌∷◌, ◌++◌, length, take, Option, Some, None, refl, subst, arith}
+use Rattle.std.proofs.Common.{◌≡◌, ◌∙◌, ap, ℕ, zero, suc, ◌<◌, List, [], ◌∷◌, ◌++◌, length, take, Option, Some, refl, arith}
 use Rattle.std.specs.Prelude.{slice_get}
 use Rattle.f3_program.specs.declared.declarations.Derived.{Derived}
 use Rattle.f3_program.specs.declared.declarations.Kind.{Kind}
 use Rattle.f3_meaning_whole.specs.Store.{Root, Static, Local, Path}
 use Rattle.f3_meaning_whole.specs.Reference.{Reach, One, Many, Reference}
 use Rattle.f3_meaning_whole.specs.Formed.{found, of_kind}
-use Rattle.f3_cell_kinds.proofs.Asked.{some_same, found_is}
+use Rattle.f3_cell_kinds.proofs.Asked.{found_is}
 use Rattle.f3_store_kinds.specs.Typing.{Typing, kind_by, kind_at, cut, extended, IsBefore, LeadsTo, AllLeadTo, IsArray, LeadsBy, Leads, EachBy, EachLeads, AllLead}
 
 -- what one has on its levels, the other has there too

@@ -12,4 +12,4 @@ pub mod Known
 pub mod Stepping
 pub mod Cleaning
 pub mod Running
-pub mod Check
+pub mod Standing

@@ -1,5 +1,5 @@
 -- References to which statements come lead to objects of kinds.
-use Rattle.std.proofs.Common.{◌≡◌, ◌∙◌, sym, ap, ℕ, zero, suc, Bool, true, false, ◌&&◌, ◌||◌, not, List, [], ◌∷◌, ◌++◌, map, length, Option, Some, None, refl, subst, if◌then◌else◌, ◌⊎◌, inl, inr}
+use Rattle.std.proofs.Common.{◌≡◌, ◌∙◌, sym, ap, ℕ, zero, suc, Bool, true, false, ◌&&◌, ◌||◌, not, List, [], ◌∷◌, ◌++◌, map, length, Option, Some, None, refl, subst, if◌then◌else◌, inl, inr}
 use Rattle.std.specs.Prelude.{nat_eq, nat_lt, slice_get, slice_index_or}
 use Rattle.std.proofs.lemmas.Bool.{eqb-true}
 use Rattle.f3_program.specs.declared.declarations.Base.{Base}
@@ -15,13 +15,12 @@ use Rattle.f3_program.specs.declared.program.Program.{Program}
 use Rattle.f3_program.specs.declared.program.Static.{Static}
 use Rattle.f3_meaning_whole.specs.Store.{Store, Root, Local, Step, Component, Element, Contents, Path, within, get}
 use Rattle.f3_meaning_whole.specs.Reference.{Reach, One, Many, Reference, Maker, elements_from, reach_of, is_pinned, paths_by, paths}
-use Rattle.f3_meaning_whole.specs.Ran.{Ran, ◌>>=◌, gives, fails, looks}
 use Rattle.f3_meaning_whole.specs.declared.run_error.RunError.TheVariants.{InUse}
-use Rattle.f3_meaning_whole.specs.Act.{Setting, Here, named, whole, Chosen, component, component_of, component_reach, component_path, contents, contents_by, opened, moved, added, elements_at, first_of, picked, picks, picks_in_each, in_each, places, some_zero_step, all_inside, places_in, spans_in}
+use Rattle.f3_meaning_whole.specs.Act.{Setting, Here, named, whole, Chosen, component, component_of, component_reach, component_path, contents, contents_by, opened, added, elements_at, first_of, picked, picks, picks_in_each, in_each, places, some_zero_step, all_inside, spans_in}
 use Rattle.f3_meaning_whole.specs.Formed.{found, only, of_kind, is_scalar, kind_of_name, sectioned, count_ranges}
 use Rattle.f3_code.specs.Machine.{opens, selects}
 use Rattle.f3_cell_kinds.specs.Effect.{held_kind, part_kind}
-use Rattle.f3_cell_kinds.specs.Holds.{Reaches, Refers, IsOf}
+use Rattle.f3_cell_kinds.specs.Holds.{Reaches, Refers}
 use Rattle.f3_cell_kinds.proofs.Asked.{some_same, found_is, only_is, and_is, not_is, truth_same, kind_same}
 use Rattle.f3_cell_kinds.proofs.Picking.{AllChosen, picks_yields}
 use Rattle.f3_cell_kinds.specs.Types.{Scope}
@@ -33,7 +32,7 @@ use Rattle.f3_store_kinds.specs.Accords.{IsNamed}
 use Rattle.f3_store_kinds.proofs.Stores.{read_is}
 use Rattle.f3_store_kinds.proofs.After.{both, calm_so}
 
-get_map : {A B : Type 0} (f : A → B) (xs : List A) (n : ℕ) (x : A) → slice_get xs n ≡ Some x → slice_get (map f xs) n ≡ Some (f x)
+pub get_map : {A B : Type 0} (f : A → B) (xs : List A) (n : ℕ) (x : A) → slice_get xs n ≡ Some x → slice_get (map f xs) n ≡ Some (f x)
 get_map f [] n x e = cc
 get_map f (y ∷ xs) zero x e = let same : y ≡ x = cc in ap (λ z. Some (f z)) same
 get_map f (y ∷ xs) (suc n) x e = get_map f xs n x e
@@ -127,9 +126,10 @@ module _ (types : List Derived) where
     part_leads k n c p One store typed held at h e =
         let one = one_rank k held h in
         let scalar : is_scalar k ≡ true = ap (λ (b : Bool). not b && nat_eq k.rank 0) held ∙ one in
-        let to = component_leads k n c p scalar at e in
-        ((λ t. reach_leads c.declared.kind (within p (Component n)) (get store (within p (Component n))) to (read_is types g store c.declared.kind (within p (Component n)) typed to)),
-        λ t. absurd (no_both (nat_eq k.rank 0) one t))
+        let to = component_leads k n c p scalar at e in (
+          (λ t. reach_leads c.declared.kind (within p (Component n)) (get store (within p (Component n))) to (read_is types g store c.declared.kind (within p (Component n)) typed to)),
+          λ t. absurd (no_both (nat_eq k.rank 0) one t),
+        )
     part_leads k n c p (Many ss ps) store typed held at h e = (
       (λ t. absurd (no_rank k.rank t h.1)),
       λ t. ((e.0, components_lead (of_kind k.of 0) n c ps refl at e.1), tt),
@@ -140,9 +140,6 @@ module _ (types : List Derived) where
     component_calm w k n c maker r store typed held at h e = looks_calm _ (part_leads k n c r.path r.reach store typed held at h e)
 
     -- ---- contents
-
-  
-
 
     opened_calm : (k : Kind) (r : Reference) (v : Value) (here : Here) (store : Store) → k.is_allocatable ≡ true → r.of ≡ k.of → LeadsTo types g k r.path → IsOrNone types k v →
         Calm (λ q. Refers (held_kind k) q × Leads types g (held_kind k) q) store (opened r v here)

@@ -1,20 +1,18 @@
 -- What is read at references.
-use Rattle.std.proofs.Common.{◌≡◌, List, [], ◌∷◌, map, refl, ◌⊎◌, subst, sym}
+use Rattle.std.proofs.Common.{◌≡◌, List, [], ◌∷◌, map, refl, subst}
 use Rattle.f3_program.specs.declared.declarations.Derived.{Derived}
 use Rattle.f3_program.specs.declared.declarations.Kind.{Kind}
-use Rattle.f3_meaning_whole.specs.Value.{Span, Value, Array, Values, joined, listed, shown}
+use Rattle.f3_meaning_whole.specs.Value.{Value, joined, listed}
 use Rattle.f3_meaning_whole.specs.Store.{Store, Path, get, put_all}
-use Rattle.f3_meaning_whole.specs.Reference.{Reach, One, Many, Reference, paths_by, paths, held_at}
+use Rattle.f3_meaning_whole.specs.Reference.{Reach, One, Many, Reference, paths_by, paths}
 use Rattle.f3_meaning_whole.specs.Formed.{of_kind}
 use Rattle.f3_meaning_whole.specs.Ran.{World, End, Gives, Ran}
-use Rattle.f3_cell_kinds.specs.Effect.{held_kind}
-use Rattle.f3_cell_kinds.specs.Holds.{Refers, IsOf}
 use Rattle.f3_cell_kinds.proofs.Calm.{Calm, IsCalm}
-use Rattle.f3_store_kinds.specs.Typing.{Typing, cut, extended, IsBefore, each_kind, AreOf, AllOf, IsTyped, LeadsTo, AllLeadTo, LeadsBy, Leads, EachLeads, IsOrNone, AllOrNone}
+use Rattle.f3_store_kinds.specs.Typing.{Typing, extended, each_kind, AllOf, IsTyped, AllLeadTo, LeadsBy, Leads, AllOrNone}
 use Rattle.f3_store_kinds.specs.Laws.{PutsKeep, ChangesKeep, LevelsBegin, LevelsEnd, ReadsHold, ComponentsLead, ContentsLead, ElementsLead}
 use Rattle.f3_store_kinds.proofs.Stores.{read_is, put_is, puts_are, begun_is, ended_is}
 use Rattle.f3_store_kinds.proofs.Leading.{within_more, leads_more, path_kept}
-use Rattle.f3_store_kinds.proofs.Objects.{PartLeads, component_calm, contents_calm, picks_calm, each_calm}
+use Rattle.f3_store_kinds.proofs.Objects.{component_calm, contents_calm, picks_calm, each_calm}
 
 module _ (types : List Derived) (g : Typing) where
   -- the objects that a reference reaches

@@ -8,21 +8,19 @@ use Rattle.f3_program.specs.declared.program.Procedure.{Procedure}
 use Rattle.f3_program.specs.declared.program.Program.{Program}
 use Rattle.f3_program.specs.declared.program.Static.{Static}
 use Rattle.f3_meaning_whole.specs.Value.{Value}
-use Rattle.f3_meaning_whole.specs.Store.{Store}
-use Rattle.f3_meaning_whole.specs.Ran.{Event, World, Ran, End, Gives, Fails, Stops, Beyond, ◌>>=◌}
+use Rattle.f3_meaning_whole.specs.Ran.{Event, World, End, Gives, Fails, Stops, Beyond, ◌>>=◌}
 use Rattle.f3_meaning_whole.specs.Act.{Setting, claim, enter}
 use Rattle.f3_meaning_whole.specs.Exec.{declared_in, initial_value}
 use Rattle.f3_meaning_whole.specs.Run.{setting_of}
 use Rattle.f3_meaning_whole.specs.Shape.{shapes_of}
 use Rattle.f3_meaning_whole.specs.Formed.{all, is_declared, IsWellFormed}
-use Rattle.f3_core.specs.Core as c
 use Rattle.f3_core.specs.Lower.{lowered_procedure, lowered_program}
 use Rattle.f3_core.specs.Run.{core_setting, core_here, core_world}
 use Rattle.f3_code.specs.State as state
 use Rattle.f3_code.specs.State.{Line, Entry, Code, State, Next, Goes}
 use Rattle.f3_code.specs.Machine.{ends_so, step, does_line}
 use Rattle.f3_code.specs.Run.{start}
-use Rattle.f3_code.specs.Code.{body_code, entries, main_code, routines_code, program_code}
+use Rattle.f3_code.specs.Code.{body_code, entries, program_code}
 use Rattle.f3_heights.specs.Room.{state_next, state_run, state_after}
 use Rattle.f3_cell_kinds.specs.Types.{Site}
 use Rattle.f3_cell_kinds.specs.Kinds.{AreKinds}
@@ -42,7 +40,7 @@ use Rattle.f3_store_kinds.specs.Laws.{StepsAccord, first_typing, StartAccords, S
 use Rattle.f3_store_kinds.proofs.After.{IsAfter, After, calm_then}
 use Rattle.f3_store_kinds.proofs.Still.{claim_still}
 use Rattle.f3_store_kinds.proofs.Taking.{enter_after}
-use Rattle.f3_store_kinds.proofs.Known.{declared_known, variables_known, declared_parts}
+use Rattle.f3_store_kinds.proofs.Known.{variables_known, declared_parts}
 use Rattle.f3_store_kinds.proofs.Holding.{Found, Keeps, stays_so}
 use Rattle.f3_store_kinds.proofs.Stepping.{act_leads}
 use Rattle.f3_store_kinds.proofs.Cleaning.{code_is_clean}

@@ -7,7 +7,6 @@ use Rattle.f3_program.specs.declared.declarations.Base.{Base}
 use Rattle.f3_program.specs.declared.declarations.Base.TheVariants as base
 use Rattle.f3_core.specs.Lower.{initial}
 use Rattle.f3_meaning_whole.specs.Run.{setting_of}
-use Rattle.f3_program.specs.declared.declarations.Component as m
 use Rattle.f3_program.specs.declared.declarations.Derived.{Derived}
 use Rattle.f3_program.specs.declared.declarations.Kind.{Kind}
 use Rattle.f3_program.specs.declared.program.Procedure.{Procedure}
@@ -17,14 +16,14 @@ use Rattle.f3_meaning_whole.specs.Store.{Store, Path, get}
 use Rattle.f3_meaning_whole.specs.Reference.{Selected, Language, Reach, One, Many, Reference, spans, is_pinned, held_at, paths}
 use Rattle.f3_meaning_whole.specs.declared.run_error.RunError.{RunError}
 use Rattle.f3_meaning_whole.specs.declared.run_error.RunError.TheVariants.{NotAllocated, ShapesDiffer, InUse}
-use Rattle.f3_meaning_whole.specs.Ran.{Event, Ran, World, ◌>>=◌, gives, fails, looks, prints_bytes}
+use Rattle.f3_meaning_whole.specs.Ran.{Event, Ran, World, ◌>>=◌, gives, looks, prints_bytes}
 use Rattle.f3_meaning_whole.specs.Arithmetic.{apply, change_of, converted}
 use Rattle.f3_meaning_whole.specs.Shape.{Whole, shape_in}
 use Rattle.f3_meaning_whole.specs.Act.{Setting, Here, Passed, Chosen, given, begins, enter, claim, claim_for, set, clear, leave, passed_at, structure, components_of, named, component, component_of, contents, read, moved, picks_in_each}
 use Rattle.f3_meaning_whole.specs.Act as meaning
 use Rattle.f3_meaning_whole.specs.Eval.{result, built, asked, by_reach, spans_of_component}
-use Rattle.f3_meaning_whole.specs.Exec.{Flow, Onward, Cycled, Left, Returned, unless_zero, print_value, vacant, status_number, take_over, held, dummies, held_by, associates, Association, declared_in, too_many}
-use Rattle.f3_meaning_whole.specs.Formed.{Given, takes, is_number, of_kind, kinds_of, sectioned, element_of_each, is_scalar, IsWellFormed}
+use Rattle.f3_meaning_whole.specs.Exec.{Flow, Onward, Cycled, Left, Returned, unless_zero, print_value, vacant, status_number, take_over, held, dummies, held_by, associates, declared_in, too_many}
+use Rattle.f3_meaning_whole.specs.Formed.{takes, is_number, of_kind, kinds_of, sectioned, element_of_each, IsWellFormed}
 use Rattle.f3_core.specs.Exec.{allocate, is_held, result_at}
 use Rattle.f3_code.specs.declared.instruction.Instruction.{Instruction}
 use Rattle.f3_code.specs.declared.instruction.Instruction.TheVariants as i
@@ -35,10 +34,10 @@ use Rattle.f3_code.specs.Machine.{act, step, does_line, checked, tested, no_call
 use Rattle.f3_code.specs.Machine as machine
 use Rattle.f3_cell_kinds.specs.Types.{Scope, Around, Told, Untold, InRoutine, CellType, Site, sort_of_type, selecting, associating}
 use Rattle.f3_cell_kinds.specs.Types as cell
-use Rattle.f3_cell_kinds.specs.Effect.{either, part_cell, held_kind}
+use Rattle.f3_cell_kinds.specs.Effect.{either, part_cell}
 use Rattle.f3_cell_kinds.specs.Kinds.{arrived, Leads, IsNext, AreFar, first_site, RoutinesBegin, routine_site, AreKinds}
 use Rattle.f3_cell_kinds.specs.Kinds as kinds
-use Rattle.f3_cell_kinds.specs.Holds.{Reaches, Refers, AllRefer, IsOf, Knows, Is, InScope, Stand, FramesHold, Fits}
+use Rattle.f3_cell_kinds.specs.Holds.{Reaches, Refers, AllRefer, IsOf, Knows, InScope, Stand, FramesHold, Fits}
 use Rattle.f3_cell_kinds.specs.Sense.{MakesSense}
 use Rattle.f3_cell_kinds.specs.Stands.{CellsStand, Stands}
 use Rattle.f3_cell_kinds.proofs.Asked.{only_is, and_is, not_is}
@@ -48,19 +47,19 @@ use Rattle.f3_cell_kinds.proofs.Initials.{initial_is}
 use Rattle.f3_cell_kinds.proofs.Picking.{AllChosen}
 use Rattle.f3_cell_kinds.proofs.Reaching.{AllPassed}
 use Rattle.f3_cell_kinds.proofs.Scalars.{rank_is, alike_is, no_rank, no_both}
-use Rattle.f3_cell_kinds.proofs.Calm.{Calm, gives_calm, fails_calm, looks_calm, bind_calm, if_calm}
-use Rattle.f3_cell_kinds.proofs.Standing.{in_is, not_routine, spans_rank, array_rank, takes_held, only_next, far_first, far_last, EntryAt, entry_at}
+use Rattle.f3_cell_kinds.proofs.Calm.{Calm, gives_calm, fails_calm, looks_calm, if_calm}
+use Rattle.f3_cell_kinds.proofs.Standing.{in_is, spans_rank, array_rank, takes_held, only_next, far_first, far_last, EntryAt, entry_at}
 use Rattle.f3_store_kinds.specs.Typing.{Typing, cut, extended, each_kind, AreOf, AllOf, IsTyped, LeadsTo, AllLeadTo, EachLeads, AllLead, IsOrNone}
 use Rattle.f3_store_kinds.specs.Typing as typing
-use Rattle.f3_store_kinds.specs.Accords.{declared_kinds, AllKnown, LevelsKnown, IsNamed, CellLeads, CellsLead, FramesLead, Accords}
+use Rattle.f3_store_kinds.specs.Accords.{declared_kinds, IsNamed, CellsLead, FramesLead, Accords}
 use Rattle.f3_store_kinds.specs.Clean.{ArePlain, IsClean}
 use Rattle.f3_store_kinds.proofs.Stores.{read_is, levels_many}
-use Rattle.f3_store_kinds.proofs.Leading.{Within, within_more, within_then, cut_more, cut_two, held_level, variables_level, last_level, all_more}
+use Rattle.f3_store_kinds.proofs.Leading.{Within, within_more, within_then, cut_more, cut_two, held_level, variables_level, last_level}
 use Rattle.f3_store_kinds.proofs.Objects.{PartLeads, component_calm, contents_calm, opens_calm, part_kind_leads, selects_calm, each_calm, named_calm, walk_leads, one_leads}
 use Rattle.f3_store_kinds.proofs.After.{After, gives_after, fails_after, bind_after, calm_then, if_after}
-use Rattle.f3_store_kinds.proofs.Still.{Still, gives_still, fails_still, looks_still, then_still, claim_still, converted_still, apply_still, change_still, claim_for_still, built_still, read_still, result_still, asked_still, structure_still, unless_still, checked_still, tested_still, request_still, begins_still, prints_still, print_still}
+use Rattle.f3_store_kinds.proofs.Still.{Still, looks_still, then_still, claim_still, converted_still, apply_still, change_still, claim_for_still, built_still, read_still, result_still, asked_still, structure_still, unless_still, checked_still, tested_still, request_still, begins_still, prints_still, print_still}
 use Rattle.f3_store_kinds.proofs.Taking.{taken_all, held_all, vacant_is, set_all, number_calm, status_is, converted_calm, set_after, clear_after, enter_after, leave_after}
-use Rattle.f3_store_kinds.proofs.Calling.{held_kinds, chosen_kinds, AllPassedLead, AllSelectedLead, called_lead, called_held, chosen_are, chosen_known, associates_lead, lead_append}
+use Rattle.f3_store_kinds.proofs.Calling.{held_kinds, chosen_kinds, AllPassedLead, called_lead, called_held, chosen_are, chosen_known, associates_lead, lead_append}
 use Rattle.f3_store_kinds.proofs.Known.{known_more, known_less, leads_known, parts_known, variables_known, arguments_known}
 use Rattle.f3_store_kinds.proofs.Holding.{plain_off, plain_on, in_more, named_there, all_passed_more, all_selected_more, frames_more, rest_there, away, Right, Found, accord, Keeps, stays_so, goes_so, performing, performing_calm, if_keeps, Has, at_datum, at_object, at_each, at_bound, at_bounds, at_status, at_turns, at_elements, at_objects, at_level, at_outside, at_going, at_any, at_extents, at_arguments, at_choices, at_selectors}
 
@@ -300,9 +299,10 @@ module _ (limit : ℕ) (w : Setting) (p : Program) (code : Code) (sites : ℕ �
         where
           within : (u : ℕ) → t ≡ u → CellsLead types sites Rest g s.here.level s.here.names InRoutine (cell.Object (of_kind (base.Derived u) 0) ∷ [])
               (state.Object q ∷ To (s.pc + 1) s.here.place ∷ st)
-          within u same =
-              (subst (λ n. typing.Leads types g (of_kind (base.Derived n) 0) q) same e,
-              (tt, subst (λ (z : Site). CellsLead types sites Rest g s.here.level s.here.names z.scope (drop 1 z.cells) st) (sym b.next) c))
+          within u same = (
+            subst (λ n. typing.Leads types g (of_kind (base.Derived n) 0) q) same e,
+            (tt, subst (λ (z : Site). CellsLead types sites Rest g s.here.level s.here.names z.scope (drop 1 z.cells) st) (sym b.next) c),
+          )
 
   back_leads : kinds.Goes p sites s.pc l i.Back → Kept (act limit w code i.Back l.value here s)
   back_leads b = object s.stack (had b) (λ q st h e c. by_place st q e c)
@@ -353,17 +353,19 @@ module _ (limit : ℕ) (w : Setting) (p : Program) (code : Code) (sites : ℕ �
           subst (λ o. Kept (called_at o s st here ps)) (sym x.at)
           (performing p sites (begun ps x.entry.initial here) s.world (begun_after ps ks js x.entry.initial (called_held types p f gs ps q k at_f is passed) (starts f q x.entry at_f x.at))
           (λ level u t.
-              let names = subst (λ ds. AllLead types g' (kinds_of q.dummies.items) (dummies 0 ds ps level here.unit)) (sym x.dummies)
-              (called_lead types p g' f gs ps q k level here.unit at_f is (held_level level g ks js t.0) passed (all_passed_more types sites g g' gs ps more lead)) in
-              let below = subst (λ (z : Site). CellsLead types sites Rest g s.here.level s.here.names z.scope (drop 1 z.cells) st) (sym b.next) c in
-              accord p sites g' x.begins (record {
-                typed = t.1;
-                statics = acc.statics;
-                static_types = acc.static_types;
-                level_types = known_more types (g.levels ++ ks ∷ []) js (known_more types g.levels ks acc.level_types (arguments_known p formed sense (suc f) q ps at_f))
-                    (variables_known p formed sense (suc f) q at_f);
-              }) ((variables_level level g ks js t.0, names),
-              subst (λ h. CellsLead types sites Rest h s.here.level s.here.names (sites (s.pc + 1)).scope (drop 1 (sites (s.pc + 1)).cells) st) (sym (cut_two level g ks js t.0)) below)))
+          let names = subst (λ ds. AllLead types g' (kinds_of q.dummies.items) (dummies 0 ds ps level here.unit)) (sym x.dummies)
+          (called_lead types p g' f gs ps q k level here.unit at_f is (held_level level g ks js t.0) passed (all_passed_more types sites g g' gs ps more lead)) in
+          let below = subst (λ (z : Site). CellsLead types sites Rest g s.here.level s.here.names z.scope (drop 1 z.cells) st) (sym b.next) c in
+          accord p sites g' x.begins (record {
+            typed = t.1;
+            statics = acc.statics;
+            static_types = acc.static_types;
+            level_types = known_more types (g.levels ++ ks ∷ []) js (known_more types g.levels ks acc.level_types (arguments_known p formed sense (suc f) q ps at_f))
+                (variables_known p formed sense (suc f) q at_f);
+          }) (
+            (variables_level level g ks js t.0, names),
+            subst (λ h. CellsLead types sites Rest h s.here.level s.here.names (sites (s.pc + 1)).scope (drop 1 (sites (s.pc + 1)).cells) st) (sym (cut_two level g ks js t.0)) below,
+          )))
 
   associated_after : (js : List Kind) (vs : List Value) → AreOf types js vs → After (λ level st. (level ≡ length g.levels) × IsTyped types (extended g js) st) s.world.store
       (looks (λ store. length store.levels) >>= λ level. enter vs >>= λ done. gives level)
@@ -383,16 +385,21 @@ module _ (limit : ℕ) (w : Setting) (p : Program) (code : Code) (sites : ℕ �
       performing p sites (looks (λ store. length store.levels) >>= λ level. enter (held_by found) >>= λ done. gives level) s.world
       (associated_after js (held_by found) (chosen_are types ks found are))
       (λ level u t.
-          let rs = associates found level 0 here.unit in
-          let refs = associates_lead types g' ks found [] level 0 here.unit refl (last_level level g js t.0) are (all_selected_more types sites g g' ks found more leads) in
-          let known = in_more types sites g g' s.here.level s.here.names (Told c.0) more (named_at c.0 c.1) in
-          accord p sites {here = meaning.associating rs s.here} g' lead.next (record {
-            typed = t.1;
-            statics = acc.statics;
-            static_types = acc.static_types;
-            level_types = known_more types g.levels js acc.level_types (chosen_known types g ks found leads);
-          }) ((known.0, lead_append types g' c.0.names ks s.here.names rs known.1 refs), (refs,
-          subst (λ h. CellsLead types sites Rest h s.here.level s.here.names (Told c.0) lead.rest st) (sym (cut_more level g (js ∷ []) t.0)) (told lead.rest st c.0 c.1 q.leads)))))
+      let rs = associates found level 0 here.unit in
+      let refs = associates_lead types g' ks found [] level 0 here.unit refl (last_level level g js t.0) are (all_selected_more types sites g g' ks found more leads) in
+      let known = in_more types sites g g' s.here.level s.here.names (Told c.0) more (named_at c.0 c.1) in
+      accord p sites {here = meaning.associating rs s.here} g' lead.next (record {
+        typed = t.1;
+        statics = acc.statics;
+        static_types = acc.static_types;
+        level_types = known_more types g.levels js acc.level_types (chosen_known types g ks found leads);
+      }) (
+        (known.0, lead_append types g' c.0.names ks s.here.names rs known.1 refs),
+        (
+          refs,
+          subst (λ h. CellsLead types sites Rest h s.here.level s.here.names (Told c.0) lead.rest st) (sym (cut_more level g (js ∷ []) t.0)) (told lead.rest st c.0 c.1 q.leads),
+        ),
+      )))
 
   end_leads : kinds.Goes p sites s.pc l i.EndAssociate → Kept (act limit w code i.EndAssociate l.value here s)
   end_leads (ks, js, b) = at_objects p sites Rest g s.here.level s.here.names K o r fits.end s.stack (had b.before) (λ rs st h e q.

@@ -1,6 +1,6 @@
 -- Parts of runs that leave the store as it was.
-use Rattle.std.proofs.Common.{◌≡◌, ℕ, zero, suc, ℤ, pos, negsuc, Bool, List, [], ◌∷◌, map, Option, None, Some, refl, if◌then◌else◌, ap, ◌∙◌, sym}
-use Rattle.std.specs.Prelude.{int_le, ◌-ℤ◌, int_lt}
+use Rattle.std.proofs.Common.{◌≡◌, ℕ, zero, suc, ℤ, pos, negsuc, Bool, List, [], ◌∷◌, map, Option, None, Some, refl, if◌then◌else◌, ◌∙◌}
+use Rattle.std.specs.Prelude.{int_le, ◌-ℤ◌}
 use Rattle.f3_places.specs.declared.source.Place.{Place}
 use Rattle.f3_program.specs.declared.declarations.Base.{Base}
 use Rattle.f3_program.specs.declared.declarations.Declared.{Declared}
@@ -14,7 +14,7 @@ use Rattle.f3_meaning_whole.specs.Store.{Store, get}
 use Rattle.f3_meaning_whole.specs.Reference.{Reference, held_at}
 use Rattle.f3_meaning_whole.specs.declared.run_error.RunError.{RunError}
 use Rattle.f3_meaning_whole.specs.declared.run_error.RunError.TheVariants.{StepIsZero}
-use Rattle.f3_meaning_whole.specs.Ran.{Event, Printed, Asked, World, Ran, ◌>>=◌, gives, fails, looks, asks, does, prints_bytes, each, replayed}
+use Rattle.f3_meaning_whole.specs.Ran.{Printed, Asked, Ran, ◌>>=◌, gives, fails, looks, asks, does, prints_bytes, each, replayed}
 use Rattle.f3_meaning_whole.specs.Arithmetic.{converted, value_fits, divided, is_zero, power, apply, change_of}
 use Rattle.f3_meaning_whole.specs.Shape.{Parts, nothing, and, spans_declared}
 use Rattle.f3_meaning_whole.specs.Act.{Here, Passed, Given, Lent, claim, claim_for, read, begins, fitted, fitted_contents, fitted_argument, structure, passed_at}

@@ -1,15 +1,14 @@
 -- Stores of kinds: objects that are read and changed, levels that begin and end.
-use Rattle.std.proofs.Common.{◌≡◌, ◌∙◌, sym, ap, ℕ, zero, suc, ◌<◌, List, [], ◌∷◌, ◌++◌, length, take, Option, Some, None, refl, subst, arith, ◌⊎◌, inl, inr}
+use Rattle.std.proofs.Common.{◌≡◌, ap, ℕ, zero, suc, List, [], ◌∷◌, ◌++◌, length, take, Some, refl, subst}
 use Rattle.std.specs.Prelude.{slice_get, slice_set, slice_index_or}
 use Rattle.f3_program.specs.declared.declarations.Derived.{Derived}
 use Rattle.f3_program.specs.declared.declarations.Kind.{Kind}
 use Rattle.f3_meaning_whole.specs.Value.{Value, Unallocated}
-use Rattle.f3_meaning_whole.specs.Store.{Store, Root, Static, Local, Step, Path, at_root, with_root, part, with_part, get, put, put_all}
-use Rattle.f3_meaning_whole.specs.Formed.{found}
+use Rattle.f3_meaning_whole.specs.Store.{Store, Root, Static, Local, Path, at_root, with_root, get, put, put_all}
 use Rattle.f3_cell_kinds.specs.Holds.{IsOf}
-use Rattle.f3_cell_kinds.proofs.Asked.{some_same, found_is}
+use Rattle.f3_cell_kinds.proofs.Asked.{found_is}
 use Rattle.f3_store_kinds.proofs.Ways.{part_is, changed_is}
-use Rattle.f3_store_kinds.specs.Typing.{Typing, kind_by, kind_at, cut, extended, IsBefore, AreOf, AreLevels, AllOf, IsTyped, kind_of_path, LeadsTo, AllLeadTo, IsOrNone}
+use Rattle.f3_store_kinds.specs.Typing.{Typing, kind_by, kind_at, cut, extended, AreOf, AreLevels, AllOf, IsTyped, LeadsTo, AllLeadTo, IsOrNone}
 
 module _ (types : List Derived) where
   -- ---- lists of values

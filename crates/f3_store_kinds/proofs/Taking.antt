@@ -1,5 +1,5 @@
 -- Values that objects take.
-use Rattle.std.proofs.Common.{◌≡◌, ◌∙◌, sym, ap, ℕ, zero, suc, ◌*◌, ℤ, pos, Bool, true, false, ◌&&◌, ◌||◌, not, List, [], ◌∷◌, map, length, Option, Some, None, ◌^◌, ◌<◌, negsuc, refl, subst, if◌then◌else◌, arith}
+use Rattle.std.proofs.Common.{◌≡◌, ◌∙◌, sym, ap, ℕ, zero, suc, ℤ, pos, Bool, true, false, ◌||◌, List, [], ◌∷◌, map, length, Option, Some, None, ◌^◌, ◌<◌, negsuc, refl, subst, arith}
 use Rattle.std.specs.Prelude.{nat_eq, nat_lt, replicate, slice_get}
 use Rattle.std.proofs.lemmas.Bool.{eqb-true, ltb-true, lt-ltb}
 use Rattle.std.proofs.lemmas.List.{length-replicate}
@@ -17,7 +17,6 @@ use Rattle.f3_meaning_whole.specs.declared.run_error.RunError.TheVariants.{Overf
 use Rattle.f3_meaning_whole.specs.Arithmetic.{fits, converted, value_fits}
 use Rattle.f3_meaning_whole.specs.Act.{Here, set, clear, enter, leave, derived_of}
 use Rattle.f3_meaning_whole.specs.Permitted.{same_type}
-use Rattle.f3_meaning_whole.specs.Shape as Shape
 use Rattle.f3_meaning_whole.specs.Shape.{Shape, Whole, Logical, initial_of}
 use Rattle.f3_meaning_whole.specs.Exec.{vacant, status_number}
 use Rattle.f3_meaning_whole.specs.Formed.{alike, is_before, of_kind, is_scalar, is_number, is_whole_number}

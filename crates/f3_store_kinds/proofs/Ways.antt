@@ -1,10 +1,10 @@
 -- Parts of values are of the kinds to which their ways lead, and so are values in which a part is another.
-use Rattle.std.proofs.Common.{◌≡◌, ◌∙◌, sym, ap, ℕ, zero, suc, Bool, true, false, ◌&&◌, not, ◌⊎◌, inl, inr, List, [], ◌∷◌, length, Option, Some, None, refl, subst, if◌then◌else◌}
-use Rattle.std.specs.Prelude.{nat_lt, slice_get}
+use Rattle.std.proofs.Common.{◌≡◌, ◌∙◌, sym, ap, ℕ, zero, suc, Bool, true, false, inl, inr, List, [], ◌∷◌, length, Option, Some, None, refl, subst, if◌then◌else◌}
+use Rattle.std.specs.Prelude.{slice_get}
 use Rattle.f3_program.specs.declared.declarations.Component as m
 use Rattle.f3_program.specs.declared.declarations.Derived.{Derived}
 use Rattle.f3_program.specs.declared.declarations.Kind.{Kind}
-use Rattle.f3_meaning_whole.specs.Value.{Value, Composite, Array, Unallocated, Allocated, Values, none, more, listed}
+use Rattle.f3_meaning_whole.specs.Value.{Value, Composite, Array, Allocated, Values, none, more, listed}
 use Rattle.f3_meaning_whole.specs.Store.{Step, Component, Element, Contents, part, part_at, with_part, with_part_at}
 use Rattle.f3_meaning_whole.specs.Act.{component_of, derived_of}
 use Rattle.f3_meaning_whole.specs.Formed.{found, of_kind, is_scalar}

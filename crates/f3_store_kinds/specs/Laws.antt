@@ -6,8 +6,8 @@ use Rattle.f3_program.specs.declared.declarations.Kind.{Kind}
 use Rattle.f3_program.specs.declared.program.Procedure.{Procedure}
 use Rattle.f3_program.specs.declared.program.Program.{Program}
 use Rattle.f3_program.specs.declared.program.Static.{Static}
-use Rattle.f3_meaning_whole.specs.Value.{Span, Value, Array, Values, joined, listed, shown}
-use Rattle.f3_meaning_whole.specs.Store.{Store, Path, put, put_all, get}
+use Rattle.f3_meaning_whole.specs.Value.{Span, Value, Array, Values, listed, shown}
+use Rattle.f3_meaning_whole.specs.Store.{Store, Path, put, put_all}
 use Rattle.f3_meaning_whole.specs.Reference.{Maker, One, Many, Reference, paths, held_at}
 use Rattle.f3_meaning_whole.specs.Ran.{Event, World, Gives}
 use Rattle.f3_meaning_whole.specs.Act.{Setting, Here, Chosen, component, component_of, contents, picks, picks_in_each}

@@ -3,7 +3,7 @@ use Rattle.std.specs.Prelude.{⊤, ◌≡◌, ◌⊎◌, true, List, [], ◌∷�
 use Rattle.f3_program.specs.declared.declarations.Kind.{Kind}
 use Rattle.f3_meaning_whole.specs.Value.{Unallocated}
 use Rattle.f3_meaning_whole.specs.Store.{Store, Path, get}
-use Rattle.f3_meaning_whole.specs.Reference.{Reach, One, Many, Reference}
+use Rattle.f3_meaning_whole.specs.Reference.{Reach, One, Many}
 use Rattle.f3_meaning_whole.specs.Act.{Passed, Given, Lent}
 use Rattle.f3_meaning_whole.specs.Formed as formed
 use Rattle.f3_code.specs.State.{Cell}

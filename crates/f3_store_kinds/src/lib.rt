@@ -1,7 +1,8 @@
 //! Of which kinds the objects of a store are, and where references lead.
 #![tactic(auto)]
 
-ghost use Rattle.f3_store_kinds.specs.Laws.{ChangesKeep, ComponentsLead, ContentsLead, ElementsLead, LevelsBegin, LevelsEnd, PutsKeep, ReadsHold};
+ghost use Rattle.f3_store_kinds.specs.Laws.{ChangesKeep, ComponentsLead, ContentsLead, ElementsLead, LevelsBegin, LevelsEnd, PartsStand, PutsKeep, ReadsHold};
+ghost use Rattle.f3_store_kinds.specs.Laws.{StartAccords, StepsAccord, StoresHold};
 
 /// Where an object of a kind takes a value of its kind, the store is of the same kinds as before (own rule).
 pub fn puts_keep()
@@ -43,4 +44,26 @@ pub fn contents_lead()
 /// (ISO/IEC 1539-1:2004, 6.2.2; own rule).
 pub fn elements_lead()
     ensures { ElementsLead }
+{}
+
+/// Each step, in a program that makes sense, leads from a state that accords with a typing, and in which objects stand, to one that
+/// accords with a typing (own rule).
+pub fn steps_accord()
+    ensures { StepsAccord }
+{}
+
+/// The state in which a program that makes sense begins accords with the typing of what is declared (own rule).
+pub fn start_accords()
+    ensures { StartAccords }
+{}
+
+/// In each state of each run of a program that makes sense the store holds values of kinds, and all references lead to objects of the
+/// kinds that are known for them, as long as objects have stood in the store before (own rule).
+pub fn stores_hold()
+    ensures { StoresHold }
+{}
+
+/// In a state that accords with a typing the variables stand, and so do the objects on the stack where they are there (own rule).
+pub fn parts_stand()
+    ensures { PartsStand }
 {}

@@ -1,4 +1,4 @@
-use Rattle.f3_store_kinds.proofs.Check.{puts_keep}
+use Rattle.f3_store_kinds.proofs.Reading.{puts_keep}
 use Rattle.f3_store_kinds.proofs.puts_keep.Goals as goal
 
 pub returns : goal.returns
