@@ -13,3 +13,4 @@ pub mod Stepping
 pub mod Cleaning
 pub mod Running
 pub mod Standing
+pub mod Agreeing

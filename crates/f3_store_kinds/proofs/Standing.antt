@@ -1,5 +1,5 @@
 -- Where the parts are there to which references lead, objects stand.
-use Rattle.std.proofs.Common.{◌≡◌, ◌∙◌, sym, ap, ℕ, List, [], ◌∷◌, map, Option, Some, refl, subst, inl, inr}
+use Rattle.std.proofs.Common.{◌≡◌, ◌∙◌, sym, ap, ℕ, zero, suc, ◌<◌, Bool, List, [], ◌∷◌, map, Option, Some, refl, subst, arith, ◌⊎◌, inl, inr}
 use Rattle.std.specs.Prelude.{slice_get}
 use Rattle.f3_program.specs.declared.declarations.Declared.{Declared}
 use Rattle.f3_program.specs.declared.declarations.Derived.{Derived}
@@ -13,20 +13,27 @@ use Rattle.f3_meaning_whole.specs.Store.{Store, Root, Local, Path, get}
 use Rattle.f3_meaning_whole.specs.Reference.{Reach, One, Many, Reference, held_at}
 use Rattle.f3_meaning_whole.specs.Act.{Here, Passed, whole}
 use Rattle.f3_meaning_whole.specs.Act as meaning
-use Rattle.f3_meaning_whole.specs.Formed.{Given, found, of_kind}
+use Rattle.f3_meaning_whole.specs.Formed.{IsWellFormed, Given, found, of_kind}
 use Rattle.f3_code.specs.State.{Cell, To, State}
 use Rattle.f3_code.specs.State as state
 use Rattle.f3_cell_kinds.specs.Types.{Scope, Around, Told, Untold, InRoutine, CellType, Site}
 use Rattle.f3_cell_kinds.specs.Types as cell
 use Rattle.f3_cell_kinds.specs.Holds.{Reaches, Refers, IsOf, AreElements, IsPassed, Is, InScope, Stand, Knows}
-use Rattle.f3_cell_kinds.specs.Stands.{PassedStands, CellStands, CellsStand, VariablesStand}
+use Rattle.f3_cell_kinds.specs.Stands.{PassedStands, CellStands, CellsStand, VariablesStand, Stands}
+use Rattle.f3_core.specs.Lower.{lowered_program}
+use Rattle.f3_code.specs.Code.{program_code}
+use Rattle.f3_heights.specs.Room.{state_after}
+use Rattle.f3_cell_kinds.specs.Laws.{site_at}
+use Rattle.f3_cell_kinds.specs.Sense.{MakesSense}
+use Rattle.f3_cell_kinds.proofs.Running.{runs_hold}
 use Rattle.f3_cell_kinds.proofs.Asked.{some_same, found_is}
 use Rattle.f3_cell_kinds.proofs.Parting.{mapped_length}
 use Rattle.f3_cell_kinds.proofs.Reaching.{shown_length, shown_count, listed_joined}
 use Rattle.f3_store_kinds.specs.Typing.{Typing, kind_at, cut, IsTyped, AllLeadTo, LeadsBy, Leads, IsOrNone}
 use Rattle.f3_store_kinds.specs.Accords.{IsNamed, PassedLeads, CellLeads, CellsLead, FramesLead}
 use Rattle.f3_store_kinds.specs.There.{PathThere, AllThere, ReachThere, PassedThere, CellThere, CellsThere}
-use Rattle.f3_store_kinds.specs.Laws.{PartsStand}
+use Rattle.f3_store_kinds.specs.Laws.{PartsStand, RunsAccord}
+use Rattle.f3_store_kinds.proofs.Running.{stores_hold}
 use Rattle.f3_store_kinds.proofs.Stores.{root_is, read_is}
 use Rattle.f3_store_kinds.proofs.Leading.{Within, within_cut, within_then, leads_more}
 use Rattle.f3_store_kinds.proofs.Objects.{get_map}
@@ -110,3 +117,37 @@ parts_stand p sites s g fits acc there = record {
   variables = scope_stands p sites s.here g s.world.store acc.store acc.statics (sites s.pc).scope
       (named_there p.types.items sites (λ h. FramesLead p.types.items sites h s.frames) g s.here.level s.here.names (sites s.pc).scope (sites s.pc).cells s.stack acc.leads);
 }
+
+-- ---- runs
+
+by_last : (n j : ℕ) → j < suc n → (j < n) ⊎ (j ≡ n)
+by_last zero zero h = inr refl
+by_last zero (suc j) h = absurd (omega arith)
+by_last (suc n) zero h = inl (omega arith)
+by_last (suc n) (suc j) h = one_more (by_last n j (omega arith))
+  where
+    one_more : (j < n) ⊎ (j ≡ n) → (suc j < suc n) ⊎ (suc j ≡ suc n)
+    one_more (inl f) = inl (omega arith)
+    one_more (inr f) = inr (ap suc f)
+
+module _ (limit : ℕ) (p : Program) (formed : IsWellFormed p) (sense : MakesSense p) (answers : ℕ → Bool) where
+  abbrev At : ℕ → State → Type 0
+  At j t = state_after limit (lowered_program p) (program_code (lowered_program p)) answers j ≡ Some t
+
+  -- where parts have been there, objects have stood
+  all_stand : (n : ℕ) → ((j : ℕ) (t : State) → j < n → At j t → CellsThere t.world.store (site_at p t.pc).cells t.stack) → (j : ℕ) (t : State) → j < n → At j t → Stands p (site_at p) t
+  all_stand zero there j t less f = absurd (omega arith)
+  all_stand (suc n) there j t less f = by_number (λ i u h g. all_stand n (λ m v q. there m v (omega arith)) i u h g) (by_last n j less)
+    where
+      by_number : ((i : ℕ) (u : State) → i < n → At i u → Stands p (site_at p) u) → (j < n) ⊎ (j ≡ n) → Stands p (site_at p) t
+      by_number before (inl h) = before j t h f
+      by_number before (inr same) =
+          let at : At n t = subst (λ m. At m t) same f in
+          let acc = stores_hold limit p formed sense answers n t before at in
+          parts_stand p (site_at p) t acc.0 (runs_hold limit p formed sense answers n t before at) acc.1 (there j t less f)
+
+pub runs_accord : RunsAccord
+runs_accord limit p formed sense answers k s there e =
+    let steady = all_stand limit p formed sense answers k there in
+    let f = stores_hold limit p formed sense answers k s steady e in
+    (runs_hold limit p formed sense answers k s steady e, f.0, f.1)

@@ -21,7 +21,7 @@ module _ (types : List Derived) where
   same_count (more v vs) (suc n) way x = ap suc (same_count vs n way x)
 
   -- the components of a type, from its declaration
-  components_as : (k : Kind) (y : Derived) (n : ℕ) (c : m.Component) → derived_of types k.of ≡ Some y → component_of types k.of n ≡ Some c → slice_get y.components.items n ≡ Some c
+  pub components_as : (k : Kind) (y : Derived) (n : ℕ) (c : m.Component) → derived_of types k.of ≡ Some y → component_of types k.of n ≡ Some c → slice_get y.components.items n ≡ Some c
   components_as k y n c e f =
       let g = component_found (derived_of types k.of) n c f in
       let same : g.0 ≡ y = some_same (sym g.1 ∙ e) in

@@ -1,13 +1,13 @@
 -- The laws of kinds of stores.
-use Rattle.std.specs.Prelude.{◌≡◌, ◌<◌, ℕ, true, false, Bool, nat_eq, List, [], ◌∷◌, ◌++◌, map, take, Some, slice_get}
+use Rattle.std.specs.Prelude.{◌≡◌, ◌<◌, ◌⊎◌, ℕ, true, false, Bool, nat_eq, List, [], ◌∷◌, ◌++◌, map, take, Some, slice_get}
 use Rattle.f3_program.specs.declared.declarations.Component.{Component}
 use Rattle.f3_program.specs.declared.declarations.Derived.{Derived}
 use Rattle.f3_program.specs.declared.declarations.Kind.{Kind}
 use Rattle.f3_program.specs.declared.program.Procedure.{Procedure}
 use Rattle.f3_program.specs.declared.program.Program.{Program}
 use Rattle.f3_program.specs.declared.program.Static.{Static}
-use Rattle.f3_meaning_whole.specs.Value.{Span, Value, Array, Values, listed, shown}
-use Rattle.f3_meaning_whole.specs.Store.{Store, Path, put, put_all}
+use Rattle.f3_meaning_whole.specs.Value.{Span, Value, Array, Unallocated, Values, listed, shown}
+use Rattle.f3_meaning_whole.specs.Store.{Store, Step, Path, part, put, put_all}
 use Rattle.f3_meaning_whole.specs.Reference.{Maker, One, Many, Reference, paths, held_at}
 use Rattle.f3_meaning_whole.specs.Ran.{Event, World, Gives}
 use Rattle.f3_meaning_whole.specs.Act.{Setting, Here, Chosen, component, component_of, contents, picks, picks_in_each}
@@ -25,10 +25,17 @@ use Rattle.f3_cell_kinds.specs.Stands.{Stands}
 use Rattle.f3_cell_kinds.specs.Laws.{site_at}
 use Rattle.f3_cell_kinds.specs.Effect.{held_kind}
 use Rattle.f3_cell_kinds.specs.Holds.{IsOf, Refers, Fits}
+use Rattle.f3_cell_kinds.specs.Ways.{kind_along}
 use Rattle.f3_store_kinds.specs.Accords.{declared_kinds, Accords}
 use Rattle.f3_store_kinds.specs.Clean.{AreClean}
 use Rattle.f3_store_kinds.specs.There.{CellsThere}
-use Rattle.f3_store_kinds.specs.Typing.{Typing, cut, extended, IsBefore, each_kind, AreOf, AllOf, IsTyped, LeadsTo, LeadsBy, Leads, EachLeads, IsOrNone, AllOrNone}
+use Rattle.f3_store_kinds.specs.Typing.{Typing, kind_by, cut, extended, IsBefore, each_kind, AreOf, AllOf, IsTyped, LeadsTo, LeadsBy, Leads, EachLeads, IsOrNone, AllOrNone}
+
+-- A way leads to a kind as the declarations of arrays say too, or what it leads to is not there.
+abbrev pub WaysAgree : Type 0
+WaysAgree = (types : List Derived) (k j : Kind) (way : List Step) →
+    (kind_along types way k ≡ Some j → kind_by types way k ≡ Some j)
+    × ((v : Value) → IsOf types k v → kind_by types way k ≡ Some j → (kind_along types way k ≡ Some j) ⊎ (part v way ≡ Unallocated))
 
 -- Where an object of a kind takes a value of its kind, the store is of the same kinds as before.
 abbrev pub PutsKeep : Type 0
@@ -107,3 +114,12 @@ StoresHold = (limit : ℕ) (p : Program) → IsWellFormed p → MakesSense p →
 abbrev pub PartsStand : Type 0
 PartsStand = (p : Program) (sites : ℕ → Site) (s : State) (g : Typing) → Fits p.types.items sites s → Accords p sites g s →
     CellsThere s.world.store (sites s.pc).cells s.stack → Stands p sites s
+
+-- So cells hold what their types say, and references lead to objects of their kinds, as long as what the objects on the stack reach has
+-- been there before.
+abbrev pub RunsAccord : Type 0
+RunsAccord = (limit : ℕ) (p : Program) → IsWellFormed p → MakesSense p → (answers : ℕ → Bool) (k : ℕ) (s : State) →
+    ((j : ℕ) (t : State) → j < k → state_after limit (lowered_program p) (program_code (lowered_program p)) answers j ≡ Some t →
+    CellsThere t.world.store (site_at p t.pc).cells t.stack) →
+    state_after limit (lowered_program p) (program_code (lowered_program p)) answers k ≡ Some s →
+    Fits p.types.items (site_at p) s × (g : Typing) × Accords p (site_at p) g s

@@ -2,7 +2,12 @@
 #![tactic(auto)]
 
 ghost use Rattle.f3_store_kinds.specs.Laws.{ChangesKeep, ComponentsLead, ContentsLead, ElementsLead, LevelsBegin, LevelsEnd, PartsStand, PutsKeep, ReadsHold};
-ghost use Rattle.f3_store_kinds.specs.Laws.{StartAccords, StepsAccord, StoresHold};
+ghost use Rattle.f3_store_kinds.specs.Laws.{RunsAccord, StartAccords, StepsAccord, StoresHold, WaysAgree};
+
+/// A way leads to a kind as the declarations of arrays say too, or what it leads to is not there (own rule).
+pub fn ways_agree()
+    ensures { WaysAgree }
+{}
 
 /// Where an object of a kind takes a value of its kind, the store is of the same kinds as before (own rule).
 pub fn puts_keep()
@@ -66,4 +71,10 @@ pub fn stores_hold()
 /// In a state that accords with a typing the variables stand, and so do the objects on the stack where they are there (own rule).
 pub fn parts_stand()
     ensures { PartsStand }
+{}
+
+/// So cells hold what their types say, and references lead to objects of their kinds, as long as what the objects on the stack reach has
+/// been there before (own rule).
+pub fn runs_accord()
+    ensures { RunsAccord }
 {}
