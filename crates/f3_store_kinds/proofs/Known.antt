@@ -134,11 +134,11 @@ module _ (p : Program) (formed : IsWellFormed p) (sense : MakesSense p) where
       let less = get_less p.types.items d.0 f.0 d.1 in
       before_more (0 + d.0) (length p.types.items) c.declared.kind.of (omega (arith, less)) (and_is _ _ a).0
 
-  pub record Declared' : Type 0 where
+  pub record Declarations : Type 0 where
     pub statics : all (λ (y : Static). is_declared (length p.types.items) y.declared) p.statics.items ≡ true
     pub procedures : all (are_declared p) (p.main ∷ p.procedures.items) ≡ true
 
-  pub declared_parts : Declared'
+  pub declared_parts : Declarations
   declared_parts =
       let a = and_is (are_types p 0 p.types.items) (all (λ (y : Static). is_declared (length p.types.items) y.declared) p.statics.items
       && (all (are_declared p) (p.main ∷ p.procedures.items) && all (is_procedure p) (p.main ∷ p.procedures.items))) formed in

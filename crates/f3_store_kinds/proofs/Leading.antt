@@ -35,6 +35,12 @@ get_kept (suc m) n [] x h e = cc
 get_kept (suc m) zero (y ∷ xs) x h e = e
 get_kept (suc m) (suc n) (y ∷ xs) x h e = get_kept m n xs x (omega arith) e
 
+get_before : {A : Type 0} (m n : ℕ) (xs : List A) (x : A) → slice_get (take m xs) n ≡ Some x → n < m
+get_before zero n xs x e = cc
+get_before (suc m) n [] x e = cc
+get_before (suc m) zero (y ∷ xs) x e = omega arith
+get_before (suc m) (suc n) (y ∷ xs) x e = let h = get_before m n xs x e in omega (arith, h)
+
 -- where one of two has less left, so has the other
 get_cut : {A : Type 0} (m n : ℕ) (xs ys : List A) (x : A) → ((l : ℕ) (y : A) → slice_get xs l ≡ Some y → slice_get ys l ≡ Some y) → slice_get (take m xs) n ≡ Some x →
     slice_get (take m ys) n ≡ Some x
@@ -145,3 +151,12 @@ module _ (types : List Derived) where
       by_root (Local l i) j b e =
           let f = found_is (slice_get g.levels l) (λ (ks : List Kind). slice_get ks i) j e in
           ap (λ (o : Option (List Kind)). found o (λ (ks : List Kind). slice_get ks i)) (get_kept n l g.levels f.0 b f.1) ∙ f.2
+
+  -- none from those that have ended
+  pub path_before : (n : ℕ) (g : Typing) (k : Kind) (p : Path) → LeadsTo types (cut n g) k p → IsBefore n p.root
+  path_before n g k p e = by_root p.root (found_is (kind_at (cut n g) p.root) (kind_by types p.steps) k e).0 (found_is (kind_at (cut n g) p.root) (kind_by types p.steps) k e).1
+    where
+      by_root : (t : Root) (j : Kind) → kind_at (cut n g) t ≡ Some j → IsBefore n t
+      by_root (Static i) j e = tt
+      by_root (Local l i) j e =
+          let f = found_is (slice_get (take n g.levels) l) (λ (ks : List Kind). slice_get ks i) j e in get_before n l g.levels f.0 f.1

@@ -8,10 +8,10 @@ use Rattle.f3_meaning_whole.specs.Reference.{Reach, One, Many, Reference, paths_
 use Rattle.f3_meaning_whole.specs.Formed.{of_kind}
 use Rattle.f3_meaning_whole.specs.Ran.{World, End, Gives, Ran}
 use Rattle.f3_cell_kinds.proofs.Calm.{Calm, IsCalm}
-use Rattle.f3_store_kinds.specs.Typing.{Typing, extended, each_kind, AllOf, IsTyped, AllLeadTo, LeadsBy, Leads, AllOrNone}
+use Rattle.f3_store_kinds.specs.Typing.{Typing, cut, extended, each_kind, AllOf, IsTyped, AllLeadTo, LeadsBy, Leads, AllOrNone}
 use Rattle.f3_store_kinds.specs.Laws.{PutsKeep, ChangesKeep, LevelsBegin, LevelsEnd, ReadsHold, ComponentsLead, ContentsLead, ElementsLead}
 use Rattle.f3_store_kinds.proofs.Stores.{read_is, put_is, puts_are, begun_is, ended_is}
-use Rattle.f3_store_kinds.proofs.Leading.{within_more, leads_more, path_kept}
+use Rattle.f3_store_kinds.proofs.Leading.{within_cut, within_more, path_more, leads_more, path_kept, path_before}
 use Rattle.f3_store_kinds.proofs.Objects.{component_calm, contents_calm, picks_calm, each_calm}
 
 module _ (types : List Derived) (g : Typing) where
@@ -41,7 +41,11 @@ pub levels_begin : LevelsBegin
 levels_begin types g store ks vs h f = (begun_is types g store ks vs h f, λ k r e. leads_more types g (extended g ks) k r (within_more g ks) e)
 
 pub levels_end : LevelsEnd
-levels_end types g store n h = (ended_is types g store n h, λ k p b e. path_kept types n g k p b e)
+levels_end types g store n h = (
+  ended_is types g store n h,
+  λ k p b e. path_kept types n g k p b e,
+  λ k p e. (path_before types n g k p e, path_more types (cut n g) g k p (within_cut n g) e),
+)
 
 pub reads_hold : ReadsHold
 reads_hold types g store h = (

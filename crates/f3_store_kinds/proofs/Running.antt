@@ -36,21 +36,20 @@ use Rattle.f3_cell_kinds.proofs.ReadingSteps.{standing_steps_hold}
 use Rattle.f3_store_kinds.specs.Typing.{Typing, AreOf, IsTyped}
 use Rattle.f3_store_kinds.specs.Accords.{declared_kinds, AllKnown, CellsLead, FramesLead, Accords}
 use Rattle.f3_store_kinds.specs.Clean.{AreClean}
-use Rattle.f3_store_kinds.specs.Laws.{StepsAccord, first_typing, StartAccords, StoresHold}
+use Rattle.f3_store_kinds.specs.Laws.{CodeIsClean, ValuesBegin, CodeBegins, StepsAccord, first_typing, StartAccords, StoresHold}
 use Rattle.f3_store_kinds.proofs.After.{IsAfter, After, calm_then}
 use Rattle.f3_store_kinds.proofs.Still.{claim_still}
 use Rattle.f3_store_kinds.proofs.Taking.{enter_after}
 use Rattle.f3_store_kinds.proofs.Known.{variables_known, declared_parts}
 use Rattle.f3_store_kinds.proofs.Holding.{Found, Keeps, stays_so}
 use Rattle.f3_store_kinds.proofs.Stepping.{act_leads}
-use Rattle.f3_store_kinds.proofs.Cleaning.{code_is_clean}
+use Rattle.f3_store_kinds.proofs.Cleaning as cleaning
 
 -- ---- steps
 
 module _ (limit : ℕ) (w : Setting) (p : Program) (code : Code) (sites : ℕ → Site) (are : AreKinds p sites code) (formed : IsWellFormed p) (sense : MakesSense p)
     (clean : AreClean sites code)
-    (starts : (f : ℕ) (q : Procedure) (e : Entry) → slice_get p.procedures.items f ≡ Some q → slice_get code.procedures f ≡ Some e →
-    AreOf p.types.items (declared_kinds (declared_in q)) e.initial) where
+    (starts : ValuesBegin p code) where
   does_leads : (s : State) (o : Option Line) (g : Typing) → slice_get code.lines s.pc ≡ o → Fits p.types.items sites s → Stands p sites s → Accords p sites g s →
       Keeps p sites (does_line limit w code o s)
   does_leads s None g at_pc fits stands acc = stays_so p sites
@@ -88,8 +87,7 @@ module _ (p : Program) (formed : IsWellFormed p) (sense : MakesSense p) where
       initial_of_entry (Some x) = x.initial
   entries_are m at (y ∷ qs) (suc f) q e h k = entries_are m (at + length (body_code m (lowered_procedure (setting_of p) y))) qs f q e h k
 
-  starts_so : (f : ℕ) (q : Procedure) (e : Entry) → slice_get p.procedures.items f ≡ Some q → slice_get (program_code (lowered_program p)).procedures f ≡ Some e →
-      AreOf p.types.items (declared_kinds (declared_in q)) e.initial
+  starts_so : ValuesBegin p (program_code (lowered_program p))
   starts_so f q e h k = subst (λ vs. AreOf p.types.items (declared_kinds (declared_in q)) vs) (sym (entries_are _ _ p.procedures.items f q e h k)) (variables_are (suc f) q h)
 
   statics_are : AreOf p.types.items (map (λ (y : Static). y.declared.kind) p.statics.items) (map (λ (y : Static). initial_value (setting_of p) y.declared) p.statics.items)
@@ -157,8 +155,7 @@ start_accords limit p formed sense answers s e =
 
 module _ (limit : ℕ) (w : Setting) (p : Program) (code : Code) (sites : ℕ → Site) (are : AreKinds p sites code) (formed : IsWellFormed p) (sense : MakesSense p)
     (clean : AreClean sites code)
-    (starts : (f : ℕ) (q : Procedure) (e : Entry) → slice_get p.procedures.items f ≡ Some q → slice_get code.procedures f ≡ Some e →
-    AreOf p.types.items (declared_kinds (declared_in q)) e.initial)
+    (starts : ValuesBegin p code)
     (types_same : w.program.types.items ≡ p.types.items) (statics_same : w.program.statics.items ≡ p.statics.items) (shapes_same : w.shapes ≡ shapes_of p.types.items) where
   run_accords : (k : ℕ) (s t : State) → ((j : ℕ) (u : State) → j < k → state_run limit w code j s ≡ Some u → Stands p sites u) → Fits p.types.items sites s → Found p sites s →
       state_run limit w code k s ≡ Some t → Found p sites t
@@ -179,6 +176,14 @@ pub stores_hold : StoresHold
 stores_hold limit p formed sense answers k s steady e =
     let q = lowered_program p in
     let b = begins_so p formed sense limit answers k s e in
-    let f = run_accords limit (core_setting q) p (program_code q) (site_at p) (code_has_kinds p formed sense).1 formed sense (code_is_clean p) (starts_so p formed sense) refl refl refl
+    let f = run_accords limit (core_setting q) p (program_code q) (site_at p) (code_has_kinds p formed sense).1 formed sense (cleaning.code_is_clean p) (starts_so p formed sense) refl refl refl
     k (start q b.world) s (λ j u less r. steady j u less (b.follows j ∙ r)) (start_fits p formed sense b.world) (record { typing = first_typing p; is = first_accords p formed sense b.world b.typed }) b.runs in
     (f.typing, f.is)
+
+-- ---- code
+
+pub code_is_clean : CodeIsClean
+code_is_clean = cleaning.code_is_clean
+
+pub code_begins : CodeBegins
+code_begins p formed sense = starts_so p formed sense

@@ -53,11 +53,12 @@ LevelsBegin = (types : List Derived) (g : Typing) (store : Store) (ks : List Kin
     IsTyped types (extended g ks) (record { statics = store.statics; levels = store.levels ++ vs ∷ [] })
     × ((k : Kind) (r : Reference) → Leads types g k r → Leads types (extended g ks) k r)
 
--- Levels that end take their kinds with them, and paths from objects on other levels lead to where they led.
+-- Levels that end take their kinds with them; paths from objects on other levels lead to where they led, and none from those that ended.
 abbrev pub LevelsEnd : Type 0
 LevelsEnd = (types : List Derived) (g : Typing) (store : Store) (n : ℕ) → IsTyped types g store →
     IsTyped types (cut n g) (record { statics = store.statics; levels = take n store.levels })
     × ((k : Kind) (p : Path) → IsBefore n p.root → LeadsTo types g k p → LeadsTo types (cut n g) k p)
+    × ((k : Kind) (p : Path) → LeadsTo types (cut n g) k p → IsBefore n p.root × LeadsTo types g k p)
 
 -- What is read at a reference is of the kind to which it leads, or there is nothing; of an array each element is so.
 abbrev pub ReadsHold : Type 0
@@ -85,12 +86,23 @@ ElementsLead = (types : List Derived) (g : Typing) (k : Kind) (here : Here) (r q
     × ((rank : ℕ) (ss : List Span) → nat_eq rank 0 ≡ false → Refers (of_kind k.of rank) r → EachLeads types g k r →
     ((picks_in_each ss r cs here).from w).end ≡ Gives q u → Leads types g (of_kind k.of rank) q)
 
+-- The code of each program is clean.
+abbrev pub CodeIsClean : Type 0
+CodeIsClean = (p : Program) → AreClean (site_at p) (program_code (lowered_program p))
+
+-- The procedures of a code begin with values of the kinds of their variables.
+abbrev pub ValuesBegin : Program → Code → Type 0
+ValuesBegin p code = (f : ℕ) (q : Procedure) (e : Entry) → slice_get p.procedures.items f ≡ Some q → slice_get code.procedures f ≡ Some e →
+    AreOf p.types.items (declared_kinds (declared_in q)) e.initial
+
+-- So do those of the code of a program that makes sense.
+abbrev pub CodeBegins : Type 0
+CodeBegins = (p : Program) → IsWellFormed p → MakesSense p → ValuesBegin p (program_code (lowered_program p))
+
 -- Each step, in a program that makes sense, leads from a state that accords with a typing, and in which objects stand, to one that accords
--- with a typing. The code is clean, and its procedures begin with values of the kinds of their variables.
+-- with a typing.
 abbrev pub StepsAccord : Type 0
-StepsAccord = (limit : ℕ) (w : Setting) (p : Program) (code : Code) (sites : ℕ → Site) → AreKinds p sites code → IsWellFormed p → MakesSense p → AreClean sites code →
-    ((f : ℕ) (q : Procedure) (e : Entry) → slice_get p.procedures.items f ≡ Some q → slice_get code.procedures f ≡ Some e →
-    AreOf p.types.items (declared_kinds (declared_in q)) e.initial) →
+StepsAccord = (limit : ℕ) (w : Setting) (p : Program) (code : Code) (sites : ℕ → Site) → AreKinds p sites code → IsWellFormed p → MakesSense p → AreClean sites code → ValuesBegin p code →
     (s t : State) (out : List Event) (g : Typing) → Fits p.types.items sites s → Stands p sites s → Accords p sites g s → step limit w code s ≡ Goes out t →
     (h : Typing) × Accords p sites h t
 

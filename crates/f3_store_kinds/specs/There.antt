@@ -11,6 +11,7 @@ use Rattle.f3_code.specs.State as state
 use Rattle.f3_cell_kinds.specs.Types.{CellType}
 use Rattle.f3_cell_kinds.specs.Types as cell
 
+-- what stands at a path is not missing
 abbrev pub PathThere : Store → Path → Type 0
 PathThere store p = get store p ≡ Unallocated → ⊥
 
@@ -23,6 +24,7 @@ abbrev pub ReachThere : Store → Kind → Path → Reach → Type 0
 ReachThere store k p One = (k.is_allocatable ≡ true) ⊎ PathThere store p
 ReachThere store k p (Many ss ps) = AllThere store ps
 
+-- a variable that is passed
 abbrev pub PassedThere : Store → formed.Given → Passed → Type 0
 PassedThere store x (Given n v) = ⊤
 PassedThere store x (Lent n r) = ReachThere store x.kind r.path r.reach

@@ -1,7 +1,7 @@
 //! Of which kinds the objects of a store are, and where references lead.
 #![tactic(auto)]
 
-ghost use Rattle.f3_store_kinds.specs.Laws.{ChangesKeep, ComponentsLead, ContentsLead, ElementsLead, LevelsBegin, LevelsEnd, PartsStand, PutsKeep, ReadsHold};
+ghost use Rattle.f3_store_kinds.specs.Laws.{ChangesKeep, CodeBegins, CodeIsClean, ComponentsLead, ContentsLead, ElementsLead, LevelsBegin, LevelsEnd, PartsStand, PutsKeep, ReadsHold};
 ghost use Rattle.f3_store_kinds.specs.Laws.{RunsAccord, StartAccords, StepsAccord, StoresHold, WaysAgree};
 
 /// A way leads to a kind as the declarations of arrays say too, or what it leads to is not there (own rule).
@@ -24,7 +24,8 @@ pub fn levels_begin()
     ensures { LevelsBegin }
 {}
 
-/// Levels that end take their kinds with them, and paths from objects on other levels lead to where they led (own rule).
+/// Levels that end take their kinds with them; paths from objects on other levels lead to where they led, and none from those that ended
+/// (own rule).
 pub fn levels_end()
     ensures { LevelsEnd }
 {}
@@ -49,6 +50,16 @@ pub fn contents_lead()
 /// (ISO/IEC 1539-1:2004, 6.2.2; own rule).
 pub fn elements_lead()
     ensures { ElementsLead }
+{}
+
+/// In the code of each program nothing of a SELECT CASE or an ASSOCIATE goes by Drop, Unwind or Swap (own rule).
+pub fn code_is_clean()
+    ensures { CodeIsClean }
+{}
+
+/// The procedures of the code of a program that makes sense begin with values of the kinds of their variables (own rule).
+pub fn code_begins()
+    ensures { CodeBegins }
 {}
 
 /// Each step, in a program that makes sense, leads from a state that accords with a typing, and in which objects stand, to one that
