@@ -27,7 +27,7 @@ use Rattle.f3_cell_kinds.proofs.OfActions.{selectors_over}
 use Rattle.f3_cell_kinds.proofs.Picking.{AllChosen}
 use Rattle.f3_cell_kinds.proofs.Reaching.{AllPassed, AllSelected}
 use Rattle.f3_store_kinds.specs.Typing.{Typing, cut, AllLeadTo, EachLeads, Leads, AllLead, IsTyped}
-use Rattle.f3_store_kinds.specs.Accords.{AllKnown, LevelsKnown, IsNamed, PassedLeads, SelectorLeads, CellLeads, CellsLead, FramesLead, Accords}
+use Rattle.f3_store_kinds.specs.Accords.{AllKnown, LevelsKnown, IsNamed, PassedLeads, SelectorLeads, CellLeads, CellsLead, FramesLead, Accords, Follows, Stays}
 use Rattle.f3_store_kinds.specs.Clean.{IsPlain}
 use Rattle.f3_store_kinds.proofs.Leading.{Within, within_cut, within_both, path_more, leads_more, each_more, all_more}
 use Rattle.f3_store_kinds.proofs.After.{IsAfter, After}
@@ -156,29 +156,37 @@ pub record Right (p : Program) (g : Typing) (store : Store) : Type 0 where
   pub static_types : AllKnown p.types.items g.statics
   pub level_types : LevelsKnown p.types.items g.levels
 
-module _ (p : Program) (sites : ℕ → Site) where
+module _ (p : Program) (sites : ℕ → Site) (g : Typing) where
   abbrev types : List Derived
   types = p.types.items
 
-  -- a state accords with some typing
+  -- a state accords with a typing that follows on this one
   pub record Found (s : State) : Type 0 where
     pub typing : Typing
+    pub follows : Follows g typing
     pub is : Accords p sites typing s
 
-  pub accord : {pc : ℕ} {r : Kind} {o : Around} {xs : List CellType} {stack : List Cell} {here : Here} {frames : List Frame} {w : World} (g : Typing) →
-      sites pc ≡ record { is_reached = true; returns = r; scope = o; cells = xs } → Right p g w.store →
-      CellsLead types sites (λ h. FramesLead types sites h frames) g here.level here.names o xs stack →
+  pub accord_by : {pc : ℕ} {r : Kind} {o : Around} {xs : List CellType} {stack : List Cell} {here : Here} {frames : List Frame} {w : World} (y : Typing) → Follows g y →
+      sites pc ≡ record { is_reached = true; returns = r; scope = o; cells = xs } → Right p y w.store →
+      CellsLead types sites (λ h. FramesLead types sites h frames) y here.level here.names o xs stack →
       Found (record { pc = pc; stack = stack; here = here; frames = frames; world = w })
-  accord {stack = stack} {here = here} {frames = frames} g e right h = record {
-    typing = g;
+  accord_by {stack = stack} {here = here} {frames = frames} y follows e right h = record {
+    typing = y;
+    follows = follows;
     is = record {
       store = right.typed;
       statics = right.statics;
       static_types = right.static_types;
       level_types = right.level_types;
-      leads = subst (λ (z : Site). CellsLead types sites (λ h. FramesLead types sites h frames) g here.level here.names z.scope z.cells stack) (sym e) h;
+      leads = subst (λ (z : Site). CellsLead types sites (λ h. FramesLead types sites h frames) y here.level here.names z.scope z.cells stack) (sym e) h;
     };
   }
+
+  pub accord : {pc : ℕ} {r : Kind} {o : Around} {xs : List CellType} {stack : List Cell} {here : Here} {frames : List Frame} {w : World} →
+      sites pc ≡ record { is_reached = true; returns = r; scope = o; cells = xs } → Right p g w.store →
+      CellsLead types sites (λ h. FramesLead types sites h frames) g here.level here.names o xs stack →
+      Found (record { pc = pc; stack = stack; here = here; frames = frames; world = w })
+  accord e right h = accord_by g (Stays refl) e right h
 
   abbrev pub FoundNext : Next → Type 0
   FoundNext (Goes out t) = Found t
@@ -218,7 +226,7 @@ module _ (p : Program) (sites : ℕ → Site) where
   if_keeps true h k = h refl
   if_keeps false h k = k refl
 
-  module _ (Rest : Typing → Type 0) (g : Typing) (level : ℕ) (names : List Reference) (Known : Scope → Type 0) (o : Around) (r end : Kind) where
+  module _ (Rest : Typing → Type 0) (level : ℕ) (names : List Reference) (Known : Scope → Type 0) (o : Around) (r end : Kind) where
     -- cells of such types that lead, and what is beneath
     pub record Has (xs : List CellType) (stack : List Cell) : Type 0 where
       pub by : Stand types sites Known o r xs stack end

@@ -91,6 +91,13 @@ get_second : {A : Type 0} (xs : List A) (y z : A) → slice_get ((xs ++ y ∷ []
 get_second [] y z = refl
 get_second (x ∷ xs) y z = get_second xs y z
 
+append_both : {A : Type 0} (xs : List A) (y z : A) → (xs ++ y ∷ []) ++ z ∷ [] ≡ xs ++ y ∷ z ∷ []
+append_both [] y z = refl
+append_both (x ∷ xs) y z = ap (λ l. x ∷ l) (append_both xs y z)
+
+pub both_more : (g : Typing) (ks js : List Kind) → extended (extended g ks) js ≡ record { statics = g.statics; levels = g.levels ++ ks ∷ js ∷ [] }
+both_more g ks js = ap (λ (l : List (List Kind)). record { statics = g.statics; levels = l }) (append_both g.levels ks js)
+
 -- the levels of values that are held, and of variables
 pub held_level : (n : ℕ) (g : Typing) (ks js : List Kind) → n ≡ length g.levels → slice_get (extended (extended g ks) js).levels n ≡ Some ks
 held_level n g ks js e = ap (λ m. slice_get (extended (extended g ks) js).levels m) e ∙ get_first g.levels ks js

@@ -51,17 +51,17 @@ module _ (limit : ℕ) (w : Setting) (p : Program) (code : Code) (sites : ℕ �
     (clean : AreClean sites code)
     (starts : ValuesBegin p code) where
   does_leads : (s : State) (o : Option Line) (g : Typing) → slice_get code.lines s.pc ≡ o → Fits p.types.items sites s → Stands p sites s → Accords p sites g s →
-      Keeps p sites (does_line limit w code o s)
-  does_leads s None g at_pc fits stands acc = stays_so p sites
+      Keeps p sites g (does_line limit w code o s)
+  does_leads s None g at_pc fits stands acc = stays_so p sites g
   does_leads s (Some l) g at_pc fits stands acc = act_leads limit w p code sites are formed sense starts s fits stands g acc l l.act
       (are.lines s.pc l at_pc fits.is_reached) (clean s.pc l at_pc)
 
-  pub step_leads : (s t : State) (out : List Event) (g : Typing) → Fits p.types.items sites s → Stands p sites s → Accords p sites g s → step limit w code s ≡ Goes out t → Found p sites t
-  step_leads s t out g fits stands acc e = (subst (λ n. Keeps p sites n) e (does_leads s (slice_get code.lines s.pc) g refl fits stands acc)).by
+  pub step_leads : (s t : State) (out : List Event) (g : Typing) → Fits p.types.items sites s → Stands p sites s → Accords p sites g s → step limit w code s ≡ Goes out t → Found p sites g t
+  step_leads s t out g fits stands acc e = (subst (λ n. Keeps p sites g n) e (does_leads s (slice_get code.lines s.pc) g refl fits stands acc)).by
 
 pub steps_accord : StepsAccord
 steps_accord limit w p code sites are formed sense clean starts s t out g fits stands acc e =
-    let f = step_leads limit w p code sites are formed sense clean starts s t out g fits stands acc e in (f.typing, f.is)
+    let f = step_leads limit w p code sites are formed sense clean starts s t out g fits stands acc e in (f.typing, f.follows, f.is)
 
 -- ---- how a program begins
 
@@ -153,23 +153,28 @@ start_accords limit p formed sense answers s e =
 
 -- ---- runs
 
+-- some typing with which a state accords
+record Held (p : Program) (sites : ℕ → Site) (s : State) : Type 0 where
+  typing : Typing
+  is : Accords p sites typing s
+
 module _ (limit : ℕ) (w : Setting) (p : Program) (code : Code) (sites : ℕ → Site) (are : AreKinds p sites code) (formed : IsWellFormed p) (sense : MakesSense p)
     (clean : AreClean sites code)
     (starts : ValuesBegin p code)
     (types_same : w.program.types.items ≡ p.types.items) (statics_same : w.program.statics.items ≡ p.statics.items) (shapes_same : w.shapes ≡ shapes_of p.types.items) where
-  run_accords : (k : ℕ) (s t : State) → ((j : ℕ) (u : State) → j < k → state_run limit w code j s ≡ Some u → Stands p sites u) → Fits p.types.items sites s → Found p sites s →
-      state_run limit w code k s ≡ Some t → Found p sites t
-  run_accords zero s t steady h f e = let same : s ≡ t = cc in subst (λ u. Found p sites u) same f
+  run_accords : (k : ℕ) (s t : State) → ((j : ℕ) (u : State) → j < k → state_run limit w code j s ≡ Some u → Stands p sites u) → Fits p.types.items sites s → Held p sites s →
+      state_run limit w code k s ≡ Some t → Held p sites t
+  run_accords zero s t steady h f e = let same : s ≡ t = cc in subst (λ u. Held p sites u) same f
   run_accords (suc k) s t steady h f e = by_next (step limit w code s) refl e (λ u more h f e. run_accords k u t more h f e)
     where
       by_next : (x : Next) → step limit w code s ≡ x → state_next x (state_run limit w code k) ≡ Some t →
-          ((u : State) → ((j : ℕ) (v : State) → j < k → state_run limit w code j u ≡ Some v → Stands p sites v) → Fits p.types.items sites u → Found p sites u →
-          state_run limit w code k u ≡ Some t → Found p sites t) → Found p sites t
+          ((u : State) → ((j : ℕ) (v : State) → j < k → state_run limit w code j u ≡ Some v → Stands p sites v) → Fits p.types.items sites u → Held p sites u →
+          state_run limit w code k u ≡ Some t → Held p sites t) → Held p sites t
       by_next (Goes out u) is e go =
           let stands = steady 0 s (omega arith) refl in
           go u (λ j v less q. steady (suc j) v (omega (arith, less)) (ap (λ x. state_next x (state_run limit w code j)) is ∙ q))
           (standing_steps_hold limit w p code sites are formed sense types_same statics_same shapes_same s u out h stands is)
-          (step_leads limit w p code sites are formed sense clean starts s u out f.typing h stands f.is is) e
+          (let r = step_leads limit w p code sites are formed sense clean starts s u out f.typing h stands f.is is in record { typing = r.typing; is = r.is }) e
       by_next (state.Stays out halt) is e go = cc
 
 pub stores_hold : StoresHold

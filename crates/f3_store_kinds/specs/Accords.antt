@@ -1,5 +1,5 @@
 -- States whose stores hold values of kinds, and whose references lead to objects of the kinds that are known.
-use Rattle.std.specs.Prelude.{⊤, ◌≡◌, ℕ, true, false, List, [], ◌∷◌, map, length, drop, Some, slice_get}
+use Rattle.std.specs.Prelude.{⊤, ◌≡◌, ℕ, true, false, List, [], ◌∷◌, ◌++◌, map, length, drop, Some, slice_get}
 use Rattle.f3_program.specs.declared.declarations.Declared.{Declared}
 use Rattle.f3_program.specs.declared.declarations.Derived.{Derived}
 use Rattle.f3_program.specs.declared.declarations.Kind.{Kind}
@@ -86,3 +86,9 @@ pub record Accords (p : Program) (sites : ℕ → Site) (g : Typing) (s : State)
   pub level_types : LevelsKnown p.types.items g.levels
   pub leads : CellsLead p.types.items sites (λ h. FramesLead p.types.items sites h s.frames) g s.here.level s.here.names (sites s.pc).scope
       (sites s.pc).cells s.stack
+
+-- How a typing changes in a step: not at all, by levels that begin, or by levels that end.
+pub data Follows (g h : Typing) : Type 0 where
+  Stays : h ≡ g → Follows g h
+  Begins : (kss : List (List Kind)) → h ≡ record { statics = g.statics; levels = g.levels ++ kss } → Follows g h
+  Ends : (n : ℕ) → h ≡ cut n g → Follows g h

@@ -26,7 +26,7 @@ use Rattle.f3_cell_kinds.specs.Laws.{site_at}
 use Rattle.f3_cell_kinds.specs.Effect.{held_kind}
 use Rattle.f3_cell_kinds.specs.Holds.{IsOf, Refers, Fits}
 use Rattle.f3_cell_kinds.specs.Ways.{kind_along}
-use Rattle.f3_store_kinds.specs.Accords.{declared_kinds, Accords}
+use Rattle.f3_store_kinds.specs.Accords.{declared_kinds, Accords, Follows}
 use Rattle.f3_store_kinds.specs.Clean.{AreClean}
 use Rattle.f3_store_kinds.specs.There.{CellsThere}
 use Rattle.f3_store_kinds.specs.Typing.{Typing, kind_by, cut, extended, IsBefore, each_kind, AreOf, AllOf, IsTyped, LeadsTo, LeadsBy, Leads, EachLeads, IsOrNone, AllOrNone}
@@ -100,11 +100,11 @@ abbrev pub CodeBegins : Type 0
 CodeBegins = (p : Program) → IsWellFormed p → MakesSense p → ValuesBegin p (program_code (lowered_program p))
 
 -- Each step, in a program that makes sense, leads from a state that accords with a typing, and in which objects stand, to one that accords
--- with a typing.
+-- with the typing that follows.
 abbrev pub StepsAccord : Type 0
 StepsAccord = (limit : ℕ) (w : Setting) (p : Program) (code : Code) (sites : ℕ → Site) → AreKinds p sites code → IsWellFormed p → MakesSense p → AreClean sites code → ValuesBegin p code →
     (s t : State) (out : List Event) (g : Typing) → Fits p.types.items sites s → Stands p sites s → Accords p sites g s → step limit w code s ≡ Goes out t →
-    (h : Typing) × Accords p sites h t
+    (h : Typing) × Follows g h × Accords p sites h t
 
 -- The state in which a program that makes sense begins accords with the typing of what is declared.
 abbrev pub first_typing : Program → Typing
