@@ -21,6 +21,8 @@ use Rattle.f3_code.specs.State.{Line, Entry, Code, State, Next, Goes}
 use Rattle.f3_code.specs.Machine.{ends_so, step, does_line}
 use Rattle.f3_code.specs.Run.{start}
 use Rattle.f3_code.specs.Code.{body_code, entries, program_code}
+use Rattle.f3_answers.specs.Heap.{with_answers}
+use Rattle.f3_heights.proofs.OnHeap.{heap_answers}
 use Rattle.f3_heights.specs.Room.{state_next, state_run, state_after}
 use Rattle.f3_cell_kinds.specs.Types.{Site}
 use Rattle.f3_cell_kinds.specs.Kinds.{AreKinds}
@@ -36,7 +38,7 @@ use Rattle.f3_cell_kinds.proofs.ReadingSteps.{standing_steps_hold}
 use Rattle.f3_store_kinds.specs.Typing.{Typing, AreOf, IsTyped}
 use Rattle.f3_store_kinds.specs.Accords.{declared_kinds, AllKnown, CellsLead, FramesLead, Accords}
 use Rattle.f3_store_kinds.specs.Clean.{AreClean}
-use Rattle.f3_store_kinds.specs.Laws.{CodeIsClean, ValuesBegin, CodeBegins, StepsAccord, first_typing, StartAccords, StoresHold}
+use Rattle.f3_store_kinds.specs.Laws.{CodeIsClean, ValuesBegin, CodeBegins, StepsAccord, HeapStepsAccord, first_typing, StartAccords, StoresHold}
 use Rattle.f3_store_kinds.proofs.After.{IsAfter, After, calm_then}
 use Rattle.f3_store_kinds.proofs.Still.{claim_still}
 use Rattle.f3_store_kinds.proofs.Taking.{enter_after}
@@ -62,6 +64,18 @@ module _ (limit : ℕ) (w : Setting) (p : Program) (code : Code) (sites : ℕ �
 pub steps_accord : StepsAccord
 steps_accord limit w p code sites are formed sense clean starts s t out g fits stands acc e =
     let f = step_leads limit w p code sites are formed sense clean starts s t out g fits stands acc e in (f.typing, f.follows, f.is)
+
+-- a step over a heap is one with some answers of it
+pub heap_steps_accord : HeapStepsAccord
+heap_steps_accord size limit w p code sites are formed sense clean starts types_same statics_same shapes_same s t out g fits stands acc e =
+    let a = heap_answers size limit w code s in
+    let u = with_answers a.0 s in
+    let fits' : Fits p.types.items sites u = record { is_reached = fits.is_reached; scope = fits.scope; end = fits.end; stack = fits.stack; frames = fits.frames } in
+    let stands' : Stands p sites u = record { cells = stands.cells; variables = stands.variables } in
+    let acc' : Accords p sites g u = record { store = acc.store; statics = acc.statics; static_types = acc.static_types; level_types = acc.level_types; leads = acc.leads } in
+    let e' = sym a.1 ∙ e in
+    let f = step_leads limit w p code sites are formed sense clean starts u t out g fits' stands' acc' e' in
+    (standing_steps_hold limit w p code sites are formed sense types_same statics_same shapes_same u t out fits' stands' e', f.typing, f.follows, f.is)
 
 -- ---- how a program begins
 

@@ -12,11 +12,13 @@ use Rattle.f3_meaning_whole.specs.Reference.{Maker, One, Many, Reference, paths,
 use Rattle.f3_meaning_whole.specs.Ran.{Event, World, Gives}
 use Rattle.f3_meaning_whole.specs.Act.{Setting, Here, Chosen, component, component_of, contents, picks, picks_in_each}
 use Rattle.f3_meaning_whole.specs.Formed.{of_kind, IsWellFormed}
+use Rattle.f3_meaning_whole.specs.Shape.{shapes_of}
 use Rattle.f3_meaning_whole.specs.Exec.{declared_in}
 use Rattle.f3_core.specs.Lower.{lowered_program}
 use Rattle.f3_code.specs.State.{Entry, Code, State, Goes}
 use Rattle.f3_code.specs.Machine.{step}
 use Rattle.f3_code.specs.Code.{program_code}
+use Rattle.f3_answers.specs.Heap.{heap_step}
 use Rattle.f3_heights.specs.Room.{state_after}
 use Rattle.f3_cell_kinds.specs.Types.{Site}
 use Rattle.f3_cell_kinds.specs.Kinds.{AreKinds}
@@ -105,6 +107,14 @@ abbrev pub StepsAccord : Type 0
 StepsAccord = (limit : ℕ) (w : Setting) (p : Program) (code : Code) (sites : ℕ → Site) → AreKinds p sites code → IsWellFormed p → MakesSense p → AreClean sites code → ValuesBegin p code →
     (s t : State) (out : List Event) (g : Typing) → Fits p.types.items sites s → Stands p sites s → Accords p sites g s → step limit w code s ≡ Goes out t →
     (h : Typing) × Follows g h × Accords p sites h t
+
+-- The machine over a heap of a size keeps to this in the same way, and to what cells hold.
+abbrev pub HeapStepsAccord : Type 0
+HeapStepsAccord = (size limit : ℕ) (w : Setting) (p : Program) (code : Code) (sites : ℕ → Site) → AreKinds p sites code → IsWellFormed p → MakesSense p →
+    AreClean sites code → ValuesBegin p code →
+    w.program.types.items ≡ p.types.items → w.program.statics.items ≡ p.statics.items → w.shapes ≡ shapes_of p.types.items →
+    (s t : State) (out : List Event) (g : Typing) → Fits p.types.items sites s → Stands p sites s → Accords p sites g s → heap_step size limit w code s ≡ Goes out t →
+    Fits p.types.items sites t × (h : Typing) × Follows g h × Accords p sites h t
 
 -- The state in which a program that makes sense begins accords with the typing of what is declared.
 abbrev pub first_typing : Program → Typing

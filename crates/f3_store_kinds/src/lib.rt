@@ -1,7 +1,7 @@
 //! Of which kinds the objects of a store are, and where references lead.
 #![tactic(auto)]
 
-ghost use Rattle.f3_store_kinds.specs.Laws.{ChangesKeep, CodeBegins, CodeIsClean, ComponentsLead, ContentsLead, ElementsLead, LevelsBegin, LevelsEnd, PartsStand, PutsKeep, ReadsHold};
+ghost use Rattle.f3_store_kinds.specs.Laws.{ChangesKeep, CodeBegins, CodeIsClean, ComponentsLead, ContentsLead, ElementsLead, HeapStepsAccord, LevelsBegin, LevelsEnd, PartsStand, PutsKeep, ReadsHold};
 ghost use Rattle.f3_store_kinds.specs.Laws.{RunsAccord, StartAccords, StepsAccord, StoresHold, WaysAgree};
 
 /// A way leads to a kind as the declarations of arrays say too, or what it leads to is not there (own rule).
@@ -66,6 +66,11 @@ pub fn code_begins()
 /// accords with a typing (own rule).
 pub fn steps_accord()
     ensures { StepsAccord }
+{}
+
+/// The machine over a heap of a size keeps to this in the same way, and to what cells hold (own rule).
+pub fn heap_steps_accord()
+    ensures { HeapStepsAccord }
 {}
 
 /// The state in which a program that makes sense begins accords with the typing of what is declared (own rule).
