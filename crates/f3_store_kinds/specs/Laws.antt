@@ -31,7 +31,8 @@ use Rattle.f3_cell_kinds.specs.Ways.{kind_along}
 use Rattle.f3_store_kinds.specs.Accords.{declared_kinds, Accords, Follows}
 use Rattle.f3_store_kinds.specs.Clean.{AreClean}
 use Rattle.f3_store_kinds.specs.There.{CellsThere}
-use Rattle.f3_store_kinds.specs.Typing.{Typing, kind_by, cut, extended, IsBefore, each_kind, AreOf, AllOf, IsTyped, LeadsTo, LeadsBy, Leads, EachLeads, IsOrNone, AllOrNone}
+use Rattle.f3_store_kinds.specs.Typing.{Typing, kind_by, cut, extended, IsBefore, each_kind, AreOf, AllOf}
+use Rattle.f3_store_kinds.specs.Typing.{IsTyped, LeadsTo, LeadsBy, Leads, EachLeads, IsOrNone, AllOrNone}
 
 -- A way leads to a kind as the declarations of arrays say too, or what it leads to is not there.
 abbrev pub WaysAgree : Type 0
@@ -104,16 +105,20 @@ CodeBegins = (p : Program) → IsWellFormed p → MakesSense p → ValuesBegin p
 -- Each step, in a program that makes sense, leads from a state that accords with a typing, and in which objects stand, to one that accords
 -- with the typing that follows.
 abbrev pub StepsAccord : Type 0
-StepsAccord = (limit : ℕ) (w : Setting) (p : Program) (code : Code) (sites : ℕ → Site) → AreKinds p sites code → IsWellFormed p → MakesSense p → AreClean sites code → ValuesBegin p code →
-    (s t : State) (out : List Event) (g : Typing) → Fits p.types.items sites s → Stands p sites s → Accords p sites g s → step limit w code s ≡ Goes out t →
+StepsAccord = (limit : ℕ) (w : Setting) (p : Program) (code : Code) (sites : ℕ → Site) → AreKinds p sites code → IsWellFormed p → MakesSense p →
+    AreClean sites code → ValuesBegin p code →
+    (s t : State) (out : List Event) (g : Typing) → Fits p.types.items sites s → Stands p sites s → Accords p sites g s →
+    step limit w code s ≡ Goes out t →
     (h : Typing) × Follows g h × Accords p sites h t
 
 -- The machine over a heap of a size keeps to this in the same way, and to what cells hold.
 abbrev pub HeapStepsAccord : Type 0
-HeapStepsAccord = (size limit : ℕ) (w : Setting) (p : Program) (code : Code) (sites : ℕ → Site) → AreKinds p sites code → IsWellFormed p → MakesSense p →
+HeapStepsAccord = (size limit : ℕ) (w : Setting) (p : Program) (code : Code) (sites : ℕ → Site) → AreKinds p sites code →
+    IsWellFormed p → MakesSense p →
     AreClean sites code → ValuesBegin p code →
     w.program.types.items ≡ p.types.items → w.program.statics.items ≡ p.statics.items → w.shapes ≡ shapes_of p.types.items →
-    (s t : State) (out : List Event) (g : Typing) → Fits p.types.items sites s → Stands p sites s → Accords p sites g s → heap_step size limit w code s ≡ Goes out t →
+    (s t : State) (out : List Event) (g : Typing) → Fits p.types.items sites s → Stands p sites s → Accords p sites g s →
+    heap_step size limit w code s ≡ Goes out t →
     Fits p.types.items sites t × (h : Typing) × Follows g h × Accords p sites h t
 
 -- The state in which a program that makes sense begins accords with the typing of what is declared.

@@ -1,8 +1,8 @@
 //! Of which kinds the objects of a store are, and where references lead.
 #![tactic(auto)]
 
-ghost use Rattle.f3_store_kinds.specs.Laws.{ChangesKeep, CodeBegins, CodeIsClean, ComponentsLead, ContentsLead, ElementsLead, HeapStepsAccord, LevelsBegin, LevelsEnd, PartsStand, PutsKeep, ReadsHold};
-ghost use Rattle.f3_store_kinds.specs.Laws.{RunsAccord, StartAccords, StepsAccord, StoresHold, WaysAgree};
+ghost use Rattle.f3_store_kinds.specs.Laws.{ChangesKeep, CodeBegins, CodeIsClean, ComponentsLead, ContentsLead, ElementsLead, HeapStepsAccord};
+ghost use Rattle.f3_store_kinds.specs.Laws.{LevelsBegin, LevelsEnd, PartsStand, PutsKeep, ReadsHold, RunsAccord, StartAccords, StepsAccord, StoresHold, WaysAgree};
 
 /// A way leads to a kind as the declarations of arrays say too, or what it leads to is not there (own rule).
 pub fn ways_agree()
