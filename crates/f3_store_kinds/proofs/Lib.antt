@@ -1,0 +1,16 @@
+pub mod Ways
+pub mod Stores
+pub mod Leading
+pub mod Reading
+pub mod Objects
+pub mod After
+pub mod Still
+pub mod Taking
+pub mod Holding
+pub mod Calling
+pub mod Known
+pub mod Stepping
+pub mod Cleaning
+pub mod Running
+pub mod Standing
+pub mod Agreeing

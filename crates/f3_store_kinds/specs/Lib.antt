@@ -1,0 +1,5 @@
+pub mod Typing
+pub mod Accords
+pub mod Clean
+pub mod There
+pub mod Laws
