@@ -1,0 +1,6 @@
+pub mod Widths
+pub mod Initials
+pub mod Written
+pub mod Types
+pub mod Zeros
+pub mod Leaving

@@ -1,0 +1,22 @@
+-- Laws of the words with which variables begin.
+use Rattle.std.specs.Prelude.{◌≡◌, ℕ, List, length, map, take}
+use Rattle.f3_program.specs.declared.declarations.Declared.{Declared}
+use Rattle.f3_heap_laws.specs.Blocks.{Live, IsLive, words_of}
+use Rattle.f3_meaning_whole.specs.Shape.{Shape}
+use Rattle.f3_meaning_whole.specs.Act.{Setting}
+use Rattle.f3_meaning_whole.specs.Exec.{initial_value}
+use Rattle.f3_rooms.specs.Forms.{total}
+use Rattle.f3_rooms.specs.Rooms.{room_values}
+use Rattle.f3_rooms.specs.Sound.{IsRoom}
+use Rattle.f3_room_levels.specs.Initial.{AllCanBegin, initial_words}
+use Rattle.f3_room_levels.specs.Levels.{begun}
+
+-- Such words are as many as those of the variables.
+abbrev pub InitialWordsAreEnough : Type 0
+InitialWordsAreEnough = (ts : List Shape) (ds : List Declared) → AllCanBegin ts ds → length (initial_words ts ds) ≡ total ts ds
+
+-- Variables at the front of a block whose first words are these have their initial values, hold nothing, and are sound.
+abbrev pub InitialWordsAreInitial : Type 0
+InitialWordsAreInitial = (g : Setting) (m : Live) (b : ℕ) (ds : List Declared) → AllCanBegin g.shapes ds → IsLive m b
+    → take (total g.shapes ds) (words_of m b) ≡ initial_words g.shapes ds
+    → (room_values g.shapes m (begun b ds) ≡ map (initial_value g) ds) × IsRoom g.shapes m (begun b ds)
