@@ -4,3 +4,4 @@ pub mod Written
 pub mod Types
 pub mod Zeros
 pub mod Leaving
+pub mod Arranged

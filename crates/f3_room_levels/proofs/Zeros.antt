@@ -1,11 +1,16 @@
 -- Variables that begin with words that are all 0.
 use Rattle.std.proofs.Common.{◌≡◌, inl, inr, ℕ, zero, suc, ◌+◌, ◌*◌, pos, Bool, true, false, ℤ, List, [], ◌∷◌, ◌++◌, length, replicate, refl, sym, ap, ◌∙◌, arith}
 use Rattle.std.proofs.lemmas.List.{replicate-append-replicate}
-use Rattle.std.specs.Prelude.{◌⊎◌, if◌then◌else◌}
+use Rattle.std.proofs.lemmas.Bool.Decides.{nat_tests}
+use Rattle.std.specs.Bool.{◌==◌}
+use Rattle.std.specs.declared.alloc.Global.{Global}
+use Rattle.std.specs.Prelude.{◌⊎◌, if◌then◌else◌, Vec, vec_len}
+use Rattle.f3_program.specs.declared.declarations.Base.{Base}
+use Rattle.f3_program.specs.declared.declarations.Base.TheVariants as base
 use Rattle.f3_program.specs.declared.declarations.Constant.{Constant}
 use Rattle.f3_program.specs.declared.declarations.Declared.{Declared}
 use Rattle.f3_meaning_whole.specs.Value.{Span, count}
-use Rattle.f3_meaning_whole.specs.Shape.{Shape, shape_in, spans_declared}
+use Rattle.f3_meaning_whole.specs.Shape.{Shape, Whole, shape_in, spans_declared}
 use Rattle.f3_rooms.specs.Forms.{Laid, Allocatable, form_of, form_words, laid_words, words_for, room, total}
 use Rattle.f3_room_levels.specs.Initial.{repeated, arranged_words, declared_words, object_words, variable_words, initial_words}
 use Rattle.f3_room_levels.proofs.Widths.{more_words}
@@ -50,3 +55,25 @@ ZeroIfLeft ts rest all = AreZero (total ts rest) (initial_words ts rest) → Are
 
 pub zero_next : (ts : List Shape) (d : Declared) (now rest all : List Declared) → now ≡ d ∷ rest → AreZero (room ts d) (variable_words ts d) → ZeroIfLeft ts now all → ZeroIfLeft ts rest all
 zero_next ts d now rest all e own left z = left (ap (λ ds. initial_words ts ds) e ∙ zero_more ts d rest own z ∙ ap (λ ds. replicate (total ts ds) (pos 0)) (sym e))
+
+pub zero_all : (ts : List Shape) (rest all : List Declared) → rest ≡ [] → ZeroIfLeft ts rest all → AreZero (total ts all) (initial_words ts all)
+zero_all ts rest all e left = left (ap (initial_words ts) e ∙ ap (λ ds. replicate (total ts ds) (pos 0)) (sym e))
+
+-- a type that is not there is a scalar
+pub zero_whole : (s : Shape) → s ≡ Whole → AreZero (words_for s) (object_words s)
+zero_whole s e = ap object_words e ∙ ap (λ r. replicate (words_for r) (pos 0)) (sym e)
+
+-- an empty list
+none_in : (cs : List Constant) → length cs ≡ 0 → cs ≡ []
+none_in [] e = refl
+none_in (c ∷ cs) e = absurd (omega arith)
+
+pub none_there : (b : Bool) (cs : Vec Constant Global) → b ≡ (vec_len cs == 0) → b ≡ true → cs.items ≡ []
+none_there b cs e h = none_in cs.items (grind (arith, nat_tests))
+
+-- a type that is not derived
+pub zero_base : (ts : List Shape) (of : Base) → ((t : ℕ) → of ≡ base.Derived t → ⊥) → AreZero (words_for (shape_in ts of)) (object_words (shape_in ts of))
+zero_base ts base.Integer not = refl
+zero_base ts base.Long not = refl
+zero_base ts base.Logical not = refl
+zero_base ts (base.Derived t) not = absurd (not t refl)

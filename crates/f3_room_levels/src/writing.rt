@@ -142,7 +142,10 @@ fn write_default<B: Blocks>(
 {
     let of = declared.kind.of;
     let size = words(types, of);
-    if size == 0 || is_blank(types.derived, of) {
+    if size == 0 {
+        return;
+    }
+    if is_blank(types.derived, of) {
         return;
     }
     prove!(at <= heap.length(block));
