@@ -1,5 +1,5 @@
 -- What words a variable begins with, by its values.
-use Rattle.std.proofs.Common.{◌≡◌, inl, inr, ℕ, zero, suc, ◌+◌, ◌*◌, ◌/◌, ◌<◌, ◌≤◌, pos, Bool, true, false, ℤ, List, [], ◌∷◌, ◌++◌, length, map, replicate, refl, sym, ap, subst, ◌∙◌, arith}
+use Rattle.std.proofs.Common.{◌≡◌, ℕ, zero, suc, ◌+◌, ◌*◌, ◌/◌, ◌<◌, pos, Bool, true, false, ℤ, List, [], ◌∷◌, length, replicate, refl, sym, ap, ◌∙◌, arith}
 use Rattle.std.proofs.lemmas.List.{append-nil}
 use Rattle.std.proofs.Math.Nat.{mul-div_cancel}
 use Rattle.std.specs.Prelude.{if◌then◌else◌}
@@ -7,13 +7,13 @@ use Rattle.f3_program.specs.declared.declarations.Constant.{Constant}
 use Rattle.f3_program.specs.declared.declarations.Declared.{Declared}
 use Rattle.f3_heap_laws.specs.Blocks.{Live}
 use Rattle.f3_meaning_whole.specs.Value.{Span, count}
-use Rattle.f3_meaning_whole.specs.Shape.{Shape, Whole, Logical, Record, shape_in, spans_declared}
-use Rattle.f3_rooms.specs.Forms.{Laid, Allocatable, form_of, form_words, laid_words, words_for, room}
-use Rattle.f3_room_levels.specs.Initial.{word_of, repeated, arranged_words, object_words, variable_words, AreOf, AreEnough, CanBegin, TypeCanBegin}
+use Rattle.f3_meaning_whole.specs.Shape.{Shape, shape_in, spans_declared}
+use Rattle.f3_rooms.specs.Forms.{Laid, Allocatable, form_words, laid_words, words_for, room}
+use Rattle.f3_room_levels.specs.Initial.{repeated, arranged_words, object_words, variable_words, TypeCanBegin}
 use Rattle.f3_room_levels.specs.Writing.{with_words_from, IsBlank}
-use Rattle.f3_room_levels.proofs.Widths.{one_word, object_many}
+use Rattle.f3_room_levels.proofs.Widths.{object_many}
 use Rattle.f3_room_levels.proofs.Written.{from_zeros}
-use Rattle.f3_room_levels.proofs.Zeros.{AreZero, zero_variable}
+use Rattle.f3_room_levels.proofs.Zeros.{AreZero}
 
 -- ---- zeros are there already
 
@@ -26,9 +26,6 @@ no_words (w ∷ ws) e = absurd (omega arith)
 
 pub zero_empty : (s : Shape) → TypeCanBegin s → words_for s ≡ 0 → AreZero (words_for s) (object_words s)
 zero_empty s can e = no_words (object_words s) (object_many s can ∙ e) ∙ ap (λ n. replicate n (pos 0)) (sym e)
-
-pub zero_scalar : (s : Shape) → (s ≡ Whole) → AreZero (words_for s) (object_words s)
-zero_scalar s e = subst (λ r. AreZero (words_for r) (object_words r)) (sym e) refl
 
 -- ---- nothing is given
 
@@ -57,41 +54,6 @@ repeated_by : (b : Bool) (n rank : ℕ) (ss : List Span) (cs : List Constant) (w
 repeated_by true n rank ss cs ws e some none = absurd (cc)
 repeated_by false n rank ss cs ws e some none = laid_repeated n rank ss cs ws some none
 
--- ---- one value is given
-
-laid_one : (s : Shape) (rank : ℕ) (ss : List Span) (cs : List Constant) (ws : List ℤ) (c : Constant) → AreOf s cs → cs ≡ c ∷ []
-    → replicate (laid_words rank ss (words_for s)) (word_of c) ≡ arranged_words rank ss cs ws
-laid_one s rank ss [] ws c of e = absurd (cc)
-laid_one s rank ss (x ∷ y ∷ cs) ws c of e = absurd (cc)
-laid_one s zero ss (x ∷ []) ws c of e =
-    let same : c ≡ x = cc in
-    ap (λ k. replicate k (word_of c)) (one_word s x of.0) ∙ ap (λ z. word_of z ∷ []) same
-laid_one s (suc rank) ss (x ∷ []) ws c of e =
-    let same : c ≡ x = cc in
-    let k : count ss * words_for s ≡ count ss = ap (λ i. count ss * i) (one_word s x of.0) ∙ omega arith in
-    ap (λ i. replicate i (word_of c)) k ∙ ap (λ z. replicate (count ss) (word_of z)) same
-
-one_by : (b : Bool) (s : Shape) (rank : ℕ) (ss : List Span) (cs : List Constant) (ws : List ℤ) (c : Constant) → b ≡ false → AreOf s cs → cs ≡ c ∷ []
-    → replicate (form_words (if b then Allocatable rank else Laid rank ss) (words_for s)) (word_of c) ≡ (if b then replicate (1 + 2 * rank) (pos 0) else arranged_words rank ss cs ws)
-one_by true s rank ss cs ws c e of is = absurd (cc)
-one_by false s rank ss cs ws c e of is = laid_one s rank ss cs ws c of is
-
--- ---- each value is given
-
-laid_each : (s : Shape) (rank : ℕ) (ss : List Span) (cs : List Constant) (ws : List ℤ) → 2 ≤ length cs → AreOf s cs → AreEnough rank (count ss) cs
-    → (map word_of cs ≡ arranged_words rank ss cs ws) × (length cs ≡ laid_words rank ss (words_for s))
-laid_each s rank ss [] ws some of enough = absurd (omega arith)
-laid_each s rank ss (c ∷ []) ws some of enough = absurd (omega arith)
-laid_each s zero ss (c ∷ d ∷ cs) ws some of enough = absurd enough
-laid_each s (suc rank) ss (c ∷ d ∷ cs) ws some of enough =
-    let k : count ss * words_for s ≡ count ss = ap (λ i. count ss * i) (one_word s c of.0) ∙ omega arith in
-    (refl, enough ∙ sym k)
-
-each_by : (b : Bool) (s : Shape) (rank : ℕ) (ss : List Span) (cs : List Constant) (ws : List ℤ) → b ≡ false → 2 ≤ length cs → AreOf s cs → AreEnough rank (count ss) cs
-    → (map word_of cs ≡ (if b then replicate (1 + 2 * rank) (pos 0) else arranged_words rank ss cs ws)) × (length cs ≡ form_words (if b then Allocatable rank else Laid rank ss) (words_for s))
-each_by true s rank ss cs ws e some of enough = absurd (cc)
-each_by false s rank ss cs ws e some of enough = laid_each s rank ss cs ws some of enough
-
 -- ---- a variable that is not allocatable
 
 module _ (ts : List Shape) (d : Declared) (laid : d.kind.is_allocatable ≡ false) where
@@ -103,9 +65,3 @@ module _ (ts : List Shape) (d : Declared) (laid : d.kind.is_allocatable ≡ fals
 
   pub default_repeated : 0 < words_for s → d.initial.items ≡ [] → repeated (room ts d / words_for s) (object_words s) ≡ variable_words ts d
   default_repeated some none = repeated_by d.kind.is_allocatable (words_for s) d.kind.rank (spans_declared d.dimensions.items) d.initial.items (object_words s) laid some none
-
-  pub one_copied : CanBegin s d → (c : Constant) → d.initial.items ≡ c ∷ [] → replicate (room ts d) (word_of c) ≡ variable_words ts d
-  one_copied can c is = one_by d.kind.is_allocatable s d.kind.rank (spans_declared d.dimensions.items) d.initial.items (object_words s) c laid can.typed is
-
-  pub each_given : CanBegin s d → 2 ≤ length d.initial.items → (map word_of d.initial.items ≡ variable_words ts d) × (length d.initial.items ≡ room ts d)
-  each_given can some = each_by d.kind.is_allocatable s d.kind.rank (spans_declared d.dimensions.items) d.initial.items (object_words s) laid some can.typed can.enough

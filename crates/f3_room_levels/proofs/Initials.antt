@@ -1,5 +1,5 @@
 -- What variables are that begin with the words of their initial values.
-use Rattle.std.proofs.Common.{◌≡◌, ℕ, zero, suc, ◌+◌, ◌*◌, ◌≤◌, pos, Bool, true, false, ℤ, List, [], ◌∷◌, ◌++◌, length, map, take, replicate, refl, sym, ap, subst, ◌∙◌, arith}
+use Rattle.std.proofs.Common.{◌≡◌, ℕ, zero, suc, ◌+◌, ◌*◌, ◌≤◌, pos, Bool, true, false, ℤ, List, [], ◌∷◌, ◌++◌, length, map, replicate, refl, sym, ap, subst, ◌∙◌, arith}
 use Rattle.std.proofs.lemmas.List.{length-take}
 use Rattle.std.specs.Prelude.{if◌then◌else◌}
 use Rattle.f3_program.specs.declared.declarations.Constant.{Constant}
@@ -7,11 +7,11 @@ use Rattle.f3_program.specs.declared.declarations.Constant.TheVariants as consta
 use Rattle.f3_program.specs.declared.declarations.Declared.{Declared}
 use Rattle.f3_heap_laws.specs.Blocks.{Live, IsLive, words_of}
 use Rattle.f3_meaning_whole.specs.Arithmetic.{constant_value}
-use Rattle.f3_meaning_whole.specs.Value.{Span, Value, Number, Truth, Composite, Array, Unallocated, Values, more, joined, count}
-use Rattle.f3_meaning_whole.specs.Shape.{Shape, Whole, Logical, Record, Parts, nothing, and, shape_in, spans_declared, initialized, arranged, initial_declared, initial_of, initial_parts}
-use Rattle.f3_rooms.specs.Held.{Held, Row, Empty, end, parts_of}
-use Rattle.f3_rooms.specs.Forms.{Laid, Allocatable, form_of, form_words, laid_words, words_for, words_for_parts, room, total}
-use Rattle.f3_rooms.specs.Values.{word, is_set, elements, laid, formed, object, components, variable, variables}
+use Rattle.f3_meaning_whole.specs.Value.{Span, Value, Number, Truth, Composite, Array, Unallocated, more, joined, count}
+use Rattle.f3_meaning_whole.specs.Shape.{Shape, Whole, Logical, Record, Parts, nothing, and, shape_in, spans_declared, arranged, initial_declared, initial_of, initial_parts}
+use Rattle.f3_rooms.specs.Held.{Held, Empty, end}
+use Rattle.f3_rooms.specs.Forms.{Laid, Allocatable, form_of, form_words, words_for, room, total}
+use Rattle.f3_rooms.specs.Values.{word, is_set, elements, laid, formed, object, components, variables}
 use Rattle.f3_rooms.specs.Rooms.{room_values}
 use Rattle.f3_rooms.specs.Sound.{Fact, Each, AreLaid, IsForm, IsObject, AreComponents, AreVariables, IsRoom}
 use Rattle.f3_room_objects.specs.Trees.{words_from}

@@ -5,3 +5,5 @@ pub mod Types
 pub mod Zeros
 pub mod Leaving
 pub mod Arranged
+pub mod Begun
+pub mod Ended

@@ -1,15 +1,15 @@
 -- Words that are written one after another, over words that are 0.
-use Rattle.std.proofs.Common.{◌≡◌, ◌≢◌, inl, inr, ℕ, zero, suc, ◌+◌, ◌*◌, ◌<◌, ◌≤◌, ℤ, pos, List, [], ◌∷◌, ◌++◌, length, replicate, get_or, refl, sym, ap, subst, ◌∙◌, arith}
+use Rattle.std.proofs.Common.{◌≡◌, ◌≢◌, inl, inr, ℕ, zero, suc, ◌+◌, ◌≤◌, ℤ, pos, List, [], ◌∷◌, ◌++◌, length, replicate, refl, sym, ap, subst, ◌∙◌, arith}
 use Rattle.std.proofs.lemmas.List.{set-get_or}
 use Rattle.std.specs.Prelude.{slice_set}
 use Rattle.std.specs.FinMap.{get as find}
-use Rattle.f3_heap_laws.specs.Blocks.{Live, IsLive, words_of, pins_of, with_words}
+use Rattle.f3_heap_laws.specs.Blocks.{Live, IsLive, words_of, with_words}
 use Rattle.f3_heap_laws.proofs.Laws.{get-insert_other}
 use Rattle.f3_objects.proofs.Writes.{with_words_same}
 use Rattle.f3_rooms.specs.Values.{word}
 use Rattle.f3_rooms.specs.Places.{with_word}
 use Rattle.f3_rooms.specs.Laws.{AreZeros}
-use Rattle.f3_rooms.proofs.Words.{IsWritten, written_word, put_there, put_long, put_live}
+use Rattle.f3_rooms.proofs.Words.{IsWritten, written_word, put_there, put_long}
 use Rattle.f3_room_objects.proofs.Windows.{WordsAre}
 use Rattle.f3_room_levels.specs.Writing.{with_words_from, IsBlank}
 

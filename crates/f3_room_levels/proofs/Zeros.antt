@@ -11,8 +11,8 @@ use Rattle.f3_program.specs.declared.declarations.Constant.{Constant}
 use Rattle.f3_program.specs.declared.declarations.Declared.{Declared}
 use Rattle.f3_meaning_whole.specs.Value.{Span, count}
 use Rattle.f3_meaning_whole.specs.Shape.{Shape, Whole, shape_in, spans_declared}
-use Rattle.f3_rooms.specs.Forms.{Laid, Allocatable, form_of, form_words, laid_words, words_for, room, total}
-use Rattle.f3_room_levels.specs.Initial.{repeated, arranged_words, declared_words, object_words, variable_words, initial_words}
+use Rattle.f3_rooms.specs.Forms.{Laid, Allocatable, form_words, laid_words, words_for, room, total}
+use Rattle.f3_room_levels.specs.Initial.{repeated, arranged_words, object_words, variable_words, initial_words}
 use Rattle.f3_room_levels.proofs.Widths.{more_words}
 
 -- so many words that are 0

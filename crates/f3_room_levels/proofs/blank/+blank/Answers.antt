@@ -1,4 +1,4 @@
-use Rattle.std.proofs.Common.{◌+◌, drop, take, refl, sym, ap, ◌∙◌, inr, pos, replicate, arith}
+use Rattle.std.proofs.Common.{◌+◌, drop, sym, ap, ◌∙◌, inr, pos, replicate, arith}
 use Rattle.std.proofs.lemmas.List.{drop_all}
 use Rattle.f3_program.specs.declared.declarations.Derived.{Derived}
 use Rattle.f3_meaning_whole.specs.Shape.{shape_in, shapes_of}

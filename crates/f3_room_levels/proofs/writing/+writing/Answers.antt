@@ -1,7 +1,6 @@
-use Rattle.std.proofs.Common.{◌≡◌, ◌+◌, ◌*◌, ◌/◌, ◌<◌, ◌≤◌, length, drop, take, inl, inr, refl, sym, ap, subst, ◌∙◌, ℕ, arith, rules}
+use Rattle.std.proofs.Common.{◌≡◌, ◌+◌, ◌*◌, ◌/◌, ◌<◌, drop, inl, inr, refl, sym, ap, subst, ◌∙◌, ℕ, arith, rules}
 use Rattle.std.proofs.lemmas.List.{drop_all}
 use Rattle.f3_program.specs.declared.declarations.Derived.{Derived}
-use Rattle.f3_heap_laws.specs.Blocks.{words_of}
 use Rattle.f3_meaning_whole.specs.Shape.{shape_in, shapes_of}
 use Rattle.f3_rooms.specs.Forms.{words_for, room, total}
 use Rattle.f3_room_places.specs.Places.{shapes}

@@ -1,4 +1,4 @@
-use Rattle.std.proofs.Common.{◌+◌, ◌∷◌, [], length, map, drop, get_or, refl, sym, ap, ◌∙◌, FitsSigned, w64, pos, arith, rules}
+use Rattle.std.proofs.Common.{◌+◌, ◌∷◌, [], length, map, drop, get_or, refl, ap, ◌∙◌, FitsSigned, w64, pos, arith, rules}
 use Rattle.std.proofs.lemmas.Int.{to_z-of_z}
 use Rattle.std.proofs.lemmas.List.{length-map}
 use Rattle.f3_program.specs.declared.declarations.Constant.{Constant}

@@ -1,4 +1,4 @@
-use Rattle.std.proofs.Common.{◌+◌, refl, sym, ap, subst, ◌∙◌, ℤ, to_z, of_z, w64, replicate, arith, rules}
+use Rattle.std.proofs.Common.{refl, sym, ap, subst, ◌∙◌, ℤ, to_z, of_z, w64, replicate, arith}
 use Rattle.std.proofs.lemmas.Int.{to_z-of_z}
 use Rattle.f3_room_levels.specs.Writing.{with_words_from}
 use Rattle.f3_room_levels.proofs.Leaving.{LeavesCopies, copies_all, copies_here, copies_next, copies_none}
