@@ -29,7 +29,7 @@ zero_empty s can e = no_words (object_words s) (object_many s can ∙ e) ∙ ap 
 
 -- ---- nothing is given
 
-one_time : (n : ℕ) → 0 < n → n / n ≡ 1
+pub one_time : (n : ℕ) → 0 < n → n / n ≡ 1
 one_time n some = ap (λ k. k / n) (let e : n ≡ 1 * n = omega arith in e) ∙ mul-div_cancel 1 some
 
 once : (ws : List ℤ) → repeated 1 ws ≡ ws

@@ -1,7 +1,7 @@
 -- A level whose blocks were given back.
-use Rattle.std.proofs.Common.{◌≡◌, ◌≢◌, inl, inr, ℕ, zero, suc, ◌+◌, ◌<◌, ◌≤◌, true, List, [], ◌∷◌, length, take, refl, sym, ap, subst, ◌∙◌, arith}
+use Rattle.std.proofs.Common.{◌≡◌, ◌≢◌, inl, inr, ℕ, zero, suc, ◌+◌, ◌<◌, ◌≤◌, true, Bool, true, false, List, [], ◌∷◌, length, take, refl, sym, ap, subst, ◌∙◌, arith}
 use Rattle.std.proofs.lemmas.Bool.{cases_eq, eq-eqb}
-use Rattle.std.specs.Prelude.{Result, Ok, Err, OnOk, OnErr, None, Some, slice_get}
+use Rattle.std.specs.Prelude.{◌↔◌, Result, Ok, Err, OnOk, OnErr, None, Some, slice_get}
 use Rattle.std.specs.FinMap.{get as find, remove}
 use Rattle.f3_program.specs.declared.declarations.Base.TheVariants as base
 use Rattle.f3_program.specs.declared.declarations.Declared.{Declared}
@@ -13,6 +13,8 @@ use Rattle.f3_meaning_whole.specs.Shape.{Shape, Record}
 use Rattle.f3_desc.specs.Shape.{Shape as Layout}
 use Rattle.f3_objects.specs.Tree.{Tree, footprint, words, times as times_beneath}
 use Rattle.f3_objects.specs.Holds.{Holds as HoldsTree, Frees, NonePinned, is_free, left}
+use Rattle.f3_objects.proofs.Account.{used_freed}
+use Rattle.f3_objects.proofs.Freeing.{frees_unpinned, frees_gives}
 use Rattle.f3_objects.proofs.Spans.{length-written}
 use Rattle.f3_objects.proofs.Trees.{free-left, size-left}
 use Rattle.f3_rooms.specs.Held.{Row, Parts as Divided, others, blocks_in_all, times}
@@ -26,7 +28,7 @@ use Rattle.f3_rooms.proofs.Framing.{times_append}
 use Rattle.f3_rooms.proofs.Levels.{levels_end}
 use Rattle.f3_room_objects.specs.Laws.{IsApart}
 use Rattle.f3_room_objects.proofs.Growing.{parts_hold_trees, trees_have_their_blocks}
-use Rattle.f3_room_levels.specs.Levels.{as_parts, room_layout, room_tree, StandsAlone, EndsLevel, Ends}
+use Rattle.f3_room_levels.specs.Levels.{as_parts, room_layout, room_tree, StandAlone, StandLaid, EndsLevel, Ends}
 
 -- ---- blocks of levels
 
@@ -90,17 +92,14 @@ module _ (ts : List Shape) (m : Live) (r : Room) (is : IsRoom ts m r) (once : (q
 
 -- ---- the tree of variables that stand alone
 
-module _ (ts : List Shape) (m : Live) (r : Room) (b : ℕ) (l : Layout) (k : StandsAlone ts m r b l) where
+module _ (ts : List Shape) (m : Live) (ds : List Declared) (b : ℕ) (r : Room) (k : StandAlone ts m ds b r) where
   abbrev t : Tree
   t = room_tree ts m r
 
-  pub alone_holds : HoldsTree m b 0 l t
+  pub alone_holds : HoldsTree m b 0 (room_layout ts ds) t
   alone_holds =
-      subst (λ s. HoldsTree m b 0 s t) k.layout
+      subst (λ xs. HoldsTree m b 0 (room_layout ts xs) t) k.these
       (subst (λ c. HoldsTree m c 0 (room_layout ts r.declared) t) k.here (holds_tree ts m r k.room k.apart))
-
-  pub alone_live : IsLive m b
-  alone_live = subst (IsLive m) k.here k.room.live
 
   counted : (q : ℕ) → times q (room_blocks r) ≡ times q (b ∷ []) + times_beneath q t
   counted q =
@@ -131,6 +130,10 @@ module _ (ts : List Shape) (m : Live) (r : Room) (b : ℕ) (l : Layout) (k : Sta
     | inr ne ↦ none q (let e = counted q in let a = away q ne in omega arith)
   ]
 
+  -- where some block beneath is pinned
+  pub unpinned_left : (mid : Live) → Frees m mid b 0 t false → (false ≡ true) ↔ ((q : ℕ) → 0 < times q (room_blocks r) → pins_of m q ≡ 0)
+  unpinned_left mid frees = (λ e. absurd (cc), λ all. (frees_unpinned m mid b 0 t false frees).1 (none_pinned all).0)
+
   module _ (mid : Live) (frees : Frees m mid b 0 t true) where
     free : is_free (pins_of m) t ≡ true
     free = sym frees.answered
@@ -147,7 +150,19 @@ module _ (ts : List Shape) (m : Live) (r : Room) (b : ℕ) (l : Layout) (k : Sta
         let w = alone_holds.stands.within in
         ap length frees.replaced.written ∙ length-written (words_of m b) 0 (words (left (pins_of m) t)) (omega arith)
 
-    module _ (n : Live) (given : n ≡ remove mid b) (gone : (q : ℕ) → 0 < times_beneath q t → find mid q ≡ None) (used : used_by mid + footprint t ≡ used_by m) where
+    pub unpinned_given : (done : Bool) → (done ≡ true) ↔ (pins_of mid b ≡ 0) → (done ≡ true) ↔ ((q : ℕ) → 0 < times q (room_blocks r) → pins_of m q ≡ 0)
+    unpinned_given done answer = (
+      λ ok. all_unpinned ((frees_unpinned m mid b 0 t true frees).0 refl) (sym mid_pins ∙ answer.0 ok),
+      λ all. answer.1 (mid_pins ∙ (none_pinned all).1),
+    )
+
+    gone : (q : ℕ) → 0 < times_beneath q t → find mid q ≡ None
+    gone = frees_gives m mid b 0 t frees
+
+    used : used_by mid + footprint t ≡ used_by m
+    used = used_freed m mid b 0 t alone_holds.stands true frees refl
+
+    module _ (n : Live) (given : n ≡ remove mid b) where
       other_given : (q : ℕ) → q ≢ b → find n q ≡ find mid q
       other_given q ne = ap (λ (k : Live). find k q) given ∙ get-remove_other mid b q ne
 
@@ -181,6 +196,9 @@ module _ (ts : List Shape) (m : Live) (r : Room) (b : ℕ) (l : Layout) (k : Sta
 
       pub ends : Ends ts m n r
       ends = record { given = ended_given; others = ended_others; used = ended_used; level = ended_level }
+
+pub laid_holds : (ts : List Shape) (m : Live) (l : Layout) (b : ℕ) (r : Room) (k : StandLaid ts m l b r) → HoldsTree m b 0 l (room_tree ts m r)
+laid_holds ts m l b r k = subst (λ s. HoldsTree m b 0 s (room_tree ts m r)) k.layout (alone_holds ts m r.declared b r k.alone)
 
 -- ---- answers
 

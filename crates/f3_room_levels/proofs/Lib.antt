@@ -7,3 +7,4 @@ pub mod Leaving
 pub mod Arranged
 pub mod Begun
 pub mod Ended
+pub mod Returning

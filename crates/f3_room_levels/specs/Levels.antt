@@ -8,10 +8,11 @@ use Rattle.f3_meaning_whole.specs.Shape.{Shape, Parts, nothing, and, shape_in}
 use Rattle.f3_desc.specs.Shape.{Shape as Layout, row}
 use Rattle.f3_objects.specs.Tree.{Tree, footprint}
 use Rattle.f3_rooms.specs.Held.{end, times}
+use Rattle.f3_rooms.specs.Forms.{form_of}
 use Rattle.f3_rooms.specs.Rooms.{Room, Stands, Rooms, room_values, room_blocks, store_of}
 use Rattle.f3_rooms.specs.Sound.{IsRoom, IsSound}
 use Rattle.f3_rooms.specs.Laws.{with_level, before_level}
-use Rattle.f3_room_objects.specs.Trees.{components_tree, layouts_for}
+use Rattle.f3_room_objects.specs.Trees.{components_tree, layout_for, layouts_for, formed_as}
 use Rattle.f3_room_levels.specs.Initial.{initial_words, initial_values}
 use Rattle.f3_room_levels.specs.Writing.{with_words_from}
 
@@ -48,12 +49,21 @@ room_layout ts ds = row (layouts_for (as_parts ts ds))
 abbrev pub room_tree : List Shape → Live → Room → Tree
 room_tree ts m r = components_tree m (as_parts ts r.declared) r.block 0 r.held
 
--- variables of this layout stand at the front of a block, and each block that they hold is held once
-pub record StandsAlone (ts : List Shape) (m : Live) (r : Room) (b : ℕ) (l : Layout) : Type 0 where
+-- the layout of one
+abbrev pub variable_layout : List Shape → Declared → Layout
+variable_layout ts d = formed_as (form_of d) (layout_for (shape_in ts d.kind.of))
+
+-- These variables stand at the front of a block, and their blocks are their own: each is there once.
+pub record StandAlone (ts : List Shape) (m : Live) (ds : List Declared) (b : ℕ) (r : Room) : Type 0 where
   pub room : IsRoom ts m r
   pub here : r.block ≡ b
-  pub layout : room_layout ts r.declared ≡ l
+  pub these : r.declared ≡ ds
   pub apart : (q : ℕ) → times q (room_blocks r) ≤ 1
+
+-- so do variables of this layout
+pub record StandLaid (ts : List Shape) (m : Live) (l : Layout) (b : ℕ) (r : Room) : Type 0 where
+  pub alone : StandAlone ts m r.declared b r
+  pub layout : room_layout ts r.declared ≡ l
 
 -- what is before a level stays, and is sound
 pub record EndsLevel (ts : List Shape) (m n : Live) (x : Rooms) (k : ℕ) : Type 0 where

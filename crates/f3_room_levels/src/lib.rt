@@ -4,10 +4,11 @@
 mod beginning;
 mod blank;
 mod ending;
+mod giving;
 pub mod laws;
 mod sizes;
 mod writing;
 
 pub use beginning::begin;
-pub use ending::end;
+pub use ending::{end, end_laid};
 pub use writing::write_initial;

@@ -52,7 +52,7 @@ loop-constant-preserved g c =
       leaves = leaves_next (g.B.Blocks.blocks c.args.heap.now) now c.args.block c.args.at c.loop-constant.place (map word_of (drop i cs)) (map word_of cs)
           (word_of (get_or cs i d) ∷ []) (map word_of (drop (i + 1) cs)) c.loop-constant.invariant.leaves (constant_next cs i d c.loop-constant-test.true)
           (g.B.Blocks.blocks c.write.new.self) (c.loop-constant.place + 1)
-          (c.write.ensures.written ∙ ap (with_word now c.args.block c.loop-constant.place) (to_z-of_z w64 c.word_of.result fits ∙ c.word_of.ensures ∙ search rules)) refl;
+          (c.write.ensures.written ∙ ap (with_word now c.args.block c.loop-constant.place) (to_z-of_z w64 c.word_of.result fits ∙ c.word_of.ensures)) refl;
       kept = c.write.ensures.kept ∙ c.loop-constant.invariant.kept;
     }
 
