@@ -21,13 +21,14 @@ use Rattle.f3_rooms.specs.Held.{Row, Parts as Divided, others, blocks_in_all, ti
 use Rattle.f3_rooms.specs.Forms.{Laid, words_for_parts, room, total}
 use Rattle.f3_rooms.specs.Places.{Found}
 use Rattle.f3_rooms.specs.Rooms.{Room, Slot, Stands, Rooms, room_blocks, level_blocks, levels_blocks, blocks_of}
-use Rattle.f3_rooms.specs.Sound.{AreComponents, AreVariables, IsRoom, IsSound}
+use Rattle.f3_rooms.specs.Sound.{AreComponents, AreVariables, IsRoom, IsLevel, AreLevels, IsSound}
 use Rattle.f3_rooms.specs.Laws.{IsWithin, Keeps, before_level}
 use Rattle.f3_rooms.proofs.Allocating.{only_one}
 use Rattle.f3_rooms.proofs.Framing.{times_append}
 use Rattle.f3_rooms.proofs.Levels.{levels_end}
 use Rattle.f3_room_objects.specs.Laws.{IsApart}
 use Rattle.f3_room_objects.proofs.Growing.{parts_hold_trees, trees_have_their_blocks}
+use Rattle.f3_room_levels.specs.Laws.{LevelsStandAlone}
 use Rattle.f3_room_levels.specs.Levels.{as_parts, room_layout, room_tree, StandAlone, StandLaid, EndsLevel, Ends}
 
 -- ---- blocks of levels
@@ -53,6 +54,21 @@ before_and q x i r e =
     let j = times_append q (room_blocks x.statics) (levels_blocks (take i x.levels)) in
     let k = times_append q (room_blocks r) [] in
     omega arith
+
+-- ---- a level of a sound store
+
+level_at : (ts : List Shape) (m : Live) (ls : List (List Slot)) (i : ℕ) (l : List Slot) → AreLevels ts m ls → slice_get ls i ≡ Some l → IsLevel ts m l
+level_at ts m [] i l are e = absurd (cc)
+level_at ts m (k ∷ ls) zero l are e = let same : k ≡ l = cc in subst (IsLevel ts m) same are.0
+level_at ts m (k ∷ ls) (suc i) l are e = level_at ts m ls i l are.1 e
+
+pub levels_stand_alone : LevelsStandAlone
+levels_stand_alone ts m x k r sound at = record {
+  room = (level_at ts m x.levels k (Stands r ∷ []) sound.levels at).0;
+  here = refl;
+  these = refl;
+  apart = λ q. let c = before_and q x k r at in let s = sound.apart q in omega arith;
+}
 
 -- ---- variables as the components of an object
 
