@@ -101,10 +101,10 @@ module _ (ts : List Shape) (m mid n : Live) (ds : List Declared) (words b : ℕ)
   apart x sound q = elim (cases_eq q b) [
     | inl e ↦ (let none : times q (blocks_of x) ≡ 0 = subst (λ p. times p (blocks_of x) ≡ 0) (sym e) (new_none ts m x sound b fresh) in let one = at_most_one q b in omega arith)
     | inr ne ↦ (
-      let none : times q (b ∷ []) ≡ 0 = not_here q b ne in
-      let one : times q (blocks_of x) ≤ 1 = sound.apart q in
-      omega arith
-    )
+        let none : times q (b ∷ []) ≡ 0 = not_here q b ne in
+        let one : times q (blocks_of x) ≤ 1 = sound.apart q in
+        omega arith
+        )
   ]
     where
       small : (k : ℕ) → (0 < k → ⊥) → k ≡ 0

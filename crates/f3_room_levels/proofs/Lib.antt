@@ -8,3 +8,4 @@ pub mod Arranged
 pub mod Begun
 pub mod Ended
 pub mod Returning
+pub mod Fits

@@ -22,6 +22,10 @@ pub parts_can : (ts : List Shape) (cs : List Component) → PartsCanBegin (parts
 parts_can ts [] can = tt
 parts_can ts (c ∷ cs) can = (can.0, can.1, parts_can ts cs can.2)
 
+can_parts : (ts : List Shape) (cs : List Component) → AllCanBegin ts (declared_each cs) → PartsCanBegin (parts_in ts cs)
+can_parts ts [] can = tt
+can_parts ts (c ∷ cs) can = (can.0, can.1, can_parts ts cs can.2)
+
 -- a type that is there
 module _ (xs : List Derived) (of : Base) (t : ℕ) (x d : Derived) (cs : List Component) (is : of ≡ base.Derived t) (lt : t < length xs) (e : x ≡ get_or xs t d) (its : cs ≡ x.components.items) where
   pub tree_of : shape_in (shapes_of xs) of ≡ Record t (parts_in (shapes_of (take t xs)) cs)
@@ -35,6 +39,9 @@ module _ (xs : List Derived) (of : Base) (t : ℕ) (x d : Derived) (cs : List Co
 
   pub type_can : TypeCanBegin (shape_in (shapes_of xs) of) → AllCanBegin (shapes_of (take t xs)) (declared_each cs)
   type_can can = parts_can (shapes_of (take t xs)) cs (subst TypeCanBegin tree_of can)
+
+  pub can_type : AllCanBegin (shapes_of (take t xs)) (declared_each cs) → TypeCanBegin (shape_in (shapes_of xs) of)
+  can_type can = subst TypeCanBegin (sym tree_of) (can_parts (shapes_of (take t xs)) cs can)
 
 -- the component of a number, in front of those behind it
 pub drop_part : (cs : List Component) (i : ℕ) (c : Component) → i < length cs → c ≡ get_or cs i c

@@ -4,6 +4,7 @@
 mod beginning;
 mod blank;
 mod ending;
+mod fitting;
 mod giving;
 pub mod laws;
 mod sizes;
@@ -11,4 +12,5 @@ mod writing;
 
 pub use beginning::begin;
 pub use ending::{end, end_laid};
+pub use fitting::can_begin;
 pub use writing::write_initial;

@@ -52,13 +52,7 @@ fn write_constants<B: Blocks>(heap: &mut B, block: BlockId, at: usize, constants
 
 /// Writes the words with which an object of a type begins.
 #[cycle(writing)]
-fn write_object<B: Blocks>(
-    heap: &mut B,
-    types: Types<'_>,
-    of: Base,
-    block: BlockId,
-    at: usize,
-)
+fn write_object<B: Blocks>(heap: &mut B, types: Types<'_>, of: Base, block: BlockId, at: usize)
     requires tables { HasTables types }
     requires fit { TypeCanBegin (shape_in (shapes types) of) }
     requires blank { IsBlank (B.blocks heap.old) block at (words_for (shape_in (shapes types) of)) }

@@ -28,8 +28,8 @@ returns-in-Ok-clause-ended g c =
     let ds = c.args.declared.now in
     let m = g.B.Blocks.blocks c.args.heap.now in
     when_ok c.give.result _ _ (λ given r k.
-        ends ts m ds c.args.block r k (g.B.Blocks.blocks c.free_variables.new.heap)
-        ((c.in-Ok.ensures {u = tt}).freed (room_tree ts m r) (alone_holds ts m ds c.args.block r k)) (g.B.Blocks.blocks c.give.new.self) given)
+    ends ts m ds c.args.block r k (g.B.Blocks.blocks c.free_variables.new.heap)
+    ((c.in-Ok.ensures {u = tt}).freed (room_tree ts m r) (alone_holds ts m ds c.args.block r k)) (g.B.Blocks.blocks c.give.new.self) given)
     c.give.ensures.given
 
 pub returns-in-Ok-clause-unpinned : goal.returns-in-Ok-clause-unpinned
@@ -47,8 +47,8 @@ returns-in-Ok-clause-refused g c =
     let m = g.B.Blocks.blocks c.args.heap.now in
     let told = c.in-Ok.ensures {u = tt} in
     when_err c.give.result _ _ (λ same r k.
-        let t = room_tree ts m r in
-        subst (λ (n : Live). Replaces m n c.args.block 0 t (left (pins_of m) t)) (sym same) ((told.freed t (alone_holds ts m ds c.args.block r k)).replaced))
+    let t = room_tree ts m r in
+    subst (λ (n : Live). Replaces m n c.args.block 0 t (left (pins_of m) t)) (sym same) ((told.freed t (alone_holds ts m ds c.args.block r k)).replaced))
     c.give.ensures.refused
 
 pub returns-in-Err-clause-unpinned : goal.returns-in-Err-clause-unpinned

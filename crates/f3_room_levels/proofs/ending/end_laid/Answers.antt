@@ -27,8 +27,8 @@ returns-in-Ok-clause-ended g c =
     let m = g.B.Blocks.blocks c.args.heap.now in
     let l = whole (pieces_of c.args.layout.now) in
     when_ok c.give.result _ _ (λ given ts r k.
-        ends ts m r.declared c.args.block r k.alone (g.B.Blocks.blocks c.free_tree.new.heap)
-        ((c.in-Ok.ensures {u = tt}).freed (room_tree ts m r) (laid_holds ts m l c.args.block r k)) (g.B.Blocks.blocks c.give.new.self) given)
+    ends ts m r.declared c.args.block r k.alone (g.B.Blocks.blocks c.free_tree.new.heap)
+    ((c.in-Ok.ensures {u = tt}).freed (room_tree ts m r) (laid_holds ts m l c.args.block r k)) (g.B.Blocks.blocks c.give.new.self) given)
     c.give.ensures.given
 
 pub returns-in-Ok-clause-unpinned : goal.returns-in-Ok-clause-unpinned
@@ -44,8 +44,8 @@ returns-in-Ok-clause-refused g c =
     let l = whole (pieces_of c.args.layout.now) in
     let told = c.in-Ok.ensures {u = tt} in
     when_err c.give.result _ _ (λ same ts r k.
-        let t = room_tree ts m r in
-        subst (λ (n : Live). Replaces m n c.args.block 0 t (left (pins_of m) t)) (sym same) ((told.freed t (laid_holds ts m l c.args.block r k)).replaced))
+    let t = room_tree ts m r in
+    subst (λ (n : Live). Replaces m n c.args.block 0 t (left (pins_of m) t)) (sym same) ((told.freed t (laid_holds ts m l c.args.block r k)).replaced))
     c.give.ensures.refused
 
 pub returns-in-Err-clause-unpinned : goal.returns-in-Err-clause-unpinned
