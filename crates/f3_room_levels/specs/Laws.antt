@@ -1,4 +1,4 @@
--- Laws of the words with which variables begin.
+-- Laws of the words with which variables begin, and of levels that may end.
 use Rattle.std.specs.Prelude.{◌≡◌, ℕ, List, [], ◌∷◌, length, map, take, Some, slice_get}
 use Rattle.f3_program.specs.declared.declarations.Declared.{Declared}
 use Rattle.f3_heap_laws.specs.Blocks.{Live, IsLive, words_of}
