@@ -1,0 +1,11 @@
+pub mod Widths
+pub mod Initials
+pub mod Written
+pub mod Types
+pub mod Zeros
+pub mod Leaving
+pub mod Arranged
+pub mod Begun
+pub mod Ended
+pub mod Returning
+pub mod Fits

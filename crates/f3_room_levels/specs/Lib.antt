@@ -1,0 +1,4 @@
+pub mod Initial
+pub mod Writing
+pub mod Levels
+pub mod Laws
