@@ -5,4 +5,8 @@ pub mod Parts
 pub mod Constructors
 pub mod Intrinsics
 pub mod Expressions
+pub mod Actions
+pub mod Cases
+pub mod Statements
+pub mod SeenStatements
 pub mod InMemory
