@@ -4,3 +4,4 @@ pub mod Actions
 pub mod Forms
 pub mod Blocks
 pub mod Units
+pub mod Declarations
