@@ -33,7 +33,7 @@ use Rattle.f3_lawful_laws.proofs.SeenStatements.{each_seen}
 use Rattle.f3_formed_laws.proofs.Facts.{all_each, all_seen, each_joined, each_mapped}
 use Rattle.f3_entity_laws.proofs.Found.{ordered_unit}
 use Rattle.f3_agreement_laws.proofs.Declared.{each_get}
-use Rattle.f3_initial_laws.specs.Laws.{InitialsFit}
+use Rattle.f3_initial_laws.specs.Laws.{InitialsAreOfTypes}
 use Rattle.f3_initial_laws.proofs.Initials.{node_fits}
 use Rattle.f3_initial_laws.proofs.Listed.{UnitFits, MemberFits, VariableFits, ResultFits, DefinitionFits, units_fit, statics_fit, main_fit, locals_fit, result_fits, definitions_fit}
 
@@ -119,7 +119,7 @@ module _ (t : Tree) (look : ℕ → ℕ → Lookup) (order : List ℕ) where
       ∙ all_each (λ (y : StaticNode). node_fits y.declared) (map (static w) (flat_map unit_statics us))
       (each_mapped (VariableFits t look order) (λ (y : StaticNode). node_fits y.declared ≡ true) (static w) (λ v e. e) (flat_map unit_statics us) h)
 
-pub initials : InitialsFit
+pub initials : InitialsAreOfTypes
 initials t look order p written free seen =
     let w : Whole = whole_of t look order in
     let units : Each (UnitFits t look order) (units_of t) = units_fit t look order p free seen written in

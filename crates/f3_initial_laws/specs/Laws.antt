@@ -17,8 +17,8 @@ use Rattle.f3_initial_laws.specs.Written.{AreDeclarationsWritten}
 
 -- Components, variables that live for the whole run, and those of the activations of procedures and of the main program: where
 -- declarations are such as a source may spell, and break no rule.
-abbrev pub InitialsFit : Type 0
-InitialsFit = (t : Tree) (look : ℕ → ℕ → Lookup) (order : List ℕ) (p : Program) → AreDeclarationsWritten t → IsUnbroken t look order
+abbrev pub InitialsAreOfTypes : Type 0
+InitialsAreOfTypes = (t : Tree) (look : ℕ → ℕ → Lookup) (order : List ℕ) (p : Program) → AreDeclarationsWritten t → IsUnbroken t look order
     → program_view p ≡ elaborated t look order
     → ((k : ℕ) (y : Derived) → slice_get p.types.items k ≡ Some y → all (λ (c : Component). initial_fits c.declared) y.components.items ≡ true)
     × (all (λ (y : x.Static). initial_fits y.declared) p.statics.items ≡ true)
