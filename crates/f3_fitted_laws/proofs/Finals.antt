@@ -1,8 +1,6 @@
 -- The final subroutines of a lawful program that is well formed can be called with objects of their types.
 use Rattle.std.proofs.Common.{◌≡◌, ℕ, zero, suc, ◌+◌, Bool, true, false, ◌&&◌, not, nat_eq, List, [], ◌∷◌, Option, None, Some, refl, sym, ap, ◌∙◌, arith}
 use Rattle.std.specs.Prelude.{slice_get, slice_index_or}
-use mathlib.Core.Path.{subst}
-use Rattle.f3_program.specs.declared.declarations.Base.{Base}
 use Rattle.f3_program.specs.declared.declarations.Base.TheVariants as base
 use Rattle.f3_program.specs.declared.declarations.Component as c
 use Rattle.f3_program.specs.declared.declarations.Derived.{Derived}
@@ -11,7 +9,7 @@ use Rattle.f3_program.specs.declared.declarations.Kind.{Kind}
 use Rattle.f3_program.specs.declared.program.Dummy.{Dummy}
 use Rattle.f3_program.specs.declared.program.Procedure.{Procedure}
 use Rattle.f3_program.specs.declared.program.Program.{Program}
-use Rattle.f3_meaning_whole.specs.Permitted.{Each, Lendable, unknown, dummies_in, names_of, same_type, IsFinalOf, HaveFinals}
+use Rattle.f3_meaning_whole.specs.Permitted.{Each, unknown, dummies_in, names_of, same_type, IsFinalOf, HaveFinals}
 use Rattle.f3_meaning_whole.specs.Formed.{all, some, found, only, of_kind, same_truth, Given, fits_dummy, all_given, result_kind, is_declared, is_final, are_types}
 use Rattle.f3_cell_kinds.specs.Sense.{final_fits}
 use Rattle.f3_lawful_laws.proofs.Facts.{no, nothing, same, both, left, right}

@@ -1,22 +1,15 @@
 -- The values of named constants have at most 64 bits.
-use Rattle.std.proofs.Common.{◌≡◌, ℕ, Bool, true, false, cond, List, [], ◌∷◌, Option, None, Some, refl, sym, ap, ◌∙◌, arith, inl, inr, if◌then◌else◌, ◌<◌, suc, nat_lt}
-use Rattle.std.specs.Prelude.{ℤ, pos, negsuc, nat_eq}
+use Rattle.std.proofs.Common.{◌≡◌, ℕ, Bool, true, false, cond, List, [], ◌∷◌, Option, None, Some, refl, if◌then◌else◌}
+use Rattle.std.specs.Prelude.{nat_eq}
 use Rattle.std.specs.Map.{lookup}
-use Rattle.std.proofs.lemmas.Bool.Decides.{leb_tells}
-use Rattle.f3_lookups.specs.declared.lookup.Lookup.{Lookup}
-use Rattle.f3_tree.specs.declared.expression.IntegerKind.{IntegerKind}
-use Rattle.f3_tree.specs.declared.expression.IntegerKind.TheVariants.{Four, Eight}
 use Rattle.f3_tree.specs.Expressions.{Tree as Expression}
 use Rattle.f3_tree.specs.Declarations.{EntityTree, DeclarationTree, SpecificationTree, declares, accesses, protects, saves, defines}
-use Rattle.f3_tree.specs.Tree.{Tree}
-use Rattle.f3_program.specs.declared.declarations.Base.TheVariants as base
 use Rattle.f3_kinds.specs.declared.types.DataType.{DataType}
 use Rattle.f3_kinds.specs.declared.types.DataType.TheVariants.{Integer, Logical, Derived}
 use Rattle.f3_kinds.specs.declared.types.Scalar.{Scalar}
 use Rattle.f3_kinds.specs.declared.types.Scalar.TheVariants.{Number, Truth}
 use Rattle.f3_kinds.specs.Things.{Context}
 use Rattle.f3_kinds.specs.Values.{converted, fits_kind, value_of}
-use Rattle.f3_meaning_whole.specs.Arithmetic.{fits}
 use Rattle.f3_cell_kinds.specs.Effect.{is_word}
 use Rattle.f3_type_rules.specs.Declarations.{with_entry, given_value, constant_value, entity_next, specification_next, spot_of, within_member, member_next, unit_spot, within_unit, behind_part, unit_next}
 use Rattle.f3_type_rules.specs.Members.{Member, Numbered}
@@ -25,25 +18,13 @@ use Rattle.f3_type_rules.specs.Scene.{Scene}
 use Rattle.f3_type_rules.specs.Walks.{after, Known, Spot}
 use Rattle.f3_elaboration.specs.Declarations.{constant_of}
 use Rattle.f3_lawful_laws.specs.Entities.{units_of, whole_of}
-use Rattle.f3_lawful_laws.proofs.Facts.{no, nothing, same}
+use Rattle.f3_initial_laws.proofs.Initials.{word}
 use Rattle.f3_fitted_laws.specs.Laws.{ValuesAreWords}
 
 abbrev IsWord : Option Scalar → Type 0
 IsWord o = is_word (constant_of o) ≡ true
 
 -- ---- one value
-
-less : (m n : ℕ) → m < 9223372036854775808 → nat_lt n m ≡ true → nat_lt n 9223372036854775808 ≡ true
-less m n lt is = elim (leb_tells (suc n) m) [
-  | inl h ↦ elim (leb_tells (suc n) 9223372036854775808) [ inl k ↦ k.0 | inr k ↦ (let x = h.1 in let y = k.1 in let z = lt in absurd (omega (arith, x, y, z))) ]
-  | inr h ↦ no (sym is ∙ h.0)
-]
-
-word : (k : IntegerKind) (z : ℤ) → fits_kind k z ≡ true → fits base.Long z ≡ true
-word Four (pos n) h = less 2147483648 n (omega arith) h
-word Four (negsuc n) h = less 2147483648 n (omega arith) h
-word Eight (pos n) h = h
-word Eight (negsuc n) h = h
 
 converted_word : (d : DataType) (o : Option Scalar) → IsWord (converted d o)
 converted_word (Integer k) (Some (Number j z)) = go (fits_kind k z) refl

@@ -72,7 +72,7 @@ less m n lt is = elim (leb_tells (suc n) m) [
   | inr h ↦ no (sym is ∙ h.0)
 ]
 
-word : (k : IntegerKind) (z : ℤ) → fits_kind k z ≡ true → fits base.Long z ≡ true
+pub word : (k : IntegerKind) (z : ℤ) → fits_kind k z ≡ true → fits base.Long z ≡ true
 word Four (pos n) h = less 2147483648 n (omega arith) h
 word Four (negsuc n) h = less 2147483648 n (omega arith) h
 word Eight (pos n) h = h
