@@ -33,9 +33,9 @@ use Rattle.f3_formed_laws.specs.Entities.{MemberAgrees, UnitAgrees}
 use Rattle.f3_formed_laws.specs.Levels.{IsBlockLevelled}
 use Rattle.f3_formed_laws.proofs.Facts.{long, each_joined}
 use Rattle.f3_fitting_laws.specs.Bounded.{IsBlockBounded}
-use Rattle.f3_fitting_laws.proofs.InMemory.{blocks}
+use Rattle.f3_block_laws.proofs.InMemory.{blocks}
 use Rattle.f3_fitting_laws.proofs.Nodes as node
-use Rattle.f3_fitting_laws.proofs.SeenStatements.{statement_seen}
+use Rattle.f3_block_laws.proofs.SeenStatements.{statement_seen}
 use Rattle.f3_fitted_laws.proofs.Words.{words}
 
 empty : {A B : Type 0} (f : A → B) (xs : List A) → map f xs ≡ [] → xs ≡ []

@@ -5,8 +5,4 @@ pub mod Parts
 pub mod Constructors
 pub mod Intrinsics
 pub mod Expressions
-pub mod Actions
-pub mod Cases
-pub mod Statements
-pub mod SeenStatements
 pub mod InMemory

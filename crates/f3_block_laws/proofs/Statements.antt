@@ -49,8 +49,8 @@ use Rattle.f3_fitting_laws.specs.Bounded.{HasWords, IsBounded, IsActBounded, IsS
 use Rattle.f3_fitting_laws.specs.Bounded.{IsOtherBounded, AreCasesBounded}
 use Rattle.f3_fitting_laws.proofs.Nodes.{kind, value_fits, object_fits, selector_fits, statement_fits, statements_fit}
 use Rattle.f3_fitting_laws.proofs.Expressions.{expression_fits}
-use Rattle.f3_fitting_laws.proofs.Actions.{action_fits, variable_fits}
-use Rattle.f3_fitting_laws.proofs.Cases.{ranges_are}
+use Rattle.f3_block_laws.proofs.Actions.{action_fits, variable_fits}
+use Rattle.f3_block_laws.proofs.Cases.{ranges_are}
 
 module _ (p : Program) (held : ℕ → Option Holder) where
   -- where a statement stands

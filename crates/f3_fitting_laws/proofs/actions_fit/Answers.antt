@@ -1,5 +1,0 @@
-use Rattle.f3_fitting_laws.proofs.InMemory.{actions}
-use Rattle.f3_fitting_laws.proofs.actions_fit.Goals as goal
-
-pub returns : goal.returns
-returns c = actions

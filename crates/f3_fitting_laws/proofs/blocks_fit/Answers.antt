@@ -1,5 +1,0 @@
-use Rattle.f3_fitting_laws.proofs.InMemory.{blocks}
-use Rattle.f3_fitting_laws.proofs.blocks_fit.Goals as goal
-
-pub returns : goal.returns
-returns c = blocks
