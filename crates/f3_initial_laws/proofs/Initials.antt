@@ -53,9 +53,9 @@ use Rattle.f3_entity_laws.specs.Things.{Home, unit_in, number_of, IsHome}
 use Rattle.f3_agreement_laws.specs.Unbroken.{IsUnbroken}
 use Rattle.f3_initial_laws.specs.Written.{IsAttributeWritten, IsEntityWritten}
 use Rattle.f3_initial_laws.proofs.Monotone.{converted_within}
-use Rattle.f3_initial_laws.proofs.Keeping.{Kept}
+use Rattle.f3_constant_laws.specs.Kept.{Kept}
 use Rattle.f3_initial_laws.proofs.Shapes.{earlier, later, Stays, value_stays, is_right, shape_there, Sized, sized}
-use Rattle.f3_initial_laws.proofs.Units.{final}
+use Rattle.f3_constant_laws.proofs.Units.{final}
 
 -- values that fit what is declared with a type and dimensions
 abbrev pub values_fit : Base → List Dimension → List Constant → Bool

@@ -1,6 +1,4 @@
 pub mod Monotone
-pub mod Keeping
-pub mod Units
 pub mod Shapes
 pub mod Initials
 pub mod Listed

@@ -35,9 +35,9 @@ use Rattle.f3_entity_laws.specs.Things.{Home, of_unit, of_member, unit_in, numbe
 use Rattle.f3_agreement_laws.specs.Unbroken.{IsUnbroken}
 use Rattle.f3_agreement_laws.proofs.Declared.{each_get}
 use Rattle.f3_initial_laws.specs.Written.{IsAttributeWritten, IsEntityWritten, IsDeclarationWritten, IsSpecificationWritten, IsUnitWritten, AreDeclarationsWritten}
-use Rattle.f3_initial_laws.proofs.Keeping.{Kept, KeptAll, KeptIn}
+use Rattle.f3_constant_laws.specs.Kept.{Kept, KeptAll, KeptIn, MemberKept, UnitKept}
 use Rattle.f3_initial_laws.proofs.Initials.{node_fits, spot, declared_fits}
-use Rattle.f3_initial_laws.proofs.Units.{MemberKept, UnitKept, final, units_kept}
+use Rattle.f3_constant_laws.proofs.Units.{final, units_kept}
 
 -- ---- what is written, by the numbers of units
 

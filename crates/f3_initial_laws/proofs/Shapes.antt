@@ -41,8 +41,8 @@ use Rattle.f3_agreement_laws.specs.Unbroken.{IsUnbroken}
 use Rattle.f3_kind_laws.proofs.Typed.{speaks_of}
 use Rattle.f3_initial_laws.specs.Written.{AreBoundsWritten, IsShapeWritten, IsShapeGiven, IsAttributeWritten}
 use Rattle.f3_initial_laws.proofs.Monotone.{Within, value_within}
-use Rattle.f3_initial_laws.proofs.Keeping.{Keeps}
-use Rattle.f3_initial_laws.proofs.Units.{final}
+use Rattle.f3_constant_laws.specs.Kept.{Keeps}
+use Rattle.f3_constant_laws.proofs.Units.{final}
 
 -- ---- bounds that are numbers
 

@@ -17,10 +17,9 @@ use Rattle.f3_tree.specs.Tree.{ProcedureTree, UnitTree, Tree}
 use Rattle.f3_kinds.specs.declared.types.Scalar.{Scalar}
 use Rattle.f3_meaning_whole.specs.Permitted.{Each}
 use Rattle.f3_type_rules.specs.Associates.{constructs_of_block}
-use Rattle.f3_type_rules.specs.Declarations.{spot_of, unit_spot, within_unit, behind_part, unit_rows, unit_next, specification_rows, specification_next}
+use Rattle.f3_type_rules.specs.Declarations.{unit_spot, within_unit, behind_part, unit_rows, unit_next, specification_rows, specification_next}
 use Rattle.f3_type_rules.specs.Members.{Member, Numbered, members_from, numbered}
 use Rattle.f3_type_rules.specs.Program.{nothing_known, program_breaks, units_in}
-use Rattle.f3_type_rules.specs.Scene.{Scene}
 use Rattle.f3_type_rules.specs.Walks.{after, along, Known}
 use Rattle.f3_elaboration.specs.Declarations.{Whole}
 use Rattle.f3_lawful_laws.specs.Entities.{units_of, whole_of}
@@ -35,15 +34,9 @@ use Rattle.f3_agreement_laws.specs.Unbroken.{IsUnbroken}
 use Rattle.f3_agreement_laws.proofs.Declared.{each_get}
 use Rattle.f3_agreement_laws.proofs.Free.{nil_of}
 use Rattle.f3_kind_laws.proofs.Ordered.{ordered as all_ordered}
-use Rattle.f3_initial_laws.proofs.Keeping.{Keeps, keeps_on, KeptIn, Ascends, ends_at, PartKept, part_kept, MembersKept, members_kept}
-
--- what is known at each declaration of a unit stays known
-abbrev pub MemberKept : Scene → Known → (unit : ℕ) → Member → Type 0
-MemberKept scene end unit m = Each (KeptIn (spot_of scene unit m) end) ((m.tree).part).specifications
-
-abbrev pub UnitKept : Scene → Known → Numbered → Type 0
-UnitKept scene end u =
-    Each (KeptIn (unit_spot scene u) end) ((u.tree).part).specifications × Each (MemberKept scene end u.scope) u.members
+use Rattle.f3_constant_laws.specs.Kept.{Keeps, UnitKept}
+use Rattle.f3_constant_laws.specs.Laws.{known_behind}
+use Rattle.f3_constant_laws.proofs.Keeping.{keeps_on, Ascends, ends_at, PartKept, part_kept, MembersKept, members_kept}
 
 there : {X : Type 0} (xs : List X) (i : ℕ) → i < length xs → (x : X) × (slice_get xs i ≡ Some x)
 there [] i lt = absurd (omega (arith, lt))
@@ -179,7 +172,7 @@ module _ (t : Tree) (look : ℕ → ℕ → Lookup) (order : List ℕ) where
     ordered = units_in (units_of t) order
 
     abbrev pub final : Known
-    final = after (unit_next w.scene) nothing_known ordered
+    final = known_behind t look order
 
     numbers : (i : ℕ) → i < length (nodes_of t) → (u : Numbered) × (slice_get (units_of t) i ≡ Some u)
     numbers i lt =

@@ -28,31 +28,10 @@ use Rattle.f3_type_rules.specs.Walks.{after, along, context, Known, Spot}
 use Rattle.f3_lawful_laws.proofs.Facts.{first, second}
 use Rattle.f3_formed_laws.proofs.Right.{in_type}
 use Rattle.f3_kind_laws.proofs.Behind.{moves}
-
--- each value that is known stays so
-abbrev pub Keeps : Known → Known → Type 0
-Keeps k j = (e : ℕ) (v : Scalar) → lookup (nat_eq e) k.values ≡ Some v → lookup (nat_eq e) j.values ≡ Some v
+use Rattle.f3_constant_laws.specs.Kept.{Keeps, Kept, KeptAll, KeptIn, MemberKept}
 
 pub keeps_on : (i k j : Known) → Keeps i k → Keeps k j → Keeps i j
 keeps_on i k j a b e v h = b e v (a e v h)
-
--- ---- what is known where a name is declared, whose declaration breaks no rule there
-
-pub record Kept (s : Spot) (d : DeclarationTree) (end : Known) (x : EntityTree) : Type 0 where
-  pub start : Known
-  pub here : Known
-  pub dimensions : flat_map (dimension_rows (context s start)) (attributes_of d) ≡ []
-  pub rows : entity_rows s d here x ≡ []
-  pub started : Keeps start here
-  pub ended : Keeps here end
-
-abbrev pub KeptAll : Spot → Known → DeclarationTree → Type 0
-KeptAll s end d = Each (Kept s d end) d.entities
-
-abbrev pub KeptIn : Spot → Known → SpecificationTree → Type 0
-KeptIn s end (declares d) = KeptAll s end d
-KeptIn s end (defines t) = Each (KeptAll (in_type s) end) t.components
-KeptIn s end _ = ⊤
 
 -- ---- entries
 
@@ -264,13 +243,10 @@ module _ (Old : ℕ → Type 0) (low high : ℕ) (apart : (e : ℕ) → Old e �
   typed_long (Function (Some t) outcome) n = refl
 
   module _ (scene : Scene) (unit : ℕ) where
-    abbrev pub MemberKept : Known → Member → Type 0
-    MemberKept end m = Each (KeptIn (spot_of scene unit m) end) ((m.tree).part).specifications
-
     pub record MembersKept (k : Known) (ms : List Member) : Type 0 where
       pub keeps : Keeps k (after (member_next scene unit) k ms)
       pub below : Below high (after (member_next scene unit) k ms)
-      pub kept : (end : Known) → Keeps (after (member_next scene unit) k ms) end → Each (MemberKept end) ms
+      pub kept : (end : Known) → Keeps (after (member_next scene unit) k ms) end → Each (MemberKept scene end unit) ms
 
     pub members_kept : (lo : ℕ) (k : Known) (ms : List Member) → low ≤ lo → lo ≤ high → Ascends lo ms → Below lo k
         → along (member_rows scene unit) (member_next scene unit) k ms ≡ [] → MembersKept k ms
