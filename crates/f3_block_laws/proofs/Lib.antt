@@ -1,0 +1,5 @@
+pub mod Actions
+pub mod Cases
+pub mod Statements
+pub mod SeenStatements
+pub mod InMemory

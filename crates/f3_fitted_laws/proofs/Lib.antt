@@ -1,0 +1,4 @@
+pub mod Words
+pub mod Finals
+pub mod Procedures
+pub mod Whole

@@ -1,0 +1,5 @@
+pub mod Monotone
+pub mod Shapes
+pub mod Initials
+pub mod Listed
+pub mod Whole
