@@ -1,4 +1,3 @@
-use Rattle.f3_pure_laws.specs.Pure.{IsPure}
 use Rattle.f3_owner_laws.proofs.functions_are_pure.Goals as goal
 
 pub returns : goal.returns

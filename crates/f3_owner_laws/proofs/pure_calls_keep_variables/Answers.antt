@@ -1,5 +1,5 @@
 use Rattle.std.proofs.Common.{refl, sym, ap, subst, ◌∙◌, not}
-use Rattle.f3_meaning_whole.specs.Store.{Root, Static, same_root}
+use Rattle.f3_meaning_whole.specs.Store.{Root, Static}
 use Rattle.f3_meaning_laws.specs.Laws.{IsThere}
 use Rattle.f3_lawful_laws.proofs.Positions.{eq_self}
 use Rattle.f3_owner_laws.specs.Pure.{is_other}
