@@ -1,0 +1,19 @@
+-- What is accepted is pure.
+use Rattle.std.specs.Prelude.{◌≡◌, ℕ, List}
+use Rattle.f3_places.specs.declared.source.Source.{Source}
+use Rattle.f3_tree.specs.Tree.{Tree}
+use Rattle.f3_lookups.specs.declared.lookup.Lookup.{Lookup}
+use Rattle.f3_graph.specs.Order.{IsOrderOf}
+use Rattle.f3_graph.specs.Units.{nodes_of}
+use Rattle.f3_program.specs.declared.program.Program.{Program}
+use Rattle.f3_accepted.specs.Breaks.{Means}
+use Rattle.f3_accepted.specs.Accepted.{Accepted}
+use Rattle.f3_elaboration.specs.DeclaredViews.{program_view}
+use Rattle.f3_elaboration.specs.Program.{elaborated}
+use Rattle.f3_pure_laws.specs.Pure.{IsPure}
+use Rattle.f3_unbroken_laws.specs.Laws.{pure_in}
+
+-- the elaborated program of what is accepted is pure: its functions, and its procedures with the prefix PURE
+abbrev pub AcceptedIsPure : Type 0
+AcceptedIsPure = (sources : List Source) (t : Tree) (look : ℕ → ℕ → Lookup) (order : List ℕ) (p : Program) → Accepted sources t → Means t look
+    → IsOrderOf (nodes_of t) order → program_view p ≡ elaborated t look order → IsPure p (pure_in t)
