@@ -7,7 +7,7 @@ use Rattle.f3_program.specs.declared.program.Procedure.{Procedure}
 use Rattle.f3_meaning_whole.specs.Value as m
 use Rattle.f3_meaning_whole.specs.Store as t
 use Rattle.f3_data.specs.declared.value.Span.{Span}
-use Rattle.f3_data.specs.Values.{span_of, spans_of}
+use Rattle.f3_data.specs.Values.{spans_of}
 use Rattle.f3_meaning_whole.specs.Reference.{Reference, paths}
 use Rattle.f3_meaning_whole.specs.Act.{Setting, needs_storage}
 use Rattle.f3_meaning_whole.specs.Exec.{vacant, variables}

@@ -3,10 +3,9 @@ use Rattle.std.proofs.Common.{◌≡◌, ℕ, zero, suc, ◌+◌, ◌*◌, ◌%�
 use Rattle.std.proofs.lemmas.List.{map-append, take_more}
 use Rattle.f3_program.specs.declared.declarations.Constant.{Constant}
 use Rattle.f3_program.specs.declared.declarations.Constant.TheVariants as constant
-use Rattle.f3_program.specs.declared.declarations.Dimension.{Dimension}
 use Rattle.f3_meaning_whole.specs.Value.{Span, Value, joined, count}
 use Rattle.f3_meaning_whole.specs.Arithmetic.{constant_value}
-use Rattle.f3_meaning_whole.specs.Shape.{initialized, spans_declared}
+use Rattle.f3_meaning_whole.specs.Shape.{initialized}
 use Rattle.f3_meaning_whole.specs.Exec.{vacant}
 use Rattle.f3_account.specs.Account.{words, row, level_words}
 use Rattle.f3_account.proofs.Modulo.{product_left, product_right}
