@@ -1,5 +1,5 @@
 -- The words that the values of a run take of a heap (own rule).
-use Rattle.std.specs.Prelude.{ℕ, ◌+◌, ◌*◌, List, [], ◌∷◌, length}
+use Rattle.std.specs.Prelude.{ℕ, ◌+◌, List, [], ◌∷◌}
 use Rattle.f3_meaning_whole.specs.Value.{Value, Number, Truth, Composite, Array, Unallocated, Allocated, Values, none, more}
 use Rattle.f3_meaning_whole.specs.Store.{Store}
 
@@ -7,14 +7,14 @@ use Rattle.f3_meaning_whole.specs.Store.{Store}
 abbrev pub block : ℕ → ℕ
 block n = n + 3
 
--- A number or a truth value takes one word, a derived type what its components take, an array two words for the bounds of
--- each dimension and what its elements take; an allocatable takes one word, and the block of its object where it has one.
+-- A number or a truth value takes one word, a derived type what its components take, an array what its elements take; an allocatable
+-- takes one word, and the block of its object where it has one. Bounds take none.
 abbrev mutual
   pub words : Value → ℕ
   words (Number z) = 1
   words (Truth b) = 1
   words (Composite vs) = row vs
-  words (Array ss vs) = 2 * length ss + row vs
+  words (Array ss vs) = row vs
   words Unallocated = 1
   words (Allocated v) = 1 + block (words v)
 

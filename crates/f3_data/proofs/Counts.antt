@@ -16,12 +16,8 @@ use Rattle.f3_data.proofs.Rows.{composite_is, array_is, object_stands, level_sta
 pub composite_words : (vs : Vec v.Value Global) → words (value_of (v.Composite vs)) ≡ level_words (values_of vs.items)
 composite_words vs = ap words (composite_is vs) ∙ row_joined (values_of vs.items)
 
-pub array_words : (b : Box Elements Global) →
-    words (value_of (v.Array b)) ≡ 2 * length b.value.spans.items + level_words (values_of b.value.values.items)
-array_words b =
-    let e = row_joined (values_of b.value.values.items) in
-    let f = length-map b.value.spans.items span_of in
-    ap words (array_is b) ∙ omega arith
+pub array_words : (b : Box Elements Global) → words (value_of (v.Array b)) ≡ level_words (values_of b.value.values.items)
+array_words b = ap words (array_is b) ∙ row_joined (values_of b.value.values.items)
 
 pub array_objects : (b : Box Elements Global) → objects (value_of (v.Array b)) ≡ all_objects (joined (values_of b.value.values.items))
 array_objects b = ap objects (array_is b)
@@ -119,25 +115,23 @@ level_exchanged ls l a b d y h e f =
 
 -- what holds values has grown as much as these
 
-array_row : (b : Box Elements Global) → words (value_of (v.Array b)) ≡ 2 * length b.value.spans.items + row (joined (values_of b.value.values.items))
-array_row b = let f = length-map b.value.spans.items span_of in ap words (array_is b) ∙ omega arith
+array_row : (b : Box Elements Global) → words (value_of (v.Array b)) ≡ row (joined (values_of b.value.values.items))
+array_row b = ap words (array_is b)
 
-pub array_grown : (b d : Box Elements Global) (g : ℕ) → d.value.spans ≡ b.value.spans →
+pub array_grown : (b d : Box Elements Global) (g : ℕ) →
     (row (joined (values_of b.value.values.items)) + g) % 2 ^ 64 ≡ row (joined (values_of d.value.values.items)) % 2 ^ 64 →
     (words (value_of (v.Array b)) + g) % 2 ^ 64 ≡ words (value_of (v.Array d)) % 2 ^ 64
-array_grown b d g e h =
+array_grown b d g h =
     let s = array_row b in
     let n = array_row d in
-    let f = ap (λ (ss : Vec Span Global). length ss.items) e in
     omega arith
 
-pub array_exchanged : (b d : Box Elements Global) (i o : ℕ) → d.value.spans ≡ b.value.spans →
+pub array_exchanged : (b d : Box Elements Global) (i o : ℕ) →
     row (joined (values_of b.value.values.items)) + i ≡ row (joined (values_of d.value.values.items)) + o →
     words (value_of (v.Array b)) + i ≡ words (value_of (v.Array d)) + o
-array_exchanged b d i o e h =
+array_exchanged b d i o h =
     let s = array_row b in
     let n = array_row d in
-    let f = ap (λ (ss : Vec Span Global). length ss.items) e in
     omega arith
 
 -- levels that begin and end

@@ -23,10 +23,7 @@ pub fn words(value: &Value) -> u64
     match value {
         Value::Number(_) | Value::Truth(_) | Value::Unallocated => 1,
         Value::Composite(values) => level_words(values),
-        Value::Array(elements) => {
-            let bounds = (elements.spans.len() as u64).wrapping_mul(2);
-            bounds.wrapping_add(level_words(&elements.values))
-        }
+        Value::Array(elements) => level_words(&elements.values),
         Value::Allocated(held) => block(words(held)).wrapping_add(1),
     }
 }

@@ -44,20 +44,6 @@ held_next xs i x total w all l is h e =
     split held_words xs i x l is ∙ held_first x (drop (i + 1) xs) in
     summed total w (held_words (x ∷ [])) (held_words (drop (i + 1) xs)) all (ap (λ n. (total + n) % 2 ^ 64) (sym parts) ∙ h) e
 
--- dimensions among cells
-
-rank_first : (x : c.Cell) (xs : List c.Cell) → length (extents (x ∷ xs)) ≡ length (extents (x ∷ [])) + length (extents xs)
-rank_first (cell.Extent lower turns) xs = omega arith
-rank_first x xs = omega arith
-
-pub rank_next : (xs : List c.Cell) (i : ℕ) (x : c.Cell) (total w all : ℕ) → i < length xs → x ≡ get_or xs i x
-    → (total + length (extents (drop i xs))) % 2 ^ 64 ≡ all → w ≡ length (extents (x ∷ [])) → w < 2 ^ 64
-    → ((total + w) % 2 ^ 64 + length (extents (drop (i + 1) xs))) % 2 ^ 64 ≡ all
-rank_next xs i x total w all l is h e f =
-    let parts : length (extents (drop i xs)) ≡ length (extents (x ∷ [])) + length (extents (drop (i + 1) xs)) =
-    split (λ ys. length (extents ys)) xs i x l is ∙ rank_first x (drop (i + 1) xs) in
-    summed total w (length (extents (x ∷ []))) (length (extents (drop (i + 1) xs))) all (ap (λ n. (total + n) % 2 ^ 64) (sym parts) ∙ h) (omega arith)
-
 -- elements of arrays
 
 pub spans_next : (xs : List Span) (i : ℕ) (d : Span) (total all : ℕ) → i < length xs

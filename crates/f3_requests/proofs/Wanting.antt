@@ -7,7 +7,7 @@ use Rattle.f3_program.specs.declared.program.Procedure.{Procedure}
 use Rattle.f3_meaning_whole.specs.Value as m
 use Rattle.f3_meaning_whole.specs.Store as t
 use Rattle.f3_data.specs.declared.value.Span.{Span}
-use Rattle.f3_data.specs.Values.{span_of, spans_of}
+use Rattle.f3_data.specs.Values.{spans_of}
 use Rattle.f3_meaning_whole.specs.Reference.{Reference, paths}
 use Rattle.f3_meaning_whole.specs.Act.{Setting, needs_storage}
 use Rattle.f3_meaning_whole.specs.Exec.{vacant, variables}
@@ -88,12 +88,7 @@ renewed_some rank v cs r x w b o total h e i j k l =
     let sum : total ≡ (block (words (vacant rank (m.spans_of x) v)) + objects x) % 2 ^ 64 = omega arith in
     ap Some sum ∙ ap counted (sym (renewed_is rank v cs r x h e))
 
--- the dimensions of an array in memory
-
-pub span_count : (spans : List Span) (ss : List m.Span) (n : ℕ) → spans_of spans ≡ ss → n ≡ length spans → n < 2 ^ 64 → n ≡ length ss % 2 ^ 64
-span_count spans ss n h e small =
-    let l : length ss ≡ length spans = ap length (sym h) ∙ length-map spans span_of in
-    omega arith
+-- the elements of an array in memory
 
 pub element_counted : (spans : List Span) (ss : List m.Span) (n : ℕ) → spans_of spans ≡ ss → n ≡ m.count (spans_of spans) % 2 ^ 64 → n ≡ m.count ss % 2 ^ 64
 element_counted spans ss n h e = e ∙ ap (λ l. m.count l % 2 ^ 64) h

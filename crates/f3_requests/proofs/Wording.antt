@@ -3,10 +3,9 @@ use Rattle.std.proofs.Common.{◌≡◌, ℕ, zero, suc, ◌+◌, ◌*◌, ◌%�
 use Rattle.std.proofs.lemmas.List.{map-append, take_more}
 use Rattle.f3_program.specs.declared.declarations.Constant.{Constant}
 use Rattle.f3_program.specs.declared.declarations.Constant.TheVariants as constant
-use Rattle.f3_program.specs.declared.declarations.Dimension.{Dimension}
 use Rattle.f3_meaning_whole.specs.Value.{Span, Value, joined, count}
 use Rattle.f3_meaning_whole.specs.Arithmetic.{constant_value}
-use Rattle.f3_meaning_whole.specs.Shape.{initialized, spans_declared}
+use Rattle.f3_meaning_whole.specs.Shape.{initialized}
 use Rattle.f3_meaning_whole.specs.Exec.{vacant}
 use Rattle.f3_account.specs.Account.{words, row, level_words}
 use Rattle.f3_account.proofs.Modulo.{product_left, product_right}
@@ -71,16 +70,7 @@ next g xs i x total w l is h e =
 
 -- arrays
 
-pub array_words_are : (n k r e : ℕ) → n < 2 ^ 64 → e ≡ r % 2 ^ 64 → ((n * 2) % 2 ^ 64 + e) % 2 ^ 64 ≡ (2 * n + r) % 2 ^ 64
-array_words_are n k r e h i = omega arith
-
-pub bounds_length : (ds : List Dimension) → length (spans_declared ds) ≡ length ds
-bounds_length [] = refl
-bounds_length (d ∷ ds) = ap suc (bounds_length ds)
-
-pub vacant_is : (rank bounds n element : ℕ) (ss : List Span) (v : Value) → 0 < rank → bounds ≡ length ss % 2 ^ 64 → n ≡ count ss % 2 ^ 64 → element ≡ words v % 2 ^ 64
-    → ((bounds * 2) % 2 ^ 64 + (n * element) % 2 ^ 64) % 2 ^ 64 ≡ words (vacant rank ss v) % 2 ^ 64
-vacant_is zero bounds n element ss v p b h e = absurd (omega arith)
-vacant_is (suc rank) bounds n element ss v p b h e =
-    let r : (n * element) % 2 ^ 64 ≡ row (joined (replicate (count ss) v)) % 2 ^ 64 = replicated (count ss) v n element h e in
-    rw r (omega arith)
+pub vacant_is : (rank n element : ℕ) (ss : List Span) (v : Value) → 0 < rank → n ≡ count ss % 2 ^ 64 → element ≡ words v % 2 ^ 64
+    → (n * element) % 2 ^ 64 ≡ words (vacant rank ss v) % 2 ^ 64
+vacant_is zero n element ss v p h e = absurd (omega arith)
+vacant_is (suc rank) n element ss v p h e = replicated (count ss) v n element h e

@@ -16,7 +16,7 @@ ghost use Rattle.f3_cells.specs.States.{setting, code_of};
 ghost use Rattle.f3_requests.specs.Requests.{refuses};
 ghost use Rattle.f3_requests.specs.Inner.Counted.{HasElements, called_with, counted, held_words, wanted};
 
-use crate::extents::{element_count, new_count, rank_of, vacant_words};
+use crate::extents::{element_count, new_count, vacant_words};
 use crate::given::{given_words, top};
 use crate::words::{line_words, procedure_words};
 use f3_cells::cell::Cell;
@@ -87,13 +87,8 @@ fn new_wants(
     let Some(value) = datum_at(stack, 1) else {
         return None;
     };
-    let spans = spans_of(value);
-    let new = vacant_words(
-        rank,
-        spans.len() as u64,
-        element_count(spans),
-        line_words(program, initial),
-    );
+    let count = element_count(spans_of(value));
+    let new = vacant_words(rank, count, line_words(program, initial));
     Some(block(new).wrapping_add(objects(value)))
 }
 
@@ -169,7 +164,7 @@ fn allocate_wants(
         return None;
     };
     let element = line_words(program, initial);
-    Some(block(vacant_words(rank, rank_of(cells), n, element)))
+    Some(block(vacant_words(rank, n, element)))
 }
 
 /// What a value that is held for an ASSOCIATE wants: a block (8.1.4.3).

@@ -1,6 +1,6 @@
 //! The elements and the words of new objects.
 
-ghost use Rattle.std.specs.Prelude.{◌≡◌, ℕ, ◌*◌, ◌≤◌, ◌%◌, ◌^◌, List, [], ◌∷◌, nat_lt, true, false, MatchOption, length};
+ghost use Rattle.std.specs.Prelude.{◌≡◌, ℕ, ◌*◌, ◌≤◌, ◌%◌, ◌^◌, List, [], ◌∷◌, nat_lt, true, false, MatchOption};
 ghost use Rattle.f3_meaning_whole.specs.Value as m;
 ghost use Rattle.f3_meaning_whole.specs.Value.{count};
 ghost use Rattle.f3_meaning_whole.specs.Exec.{too_many, vacant};
@@ -30,15 +30,14 @@ pub(crate) fn element_count(spans: &[Span]) -> u64
     n
 }
 
-/// The words of a new object of a rank, with so many bounds and elements, each of so many words (6.3.1), modulo 2 to the 64.
-pub(crate) fn vacant_words(rank: usize, bounds: u64, n: u64, element: u64) -> u64
-    ensures { (ss : List m.Span) (v : m.Value) → bounds ≡ length ss % 2 ^ 64 → n ≡ count ss % 2 ^ 64 → element ≡ words v % 2 ^ 64
-        → result ≡ words (vacant rank ss v) % 2 ^ 64 }
+/// The words of a new object of a rank, with so many elements, each of so many words (6.3.1), modulo 2 to the 64.
+pub(crate) fn vacant_words(rank: usize, n: u64, element: u64) -> u64
+    ensures { (ss : List m.Span) (v : m.Value) → n ≡ count ss % 2 ^ 64 → element ≡ words v % 2 ^ 64 → result ≡ words (vacant rank ss v) % 2 ^ 64 }
 {
     if rank == 0 {
         return element;
     }
-    bounds.wrapping_mul(2).wrapping_add(n.wrapping_mul(element))
+    n.wrapping_mul(element)
 }
 
 /// Whether a dimension has no more subscripts than a signed number of 64 bits tells, given how many follow the first.
@@ -107,27 +106,6 @@ fn count(cells: &[Cell]) -> Option<u64>
         n = extended(&cells[before], n);
     }
     n
-}
-
-/// How many dimensions a cell is: one or none.
-fn own_rank(cell: &Cell) -> u64
-    ensures { result ≡ length (extents (cell.now ∷ [])) }
-{
-    match cell {
-        Cell::Extent(_, _) => 1,
-        _ => 0,
-    }
-}
-
-/// How many dimensions there are among cells, modulo 2 to the 64.
-pub(crate) fn rank_of(cells: &[Cell]) -> u64
-    ensures { result ≡ length (extents cells.now) % 2 ^ 64 }
-{
-    let mut rank: u64 = 0;
-    for cell in cells {
-        rank = rank.wrapping_add(own_rank(cell));
-    }
-    rank
 }
 
 /// How many elements a new array of the dimensions among cells has: none where it is too large (own rule for 6.3.1).

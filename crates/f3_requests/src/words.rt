@@ -43,8 +43,7 @@ fn array_words(dimensions: &[Dimension], constants: &[Constant], element: u64) -
     ensures { (v : m.Value) → element ≡ words v % 2 ^ 64
         → result ≡ words (m.Array (spans_declared dimensions.now) (joined (initialized (count (spans_declared dimensions.now)) constants.now v))) % 2 ^ 64 }
 {
-    let bounds = (dimensions.len() as u64).wrapping_mul(2);
-    bounds.wrapping_add(elements_words(element_count(dimensions), constants, element))
+    elements_words(element_count(dimensions), constants, element)
 }
 
 /// The words with which what is declared begins, given those of an element (4.5.3, 5.1; own rule for 16.5.6).

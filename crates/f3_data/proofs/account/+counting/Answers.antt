@@ -13,6 +13,4 @@ words-returns-in-Composite t c = rw (c.in-Composite.is, composite_words) (rw c.d
 
 pub words-returns-in-Array : goal.words-returns-in-Array
 words-returns-in-Array t c =
-    let inner = rw (c.deref-in-Array-3.ensures.value, c.deref-in-Array-2.ensures) at c.level_words-in-Array.ensures in
-    let bounds = rw c.deref-in-Array.ensures at c.len.ensures in
-    rw (c.in-Array.is, array_words) (omega (arith, c.in-Array.elements.value.spans.ok.0))
+    rw (c.in-Array.is, array_words) (rw (c.deref-in-Array-2.ensures.value, c.deref-in-Array.ensures) at c.level_words-in-Array.ensures)

@@ -48,7 +48,7 @@ exchange-returns-clause-words t c = elim c.match-value.branch [
       let inner = w.exchange_at-in-Array-Element.ensures.words in
       let all = array_exchanged w.in-Array-Element.elements (with_value w.in-Array-Element.elements
       record { spans = w.deref_mut.result.now.spans; values = w.exchange_at-in-Array-Element.new.values })
-      (words (value_of c.args.other.now)) (words (value_of w.exchange_at-in-Array-Element.new.other)) (ap (λ (x : Elements). x.spans) h) (search rules) in
+      (words (value_of c.args.other.now)) (words (value_of w.exchange_at-in-Array-Element.new.other)) (search rules) in
       search (rules, v.the_lemmas)
   | exchange-in-Allocated-Contents w ↦ search (rules, arith)
 ]

@@ -42,7 +42,7 @@ set_part-returns-clause-grown t c = elim c.match-value.branch [
       let inner = w.set_at-in-Array-Element.ensures.grown in
       let all = array_grown w.in-Array-Element.elements (with_value w.in-Array-Element.elements
       record { spans = w.deref_mut.result.now.spans; values = w.set_at-in-Array-Element.new.values })
-      w.set_at-in-Array-Element.result (ap (λ (x : Elements). x.spans) h) (search rules) in
+      w.set_at-in-Array-Element.result (search rules) in
       search (rules, v.the_lemmas)
   | set_part-in-Allocated-Contents w ↦ search (rules, arith)
   | set_part-in_default-2 w ↦ search (rules, arith)

@@ -20,5 +20,5 @@ returns-in-Array-clause-grown c =
     let h : c.deref_mut.result.now ≡ c.in-Array.elements.value = search rules in
     let inner = c.become_at.ensures.grown in
     let all = array_grown c.in-Array.elements (with_value c.in-Array.elements record { spans = c.deref_mut.result.now.spans; values = c.become_at.new.values })
-    c.become_at.result (ap (λ (x : Elements). x.spans) h) (search rules) in
+    c.become_at.result (search rules) in
     search (rules, v.the_lemmas)

@@ -43,5 +43,5 @@ returns c =
     allocated_some (store_of c.args.state.now.store) c.args.rank (taken (setting p) c.args.initial) (dimensions (take c.args.rows cs)) (extents c.top-cells.result.now)
     (drop c.args.rows cs) (drop (suc c.args.rows) cs) (reference_of c.in-Some.object.now) c.vacant_words.result c.block.result same (c.in-Some.ensures p)
     (sym c.is_allocated_at.ensures ∙ c.if-is_allocated_at.false) c.in-Some-new_count.ensures.0
-    (c.vacant_words.ensures (extents c.top-cells.result.now) (taken (setting p) c.args.initial) c.rank_of.ensures (small c.in-Some-new_count.n (extents c.top-cells.result.now) (omega arith) c.in-Some-new_count.ensures.1)
+    (c.vacant_words.ensures (extents c.top-cells.result.now) (taken (setting p) c.args.initial) (small c.in-Some-new_count.n (extents c.top-cells.result.now) (omega arith) c.in-Some-new_count.ensures.1)
     c.line_words-element.ensures) c.block.ensures
