@@ -1,0 +1,58 @@
+-- Laws of what descriptors tell of.
+use Rattle.std.specs.Prelude.{⊤, ◌≡◌, ℕ, suc, pos, List, [], ◌∷◌, Some, map}
+use Rattle.f3_heap_laws.specs.Blocks.{Live, IsLive}
+use Rattle.f3_meaning_whole.specs.Value.{Span, count}
+use Rattle.f3_meaning_whole.specs.Shape.{Shape}
+use Rattle.f3_meaning_whole.specs.Store.{Root, Step, Path, get}
+use Rattle.f3_meaning_whole.specs.Reference.{paths_by, reach_of}
+use Rattle.f3_meaning_whole.specs.Act.{Chosen, subscripts_in, places_in, elements_at}
+use Rattle.f3_desc.specs.declared.descriptor.Descriptor.{Descriptor}
+use Rattle.f3_desc.specs.declared.descriptor.Dim.{Dim}
+use Rattle.f3_desc.specs.declared.descriptor.Triplet.{Triplet}
+use Rattle.f3_desc.specs.Descriptor.{choices}
+use Rattle.f3_desc.specs.Section.{IsSection, SelectsWithin, selected}
+use Rattle.f3_desc.specs.Laws.{IsContiguous, number, size_of}
+use Rattle.f3_rooms.specs.Forms.{Laid, words_for}
+use Rattle.f3_rooms.specs.Rooms.{Rooms, store_of}
+use Rattle.f3_rooms.specs.Places.{Found, found}
+use Rattle.f3_rooms.specs.Sound.{IsSound}
+use Rattle.f3_rooms.specs.Laws.{path_at}
+use Rattle.f3_room_arrays.specs.Elements.{Tells}
+use Rattle.f3_room_arrays.specs.Changes.{LieWithin}
+
+-- The words of objects that a descriptor tells of lie in its block.
+abbrev pub ObjectsLieWithin : Type 0
+ObjectsLieWithin = (ts : List Shape) (m : Live) (x : Rooms) (a : Descriptor) (s : Shape) (ps : List Path) → IsSound ts m x → Tells ts x a s ps → IsLive m a.block
+    → LieWithin m a (words_for s)
+
+-- a descriptor of a whole array that stands there: its elements follow on one another
+pub record IsWhole (f : Found) (ss : List Span) (a : Descriptor) : Type 0 where
+  pub block : a.block ≡ f.block
+  pub offset : a.offset ≡ f.at
+  pub dims : IsContiguous (pos (words_for f.shape)) a.dims.items
+  pub size : size_of a.dims.items ≡ count ss
+
+-- It tells of all the objects that the meaning reaches there, in array element order (ISO/IEC 1539-1:2004, 6.2.2.2).
+abbrev pub ArraysAreTold : Type 0
+ArraysAreTold = (ts : List Shape) (m : Live) (x : Rooms) (r : Root) (way : List Step) (f : Found) → found ts x r way ≡ Some f
+    → (rank : ℕ) (ss : List Span) → f.form ≡ Laid (suc rank) ss → (a : Descriptor) → IsWhole f ss a
+    → Tells ts x a f.shape (paths_by (path_at r way) (reach_of (path_at r way) (get (store_of ts m x) (path_at r way))))
+
+-- The numbers of the elements that triplets select, in order (6.2.2.3).
+abbrev pub numbers : List Dim → List Triplet → List ℕ
+numbers ds cs = map (number ds) (choices (map selected cs))
+
+-- A section tells of the selected ones.
+abbrev pub SectionsAreTold : Type 0
+SectionsAreTold = (ts : List Shape) (x : Rooms) (a b : Descriptor) (s : Shape) (ps : List Path) (cs : List Triplet) → Tells ts x a s ps
+    → SelectsWithin a cs → IsSection a cs b → Tells ts x b s (elements_at ps (numbers a.dims.items cs))
+
+-- in each dimension the triplet selects what the meaning selects between these bounds
+abbrev pub SelectAlike : List Span → List Chosen → List Dim → List Triplet → Type 0
+SelectAlike [] [] [] [] = ⊤
+SelectAlike (s ∷ ss) (h ∷ hs) (d ∷ ds) (c ∷ cs) = (d.lower ≡ s.lower) × (d.extent ≡ s.extent) × (subscripts_in s h ≡ selected c) × SelectAlike ss hs ds cs
+SelectAlike ss hs ds cs = ⊥
+
+-- Then the meaning selects the elements of these numbers.
+abbrev pub NumbersArePlaces : Type 0
+NumbersArePlaces = (ss : List Span) (hs : List Chosen) (ds : List Dim) (cs : List Triplet) → SelectAlike ss hs ds cs → places_in ss hs ≡ numbers ds cs

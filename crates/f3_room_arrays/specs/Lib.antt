@@ -1,0 +1,5 @@
+pub mod Words
+pub mod Elements
+pub mod Changes
+pub mod Laws
+pub mod Inner

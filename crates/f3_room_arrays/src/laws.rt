@@ -1,0 +1,19 @@
+//! Laws of what descriptors tell of.
+
+ghost use Rattle.f3_room_arrays.specs.Laws.{ObjectsLieWithin, ArraysAreTold, SectionsAreTold, NumbersArePlaces};
+
+/// The words of objects that a descriptor tells of lie in its block.
+pub fn objects_lie_within()
+    ensures { ObjectsLieWithin }
+{}
+
+/// A descriptor of a whole array tells of all its elements.
+pub fn arrays_are_told()
+    ensures { ArraysAreTold }
+{}
+
+/// A section tells of the elements that are selected, which are those that the meaning selects (ISO/IEC 1539-1:2004, 6.2.2.3).
+pub fn sections_are_told()
+    ensures told { SectionsAreTold }
+    ensures numbers { NumbersArePlaces }
+{}
