@@ -8,6 +8,7 @@ ghost use Rattle.f3_desc.specs.Laws.{size_of};
 ghost use Rattle.f3_room_arrays.specs.Words.{places_from};
 ghost use Rattle.f3_room_arrays.specs.Inner.Numbers.{away};
 
+use crate::words::behind;
 use f3_desc::descriptor::Dim;
 
 /// The first dimension of an array, or one of a single element, and the others.
@@ -50,7 +51,6 @@ pub(crate) fn further(dims: &[Dim], at: usize, number: usize) -> usize
     let Some((first, others)) = dims.split_first() else {
         return at;
     };
-    let distance = ((number % first.extent) as i64).wrapping_mul(first.stride);
-    let next = at.wrapping_add(distance.cast_unsigned() as usize);
+    let next = behind(at, number % first.extent, first.stride);
     further(others, next, number / first.extent)
 }

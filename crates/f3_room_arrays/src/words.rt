@@ -1,6 +1,6 @@
 //! Words of one block are copied to another.
 
-ghost use Rattle.std.specs.Prelude.{◌≡◌, ◌≢◌, ◌+◌, ◌*◌, ◌≤◌, ◌+ℤ◌, true, pos, length, take, drop};
+ghost use Rattle.std.specs.Prelude.{◌≡◌, ◌≢◌, ◌+◌, ◌*◌, ◌≤◌, ◌+ℤ◌, ◌*ℤ◌, true, pos, length, take, drop};
 ghost use Rattle.f3_heap_laws.specs.Blocks.{IsLive, words_of, with_words};
 ghost use Rattle.f3_desc.specs.Inner.Congruent.{IsCongruent};
 ghost use Rattle.f3_desc.specs.Descriptor.{progression};
@@ -46,11 +46,11 @@ fn is_dense(run: &Run, words: usize) -> bool
     run.stride > 0 && run.stride.unsigned_abs() == words as u64
 }
 
-/// The place of the next element, up to a multiple of 2 ^ 64: behind the last it is never read.
-fn next(run: &Run) -> usize
-    ensures { IsCongruent (pos result) (pos run.now.at +ℤ run.now.stride) }
+/// The place so many strides behind another, up to a multiple of 2 ^ 64.
+pub(crate) fn behind(at: usize, count: usize, stride: i64) -> usize
+    ensures { IsCongruent (pos result) (pos at +ℤ (pos count *ℤ stride)) }
 {
-    run.at.wrapping_add(run.stride.cast_unsigned() as usize)
+    at.wrapping_add(count.wrapping_mul(stride.cast_unsigned() as usize))
 }
 
 /// Copies so many elements of one block to as many places of another, in their order.
@@ -65,15 +65,18 @@ pub(crate) fn copy_run<B: Blocks>(heap: &mut B, from: Run, to: Run, count: usize
         (progression (pos to.at) to.stride count) (progression (pos from.at) from.stride count)) }
     ensures kept { B.kept heap.new ≡ B.kept heap.old }
 {
-    if count > 0 && is_dense(&from, words) && is_dense(&to, words) {
+    if count == 0 {
+        return;
+    }
+    prove!(words <= heap.length(from.block));
+    prove!(words <= heap.length(to.block));
+    if is_dense(&from, words) && is_dense(&to, words) {
         copy_words(heap, from.block, from.at, to.block, to.at, count * words);
         return;
     }
-    let mut source = from;
-    let mut target = to;
-    for _ in 0..count {
-        copy_words(heap, source.block, source.at, target.block, target.at, words);
-        source.at = next(&source);
-        target.at = next(&target);
+    for number in 0..count {
+        let source = behind(from.at, number, from.stride);
+        let target = behind(to.at, number, to.stride);
+        copy_words(heap, from.block, source, to.block, target, words);
     }
 }
