@@ -1,6 +1,6 @@
 //! Arrays and sections are assigned.
 
-ghost use Rattle.std.specs.Prelude.{◌≡◌, ◌≢◌, ◌+◌, ◌*◌, ◌≤◌, ◌<◌, ◌^◌, pos, ℕ, List, length};
+ghost use Rattle.std.specs.Prelude.{◌≡◌, ◌≢◌, ◌+◌, ◌*◌, ◌≤◌, ◌<◌, ◌^◌, pos, List, length};
 ghost use Rattle.f3_heap_laws.specs.Blocks.{IsLive, words_of, with_words};
 ghost use Rattle.f3_meaning_whole.specs.Value.{spread};
 ghost use Rattle.f3_meaning_whole.specs.Shape.{Shape};
@@ -31,7 +31,8 @@ fn spread_words<B: Blocks>(
     requires within { LieWithin (B.blocks heap.old) elements.now words }
     requires live { IsLive (B.blocks heap.old) from }
     requires apart { from ≢ elements.now.block }
-    requires few { length (places elements.now) < 2 ^ 64 }
+    requires few { 0 < words → length (places elements.now) < 2 ^ 64 }
+    requires short { step < 2 ^ 63 }
     requires room { AreInside (length (words_of (B.blocks heap.old) from)) words (progression (pos from_at) (pos step) (length (places elements.now))) }
     requires behind { from_at + length (places elements.now) * step ≤ length (words_of (B.blocks heap.old) from) }
     ensures written { B.blocks heap.new ≡ with_words (B.blocks heap.old) elements.now.block
@@ -39,24 +40,26 @@ fn spread_words<B: Blocks>(
         (places elements.now) (progression (pos from_at) (pos step) (length (places elements.now)))) }
     ensures kept { B.kept heap.new ≡ B.kept heap.old }
 {
+    prove!(from_at <= heap.length(from));
+    prove!(heap.length(elements.block) <= usize::MAX);
     let (first, others) = first_and_others(elements.dims.as_slice());
-    if first.extent == 0 {
+    if words == 0 || first.extent == 0 {
         return;
     }
-    let mut source = from_at;
+    let mut at = from_at;
     for number in 0..size(others) {
-        let from = Run {
+        let source = Run {
             block: from,
-            at: source,
+            at,
             stride: step as i64,
         };
-        let to = Run {
+        let target = Run {
             block: elements.block,
             at: further(others, elements.offset, number),
             stride: first.stride,
         };
-        copy_run(heap, from, to, first.extent, words);
-        source += first.extent * step;
+        copy_run(heap, source, target, first.extent, words);
+        at += first.extent * step;
     }
 }
 
@@ -72,6 +75,7 @@ pub fn scatter<B: Blocks>(
     requires within { LieWithin (B.blocks heap.old) elements.now words }
     requires live { IsLive (B.blocks heap.old) from }
     requires apart { from ≢ elements.now.block }
+    requires short { words < 2 ^ 63 }
     requires room { from_at + length (places elements.now) * words ≤ length (words_of (B.blocks heap.old) from) }
     ensures put { (ts : List Shape) (x : Rooms) (s : Shape) (ps : List Path) → AreObjects ts (B.blocks heap.old) x elements.now s ps words
         → PutsAll ts (B.blocks heap.old) (B.blocks heap.new) x ps (row (B.blocks heap.old) s (length ps) from from_at) }
@@ -80,9 +84,8 @@ pub fn scatter<B: Blocks>(
         (places elements.now) (progression (pos from_at) (pos words) (length (places elements.now)))) }
     ensures kept { B.kept heap.new ≡ B.kept heap.old }
 {
-    if words > 0 {
-        spread_words(heap, from, from_at, words, elements, words);
-    }
+    prove!(from_at <= heap.length(from));
+    spread_words(heap, from, from_at, words, elements, words);
 }
 
 /// The elements of an array or of a section, each of so many words, all take the words at a place of another block (ISO/IEC
