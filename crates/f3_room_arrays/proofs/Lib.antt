@@ -1,3 +1,6 @@
 pub mod Numbers
 pub mod Copying
 pub mod Running
+pub mod Flat
+pub mod Objects
+pub mod Told
