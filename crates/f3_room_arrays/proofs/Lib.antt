@@ -4,3 +4,4 @@ pub mod Running
 pub mod Flat
 pub mod Objects
 pub mod Told
+pub mod Sections
