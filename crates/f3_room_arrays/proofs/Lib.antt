@@ -5,3 +5,4 @@ pub mod Flat
 pub mod Objects
 pub mod Told
 pub mod Sections
+pub mod Counting

@@ -2,20 +2,21 @@
 use Rattle.std.proofs.Common.{◌≡◌, ◌≢◌, ◌∙◌, sym, ap, subst, refl, inl, inr, ℕ, zero, suc, ◌+◌, ◌*◌, ◌<◌, ◌≤◌, List, [], ◌∷◌, ◌++◌, length, take, drop, get_or, arith}
 use Rattle.std.specs.Prelude.{Some, ⊤, ◌⊎◌, ℤ, pos, ◌+ℤ◌, ◌≤ℤ◌, map, unsigned_abs}
 use Rattle.std.specs.List.{AllZip}
+use Rattle.std.specs.FinMap.{get as find}
 use Rattle.std.proofs.lemmas.Bool.{cases_eq}
 use Rattle.std.proofs.lemmas.Int.{ints}
 use Rattle.std.proofs.lemmas.List.{length-take-le, get_or-take, get_or-drop, get_or_append_left, get_or-append-add, length-append}
 use Rattle.f3_heap_laws.specs.Blocks.{Live, IsLive, words_of, with_words}
-use Rattle.f3_heap_laws.proofs.Laws.{live-insert, words-insert_other}
+use Rattle.f3_heap_laws.proofs.Laws.{live-insert, words-insert_other, get-insert_other}
 use Rattle.f3_meaning_whole.specs.Value.{Value, Span, Array, Number, Truth, Composite, joined, count, shown, spread}
 use Rattle.f3_meaning_whole.specs.Shape.{Shape, Whole, Logical, Record}
 use Rattle.f3_meaning_whole.specs.Store.{Store, Path, get, put, put_all}
 use Rattle.f3_meaning_whole.specs.Reference.{Many, held_at}
 use Rattle.f3_desc.specs.Descriptor.{progression}
-use Rattle.f3_rooms.specs.Held.{Held, Empty, end}
+use Rattle.f3_rooms.specs.Held.{Held, Empty, end, times}
 use Rattle.f3_rooms.specs.Forms.{Form, Laid, form_words, words_for}
 use Rattle.f3_rooms.specs.Values.{word, elements, laid, formed, object}
-use Rattle.f3_rooms.specs.Rooms.{Rooms, store_of}
+use Rattle.f3_rooms.specs.Rooms.{Rooms, blocks_of, store_of}
 use Rattle.f3_rooms.specs.Places.{Found, found, value_at}
 use Rattle.f3_rooms.specs.Sound.{IsForm, IsObject, IsSound}
 use Rattle.f3_rooms.specs.Laws.{path_at, Replaces}
@@ -23,6 +24,7 @@ use Rattle.f3_rooms.proofs.Reading.{parts_are_found}
 use Rattle.f3_rooms.proofs.Within.{size_of, store_owns, part_lies}
 use Rattle.f3_rooms.proofs.Stores.{parts_are_replaced}
 use Rattle.f3_rooms.proofs.Living.{all_live}
+use Rattle.f3_rooms.proofs.Keeping.{kept_blocks_keep}
 use Rattle.f3_rooms.proofs.Unmoved.{store_unmoved}
 use Rattle.f3_objects.specs.Holds.{with_words_at}
 use Rattle.f3_objects.proofs.Spans.{length-written, read_outside}
@@ -258,11 +260,16 @@ shown-count : (ss : List Span) → count (shown ss) ≡ count ss
 shown-count [] = refl
 shown-count (s ∷ ss) = ap (λ (k : ℕ). s.extent * k) (shown-count ss)
 
-pub reads-of : (ts : List Shape) (m n : Live) (x : Rooms) (s : Shape) (ps : List Path) (b o : ℕ) → row n s (length ps) b o ≡ map (get (store_of ts m x)) ps → Reads ts m n x s ps b o
-reads-of ts m n x s ps b o e = record {
+pub reads-of : (ts : List Shape) (m n : Live) (x : Rooms) (s : Shape) (ps : List Path) (b o : ℕ) (us : List ℤ) → IsSound ts m x → n ≡ with_words m b us
+    → row n s (length ps) b o ≡ map (get (store_of ts m x)) ps → Reads ts m n x s ps b o
+reads-of ts m n x s ps b o us sound is e = record {
   values = e;
   held = λ rank p ss many. ap (λ (k : ℕ). Array (shown ss) (joined (row n s k b o))) (shown-count ss ∙ many) ∙ ap (λ vs. Array (shown ss) (joined vs)) e;
+  same = λ none. kept_blocks_keep ts m n x sound (λ q some. ap (λ (k : Live). find k q) is ∙ get-insert_other m b _ q (λ g. other q b g none some));
 }
+  where
+    other : (q b : ℕ) → q ≡ b → times b (blocks_of x) ≡ 0 → 0 < times q (blocks_of x) → ⊥
+    other q b g none some = let e : times q (blocks_of x) ≡ times b (blocks_of x) = ap (λ k. times k (blocks_of x)) g in omega arith
 
 pub puts-as : {ts : List Shape} {m n l : Live} {x : Rooms} {ps : List Path} {vs us : List Value} → n ≡ l → vs ≡ us → PutsAll ts m n x ps vs → PutsAll ts m l x ps us
 puts-as {ts} {m} {n} {l} {x} {ps} {vs} {us} e g puts = subst (λ (k : Live). PutsAll ts m k x ps us) e (subst (λ (ws : List Value). PutsAll ts m n x ps ws) g puts)

@@ -1,5 +1,5 @@
 -- Reading and assigning many objects of a store (ISO/IEC 1539-1:2004, 7.1.8 and 7.4.1.3).
-use Rattle.std.specs.Prelude.{◌≡◌, ℕ, ◌*◌, ◌≤◌, ◌+◌, suc, List, length, map}
+use Rattle.std.specs.Prelude.{◌≡◌, ℕ, suc, List, length, map}
 use Rattle.f3_heap_laws.specs.Blocks.{Live, IsLive, words_of}
 use Rattle.f3_meaning_whole.specs.Value.{Span, Value, count, shown}
 use Rattle.f3_meaning_whole.specs.Shape.{Shape}
@@ -7,10 +7,10 @@ use Rattle.f3_meaning_whole.specs.Store.{Path, get, put_all}
 use Rattle.f3_meaning_whole.specs.Reference.{Many, held_at}
 use Rattle.f3_desc.specs.declared.descriptor.Descriptor.{Descriptor}
 use Rattle.f3_desc.specs.Descriptor.{places}
-use Rattle.f3_rooms.specs.Held.{Empty}
+use Rattle.f3_rooms.specs.Held.{Empty, times}
 use Rattle.f3_rooms.specs.Forms.{words_for}
 use Rattle.f3_rooms.specs.Values.{laid, object}
-use Rattle.f3_rooms.specs.Rooms.{Rooms, store_of}
+use Rattle.f3_rooms.specs.Rooms.{Rooms, blocks_of, store_of}
 use Rattle.f3_rooms.specs.Sound.{IsSound}
 use Rattle.f3_room_arrays.specs.Words.{AreInside}
 use Rattle.f3_room_arrays.specs.Elements.{IsFlat, Tells, row}
@@ -27,11 +27,13 @@ pub record AreObjects (ts : List Shape) (m : Live) (x : Rooms) (a : Descriptor) 
   pub flat : IsFlat s
   pub words : n ≡ words_for s
 
--- From a word of a block on stand the values of these objects: one behind another, so that they are the array that the meaning reads.
+-- From a word of a block on stand the values of these objects: one behind another, so that they are the array that the meaning reads. If no
+-- variable stands in the block, and nothing that one holds, the store is as it was.
 pub record Reads (ts : List Shape) (m n : Live) (x : Rooms) (s : Shape) (ps : List Path) (b o : ℕ) : Type 0 where
   pub values : row n s (length ps) b o ≡ map (get (store_of ts m x)) ps
   pub held : (rank : ℕ) (p : Path) (ss : List Span) → count ss ≡ length ps
       → laid (suc rank) (shown ss) (words_for s) (object n s) b o Empty ≡ held_at (store_of ts m x) p (Many ss ps)
+  pub same : times b (blocks_of x) ≡ 0 → (store_of ts n x ≡ store_of ts m x) × IsSound ts n x
 
 -- These objects have these values, each its own, nothing else changes, and all stays sound.
 pub record PutsAll (ts : List Shape) (m n : Live) (x : Rooms) (ps : List Path) (vs : List Value) : Type 0 where

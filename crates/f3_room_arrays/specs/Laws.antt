@@ -1,5 +1,6 @@
 -- Laws of what descriptors tell of.
-use Rattle.std.specs.Prelude.{⊤, ◌≡◌, ℕ, suc, pos, List, [], ◌∷◌, Some, map}
+use Rattle.std.specs.Prelude.{⊤, ◌≡◌, ◌≤◌, ℕ, suc, pos, List, [], ◌∷◌, Some, length, map}
+use Rattle.std.specs.List.{All}
 use Rattle.f3_heap_laws.specs.Blocks.{Live, IsLive}
 use Rattle.f3_meaning_whole.specs.Value.{Span, count}
 use Rattle.f3_meaning_whole.specs.Shape.{Shape}
@@ -9,8 +10,8 @@ use Rattle.f3_meaning_whole.specs.Act.{Chosen, subscripts_in, places_in, element
 use Rattle.f3_desc.specs.declared.descriptor.Descriptor.{Descriptor}
 use Rattle.f3_desc.specs.declared.descriptor.Dim.{Dim}
 use Rattle.f3_desc.specs.declared.descriptor.Triplet.{Triplet}
-use Rattle.f3_desc.specs.Descriptor.{choices}
-use Rattle.f3_desc.specs.Section.{IsSection, SelectsWithin, selected}
+use Rattle.f3_desc.specs.Descriptor.{choices, places}
+use Rattle.f3_desc.specs.Section.{IsSection, IsStepZero, SelectsWithin, selected}
 use Rattle.f3_desc.specs.Laws.{IsContiguous, number, size_of}
 use Rattle.f3_rooms.specs.Forms.{Laid, words_for}
 use Rattle.f3_rooms.specs.Rooms.{Rooms, store_of}
@@ -56,3 +57,13 @@ SelectAlike ss hs ds cs = ⊥
 -- Then the meaning selects the elements of these numbers.
 abbrev pub NumbersArePlaces : Type 0
 NumbersArePlaces = (ss : List Span) (hs : List Chosen) (ds : List Dim) (cs : List Triplet) → SelectAlike ss hs ds cs → places_in ss hs ≡ numbers ds cs
+
+-- ---- how many
+
+-- There is a place for each element.
+abbrev pub ElementsAreCounted : Type 0
+ElementsAreCounted = (a : Descriptor) → length (places a) ≡ size_of a.dims.items
+
+-- A section has no more elements than the whole.
+abbrev pub SectionsAreNoLonger : Type 0
+SectionsAreNoLonger = (a b : Descriptor) (cs : List Triplet) → All (λ c. ¬ (IsStepZero c)) cs → SelectsWithin a cs → IsSection a cs b → length (places b) ≤ length (places a)

@@ -1,6 +1,6 @@
 //! Laws of what descriptors tell of.
 
-ghost use Rattle.f3_room_arrays.specs.Laws.{ObjectsLieWithin, ArraysAreTold, SectionsAreTold, NumbersArePlaces};
+ghost use Rattle.f3_room_arrays.specs.Laws.{ObjectsLieWithin, ArraysAreTold, SectionsAreTold, NumbersArePlaces, ElementsAreCounted, SectionsAreNoLonger};
 
 /// The words of objects that a descriptor tells of lie in its block.
 pub fn objects_lie_within()
@@ -16,4 +16,10 @@ pub fn arrays_are_told()
 pub fn sections_are_told()
     ensures told { SectionsAreTold }
     ensures numbers { NumbersArePlaces }
+{}
+
+/// How many elements a descriptor tells of, and that a section has no more than the whole.
+pub fn elements_are_counted()
+    ensures elements { ElementsAreCounted }
+    ensures sections { SectionsAreNoLonger }
 {}

@@ -21,4 +21,4 @@ returns-clause-read g c ts x s ps are =
     let is : words_of now c.args.to ≡ copied (words_for s) us ws (progression (pos c.args.to_at) (pos (words_for s)) k) (places a) =
     ap (λ (m : Live). words_of m c.args.to) c.gather_words.ensures.written ∙ words-with old c.args.to _
     ∙ ap (λ (w : ℕ). copied w us ws (progression (pos c.args.to_at) (pos w) k) (places a)) are.words in
-    reads-of ts old now x s ps c.args.to c.args.to_at (objects-read ts old x are.sound a.block s are.flat now c.args.to us c.args.to_at (places a) ps are.tells room inside is)
+    reads-of ts old now x s ps c.args.to c.args.to_at _ are.sound c.gather_words.ensures.written (objects-read ts old x are.sound a.block s are.flat now c.args.to us c.args.to_at (places a) ps are.tells room inside is)
