@@ -6,3 +6,4 @@ pub mod Objects
 pub mod Told
 pub mod Sections
 pub mod Counting
+pub mod Components

@@ -1,10 +1,10 @@
 -- Laws of what descriptors tell of.
-use Rattle.std.specs.Prelude.{⊤, ◌≡◌, ◌≤◌, ℕ, suc, pos, List, [], ◌∷◌, Some, length, map}
+use Rattle.std.specs.Prelude.{⊤, ◌≡◌, ◌≤◌, ◌+◌, ℕ, zero, suc, pos, List, [], ◌∷◌, Some, length, map}
 use Rattle.std.specs.List.{All}
 use Rattle.f3_heap_laws.specs.Blocks.{Live, IsLive}
 use Rattle.f3_meaning_whole.specs.Value.{Span, count}
-use Rattle.f3_meaning_whole.specs.Shape.{Shape}
-use Rattle.f3_meaning_whole.specs.Store.{Root, Step, Path, get}
+use Rattle.f3_meaning_whole.specs.Shape.{Shape, Record, Parts, nothing, and}
+use Rattle.f3_meaning_whole.specs.Store.{Root, Step, Component, Path, within, get}
 use Rattle.f3_meaning_whole.specs.Reference.{paths_by, reach_of}
 use Rattle.f3_meaning_whole.specs.Act.{Chosen, subscripts_in, places_in, elements_at}
 use Rattle.f3_desc.specs.declared.descriptor.Descriptor.{Descriptor}
@@ -13,9 +13,10 @@ use Rattle.f3_desc.specs.declared.descriptor.Triplet.{Triplet}
 use Rattle.f3_desc.specs.Descriptor.{choices, places}
 use Rattle.f3_desc.specs.Section.{IsSection, IsStepZero, SelectsWithin, selected}
 use Rattle.f3_desc.specs.Laws.{IsContiguous, number, size_of}
-use Rattle.f3_rooms.specs.Forms.{Laid, words_for}
+use Rattle.f3_rooms.specs.Forms.{Laid, form_of, form_words, words_for}
 use Rattle.f3_rooms.specs.Rooms.{Rooms, store_of}
 use Rattle.f3_rooms.specs.Places.{Found, found}
+use Rattle.f3_rooms.specs.Ways.{settled}
 use Rattle.f3_rooms.specs.Sound.{IsSound}
 use Rattle.f3_rooms.specs.Laws.{path_at}
 use Rattle.f3_room_arrays.specs.Elements.{Tells}
@@ -67,3 +68,16 @@ ElementsAreCounted = (a : Descriptor) → length (places a) ≡ size_of a.dims.i
 -- A section has no more elements than the whole.
 abbrev pub SectionsAreNoLonger : Type 0
 SectionsAreNoLonger = (a b : Descriptor) (cs : List Triplet) → All (λ c. ¬ (IsStepZero c)) cs → SelectsWithin a cs → IsSection a cs b → length (places b) ≤ length (places a)
+
+-- ---- components of the elements (6.1.2)
+
+-- the component of a number is one object of this type, which is not allocatable, and begins so many words behind the first
+abbrev pub IsScalarComponent : Parts → ℕ → ℕ → Shape → Type 0
+IsScalarComponent nothing k o u = ⊥
+IsScalarComponent (and c s rest) zero o u = (o ≡ 0) × (u ≡ s) × (settled (form_of c.declared) ≡ Laid 0 [])
+IsScalarComponent (and c s rest) (suc k) o u = (i : ℕ) × (o ≡ form_words (form_of c.declared) (words_for s) + i) × IsScalarComponent rest k i u
+
+-- A descriptor that begins as many words further on tells of this component of each.
+abbrev pub ComponentsAreTold : Type 0
+ComponentsAreTold = (ts : List Shape) (x : Rooms) (a b : Descriptor) (t : ℕ) (parts : Parts) (ps : List Path) (k o : ℕ) (u : Shape) → Tells ts x a (Record t parts) ps
+    → IsScalarComponent parts k o u → b.block ≡ a.block → b.offset ≡ a.offset + o → b.dims ≡ a.dims → Tells ts x b u (map (λ p. within p (Component k)) ps)

@@ -1,6 +1,6 @@
 //! Laws of what descriptors tell of.
 
-ghost use Rattle.f3_room_arrays.specs.Laws.{ObjectsLieWithin, ArraysAreTold, SectionsAreTold, NumbersArePlaces, ElementsAreCounted, SectionsAreNoLonger};
+ghost use Rattle.f3_room_arrays.specs.Laws.{ObjectsLieWithin, ArraysAreTold, SectionsAreTold, NumbersArePlaces, ElementsAreCounted, SectionsAreNoLonger, ComponentsAreTold};
 
 /// The words of objects that a descriptor tells of lie in its block.
 pub fn objects_lie_within()
@@ -22,4 +22,9 @@ pub fn sections_are_told()
 pub fn elements_are_counted()
     ensures elements { ElementsAreCounted }
     ensures sections { SectionsAreNoLonger }
+{}
+
+/// A descriptor that begins as many words further on as a component tells of this component of each element (6.1.2).
+pub fn components_are_told()
+    ensures { ComponentsAreTold }
 {}
