@@ -28,10 +28,10 @@ module _ (m n : Live) where
   abbrev pub Alike : ℕ → ℕ → ℕ → ℕ → ℕ → Type 0
   Alike k b o c i = (j : ℕ) → j < k → word n c (i + j) ≡ word m b (o + j)
 
-  front : (k l b o c i : ℕ) → k ≤ l → Alike l b o c i → Alike k b o c i
+  pub front : (k l b o c i : ℕ) → k ≤ l → Alike l b o c i → Alike k b o c i
   front k l b o c i le same j lt = same j (omega arith)
 
-  behind : (k l r b o c i : ℕ) → l ≡ k + r → Alike l b o c i → Alike r b (o + k) c (i + k)
+  pub behind : (k l r b o c i : ℕ) → l ≡ k + r → Alike l b o c i → Alike r b (o + k) c (i + k)
   behind k l r b o c i e same j lt =
       let there : i + k + j ≡ i + (k + j) = omega arith in
       let here : o + (k + j) ≡ o + k + j = omega arith in

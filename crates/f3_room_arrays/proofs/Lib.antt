@@ -7,3 +7,4 @@ pub mod Told
 pub mod Sections
 pub mod Counting
 pub mod Components
+pub mod Elsewhere

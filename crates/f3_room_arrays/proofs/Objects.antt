@@ -13,16 +13,16 @@ use Rattle.f3_meaning_whole.specs.Shape.{Shape, Whole, Logical, Record}
 use Rattle.f3_meaning_whole.specs.Store.{Store, Path, get, put, put_all}
 use Rattle.f3_meaning_whole.specs.Reference.{Many, held_at}
 use Rattle.f3_desc.specs.Descriptor.{progression}
-use Rattle.f3_rooms.specs.Held.{Held, Empty, end, times}
+use Rattle.f3_rooms.specs.Held.{Held, Empty, end, blocks_in, times}
 use Rattle.f3_rooms.specs.Forms.{Form, Laid, form_words, words_for}
 use Rattle.f3_rooms.specs.Values.{word, elements, laid, formed, object}
 use Rattle.f3_rooms.specs.Rooms.{Rooms, blocks_of, store_of}
-use Rattle.f3_rooms.specs.Places.{Found, found, value_at}
+use Rattle.f3_rooms.specs.Places.{Found, found, value_at, rooms_with}
 use Rattle.f3_rooms.specs.Sound.{IsForm, IsObject, IsSound}
-use Rattle.f3_rooms.specs.Laws.{path_at, Replaces}
+use Rattle.f3_rooms.specs.Laws.{path_at, with_held_in, Replaces}
 use Rattle.f3_rooms.proofs.Reading.{parts_are_found}
 use Rattle.f3_rooms.proofs.Within.{size_of, store_owns, part_lies}
-use Rattle.f3_rooms.proofs.Stores.{parts_are_replaced}
+use Rattle.f3_rooms.proofs.Stores.{part_replaced}
 use Rattle.f3_rooms.proofs.Living.{all_live}
 use Rattle.f3_rooms.proofs.Keeping.{kept_blocks_keep}
 use Rattle.f3_rooms.proofs.Unmoved.{store_unmoved}
@@ -95,8 +95,8 @@ module _ (ts : List Shape) (m : Live) (x : Rooms) (sound : IsSound ts m x) (bloc
       high n k l y e le = omega (arith, ints)
 
   -- it takes other words, as many as it has
-  module _ (flat : IsFlat s) (vs : List ℤ) (long : length vs ≡ words_for s) where
-    abbrev next : Live
+  module _ (vs : List ℤ) (long : length vs ≡ words_for s) where
+    abbrev pub next : Live
     next = with_words m block (with_words_at (words_of m block) (unsigned_abs z) vs)
 
     words-are : words_of next block ≡ with_words_at (words_of m block) (unsigned_abs z) vs
@@ -117,36 +117,58 @@ module _ (ts : List Shape) (m : Live) (x : Rooms) (sound : IsSound ts m x) (bloc
       | inr ne ↦ ap (λ ws. get_or ws i (pos 0)) (words-insert_other m block _ b ne)
     ]
 
-    next-word : (j : ℕ) → j < words_for s → word next block (unsigned_abs z + j) ≡ get_or vs j (pos 0)
+    pub next-word : (j : ℕ) → j < words_for s → word next block (unsigned_abs z + j) ≡ get_or vs j (pos 0)
     next-word j lt = ap (λ ws. get_or ws (unsigned_abs z + j) (pos 0)) words-are ∙ written-word (words_of m block) (unsigned_abs z) j vs (let w = object-within in omega arith) (omega arith)
 
-    form-is : IsForm next f.form (words_for f.shape) (IsObject next f.shape) f.block f.at f.held
-    form-is =
+    -- and is another object, which holds this
+    module _ (u : Held) (object_is : IsObject next s block (unsigned_abs z) u) (once_is : (q : ℕ) → times q (blocks_in u) ≤ 1)
+        (apart_is : (q : ℕ) → 0 < times q (blocks_in u) → times q (blocks_of x) ≤ times q (blocks_in f.held)) where
+      form-is : IsForm next f.form (words_for f.shape) (IsObject next f.shape) f.block f.at u
+      form-is =
+          subst (λ (form : Form). IsForm next form (words_for f.shape) (IsObject next f.shape) f.block f.at u) (sym stands.form)
+          (subst (λ (t : Shape). IsObject next t f.block f.at u) (sym stands.shape) (subst (λ (b : ℕ). IsObject next s b f.at u) (sym stands.there) (subst (λ (o : ℕ). IsObject next s block o u) at-is object_is)))
+
+      replaces : Replaces m next x f u
+      replaces =
+          let size = size-is in
+          let at = at-is in
+          record {
+            live = λ b lt. (live-insert m block _ b (all_live ts m x sound b (omega arith)), next-long b);
+            same = λ b i lt aside. next-apart b i (λ e. elim (aside (e ∙ sym stands.there)) [ inl before ↦ inl (omega arith) | inr after ↦ inr (omega arith) ]);
+            form = form-is;
+            once = once_is;
+            apart = apart_is;
+          }
+
+      -- the store has its value there
+      pub object-replaced : (v : Value) → object next s block (unsigned_abs z) u ≡ v
+          → (store_of ts next (rooms_with x p.root p.steps u) ≡ put (store_of ts m x) p v) × IsSound ts next (rooms_with x p.root p.steps u) × StandsAt ts (rooms_with x p.root p.steps u) block s z p
+          × ((q : ℕ) → times q (blocks_of (rooms_with x p.root p.steps u)) + times q (blocks_in f.held) ≤ times q (blocks_of x) + times q (blocks_in u))
+      object-replaced v is =
+          let t = part_replaced ts m next x sound p.root p.steps f stands.leads u replaces in
+          let value : value_at next (with_held_in f u) ≡ object next s block (unsigned_abs z) u =
+          ap (λ (form : Form). formed form (words_for f.shape) (object next f.shape) f.block f.at u) stands.form
+          ∙ ap (λ (t : Shape). object next t f.block f.at u) stands.shape
+          ∙ ap (λ (b : ℕ). object next s b f.at u) stands.there
+          ∙ ap (λ (o : ℕ). object next s block o u) (sym at-is) in (
+            t.0.store ∙ ap (put (store_of ts m x) p) (value ∙ is),
+            t.0.sound,
+            record { part = with_held_in f u; leads = t.0.found; there = stands.there; at = stands.at; shape = stands.shape; form = stands.form },
+            t.1,
+          )
+
+    -- a flat object holds what it held
+    pub object-put : IsFlat s → (v : Value) → object next s block (unsigned_abs z) f.held ≡ v → (store_of ts next x ≡ put (store_of ts m x) p v) × IsSound ts next x
+    object-put flat v is =
         let was : IsForm m f.form (words_for f.shape) (IsObject m f.shape) f.block f.at f.held = (part_lies ts m x sound p.root p.steps f stands.leads).form in
         let plain : IsObject m f.shape f.block f.at f.held = subst (λ (form : Form). IsForm m form (words_for f.shape) (IsObject m f.shape) f.block f.at f.held) stands.form was in
-        let flat' : IsFlat f.shape = subst IsFlat (sym stands.shape) flat in
-        subst (λ (form : Form). IsForm next form (words_for f.shape) (IsObject next f.shape) f.block f.at f.held) (sym stands.form)
-        (object_lasts m next f.shape flat' f.block f.at f.block f.at f.held plain)
-
-    replaces : Replaces m next x f f.held
-    replaces =
-        let size = size-is in
-        let at = at-is in
-        record {
-          live = λ b lt. (live-insert m block _ b (all_live ts m x sound b (omega arith)), next-long b);
-          same = λ b i lt aside. next-apart b i (λ e. elim (aside (e ∙ sym stands.there)) [ inl before ↦ inl (omega arith) | inr after ↦ inr (omega arith) ]);
-          form = form-is;
-          once = λ q. let c = (store_owns ts x p.root p.steps f stands.leads).counted q in let one = sound.apart q in omega arith;
-          apart = λ q lt. let one = sound.apart q in omega arith;
-        }
-
-    -- the store has the value of those words there
-    pub object-put : (v : Value) → object next s block (unsigned_abs z) f.held ≡ v → (store_of ts next x ≡ put (store_of ts m x) p v) × IsSound ts next x
-    object-put v is =
-        let t = parts_are_replaced ts m next x sound p.root p.steps f stands.leads f.held replaces in
+        let here : IsObject m s f.block f.at f.held = subst (λ (t : Shape). IsObject m t f.block f.at f.held) stands.shape plain in
+        let t = object-replaced f.held (object_lasts m next s flat f.block f.at block (unsigned_abs z) f.held here)
+        (λ q. let c = (store_owns ts x p.root p.steps f stands.leads).counted q in let one = sound.apart q in omega arith)
+        (λ q lt. let one = sound.apart q in omega arith) v is in
         let same = store_unmoved ts m next x sound p.root p.steps f stands.leads in (
-          sym same.0 ∙ t.store ∙ ap (put (store_of ts m x) p) (value-is next ∙ is),
-          record { statics = same.1 (t.sound).statics; levels = same.2 (t.sound).levels; apart = sound.apart },
+          sym same.0 ∙ t.0,
+          record { statics = same.1 (t.1).statics; levels = same.2 (t.1).levels; apart = sound.apart },
         )
 
 -- ---- many objects take values
@@ -173,11 +195,11 @@ module _ (ts : List Shape) (x : Rooms) (s : Shape) (flat : IsFlat s) (src : Live
       let vs : List ℤ = words_at ws y n in
       let within = inside-abs (length ws) n y (all-first (IsInside (length ws) n) y ys inside) in
       let long : length vs ≡ n = words-long ws (unsigned_abs y) n within in
-      let mid : Live = next ts m x sound block s z p stand.0 flat vs long in
+      let mid : Live = next ts m x sound block s z p stand.0 vs long in
       let alike : Alike src mid n from (unsigned_abs y) block (unsigned_abs z) = λ j lt.
-      next-word ts m x sound block s z p stand.0 flat vs long j lt ∙ copied-word ws (unsigned_abs y) n j lt in
+      next-word ts m x sound block s z p stand.0 vs long j lt ∙ copied-word ws (unsigned_abs y) n j lt in
       let v : Value = object src s from (unsigned_abs y) Empty in
-      let one = object-put ts m x sound block s z p stand.0 flat vs long v (object_tell src mid s flat from (unsigned_abs y) block (unsigned_abs z) Empty (stand.0).part.held alike) in
+      let one = object-put ts m x sound block s z p stand.0 vs long flat v (object_tell src mid s flat from (unsigned_abs y) block (unsigned_abs z) Empty (stand.0).part.held alike) in
       let rest = objects-put mid one.1 (live-insert m block _ block live) zs ps stand.1 ys (omega arith) (all-rest (IsInside (length ws) n) y ys inside) in
       let words : words_of mid block ≡ with_words_at (words_of m block) (unsigned_abs z) vs = words-with m block _ in
       let end_is : with_words mid block (copied n (words_of mid block) ws zs ys) ≡ with_words m block (copied n (words_of m block) ws (z ∷ zs) (y ∷ ys)) =
