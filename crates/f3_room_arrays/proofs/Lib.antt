@@ -8,3 +8,4 @@ pub mod Sections
 pub mod Counting
 pub mod Components
 pub mod Elsewhere
+pub mod Landing

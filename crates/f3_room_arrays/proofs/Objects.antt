@@ -46,7 +46,7 @@ written-word xs at j ys le lt =
     ∙ get_or-append-add (take at xs) (ys ++ drop (at + length ys) xs) j (pos 0) ∙ get_or_append_left ys (drop (at + length ys) xs) (pos 0) j lt
 
 -- a word of what is copied
-copied-word : (ws : List ℤ) (f n j : ℕ) → j < n → get_or (take n (drop f ws)) j (pos 0) ≡ get_or ws (f + j) (pos 0)
+pub copied-word : (ws : List ℤ) (f n j : ℕ) → j < n → get_or (take n (drop f ws)) j (pos 0) ≡ get_or ws (f + j) (pos 0)
 copied-word ws f n j lt = get_or-take n (drop f ws) j (pos 0) lt ∙ get_or-drop f ws j (pos 0)
 
 -- ---- one object of a store

@@ -8,7 +8,7 @@ use Rattle.f3_meaning_whole.specs.Store.{Path}
 use Rattle.f3_desc.specs.declared.descriptor.Descriptor.{Descriptor}
 use Rattle.f3_desc.specs.Descriptor.{places}
 use Rattle.f3_desc.specs.Shape.{has_holder}
-use Rattle.f3_rooms.specs.Held.{end}
+use Rattle.f3_rooms.specs.Held.{Row, end}
 use Rattle.f3_rooms.specs.Forms.{Laid, words_for}
 use Rattle.f3_rooms.specs.Values.{elements, object}
 use Rattle.f3_rooms.specs.Rooms.{Rooms}
@@ -35,3 +35,7 @@ Tells ts x a s ps = AllZip (StandsAt ts x a.block s) (places a) ps
 -- so many objects of a type, one behind another, in which nothing is held
 abbrev pub row : Live → Shape → ℕ → ℕ → ℕ → List Value
 row m s k b o = elements k (words_for s) (object m s) b o end
+
+-- the same, where this is held in them
+abbrev pub held_row : Live → Shape → ℕ → ℕ → ℕ → Row → List Value
+held_row m s k b o hs = elements k (words_for s) (object m s) b o hs

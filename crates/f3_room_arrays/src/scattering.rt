@@ -6,12 +6,12 @@ ghost use Rattle.f3_meaning_whole.specs.Value.{spread};
 ghost use Rattle.f3_meaning_whole.specs.Shape.{Shape};
 ghost use Rattle.f3_meaning_whole.specs.Store.{Path};
 ghost use Rattle.f3_desc.specs.Descriptor.{places, progression};
-ghost use Rattle.f3_rooms.specs.Held.{Empty};
+ghost use Rattle.f3_rooms.specs.Held.{Row, Empty};
 ghost use Rattle.f3_rooms.specs.Values.{object};
 ghost use Rattle.f3_rooms.specs.Rooms.{Rooms};
 ghost use Rattle.f3_room_arrays.specs.Words.{AreInside, copied};
-ghost use Rattle.f3_room_arrays.specs.Elements.{row};
-ghost use Rattle.f3_room_arrays.specs.Changes.{LieWithin, AreObjects, PutsAll};
+ghost use Rattle.f3_room_arrays.specs.Elements.{row, held_row};
+ghost use Rattle.f3_room_arrays.specs.Changes.{LieWithin, AreObjects, AreVacant, AreLoose, PutsAll, TakesAll, helds};
 
 use crate::runs::{first_and_others, further, size};
 use crate::words::{Run, copy_run};
@@ -64,7 +64,8 @@ fn spread_words<B: Blocks>(
 }
 
 /// The elements of an array or of a section, each of so many words, take the words from a place of another block on, one behind another
-/// in array element order (ISO/IEC 1539-1:2004, 7.4.1.3). This takes no memory.
+/// in array element order (ISO/IEC 1539-1:2004, 7.4.1.3). This takes no memory. Where they held nothing, they then hold what the objects
+/// at that place hold, which have moved there.
 pub fn scatter<B: Blocks>(
     heap: &mut B,
     from: BlockId,
@@ -79,6 +80,9 @@ pub fn scatter<B: Blocks>(
     requires room { from_at + length (places elements.now) * words ≤ length (words_of (B.blocks heap.old) from) }
     ensures put { (ts : List Shape) (x : Rooms) (s : Shape) (ps : List Path) → AreObjects ts (B.blocks heap.old) x elements.now s ps words
         → PutsAll ts (B.blocks heap.old) (B.blocks heap.new) x ps (row (B.blocks heap.old) s (length ps) from from_at) }
+    ensures moved { (ts : List Shape) (x : Rooms) (s : Shape) (ps : List Path) (hs : Row) → AreVacant ts (B.blocks heap.old) x elements.now s ps words
+        → AreLoose (B.blocks heap.old) x s (length ps) from from_at hs
+        → TakesAll ts (B.blocks heap.old) (B.blocks heap.new) x elements.now s ps (helds (length ps) hs) (held_row (B.blocks heap.old) s (length ps) from from_at hs) }
     ensures written { B.blocks heap.new ≡ with_words (B.blocks heap.old) elements.now.block
         (copied words (words_of (B.blocks heap.old) elements.now.block) (words_of (B.blocks heap.old) from)
         (places elements.now) (progression (pos from_at) (pos words) (length (places elements.now)))) }
