@@ -13,7 +13,7 @@ use Rattle.f3_desc.specs.Laws.{size_of}
 use Rattle.f3_desc.proofs.Progressions.{within-last}
 use Rattle.f3_room_arrays.specs.Laws.{ElementsAreCounted, SectionsAreNoLonger}
 use Rattle.f3_room_arrays.proofs.Numbers.{places-many, length-flat_map, progression-length}
-use Rattle.f3_room_arrays.proofs.Copying.{all-first, all-rest}
+use Rattle.f3_room_arrays.proofs.Placing.{all-first, all-rest}
 
 mapped-length : {X Y : Type 0} (f : X → Y) (xs : List X) → length (map f xs) ≡ length xs
 mapped-length f [] = refl

@@ -27,7 +27,7 @@ use Rattle.f3_objects.proofs.Writes.{words-with, with_words_same, with_words_aga
 use Rattle.f3_room_arrays.specs.Words.{words_at, copied, IsInside, AreInside}
 use Rattle.f3_room_arrays.specs.Elements.{StandsAt, held_row}
 use Rattle.f3_room_arrays.specs.Changes.{AreAside, IsVacant, TakesAll, helds, rooms_with_all}
-use Rattle.f3_room_arrays.proofs.Copying.{all-first, all-rest, all-more, all-none, words-long}
+use Rattle.f3_room_arrays.proofs.Placing.{all-first, all-rest, all-more, all-none, words-long}
 use Rattle.f3_room_arrays.proofs.Flat.{Alike}
 use Rattle.f3_room_arrays.proofs.Elsewhere.{object_follows, object_goes}
 use Rattle.f3_room_arrays.proofs.Objects.{next, next-word, object-replaced, copied-word}

@@ -1,5 +1,5 @@
 pub mod Numbers
-pub mod Copying
+pub mod Placing
 pub mod Running
 pub mod Flat
 pub mod Objects
@@ -9,3 +9,6 @@ pub mod Counting
 pub mod Components
 pub mod Elsewhere
 pub mod Landing
+pub mod Cloning
+pub mod Rows
+pub mod Steps

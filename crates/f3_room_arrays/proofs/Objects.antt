@@ -32,7 +32,7 @@ use Rattle.f3_objects.proofs.Writes.{words-with, with_words_same, with_words_aga
 use Rattle.f3_room_arrays.specs.Words.{words_at, copied, IsInside, AreInside}
 use Rattle.f3_room_arrays.specs.Elements.{IsFlat, StandsAt, row}
 use Rattle.f3_room_arrays.specs.Changes.{Reads, PutsAll}
-use Rattle.f3_room_arrays.proofs.Copying.{all-first, all-rest, inside-abs, words-long}
+use Rattle.f3_room_arrays.proofs.Placing.{all-first, all-rest, inside-abs, words-long}
 use Rattle.f3_room_arrays.proofs.Flat.{Alike, object_tell, object_lasts}
 
 -- ---- words that were written

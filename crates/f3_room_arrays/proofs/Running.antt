@@ -16,7 +16,7 @@ use Rattle.f3_objects.specs.Holds.{with_words_at}
 use Rattle.f3_room_arrays.specs.Words.{places_from, words_at, copied, IsInside, AreInside}
 use Rattle.f3_room_arrays.specs.Inner.Numbers.{away}
 use Rattle.f3_room_arrays.proofs.Numbers.{along, places-many, place-number, length-flat_map, progression-length, progression-append}
-use Rattle.f3_room_arrays.proofs.Copying.{all-front, all-back, all-more, all-none, inside-nth, inside-place, front-inside, IsCopied, copied-target, copied-long, copied-more}
+use Rattle.f3_room_arrays.proofs.Placing.{all-front, all-back, all-more, all-none, inside-nth, inside-place, front-inside, IsCopied, copied-target, copied-long, copied-more}
 
 -- ---- lists
 
@@ -24,7 +24,7 @@ flat_map-append : {X Y : Type 0} (f : X → List Y) (xs ys : List X) → flat_ma
 flat_map-append f [] ys = refl
 flat_map-append f (x ∷ xs) ys = ap (λ l. f x ++ l) (flat_map-append f xs ys) ∙ sym (append_assoc (f x) (flat_map f xs) (flat_map f ys))
 
-take-next : {X : Type 0} (xs : List X) (k : ℕ) (x : X) → slice_get xs k ≡ Some x → take (k + 1) xs ≡ take k xs ++ x ∷ []
+pub take-next : {X : Type 0} (xs : List X) (k : ℕ) (x : X) → slice_get xs k ≡ Some x → take (k + 1) xs ≡ take k xs ++ x ∷ []
 take-next [] k x e = absurd cc
 take-next (y ∷ xs) zero x e = let same : y ≡ x = cc in ap (λ z. z ∷ []) same
 take-next (y ∷ xs) (suc k) x e = let n : suc k + 1 ≡ suc (k + 1) = omega arith in ap (λ j. take j (y ∷ xs)) n ∙ ap (λ l. y ∷ l) (take-next xs k x e)

@@ -20,7 +20,7 @@ use Rattle.f3_room_arrays.specs.Elements.{StandsAt, Tells}
 use Rattle.f3_room_arrays.specs.Laws.{SectionsAreTold, NumbersArePlaces, SelectAlike, numbers}
 
 -- what stands beside an element of a list
-zip-get : {A B : Type 0} (R : A → B → Type 0) (xs : List A) (ys : List B) (k : ℕ) (x : A) → AllZip R xs ys → slice_get xs k ≡ Some x → (y : B) × ((slice_get ys k ≡ Some y) × R x y)
+pub zip-get : {A B : Type 0} (R : A → B → Type 0) (xs : List A) (ys : List B) (k : ℕ) (x : A) → AllZip R xs ys → slice_get xs k ≡ Some x → (y : B) × ((slice_get ys k ≡ Some y) × R x y)
 zip-get R [] ys k x all e = absurd cc
 zip-get R (z ∷ xs) [] k x all e = absurd all
 zip-get {A} R (z ∷ xs) (y ∷ ys) zero x all e = let same : z ≡ x = cc in (y, (refl, subst (λ (w : A). R w y) same all.0))

@@ -34,7 +34,7 @@ use Rattle.f3_room_arrays.specs.Words.{IsInside, AreInside}
 use Rattle.f3_room_arrays.specs.Elements.{StandsAt, Tells}
 use Rattle.f3_room_arrays.specs.Changes.{LieWithin}
 use Rattle.f3_room_arrays.specs.Laws.{ObjectsLieWithin, ArraysAreTold, SectionsAreTold, NumbersArePlaces, IsWhole, SelectAlike, numbers}
-use Rattle.f3_room_arrays.proofs.Copying.{all-more, all-none}
+use Rattle.f3_room_arrays.proofs.Placing.{all-more, all-none}
 use Rattle.f3_room_arrays.proofs.Objects.{object-inside}
 
 -- ---- the words of the objects

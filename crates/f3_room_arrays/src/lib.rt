@@ -2,11 +2,13 @@
 //! values of such words. No memory of the host is taken.
 #![tactic(auto)]
 
+mod copying;
 mod gathering;
 pub mod laws;
 mod runs;
 mod scattering;
 mod words;
 
+pub use copying::gather_copies;
 pub use gathering::gather;
 pub use scattering::{fill, scatter};

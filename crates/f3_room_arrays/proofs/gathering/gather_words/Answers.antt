@@ -8,7 +8,7 @@ use Rattle.f3_desc.specs.Descriptor.{places, progression}
 use Rattle.f3_desc.specs.Laws.{size_of}
 use Rattle.f3_room_arrays.specs.Words.{copied, places_from, AreInside}
 use Rattle.f3_room_arrays.proofs.Numbers.{along, progression-length}
-use Rattle.f3_room_arrays.proofs.Copying.{IsCopied, copied-none, copied-source, copied-target, copied-long, copied-live, front-inside}
+use Rattle.f3_room_arrays.proofs.Placing.{IsCopied, copied-none, copied-source, copied-target, copied-long, copied-live, front-inside}
 use Rattle.f3_room_arrays.proofs.Running.{total-many, so_far-all, run-inside, start-is, some-runs, line-inside, part-inside, part-ends, copied-zero, copied-few, gathered-more, so_far, target-long, moved-inside, moved-copied}
 use Rattle.f3_room_arrays.proofs.gathering.gather_words.Goals as goal
 

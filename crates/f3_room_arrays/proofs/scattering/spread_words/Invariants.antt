@@ -3,7 +3,7 @@ use Rattle.std.specs.Prelude.{pos}
 use Rattle.std.specs.List.{flat_map}
 use Rattle.f3_desc.specs.Descriptor.{progression}
 use Rattle.f3_room_arrays.specs.Words.{places_from}
-use Rattle.f3_room_arrays.proofs.Copying.{IsCopied}
+use Rattle.f3_room_arrays.proofs.Placing.{IsCopied}
 use Rattle.f3_room_arrays.proofs.Numbers.{along}
 use Rattle.f3_room_arrays.proofs.scattering.spread_words.Given as goal
 

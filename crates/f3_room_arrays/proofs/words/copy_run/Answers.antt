@@ -5,7 +5,7 @@ use Rattle.f3_heap_laws.specs.Blocks.{words_of, with_words}
 use Rattle.f3_desc.specs.Inner.Congruent.{IsCongruent}
 use Rattle.f3_desc.specs.Descriptor.{progression}
 use Rattle.f3_room_arrays.specs.Words.{copied}
-use Rattle.f3_room_arrays.proofs.Copying.{inside-nth, inside-place, inside-end, inside-dense, inside-wide, copied-dense, copied-none, copied-source, copied-target, copied-long, copied-live, copied-nothing, run-more, front-inside}
+use Rattle.f3_room_arrays.proofs.Placing.{inside-nth, inside-place, inside-end, inside-dense, inside-wide, copied-dense, copied-none, copied-source, copied-target, copied-long, copied-live, copied-nothing, run-more, front-inside}
 use Rattle.f3_room_arrays.proofs.words.copy_run.Goals as goal
 
 pub prove-unreachable-requires : goal.prove-unreachable-requires

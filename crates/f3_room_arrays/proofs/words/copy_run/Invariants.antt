@@ -1,7 +1,7 @@
 use Rattle.std.proofs.Common.{◌≡◌}
 use Rattle.std.specs.Prelude.{pos}
 use Rattle.f3_desc.specs.Descriptor.{progression}
-use Rattle.f3_room_arrays.proofs.Copying.{IsCopied}
+use Rattle.f3_room_arrays.proofs.Placing.{IsCopied}
 use Rattle.f3_room_arrays.proofs.words.copy_run.Given as goal
 
 -- so many elements are copied
