@@ -1,13 +1,11 @@
 -- Components of the elements that a descriptor tells of.
-use Rattle.std.proofs.Common.{◌≡◌, ◌∙◌, sym, ap, subst, refl, ℕ, zero, suc, ◌+◌, List, [], ◌∷◌, ◌++◌, arith}
+use Rattle.std.proofs.Common.{◌≡◌, ◌∙◌, sym, ap, subst, refl, ℕ, zero, suc, ◌+◌, List, [], ◌∷◌, arith}
 use Rattle.std.specs.Prelude.{Some, ℤ, pos, ◌+ℤ◌, map}
 use Rattle.std.specs.List.{AllZip}
 use Rattle.std.proofs.lemmas.Int.{ints}
 use Rattle.f3_program.specs.declared.declarations.Base.{Base}
-use Rattle.f3_meaning_whole.specs.Value.{Span}
 use Rattle.f3_meaning_whole.specs.Shape.{Shape, Record, Parts, nothing, and}
 use Rattle.f3_meaning_whole.specs.Store.{Path, Component, within}
-use Rattle.f3_desc.specs.declared.descriptor.Descriptor.{Descriptor}
 use Rattle.f3_desc.specs.declared.descriptor.Dim.{Dim}
 use Rattle.f3_desc.specs.Descriptor.{choices, places, subscripts}
 use Rattle.f3_desc.proofs.Spots.{from, moved}
@@ -15,9 +13,9 @@ use Rattle.f3_rooms.specs.Held.{Held, Row, parts_of, first, others}
 use Rattle.f3_rooms.specs.Forms.{Form, Laid, Allocatable, form_of, form_words, words_for}
 use Rattle.f3_rooms.specs.Rooms.{Rooms}
 use Rattle.f3_rooms.specs.Places.{Found, in_form, in_object, in_component}
-use Rattle.f3_rooms.specs.Ways.{settled, part_of}
+use Rattle.f3_rooms.specs.Ways.{settled}
 use Rattle.f3_rooms.proofs.Onward.{parts_have_parts}
-use Rattle.f3_room_arrays.specs.Elements.{StandsAt, Tells}
+use Rattle.f3_room_arrays.specs.Elements.{StandsAt}
 use Rattle.f3_room_arrays.specs.Laws.{IsScalarComponent, ComponentsAreTold}
 
 -- where a component of an object stands

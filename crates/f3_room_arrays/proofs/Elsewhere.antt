@@ -1,12 +1,12 @@
 -- What an object is where its words are copied elsewhere, and what it holds stays.
-use Rattle.std.proofs.Common.{◌≡◌, ◌∙◌, sym, ap, refl, ℕ, zero, suc, ◌+◌, ◌*◌, ◌<◌, ◌≤◌, List, [], ◌∷◌, length, arith}
+use Rattle.std.proofs.Common.{◌≡◌, ◌∙◌, ap, refl, ℕ, zero, suc, ◌+◌, ◌*◌, ◌<◌, List, [], ◌∷◌, length, arith}
 use Rattle.f3_heap_laws.specs.Blocks.{Live}
 use Rattle.f3_meaning_whole.specs.Value.{Span, Number, Truth, Composite, Array, more, joined, count}
 use Rattle.f3_meaning_whole.specs.Shape.{Shape, Whole, Logical, Record, Parts, nothing, and}
 use Rattle.f3_rooms.specs.Held.{Held, Row, Empty, Holds, Parts as Divided, parts_of, first, others, blocks_in, blocks_in_all}
-use Rattle.f3_rooms.specs.Forms.{Form, Laid, Allocatable, form_of, form_words, laid_words, words_for, words_for_parts}
-use Rattle.f3_rooms.specs.Values.{word, is_set, elements, laid, formed, object, components}
-use Rattle.f3_rooms.specs.Sound.{Fact, Each, AreLaid, TellBounds, IsHolder, IsForm, IsObject, AreComponents}
+use Rattle.f3_rooms.specs.Forms.{Form, Laid, Allocatable, form_of, form_words, words_for, words_for_parts}
+use Rattle.f3_rooms.specs.Values.{word, is_set, elements, formed, object, components}
+use Rattle.f3_rooms.specs.Sound.{Fact, Each, TellBounds, IsHolder, IsForm, IsObject, AreComponents}
 use Rattle.f3_rooms.proofs.Framing.{Reading, Steady, Kept, Persists, Stays, kept_first, kept_others, kept_parts, kept_here, kept_beneath, holding_stays, object_stays, laid_persist, object_persists}
 use Rattle.f3_room_arrays.proofs.Flat.{Alike, front, behind}
 
@@ -103,6 +103,6 @@ module _ (m n : Live) where
     components_go (and d s rest) b o c i hs same kept has =
         let k : ℕ = form_words (form_of d.declared) (words_for s) in (
           form_goes (form_of d.declared) (words_for s) (IsObject m s) (IsObject n s) (object_goes s) (object_persists m n s) b o c i (first hs)
-          (front m n k (k + words_for_parts rest) b o c i (omega arith) same) (kept_first m n hs kept) has.0,
+              (front m n k (k + words_for_parts rest) b o c i (omega arith) same) (kept_first m n hs kept) has.0,
           components_go rest b (o + k) c (i + k) (others hs) (behind m n k (k + words_for_parts rest) (words_for_parts rest) b o c i refl same) (kept_others m n hs kept) has.1,
         )

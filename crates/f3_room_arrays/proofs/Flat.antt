@@ -1,14 +1,14 @@
 -- Objects with nothing allocatable in them are their words, whatever is held elsewhere.
-use Rattle.std.proofs.Common.{◌≡◌, ◌∙◌, sym, ap, subst, refl, ℕ, zero, suc, ◌+◌, ◌*◌, ◌<◌, ◌≤◌, Bool, true, false, List, [], ◌∷◌, arith}
+use Rattle.std.proofs.Common.{◌≡◌, ◌∙◌, ap, refl, ℕ, zero, suc, ◌+◌, ◌*◌, ◌<◌, ◌≤◌, Bool, true, false, ◌∷◌, arith}
 use Rattle.std.specs.Prelude.{◌||◌}
 use Rattle.f3_heap_laws.specs.Blocks.{Live}
-use Rattle.f3_meaning_whole.specs.Value.{Span, Value, Number, Truth, Composite, Array, Values, more, joined, count}
+use Rattle.f3_meaning_whole.specs.Value.{Number, Truth, Composite, Array, more, joined, count}
 use Rattle.f3_meaning_whole.specs.Shape.{Shape, Whole, Logical, Record, Parts, nothing, and}
 use Rattle.f3_desc.specs.Shape.{Shape as Layout, Times, row, has_holder}
-use Rattle.f3_rooms.specs.Held.{Held, Row, end, parts_of, first, others}
-use Rattle.f3_rooms.specs.Forms.{Form, Laid, Allocatable, form_of, form_words, laid_words, words_for, words_for_parts}
-use Rattle.f3_rooms.specs.Values.{word, is_set, elements, laid, formed, object, components}
-use Rattle.f3_rooms.specs.Sound.{Fact, Each, AreLaid, IsForm, IsObject, AreComponents}
+use Rattle.f3_rooms.specs.Held.{Held, Row, parts_of, first, others}
+use Rattle.f3_rooms.specs.Forms.{Form, Laid, Allocatable, form_of, form_words, words_for, words_for_parts}
+use Rattle.f3_rooms.specs.Values.{word, is_set, elements, formed, object, components}
+use Rattle.f3_rooms.specs.Sound.{Fact, Each, IsForm, IsObject, AreComponents}
 use Rattle.f3_rooms.proofs.Framing.{Reading}
 use Rattle.f3_room_objects.specs.Trees.{layout_for, layouts_for, formed_as}
 use Rattle.f3_room_arrays.specs.Elements.{IsFlat}

@@ -1,6 +1,6 @@
 -- Objects with what they hold take the place of others.
-use Rattle.std.proofs.Common.{◌≡◌, ◌≢◌, ◌∙◌, sym, ap, subst, refl, inl, inr, ℕ, zero, suc, ◌+◌, ◌*◌, ◌<◌, ◌≤◌, Bool, true, false, List, [], ◌∷◌, length, arith}
-use Rattle.std.specs.Prelude.{Some, ◌⊎◌, ℤ, pos, ◌+ℤ◌, nat_eq, ◌&&◌, if◌then◌else◌, slice_index_or, unsigned_abs}
+use Rattle.std.proofs.Common.{◌≡◌, ◌≢◌, ◌∙◌, sym, ap, subst, refl, inl, inr, ℕ, suc, ◌+◌, ◌*◌, ◌<◌, ◌≤◌, Bool, true, false, List, [], ◌∷◌, length, arith}
+use Rattle.std.specs.Prelude.{Some, ℤ, pos, ◌+ℤ◌, nat_eq, ◌&&◌, if◌then◌else◌, slice_index_or, unsigned_abs}
 use Rattle.std.specs.List.{All, AllZip, AllPairs}
 use Rattle.std.proofs.lemmas.Bool.{eqb-true, eqb-false, eq-eqb, ne_eqb}
 use Rattle.std.proofs.lemmas.Int.{ints}
@@ -8,23 +8,23 @@ use Rattle.f3_heap_laws.specs.Blocks.{Live, IsLive, words_of, with_words}
 use Rattle.f3_heap_laws.proofs.Laws.{live-insert, words-insert_other}
 use Rattle.f3_meaning_whole.specs.Value.{Value}
 use Rattle.f3_meaning_whole.specs.Shape.{Shape}
-use Rattle.f3_meaning_whole.specs.Store.{Root, Static, Local, Step, Component, Element, Contents, Path, put, put_all, same_root, same_step}
+use Rattle.f3_meaning_whole.specs.Store.{Root, Static, Local, Step, Component, Element, Contents, Path, put_all, same_root, same_step}
 use Rattle.f3_desc.specs.declared.descriptor.Descriptor.{Descriptor}
 use Rattle.f3_desc.specs.Descriptor.{places, progression}
-use Rattle.f3_rooms.specs.Held.{Held, Row, end, first, others, blocks_in, blocks_in_all, times}
+use Rattle.f3_rooms.specs.Held.{Held, Row, first, others, blocks_in, blocks_in_all, times}
 use Rattle.f3_rooms.specs.Forms.{words_for}
 use Rattle.f3_rooms.specs.Values.{elements, object}
 use Rattle.f3_rooms.specs.Rooms.{Rooms, blocks_of, store_of}
 use Rattle.f3_rooms.specs.Places.{Found, found, rooms_with}
 use Rattle.f3_rooms.specs.Ways.{are_aside}
 use Rattle.f3_rooms.specs.Sound.{Each, IsObject, IsSound}
-use Rattle.f3_rooms.proofs.Framing.{Steady, Kept, times_row, kept_first, kept_others}
+use Rattle.f3_rooms.proofs.Framing.{Steady, Kept, times_row, kept_first}
 use Rattle.f3_rooms.proofs.Aside.{other_parts_stand, other_variables_stand}
 use Rattle.f3_rooms.proofs.Within.{store_owns}
 use Rattle.f3_room_objects.specs.Changes.{IsBare}
 use Rattle.f3_objects.specs.Holds.{with_words_at}
 use Rattle.f3_objects.proofs.Writes.{words-with, with_words_same, with_words_again}
-use Rattle.f3_room_arrays.specs.Words.{words_at, copied, IsInside, AreInside}
+use Rattle.f3_room_arrays.specs.Words.{words_at, copied}
 use Rattle.f3_room_arrays.specs.Elements.{StandsAt, held_row}
 use Rattle.f3_room_arrays.specs.Changes.{AreAside, IsVacant, TakesAll, helds, rooms_with_all}
 use Rattle.f3_room_arrays.proofs.Placing.{all-first, all-rest, all-more, all-none, words-long}

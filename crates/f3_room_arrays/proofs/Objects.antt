@@ -1,25 +1,24 @@
 -- Objects that a descriptor tells of, as words.
-use Rattle.std.proofs.Common.{◌≡◌, ◌≢◌, ◌∙◌, sym, ap, subst, refl, inl, inr, ℕ, zero, suc, ◌+◌, ◌*◌, ◌<◌, ◌≤◌, List, [], ◌∷◌, ◌++◌, length, take, drop, get_or, arith}
-use Rattle.std.specs.Prelude.{Some, ⊤, ◌⊎◌, ℤ, pos, ◌+ℤ◌, ◌≤ℤ◌, map, unsigned_abs}
+use Rattle.std.proofs.Common.{◌≡◌, ◌∙◌, sym, ap, subst, refl, inl, inr, ℕ, zero, suc, ◌+◌, ◌*◌, ◌<◌, ◌≤◌, List, [], ◌∷◌, ◌++◌, length, take, drop, get_or, arith}
+use Rattle.std.specs.Prelude.{◌⊎◌, ℤ, pos, ◌+ℤ◌, ◌≤ℤ◌, map, unsigned_abs}
 use Rattle.std.specs.List.{AllZip}
 use Rattle.std.specs.FinMap.{get as find}
 use Rattle.std.proofs.lemmas.Bool.{cases_eq}
 use Rattle.std.proofs.lemmas.Int.{ints}
-use Rattle.std.proofs.lemmas.List.{length-take-le, get_or-take, get_or-drop, get_or_append_left, get_or-append-add, length-append}
+use Rattle.std.proofs.lemmas.List.{length-take-le, get_or-take, get_or-drop, get_or_append_left, get_or-append-add}
 use Rattle.f3_heap_laws.specs.Blocks.{Live, IsLive, words_of, with_words}
 use Rattle.f3_heap_laws.proofs.Laws.{live-insert, words-insert_other, get-insert_other}
-use Rattle.f3_meaning_whole.specs.Value.{Value, Span, Array, Number, Truth, Composite, joined, count, shown, spread}
+use Rattle.f3_meaning_whole.specs.Value.{Value, Span, Array, joined, count, shown, spread}
 use Rattle.f3_meaning_whole.specs.Shape.{Shape, Whole, Logical, Record}
-use Rattle.f3_meaning_whole.specs.Store.{Store, Path, get, put, put_all}
-use Rattle.f3_meaning_whole.specs.Reference.{Many, held_at}
+use Rattle.f3_meaning_whole.specs.Store.{Path, get, put, put_all}
 use Rattle.f3_desc.specs.Descriptor.{progression}
-use Rattle.f3_rooms.specs.Held.{Held, Empty, end, blocks_in, times}
-use Rattle.f3_rooms.specs.Forms.{Form, Laid, form_words, words_for}
-use Rattle.f3_rooms.specs.Values.{word, elements, laid, formed, object}
+use Rattle.f3_rooms.specs.Held.{Held, Empty, blocks_in, times}
+use Rattle.f3_rooms.specs.Forms.{Form, form_words, words_for}
+use Rattle.f3_rooms.specs.Values.{word, formed, object}
 use Rattle.f3_rooms.specs.Rooms.{Rooms, blocks_of, store_of}
-use Rattle.f3_rooms.specs.Places.{Found, found, value_at, rooms_with}
+use Rattle.f3_rooms.specs.Places.{Found, value_at, rooms_with}
 use Rattle.f3_rooms.specs.Sound.{IsForm, IsObject, IsSound}
-use Rattle.f3_rooms.specs.Laws.{path_at, with_held_in, Replaces}
+use Rattle.f3_rooms.specs.Laws.{with_held_in, Replaces}
 use Rattle.f3_rooms.proofs.Reading.{parts_are_found}
 use Rattle.f3_rooms.proofs.Within.{size_of, store_owns, part_lies}
 use Rattle.f3_rooms.proofs.Stores.{part_replaced}

@@ -2,25 +2,23 @@
 use Rattle.std.proofs.Common.{◌≡◌, ◌≢◌, ◌∙◌, sym, ap, subst, refl, inl, inr, ℕ, zero, suc, ◌+◌, ◌*◌, ◌<◌, ◌≤◌, List, [], ◌∷◌, ◌++◌, length, take, drop, arith}
 use Rattle.std.specs.Prelude.{None, Some, ◌⊎◌, ℤ, pos, map, slice_get, slice_index_or, unsigned_abs}
 use Rattle.std.specs.FinMap.{get as find}
-use Rattle.std.proofs.lemmas.Bool.{cases_eq}
 use Rattle.std.proofs.lemmas.List.{map-append, take_all}
-use Rattle.f3_program.specs.declared.declarations.Base.{Base}
 use Rattle.f3_program.specs.declared.declarations.Base.TheVariants.{Integer}
-use Rattle.f3_heap_laws.specs.Blocks.{Live, IsLive, words_in, pins_in, words_of, pins_of, with_words}
-use Rattle.f3_heap_laws.proofs.Laws.{live-insert, words-insert_other, get-insert_other}
-use Rattle.f3_meaning_whole.specs.Value.{Span, Value, count}
+use Rattle.f3_heap_laws.specs.Blocks.{Live, IsLive, pins_in, words_of, pins_of}
+use Rattle.f3_heap_laws.proofs.Laws.{live-insert, get-insert_other}
+use Rattle.f3_meaning_whole.specs.Value.{Span, count}
 use Rattle.f3_meaning_whole.specs.Shape.{Shape}
 use Rattle.f3_meaning_whole.specs.Store.{Path, get}
 use Rattle.f3_desc.specs.declared.descriptor.Descriptor.{Descriptor}
 use Rattle.f3_desc.specs.Shape.{Shape as Layout, Times, width}
 use Rattle.f3_rooms.specs.Held.{Held, Row, Parts, end, next, first, others, with_part_at, blocks_in, blocks_in_all, times}
 use Rattle.f3_rooms.specs.Forms.{Form, Laid, words_for}
-use Rattle.f3_rooms.specs.Values.{word, elements, object}
+use Rattle.f3_rooms.specs.Values.{elements, object}
 use Rattle.f3_rooms.specs.Rooms.{Rooms, blocks_of, store_of}
-use Rattle.f3_rooms.specs.Places.{Found, value_at}
+use Rattle.f3_rooms.specs.Places.{Found}
 use Rattle.f3_rooms.specs.Sound.{Fact, Each, IsObject, IsSound}
 use Rattle.f3_rooms.specs.Laws.{IsWithin}
-use Rattle.f3_rooms.proofs.Framing.{Reading, Steady, Kept, Same, times_row, each_persists, elements_stay, object_persists, object_stays}
+use Rattle.f3_rooms.proofs.Framing.{Reading, Kept, Same, times_row, each_persists, elements_stay, object_persists, object_stays}
 use Rattle.f3_rooms.proofs.Keeping.{as_it_was, kept_blocks_keep}
 use Rattle.f3_rooms.proofs.Living.{all_live}
 use Rattle.f3_rooms.proofs.Reading.{parts_are_found}
@@ -35,7 +33,7 @@ use Rattle.f3_room_objects.specs.Trees.{layout_for, formed_as, layout_of, tree_a
 use Rattle.f3_room_objects.specs.Laws.{IsApart}
 use Rattle.f3_room_objects.proofs.Bounds.{part_bound, bounds_equal}
 use Rattle.f3_room_objects.proofs.Growing.{parts_hold_trees, parts_are_apart, trees_have_their_blocks}
-use Rattle.f3_room_objects.proofs.Planting.{Sits, Planted, part_planted, width_for}
+use Rattle.f3_room_objects.proofs.Planting.{Planted, part_planted, width_for}
 use Rattle.f3_room_objects.proofs.Values.{equal_trees_are_equal}
 use Rattle.f3_room_objects.proofs.Windows.{window, from_are}
 use Rattle.f3_room_arrays.specs.Elements.{StandsAt}

@@ -1,23 +1,22 @@
 -- What sections tell of.
-use Rattle.std.proofs.Common.{◌≡◌, ◌∙◌, sym, ap, subst, refl, inl, inr, ⊎_elim, ℕ, zero, suc, ◌+◌, ◌*◌, ◌<◌, ◌≤◌, List, [], ◌∷◌, ◌++◌, length, arith}
-use Rattle.std.specs.Prelude.{Some, ℤ, pos, ◌+ℤ◌, ◌-ℤ◌, ◌*ℤ◌, map, flat_map, nat_abs, slice_get, unsigned_abs}
+use Rattle.std.proofs.Common.{◌≡◌, ◌∙◌, sym, ap, subst, refl, inl, inr, ℕ, zero, suc, ◌+◌, ◌*◌, List, [], ◌∷◌, ◌++◌}
+use Rattle.std.specs.Prelude.{Some, ℤ, ◌-ℤ◌, map, flat_map, nat_abs, slice_get, unsigned_abs}
 use Rattle.std.specs.List.{All, AllZip}
 use Rattle.std.proofs.lemmas.List.{map-append}
-use Rattle.f3_meaning_whole.specs.Value.{Span}
 use Rattle.f3_meaning_whole.specs.Shape.{Shape}
 use Rattle.f3_meaning_whole.specs.Store.{Path}
-use Rattle.f3_meaning_whole.specs.Act.{Chosen, added, elements_at, places_in, subscripts_in}
+use Rattle.f3_meaning_whole.specs.Act.{added, elements_at, places_in}
 use Rattle.f3_desc.specs.declared.descriptor.Descriptor.{Descriptor}
 use Rattle.f3_desc.specs.declared.descriptor.Dim.{Dim}
 use Rattle.f3_desc.specs.declared.descriptor.Triplet.{Triplet}
 use Rattle.f3_desc.specs.Descriptor.{HasElement, IsWithin, choices, place, places}
-use Rattle.f3_desc.specs.Section.{IsSection, SelectsWithin, selected}
+use Rattle.f3_desc.specs.Section.{selected}
 use Rattle.f3_desc.specs.Laws.{number}
 use Rattle.f3_desc.proofs.Members.{In, in-All, from-choices}
 use Rattle.f3_desc.proofs.Orders.{ordered}
 use Rattle.f3_rooms.specs.Rooms.{Rooms}
 use Rattle.f3_room_arrays.specs.Elements.{StandsAt, Tells}
-use Rattle.f3_room_arrays.specs.Laws.{SectionsAreTold, NumbersArePlaces, SelectAlike, numbers}
+use Rattle.f3_room_arrays.specs.Laws.{SectionsAreTold, NumbersArePlaces, numbers}
 
 -- what stands beside an element of a list
 pub zip-get : {A B : Type 0} (R : A → B → Type 0) (xs : List A) (ys : List B) (k : ℕ) (x : A) → AllZip R xs ys → slice_get xs k ≡ Some x → (y : B) × ((slice_get ys k ≡ Some y) × R x y)

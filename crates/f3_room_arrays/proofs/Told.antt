@@ -1,39 +1,29 @@
 -- What descriptors tell of.
-use Rattle.std.proofs.Common.{◌≡◌, ◌∙◌, sym, ap, subst, refl, ℕ, zero, suc, ◌+◌, ◌*◌, ◌<◌, ◌≤◌, List, [], ◌∷◌, ◌++◌, length, arith, append-nil}
-use Rattle.std.specs.Prelude.{Option, None, Some, true, ℤ, pos, ◌+ℤ◌, ◌-ℤ◌, ◌*ℤ◌, ◌≤ℤ◌, ◌<ℤ◌, map, flat_map, nat_abs, nat_lt, slice_get, unsigned_abs, if◌then◌else◌}
-use Rattle.std.specs.List.{All, AllZip}
+use Rattle.std.proofs.Common.{◌≡◌, ◌∙◌, sym, ap, subst, refl, ℕ, zero, suc, ◌+◌, ◌*◌, ◌<◌, List, [], ◌∷◌, ◌++◌, length, arith}
+use Rattle.std.specs.Prelude.{None, Some, ℤ, pos, ◌+ℤ◌, if◌then◌else◌}
+use Rattle.std.specs.List.{AllZip}
 use Rattle.std.proofs.lemmas.Bool.{lt-ltb}
 use Rattle.std.proofs.lemmas.Int.{ints}
-use Rattle.std.proofs.lemmas.List.{map-append}
-use Rattle.f3_program.specs.declared.declarations.Base.{Base}
-use Rattle.f3_heap_laws.specs.Blocks.{Live, IsLive, words_of}
-use Rattle.f3_meaning_whole.specs.Value.{Span, Value, Array, Values, none, more, joined, count}
+use Rattle.f3_heap_laws.specs.Blocks.{Live, words_of}
+use Rattle.f3_meaning_whole.specs.Value.{Span, Value, joined, count}
 use Rattle.f3_meaning_whole.specs.Shape.{Shape}
-use Rattle.f3_meaning_whole.specs.Store.{Root, Step, Element, Path, within, get}
+use Rattle.f3_meaning_whole.specs.Store.{Root, Step, Element, Path, get}
 use Rattle.f3_meaning_whole.specs.Reference.{elements_from, paths_by, reach_of}
-use Rattle.f3_meaning_whole.specs.Act.{Chosen, added, elements_at, places_in, subscripts_in}
-use Rattle.f3_desc.specs.declared.descriptor.Descriptor.{Descriptor}
-use Rattle.f3_desc.specs.declared.descriptor.Dim.{Dim}
-use Rattle.f3_desc.specs.declared.descriptor.Triplet.{Triplet}
-use Rattle.f3_desc.specs.Descriptor.{HasElement, choices, place, places, progression}
-use Rattle.f3_desc.specs.Section.{IsSection, SelectsWithin, selected}
-use Rattle.f3_desc.specs.Laws.{number}
-use Rattle.f3_desc.proofs.Orders.{ordered, contiguous}
-use Rattle.f3_rooms.specs.Held.{Held, Row, parts_of, part_at, others}
+use Rattle.f3_desc.specs.Descriptor.{places, progression}
+use Rattle.f3_desc.proofs.Orders.{contiguous}
+use Rattle.f3_rooms.specs.Held.{Row, parts_of, part_at, others}
 use Rattle.f3_rooms.specs.Forms.{Form, Laid, words_for}
 use Rattle.f3_rooms.specs.Values.{elements, laid, formed, object}
 use Rattle.f3_rooms.specs.Rooms.{Rooms, store_of}
-use Rattle.f3_rooms.specs.Places.{Found, found, value_at, in_form, in_object}
-use Rattle.f3_rooms.specs.Ways.{part_of}
+use Rattle.f3_rooms.specs.Places.{Found, found, in_form, in_object}
 use Rattle.f3_rooms.specs.Sound.{IsSound}
 use Rattle.f3_rooms.specs.Laws.{path_at}
 use Rattle.f3_rooms.proofs.Framing.{Reading}
 use Rattle.f3_rooms.proofs.Reading.{parts_are_found}
 use Rattle.f3_rooms.proofs.Onward.{parts_have_parts}
 use Rattle.f3_room_arrays.specs.Words.{IsInside, AreInside}
-use Rattle.f3_room_arrays.specs.Elements.{StandsAt, Tells}
-use Rattle.f3_room_arrays.specs.Changes.{LieWithin}
-use Rattle.f3_room_arrays.specs.Laws.{ObjectsLieWithin, ArraysAreTold, SectionsAreTold, NumbersArePlaces, IsWhole, SelectAlike, numbers}
+use Rattle.f3_room_arrays.specs.Elements.{StandsAt}
+use Rattle.f3_room_arrays.specs.Laws.{ObjectsLieWithin, ArraysAreTold}
 use Rattle.f3_room_arrays.proofs.Placing.{all-more, all-none}
 use Rattle.f3_room_arrays.proofs.Objects.{object-inside}
 

@@ -1,5 +1,5 @@
 -- Words of one block that are copied to another, in many places (own rule).
-use Rattle.std.specs.Prelude.{ℕ, ◌+◌, ℤ, ◌+ℤ◌, ◌≤ℤ◌, pos, List, [], ◌∷◌, take, drop, length, map, unsigned_abs}
+use Rattle.std.specs.Prelude.{ℕ, ℤ, ◌+ℤ◌, ◌≤ℤ◌, pos, List, ◌∷◌, take, drop, map, unsigned_abs}
 use Rattle.std.specs.List.{All}
 use Rattle.f3_desc.specs.declared.descriptor.Dim.{Dim}
 use Rattle.f3_desc.specs.Descriptor.{choices, distance, subscripts}

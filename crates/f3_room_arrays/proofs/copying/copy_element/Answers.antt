@@ -1,4 +1,4 @@
-use Rattle.std.proofs.Common.{◌≡◌, ◌∙◌, ap, length, List, pos, replicate}
+use Rattle.std.proofs.Common.{pos}
 use Rattle.std.proofs.lemmas.List.{length-replicate}
 use Rattle.f3_desc.specs.Shape.{whole, width}
 use Rattle.f3_desc.specs.Layout.{pieces_of}

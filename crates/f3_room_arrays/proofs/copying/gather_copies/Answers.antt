@@ -1,7 +1,6 @@
-use Rattle.std.proofs.Common.{◌≡◌, ◌∙◌, sym, ap, subst, refl, ℕ, ◌+◌, ◌*◌, ◌<◌, ◌≤◌, length, List, arith}
+use Rattle.std.proofs.Common.{◌≡◌, ◌∙◌, sym, ap, subst, ℕ, ◌+◌, ◌*◌, ◌<◌, ◌≤◌, length, List, arith}
 use Rattle.std.specs.Prelude.{pos, ◌+ℤ◌}
 use Rattle.std.proofs.Math.Nat.{mul-le-mul_right}
-use Rattle.f3_heap_laws.specs.Blocks.{words_of}
 use Rattle.f3_desc.specs.declared.descriptor.Dim.{Dim}
 use Rattle.f3_desc.specs.Descriptor.{places}
 use Rattle.f3_desc.specs.Inner.Congruent.{IsCongruent}
@@ -12,7 +11,7 @@ use Rattle.f3_room_arrays.specs.Elements.{StandsAt}
 use Rattle.f3_room_arrays.specs.Inner.Numbers.{away}
 use Rattle.f3_room_arrays.proofs.Numbers.{places-many}
 use Rattle.f3_room_arrays.proofs.Objects.{zip-length}
-use Rattle.f3_room_arrays.proofs.Rows.{gathered-none, gathered-all, row-holds, row-unpinned, row-tree, all-back}
+use Rattle.f3_room_arrays.proofs.Rows.{gathered-none, gathered-all, row-holds, row-unpinned, all-back}
 use Rattle.f3_room_arrays.proofs.Steps.{on-ok-when, on-err-when, on-err-anyway, step-ready, step-more, step-spoiled, row-room}
 use Rattle.f3_room_arrays.proofs.copying.gather_copies.Goals as goal
 
@@ -94,9 +93,11 @@ give_back-requires g c =
     let h = step-spoiled o.0 old o.1 a o.2 o.3 l c.args.to c.args.to_at o.4 c.requires.live c.requires.within.inside (omega arith) c.requires.room
     (g.B.Blocks.blocks c.loop-number.heap) c.loop-number.number (c.loop-number.invariant o.0 o.1 o.2 o.3 o.4) number new _ place bad in
     let room = row-room o.0 old o.1 a o.2 o.3 l c.args.to c.args.to_at o.4 c.requires.live c.requires.within.inside (omega arith) c.requires.room
-    (g.B.Blocks.blocks c.loop-number.heap) c.loop-number.number (c.loop-number.invariant o.0 o.1 o.2 o.3 o.4) number new h in
-    (_, row-holds o.0 old o.1 a o.2 o.3 l c.args.to c.args.to_at o.4 c.requires.live new c.loop-number.number h room,
-    row-unpinned o.0 old o.1 a o.2 o.3 l c.args.to c.args.to_at o.4 c.requires.live new c.loop-number.number h room)
+    (g.B.Blocks.blocks c.loop-number.heap) c.loop-number.number (c.loop-number.invariant o.0 o.1 o.2 o.3 o.4) number new h in (
+      _,
+      row-holds o.0 old o.1 a o.2 o.3 l c.args.to c.args.to_at o.4 c.requires.live new c.loop-number.number h room,
+      row-unpinned o.0 old o.1 a o.2 o.3 l c.args.to c.args.to_at o.4 c.requires.live new c.loop-number.number h room,
+    )
 
 pub returns-then-is_err-clause-refused : goal.returns-then-is_err-clause-refused
 returns-then-is_err-clause-refused g c =

@@ -1,4 +1,4 @@
-use Rattle.std.proofs.Common.{◌≡◌, ◌+◌, sym, subst, arith}
+use Rattle.std.proofs.Common.{sym, subst, arith}
 use Rattle.f3_desc.specs.Shape.{Shape, Times}
 use Rattle.f3_objects.specs.Holds.{Holds}
 use Rattle.f3_heap_laws.specs.Blocks.{pins_of}

@@ -1,6 +1,5 @@
-use Rattle.std.proofs.Common.{◌≡◌, ◌∙◌, ap, List}
+use Rattle.std.proofs.Common.{◌≡◌, ◌∙◌, ap}
 use Rattle.std.specs.Prelude.{◌∷◌}
-use Rattle.f3_desc.specs.declared.descriptor.Dim.{Dim}
 use Rattle.f3_room_arrays.specs.Words.{places_from}
 use Rattle.f3_room_arrays.proofs.Numbers.{places-cons}
 use Rattle.f3_room_arrays.proofs.runs.first_and_others.Goals as goal

@@ -1,14 +1,13 @@
-use Rattle.std.proofs.Common.{◌≡◌, ◌∙◌, sym, ap, subst, ℕ, length, List}
-use Rattle.std.specs.Prelude.{ℤ, pos}
-use Rattle.f3_meaning_whole.specs.Value.{Value, spread}
-use Rattle.f3_heap_laws.specs.Blocks.{Live, words_of, with_words}
+use Rattle.std.proofs.Common.{◌≡◌, ◌∙◌, sym, ap, subst, ℕ, length}
+use Rattle.std.specs.Prelude.{pos}
+use Rattle.f3_meaning_whole.specs.Value.{spread}
+use Rattle.f3_heap_laws.specs.Blocks.{words_of, with_words}
 use Rattle.f3_desc.specs.Descriptor.{places, progression}
 use Rattle.f3_rooms.specs.Held.{Empty}
 use Rattle.f3_rooms.specs.Forms.{words_for}
 use Rattle.f3_rooms.specs.Values.{object}
 use Rattle.f3_room_arrays.specs.Words.{copied, AreInside}
 use Rattle.f3_room_arrays.specs.Elements.{StandsAt}
-use Rattle.f3_room_arrays.specs.Changes.{PutsAll}
 use Rattle.f3_room_arrays.proofs.Numbers.{progression-length}
 use Rattle.f3_room_arrays.proofs.Running.{same-inside}
 use Rattle.f3_room_arrays.proofs.Objects.{objects-put, same-values, zip-length, puts-as}

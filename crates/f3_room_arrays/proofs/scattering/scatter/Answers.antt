@@ -1,13 +1,11 @@
-use Rattle.std.proofs.Common.{◌≡◌, ◌∙◌, sym, ap, subst, refl, ℕ, ◌+◌, ◌*◌, ◌≤◌, length, List}
-use Rattle.std.specs.Prelude.{ℤ, pos}
-use Rattle.f3_meaning_whole.specs.Value.{Value}
-use Rattle.f3_heap_laws.specs.Blocks.{Live, words_of, with_words}
+use Rattle.std.proofs.Common.{◌≡◌, ◌∙◌, sym, ap, subst, refl, ℕ, ◌+◌, ◌*◌, ◌≤◌, length}
+use Rattle.std.specs.Prelude.{pos}
+use Rattle.f3_heap_laws.specs.Blocks.{words_of, with_words}
 use Rattle.f3_desc.specs.Descriptor.{places, progression}
 use Rattle.f3_rooms.specs.Forms.{words_for}
 use Rattle.f3_rooms.specs.Sound.{Each, IsObject}
 use Rattle.f3_room_arrays.specs.Words.{copied, AreInside}
 use Rattle.f3_room_arrays.specs.Elements.{StandsAt, row}
-use Rattle.f3_room_arrays.specs.Changes.{PutsAll}
 use Rattle.f3_room_arrays.proofs.Numbers.{progression-length}
 use Rattle.f3_room_arrays.proofs.Running.{line-inside}
 use Rattle.f3_room_arrays.proofs.Objects.{objects-put, row-values, zip-length, puts-as}

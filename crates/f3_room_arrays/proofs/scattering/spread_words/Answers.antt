@@ -1,4 +1,4 @@
-use Rattle.std.proofs.Common.{◌≡◌, ◌≢◌, ◌∙◌, sym, ap, subst, refl, rules, w64, FitsSigned, ℕ, ◌+◌, ◌*◌, ◌<◌, ◌≤◌, length, List, [], arith, ⊎_elim}
+use Rattle.std.proofs.Common.{◌≡◌, ◌∙◌, sym, ap, subst, refl, rules, w64, FitsSigned, ℕ, ◌+◌, ◌*◌, ◌<◌, length, List, [], arith, ⊎_elim}
 use Rattle.std.specs.Prelude.{ℤ, pos}
 use Rattle.std.specs.List.{flat_map}
 use Rattle.std.proofs.lemmas.Int.{to_z-of_z, to_z_pos}
@@ -6,9 +6,9 @@ use Rattle.f3_heap_laws.specs.Blocks.{words_of, with_words}
 use Rattle.f3_desc.specs.declared.descriptor.Dim.{Dim}
 use Rattle.f3_desc.specs.Descriptor.{places, progression}
 use Rattle.f3_desc.specs.Laws.{size_of}
-use Rattle.f3_room_arrays.specs.Words.{copied, places_from, AreInside}
+use Rattle.f3_room_arrays.specs.Words.{copied, places_from}
 use Rattle.f3_room_arrays.proofs.Numbers.{along}
-use Rattle.f3_room_arrays.proofs.Placing.{IsCopied, copied-none, copied-source, copied-target, copied-long, copied-live, front-inside}
+use Rattle.f3_room_arrays.proofs.Placing.{IsCopied, copied-none, copied-source, copied-live}
 use Rattle.f3_room_arrays.proofs.Running.{total-many, so_far-all, run-inside, start-is, some-runs, part-inside, part-ends, copied-zero, copied-few, scattered-more, so_far, elements-long, moved-inside, moved-copied}
 use Rattle.f3_room_arrays.proofs.scattering.spread_words.Goals as goal
 
