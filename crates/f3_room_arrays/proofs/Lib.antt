@@ -12,3 +12,4 @@ pub mod Landing
 pub mod Cloning
 pub mod Rows
 pub mod Steps
+pub mod Distinct

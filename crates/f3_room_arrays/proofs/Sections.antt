@@ -56,7 +56,7 @@ line : (d : Dim) (ds : List Dim) (rest xs : List ℤ) → map (number (d ∷ ds)
 line d ds rest [] = refl
 line d ds rest (x ∷ xs) = ap (λ l. (unsigned_abs (x -ℤ d.lower) + d.extent * number ds rest) ∷ l) (line d ds rest xs)
 
-lines : (d : Dim) (ds : List Dim) (xs : List ℤ) (yss : List (List ℤ)) → map (number (d ∷ ds)) (flat_map (λ rest. map (λ s. s ∷ rest) xs) yss)
+pub lines : (d : Dim) (ds : List Dim) (xs : List ℤ) (yss : List (List ℤ)) → map (number (d ∷ ds)) (flat_map (λ rest. map (λ s. s ∷ rest) xs) yss)
     ≡ flat_map (λ k. map (λ z. unsigned_abs (z -ℤ d.lower) + d.extent * k) xs) (map (number ds) yss)
 lines d ds xs [] = refl
 lines d ds xs (ys ∷ yss) =

@@ -1,8 +1,8 @@
 -- Laws of what descriptors tell of.
 use Rattle.std.specs.Prelude.{⊤, ◌≡◌, ◌≤◌, ◌+◌, ℕ, zero, suc, pos, List, [], ◌∷◌, Some, length, map}
-use Rattle.std.specs.List.{All}
+use Rattle.std.specs.List.{All, AllPairs}
 use Rattle.f3_heap_laws.specs.Blocks.{Live, IsLive}
-use Rattle.f3_meaning_whole.specs.Value.{Span, count}
+use Rattle.f3_meaning_whole.specs.Value.{Span, Value, count}
 use Rattle.f3_meaning_whole.specs.Shape.{Shape, Record, Parts, nothing, and}
 use Rattle.f3_meaning_whole.specs.Store.{Root, Step, Component, Path, within, get}
 use Rattle.f3_meaning_whole.specs.Reference.{paths_by, reach_of}
@@ -20,7 +20,7 @@ use Rattle.f3_rooms.specs.Ways.{settled}
 use Rattle.f3_rooms.specs.Sound.{IsSound}
 use Rattle.f3_rooms.specs.Laws.{path_at}
 use Rattle.f3_room_arrays.specs.Elements.{Tells}
-use Rattle.f3_room_arrays.specs.Changes.{LieWithin}
+use Rattle.f3_room_arrays.specs.Changes.{LieWithin, AreAside}
 
 -- The words of objects that a descriptor tells of lie in its block.
 abbrev pub ObjectsLieWithin : Type 0
@@ -81,3 +81,14 @@ IsScalarComponent (and c s rest) (suc k) o u = (i : ℕ) × (o ≡ form_words (f
 abbrev pub ComponentsAreTold : Type 0
 ComponentsAreTold = (ts : List Shape) (x : Rooms) (a b : Descriptor) (t : ℕ) (parts : Parts) (ps : List Path) (k o : ℕ) (u : Shape) → Tells ts x a (Record t parts) ps
     → IsScalarComponent parts k o u → b.block ≡ a.block → b.offset ≡ a.offset + o → b.dims ≡ a.dims → Tells ts x b u (map (λ p. within p (Component k)) ps)
+
+-- ---- different elements
+
+-- The elements of an array are different objects.
+abbrev pub ElementsAreAside : Type 0
+ElementsAreAside = (p : Path) (v : Value) → AllPairs AreAside (paths_by p (reach_of p v))
+
+-- So are those of a section.
+abbrev pub SectionsStayAside : Type 0
+SectionsStayAside = (a : Descriptor) (cs : List Triplet) (ps : List Path) → All (λ c. ¬ (IsStepZero c)) cs → SelectsWithin a cs
+    → AllPairs AreAside ps → AllPairs AreAside (elements_at ps (numbers a.dims.items cs))

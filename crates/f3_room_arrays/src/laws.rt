@@ -1,6 +1,7 @@
 //! Laws of what descriptors tell of.
 
 ghost use Rattle.f3_room_arrays.specs.Laws.{ObjectsLieWithin, ArraysAreTold, SectionsAreTold, NumbersArePlaces, ElementsAreCounted, SectionsAreNoLonger, ComponentsAreTold};
+ghost use Rattle.f3_room_arrays.specs.Laws.{ElementsAreAside, SectionsStayAside};
 
 /// The words of objects that a descriptor tells of lie in its block.
 pub fn objects_lie_within()
@@ -27,4 +28,10 @@ pub fn elements_are_counted()
 /// A descriptor that begins as many words further on as a component tells of this component of each element (6.1.2).
 pub fn components_are_told()
     ensures { ComponentsAreTold }
+{}
+
+/// The elements of an array or of a section are different objects.
+pub fn elements_are_aside()
+    ensures whole { ElementsAreAside }
+    ensures sections { SectionsStayAside }
 {}
