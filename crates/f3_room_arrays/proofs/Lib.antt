@@ -1,0 +1,15 @@
+pub mod Numbers
+pub mod Placing
+pub mod Running
+pub mod Flat
+pub mod Objects
+pub mod Told
+pub mod Sections
+pub mod Counting
+pub mod Components
+pub mod Elsewhere
+pub mod Landing
+pub mod Cloning
+pub mod Rows
+pub mod Steps
+pub mod Distinct

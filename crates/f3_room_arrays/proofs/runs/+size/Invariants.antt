@@ -1,0 +1,5 @@
+use Rattle.std.proofs.Common.{length}
+use Rattle.f3_room_arrays.proofs.runs.+size.Given as goal
+
+abbrev pub decreases-size : goal.decreases-size
+decreases-size l = length l.dims.now

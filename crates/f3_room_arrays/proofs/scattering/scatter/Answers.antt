@@ -1,0 +1,45 @@
+use Rattle.std.proofs.Common.{◌≡◌, ◌∙◌, sym, ap, subst, refl, ℕ, ◌+◌, ◌*◌, ◌≤◌, length}
+use Rattle.std.specs.Prelude.{pos}
+use Rattle.f3_heap_laws.specs.Blocks.{words_of, with_words}
+use Rattle.f3_desc.specs.Descriptor.{places, progression}
+use Rattle.f3_rooms.specs.Forms.{words_for}
+use Rattle.f3_rooms.specs.Sound.{Each, IsObject}
+use Rattle.f3_room_arrays.specs.Words.{copied, AreInside}
+use Rattle.f3_room_arrays.specs.Elements.{StandsAt, row}
+use Rattle.f3_room_arrays.proofs.Numbers.{progression-length}
+use Rattle.f3_room_arrays.proofs.Running.{line-inside}
+use Rattle.f3_room_arrays.proofs.Objects.{objects-put, row-values, zip-length, puts-as}
+use Rattle.f3_room_arrays.proofs.Landing.{objects-land, takes-as}
+use Rattle.f3_room_arrays.proofs.scattering.scatter.Goals as goal
+
+pub spread_words-requires-clause-room : goal.spread_words-requires-clause-room
+spread_words-requires-clause-room g c = line-inside _ c.args.words c.args.from_at (length (places c.args.elements.now)) c.requires.room
+
+pub returns-clause-put : goal.returns-clause-put
+returns-clause-put g c ts x s ps are =
+    let old = g.B.Blocks.blocks c.args.heap.now in
+    let a = c.args.elements.now in
+    let k : ℕ = length (places a) in
+    let n : ℕ = words_for s in
+    let many : k ≡ length ps = zip-length (StandsAt ts x a.block s) (places a) ps are.tells in
+    let line = subst (λ (w : ℕ). AreInside (length (words_of old c.args.from)) w (progression (pos c.args.from_at) (pos w) k)) are.words (line-inside (length (words_of old c.args.from)) c.args.words c.args.from_at k c.requires.room) in
+    let puts = objects-put ts x s are.flat old c.args.from a.block old are.sound c.requires.within.live (places a) ps are.tells (progression (pos c.args.from_at) (pos n) k) (progression-length (pos c.args.from_at) (pos n) k) line in
+    let values = row-values old s c.args.from c.args.from_at k ∙ ap (λ (j : ℕ). row old s j c.args.from c.args.from_at) many in
+    let is : with_words old a.block (copied n (words_of old a.block) (words_of old c.args.from) (places a) (progression (pos c.args.from_at) (pos n) k)) ≡ g.B.Blocks.blocks c.spread_words.new.heap =
+    ap (λ (w : ℕ). with_words old a.block (copied w (words_of old a.block) (words_of old c.args.from) (places a) (progression (pos c.args.from_at) (pos w) k))) (sym are.words) ∙ sym c.spread_words.ensures.written in
+    puts-as is values puts
+
+pub returns-clause-moved : goal.returns-clause-moved
+returns-clause-moved g c ts x s ps hs are loose =
+    let old = g.B.Blocks.blocks c.args.heap.now in
+    let a = c.args.elements.now in
+    let k : ℕ = length (places a) in
+    let n : ℕ = words_for s in
+    let many : length ps ≡ k = sym (zip-length (StandsAt ts x a.block s) (places a) ps are.tells) in
+    let room = subst (λ (w : ℕ). c.args.from_at + k * w ≤ length (words_of old c.args.from)) are.words c.requires.room in
+    let objects = subst (λ (j : ℕ). Each j n (IsObject old s) c.args.from c.args.from_at hs) many loose.objects in
+    let lands = objects-land ts s old c.args.from a.block old x are.sound c.requires.within.live (places a) ps are.tells are.vacant are.distinct c.args.from_at hs room objects loose.once
+    (λ q lt. (loose.apart q lt, record { live = λ h. h; long = refl; same = λ i. refl })) in
+    let is : with_words old a.block (copied n (words_of old a.block) (words_of old c.args.from) (places a) (progression (pos c.args.from_at) (pos n) k)) ≡ g.B.Blocks.blocks c.spread_words.new.heap =
+    ap (λ (w : ℕ). with_words old a.block (copied w (words_of old a.block) (words_of old c.args.from) (places a) (progression (pos c.args.from_at) (pos w) k))) (sym are.words) ∙ sym c.spread_words.ensures.written in
+    takes-as c.args.from c.args.from_at hs is (sym many) lands
