@@ -1,0 +1,5 @@
+pub mod Notes
+pub mod Few
+pub mod Ways
+pub mod Passing
+pub mod Reaching
