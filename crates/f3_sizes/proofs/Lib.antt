@@ -3,3 +3,4 @@ pub mod Few
 pub mod Ways
 pub mod Passing
 pub mod Reaching
+pub mod Depths

@@ -1,2 +1,3 @@
 pub mod Effect
 pub mod Part
+pub mod Parts

@@ -3,3 +3,4 @@
 
 mod effect;
 mod part;
+pub mod needs;
