@@ -1,3 +1,4 @@
 pub mod Effect
 pub mod Part
 pub mod Parts
+pub mod Needs

@@ -1,6 +1,7 @@
 //! How many cells the stacks of a program's activations need, told from its code.
 #![tactic(auto)]
 
+pub mod answer;
 mod effect;
-mod part;
 pub mod needs;
+mod part;

@@ -1,26 +1,19 @@
 //! How many cells the stacks of activations need.
 
-ghost use Rattle.std.specs.Prelude.{◌≡◌, ◌≤◌, ◌+◌, ◌*◌, ◌^◌, ◌<◌, IfOk, length, sum};
+ghost use Rattle.std.specs.Prelude.{◌≡◌, ◌≤◌, ◌+◌, ◌*◌, ◌^◌, ◌<◌, IfOk, length, map, sum};
 ghost use Rattle.f3_core.specs.Lower.{lowered_program};
 ghost use Rattle.f3_code.specs.Code.{program_code};
 ghost use Rattle.f3_gen_values.specs.Emission.{code_in};
 ghost use Rattle.f3_sizes.specs.Part.{IsDepth};
 ghost use Rattle.f3_sizes.specs.Parts.{AreDepths, AreParts, IsPartAt, first_of, part_lines};
+ghost use Rattle.f3_sizes.specs.Needs.{AreNeverDeeper, AreNotPadded};
 
+use crate::answer::Needs;
 use crate::part::depth;
 use f3_gen_values::emission::Emission;
 use f3_gen_values::line::Line;
 use f3_program::program::Program;
 use std::alloc::{AllocError, Global};
-
-/// How many cells the stack of an activation needs, at most, at any time of any run.
-#[derive(Drop)]
-pub struct Needs {
-    /// Of the main program.
-    pub main: usize,
-    /// Of each procedure, by its number.
-    pub procedures: Vec<usize>,
-}
 
 /// The first line of parts that begin at these, or the line behind them.
 fn first_line(starts: &[usize], end: usize) -> usize
@@ -64,4 +57,43 @@ fn depths(
         found.push(depth_at(alloc, lines, starts, end, first, at)?)?;
     }
     Ok(found)
+}
+
+/// So many more for each.
+fn raised(alloc: Global, cells: &[usize], more: usize) -> Result<Vec<usize>, AllocError>
+    requires { sum cells.now + more < 2 ^ 64 }
+    ensures { IfOk result (λ v. v.items ≡ map (λ n. n + more) cells.now) }
+{
+    let mut found = Vec::new(alloc);
+    for one in cells {
+        found.push(*one + more)?;
+    }
+    Ok(found)
+}
+
+/// How many cells the stack of an activation of the main program and of each procedure needs: no activation ever has more.
+///
+/// Only lines to which ways lead count, each with the cells that stand there, and for each type the same of its routine.
+/// `AllocError` where the host has no memory for what is noted of lines.
+pub fn needs(
+    alloc: Global,
+    program: &Program,
+    emission: &Emission,
+) -> Result<Needs, AllocError>
+    requires { code_in program.now emission.now ≡ program_code (lowered_program program.now) }
+    ensures never_deeper { IfOk result (AreNeverDeeper (lowered_program program.now)) }
+    ensures not_padded { IfOk result (AreNotPadded (lowered_program program.now)) }
+{
+    let lines = &emission.lines;
+    let starts = &emission.procedures[..program.procedures.len()];
+    let behind_routines = first_line(starts, lines.len());
+    let behind_main = first_line(&emission.routines, behind_routines);
+    let main = depth(alloc, &lines[..behind_main], 0)?;
+    let routines = depths(alloc, lines, &emission.routines, behind_routines, 1)?;
+    let procedures = depths(alloc, lines, starts, lines.len(), 0)?;
+    let more = routines.iter().sum();
+    Ok(Needs {
+        main: main + more,
+        procedures: raised(alloc, &procedures, more)?,
+    })
 }
