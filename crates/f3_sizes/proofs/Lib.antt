@@ -4,3 +4,8 @@ pub mod Ways
 pub mod Passing
 pub mod Reaching
 pub mod Depths
+pub mod Pieces
+pub mod Families
+pub mod Tiles
+pub mod Blanking
+pub mod Whole
