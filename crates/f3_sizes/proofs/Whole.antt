@@ -10,7 +10,7 @@ use Rattle.f3_code.specs.State as code
 use Rattle.f3_code.specs.State.{line, Entry, Frame, State}
 use Rattle.f3_code.specs.Code.{work_code, body_code, main_code, procedures_code, entries, routines_code, places_of, program_code}
 use Rattle.f3_heights.specs.Needs.{RoutineHasRoom}
-use Rattle.f3_heights.specs.Program.{work_heights, body_heights, main_heights, program_heights}
+use Rattle.f3_heights.specs.Program.{work_heights, body_heights, main_heights, routines_heights, program_heights}
 use Rattle.f3_heights.specs.Room.{greatest, alike, home, routines_need, procedure_need, main_need, state_after}
 use Rattle.f3_heights.proofs.Parts.{HeightsAt}
 use Rattle.f3_heights.proofs.OfProgram.{heights_all, code_has_heights}
@@ -239,7 +239,7 @@ module _ (p : c.Program) (d : ℕ) (ds es : List ℕ) (hm : Explored (main_piece
 
   heights_are : heights_of (pieces_in tiles) ≡ program_heights p
   heights_are = ap (λ hs. main_heights m p.main ++ hs) (ap heights_of pieces_are ∙ heights_append (routine_pieces p.routines) (procedure_pieces m p.procedures)
-      ∙ ap (λ hs. hs ++ heights_of (procedure_pieces m p.procedures)) (routine_heights p.routines) ∙ ap (λ hs. _ ++ hs) (procedure_heights m p.procedures))
+      ∙ ap (λ hs. hs ++ heights_of (procedure_pieces m p.procedures)) (routine_heights p.routines) ∙ ap (λ hs. routines_heights p.routines ++ hs) (procedure_heights m p.procedures))
 
   all : AllTiles (TileAt R height N) 0 tiles
   all = tiles_at R height N tiles 0 (λ k. ap (reach tiles) (zero-add k)) (subst (λ hs. HeightsAt height 0 hs) (sym heights_are) (heights_all (program_heights p) []))
