@@ -12,7 +12,7 @@ use Rattle.f3_sizes.specs.Part.{ArePart}
 use Rattle.f3_sizes.specs.Parts.{first_of, behind, part_lines, IsPartAt, AreParts}
 use Rattle.f3_sizes.proofs.Pieces.{Piece, lines_of, starts_of, piece_is_part}
 
-take_front : (a b : List code.Line) → take (length a) (a ++ b) ≡ a
+pub take_front : (a b : List code.Line) → take (length a) (a ++ b) ≡ a
 take_front [] b = refl
 take_front (x ∷ a) b = ap (λ ls. x ∷ ls) (take_front a b)
 
@@ -67,7 +67,7 @@ abbrev pub AllBegin : ℕ → List Piece → Type 0
 AllBegin first [] = Unit {0}
 AllBegin first (p ∷ ps) = (p.first ≡ first) × AllBegin first ps
 
-begin_at : (first : ℕ) (ps : List Piece) (i : ℕ) (p : Piece) → AllBegin first ps → slice_get ps i ≡ Some p → p.first ≡ first
+pub begin_at : (first : ℕ) (ps : List Piece) (i : ℕ) (p : Piece) → AllBegin first ps → slice_get ps i ≡ Some p → p.first ≡ first
 begin_at first [] i p h e = cc
 begin_at first (q ∷ ps) zero p h e = let same : q ≡ p = cc in subst (λ (x : Piece). x.first ≡ first) same h.0
 begin_at first (q ∷ ps) (suc i) p h e = begin_at first ps i p h.1 e

@@ -9,3 +9,4 @@ pub mod Families
 pub mod Tiles
 pub mod Blanking
 pub mod Whole
+pub mod Laying

@@ -5,7 +5,7 @@ ghost use Rattle.f3_core.specs.Lower.{lowered_program};
 ghost use Rattle.f3_code.specs.Code.{program_code};
 ghost use Rattle.f3_gen_values.specs.Emission.{code_in};
 ghost use Rattle.f3_sizes.specs.Part.{IsDepth};
-ghost use Rattle.f3_sizes.specs.Parts.{AreDepths, AreParts, IsPartAt, first_of, part_lines};
+ghost use Rattle.f3_sizes.specs.Parts.{AreAnswers, AreCodeParts, AreDepths, AreParts, IsPartAt, first_of, part_lines};
 ghost use Rattle.f3_sizes.specs.Needs.{AreNeverDeeper, AreNotPadded};
 
 use crate::answer::Needs;
@@ -59,6 +59,14 @@ fn depths(
     Ok(found)
 }
 
+/// All together.
+fn together(cells: &[usize]) -> usize
+    requires { sum cells.now < 2 ^ 64 }
+    ensures { result ≡ sum cells.now }
+{
+    cells.iter().sum()
+}
+
 /// So many more for each.
 fn raised(alloc: Global, cells: &[usize], more: usize) -> Result<Vec<usize>, AllocError>
     requires { sum cells.now + more < 2 ^ 64 }
@@ -69,6 +77,28 @@ fn raised(alloc: Global, cells: &[usize], more: usize) -> Result<Vec<usize>, All
         found.push(*one + more)?;
     }
     Ok(found)
+}
+
+/// What activations need, by the lines of the code, and by those with which routines and procedures begin.
+fn told(
+    alloc: Global,
+    lines: &[Line],
+    routines: &[usize],
+    procedures: &[usize],
+) -> Result<Needs, AllocError>
+    requires { AreCodeParts lines.now routines.now procedures.now }
+    ensures { IfOk result (AreAnswers lines.now routines.now procedures.now) }
+{
+    let behind_routines = first_line(procedures, lines.len());
+    let behind_main = first_line(routines, behind_routines);
+    let main = depth(alloc, &lines[..behind_main], 0)?;
+    let of_routines = depths(alloc, lines, routines, behind_routines, 1)?;
+    let of_procedures = depths(alloc, lines, procedures, lines.len(), 0)?;
+    let more = together(&of_routines);
+    Ok(Needs {
+        main: main + more,
+        procedures: raised(alloc, &of_procedures, more)?,
+    })
 }
 
 /// How many cells the stack of an activation of the main program and of each procedure needs: no activation ever has more.
@@ -84,16 +114,6 @@ pub fn needs(
     ensures never_deeper { IfOk result (AreNeverDeeper (lowered_program program.now)) }
     ensures not_padded { IfOk result (AreNotPadded (lowered_program program.now)) }
 {
-    let lines = &emission.lines;
-    let starts = &emission.procedures[..program.procedures.len()];
-    let behind_routines = first_line(starts, lines.len());
-    let behind_main = first_line(&emission.routines, behind_routines);
-    let main = depth(alloc, &lines[..behind_main], 0)?;
-    let routines = depths(alloc, lines, &emission.routines, behind_routines, 1)?;
-    let procedures = depths(alloc, lines, starts, lines.len(), 0)?;
-    let more = routines.iter().sum();
-    Ok(Needs {
-        main: main + more,
-        procedures: raised(alloc, &procedures, more)?,
-    })
+    let procedures = &emission.procedures[..program.procedures.len()];
+    told(alloc, &emission.lines, &emission.routines, procedures)
 }
