@@ -10,3 +10,4 @@ pub mod Tiles
 pub mod Blanking
 pub mod Whole
 pub mod Laying
+pub mod Rows

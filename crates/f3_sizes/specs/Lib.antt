@@ -2,3 +2,4 @@ pub mod Effect
 pub mod Part
 pub mod Parts
 pub mod Needs
+pub mod Words
