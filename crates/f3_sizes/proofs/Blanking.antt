@@ -1,7 +1,6 @@
 -- The code without the lines to which no way leads: its heights and needs, and that it runs as the code does.
-use Rattle.std.proofs.Common.{◌≡◌, ◌≤◌, ◌<◌, ℕ, zero, suc, ◌+◌, ◌-◌, Bool, true, false, List, [], ◌∷◌, ◌++◌, length, Option, None, Some, refl, sym, ap, ◌∙◌, subst, arith, zero-add, if◌then◌else◌}
-use Rattle.std.specs.Prelude.{slice_get, nat_eq}
-use Rattle.std.proofs.lemmas.Option.{slice_get_within}
+use Rattle.std.proofs.Common.{◌≡◌, ◌≤◌, ◌<◌, ℕ, zero, suc, ◌+◌, ◌-◌, Bool, true, false, List, [], ◌∷◌, length, Option, None, Some, refl, sym, ap, ◌∙◌, subst, arith, zero-add, if◌then◌else◌}
+use Rattle.std.specs.Prelude.{slice_get}
 use Rattle.f3_meaning_whole.specs.Value.{Value}
 use Rattle.f3_meaning_whole.specs.Ran.{Event, World, End, Gives, Fails, Stops, Beyond, ◌>>=◌}
 use Rattle.f3_meaning_whole.specs.Act.{Setting, Here, claim, enter}
@@ -16,10 +15,9 @@ use Rattle.f3_code.specs.Run.{start}
 use Rattle.f3_heights.specs.Effect.{Far, effect}
 use Rattle.f3_heights.specs.Heights.{IsNext, AreFar, IsAt, RoutinesBegin, AreHeights}
 use Rattle.f3_heights.specs.Needs.{KeptNext, KeptFar, IsKept, RoutineHasRoom, AreNeeds}
-use Rattle.f3_heights.specs.Room.{home, Within, FramesWithin, IsWithin, FramesHave, HasRoom, frames_cells, state_next, state_run, state_after}
+use Rattle.f3_heights.specs.Room.{home, Within, FramesWithin, IsWithin, FramesHave, frames_cells, state_next, state_run, state_after}
 use Rattle.f3_heights.proofs.Within.{steps_keep_room, all_have_room}
 use Rattle.f3_sizes.specs.Part.{IntoNext, IntoFar, LeadsInto}
-
 
 -- lines from one on, with no way on from those that are not reached
 abbrev pub blank : (ℕ → Bool) → ℕ → List Line → List Line

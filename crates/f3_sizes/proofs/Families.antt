@@ -1,15 +1,14 @@
 -- Pieces stand in the code that was emitted.
-use Rattle.std.proofs.Common.{◌≡◌, ◌≤◌, ◌<◌, ℕ, zero, suc, ◌+◌, ◌-◌, List, [], ◌∷◌, ◌++◌, map, length, take, drop, Option, None, Some, refl, sym, ap, ◌∙◌, subst, arith, append_assoc, append-nil, length-append}
+use Rattle.std.proofs.Common.{◌≡◌, ◌≤◌, ◌<◌, ℕ, zero, suc, ◌+◌, ◌-◌, List, [], ◌∷◌, ◌++◌, length, take, drop, Some, refl, sym, ap, ◌∙◌, subst, arith, append_assoc, length-append}
 use Rattle.std.specs.Prelude.{slice_get, slice_index, slice_range}
 use Rattle.std.proofs.Math.Seq.{drop-append_seam}
 use Rattle.std.proofs.lemmas.List.{length-map, take-map, drop-map}
-use Rattle.std.proofs.lemmas.Option.{slice_get-get_or}
 use Rattle.f3_meaning_whole.specs.Act.{Setting}
 use Rattle.f3_code.specs.State as code
 use Rattle.f3_gen_values.specs.declared.line.Line.{Line}
 use Rattle.f3_gen_values.specs.Emitted.{line_in, lines_in}
 use Rattle.f3_sizes.specs.Part.{ArePart}
-use Rattle.f3_sizes.specs.Parts.{first_of, behind, part_lines, IsPartAt, AreParts}
+use Rattle.f3_sizes.specs.Parts.{first_of, behind, part_lines, AreParts}
 use Rattle.f3_sizes.proofs.Pieces.{Piece, lines_of, starts_of, piece_is_part}
 
 pub take_front : (a b : List code.Line) → take (length a) (a ++ b) ≡ a

@@ -1,8 +1,8 @@
 -- No instruction leaves more than two cells more than it takes.
-use Rattle.std.proofs.Common.{◌≡◌, ◌≤◌, ℕ, ◌+◌, List, [], ◌∷◌, Option, None, Some, arith, rules}
+use Rattle.std.proofs.Common.{◌≤◌, ℕ, ◌+◌, List, [], ◌∷◌, Option, None, Some, arith, rules}
 use Rattle.f3_code.specs.declared.instruction.Instruction.{Instruction}
 use Rattle.f3_code.specs.declared.instruction.Instruction.TheVariants as i
-use Rattle.f3_heights.specs.Effect.{Far, Effect, effect}
+use Rattle.f3_heights.specs.Effect.{Far, effect}
 
 abbrev pub FewNext : ℕ → Option ℕ → Type 0
 FewNext takes None = Unit {0}

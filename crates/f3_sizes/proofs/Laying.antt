@@ -1,5 +1,5 @@
 -- The code that was emitted for a program is laid out in parts.
-use Rattle.std.proofs.Common.{◌≡◌, ◌≤◌, ◌<◌, ℕ, zero, suc, ◌+◌, ◌-◌, List, [], ◌∷◌, ◌++◌, map, length, take, drop, Option, None, Some, refl, sym, ap, ◌∙◌, subst, arith, append_assoc, append-nil, length-append, zero-add}
+use Rattle.std.proofs.Common.{◌≡◌, ◌≤◌, ◌<◌, ℕ, zero, suc, ◌+◌, List, [], ◌∷◌, ◌++◌, map, length, take, Some, refl, sym, ap, ◌∙◌, subst, arith, append_assoc, append-nil, length-append}
 use Rattle.std.specs.Prelude.{slice_get, slice_index, sum, Result, Ok, Err, IfOk}
 use Rattle.std.proofs.lemmas.List.{length-map, take-map}
 use Rattle.std.proofs.lemmas.List.Recursion.{is_sum_by}
@@ -12,17 +12,17 @@ use Rattle.f3_core.specs.Core as c
 use Rattle.f3_core.specs.Lower.{lowered_program, lowered_procedure}
 use Rattle.f3_code.specs.State as code
 use Rattle.f3_code.specs.State.{Entry, Code}
-use Rattle.f3_code.specs.Code.{body_code, main_code, procedures_code, entries, routines_code, places_of, program_code}
+use Rattle.f3_code.specs.Code.{body_code, main_code, procedures_code, entries, routines_code, program_code}
 use Rattle.f3_gen_values.specs.declared.emission.Emission.{Emission}
 use Rattle.f3_gen_values.specs.declared.line.Line.{Line}
 use Rattle.f3_gen_values.specs.Emitted.{line_in, lines_in}
 use Rattle.f3_gen_values.specs.Emission.{entries_in, code_in}
 use Rattle.f3_sizes.specs.declared.answer.Needs.{Needs}
-use Rattle.f3_sizes.specs.Part.{ArePart, IsDepth}
-use Rattle.f3_sizes.specs.Parts.{first_of, behind, part_lines, behind_routines, behind_main, AreDepths, AreCodeParts, AreAnswers}
+use Rattle.f3_sizes.specs.Part.{IsDepth}
+use Rattle.f3_sizes.specs.Parts.{first_of, part_lines, behind_routines, behind_main, AreDepths, AreCodeParts, AreAnswers}
 use Rattle.f3_sizes.specs.Needs.{AreNeverDeeper, AreNotPadded}
 use Rattle.f3_sizes.proofs.Pieces.{Piece, lines_of, starts_of, main_piece, routine_pieces, procedure_pieces, routine_lines, procedure_lines, routine_starts, procedure_starts, piece_is_part}
-use Rattle.f3_sizes.proofs.Families.{take_front, StandsAt, stands, first_start, starts_length, AllBegin, begin_at, are_parts}
+use Rattle.f3_sizes.proofs.Families.{take_front, stands, first_start, starts_length, AllBegin, begin_at, are_parts}
 use Rattle.f3_sizes.proofs.Tiles.{Explored, explored}
 use Rattle.f3_sizes.proofs.Whole.{total, AllExplored, never_deeper, not_padded}
 
@@ -64,11 +64,11 @@ family_found : (g : Setting) (ls : List Line) (pre : List code.Line) (ps : List 
 family_found g ls pre ps post at end first starts ds e here there begin same a =
     let many : length starts ≡ length ps = ap (λ (ns : List ℕ). length ns) (sym same) ∙ starts_length at ps in
     found_all ps ds (a.same ∙ many) (λ i p is.
-        let lt = get_within ps i p is in
-        let s = stands g ls pre ps post at end e here there i p is in
-        let are = subst (λ ss. lines_in g (part_lines ls ss end i) ≡ p.lines) same s.are in
-        let d = subst (λ n. IsDepth (part_lines ls starts end i) n (slice_index ds i)) (sym (begin_at first ps i p begin is)) (a.each i (omega (arith, lt, many))) in
-        explored g (part_lines ls starts end i) p (slice_index ds i) are d)
+    let lt = get_within ps i p is in
+    let s = stands g ls pre ps post at end e here there i p is in
+    let are = subst (λ ss. lines_in g (part_lines ls ss end i) ≡ p.lines) same s.are in
+    let d = subst (λ n. IsDepth (part_lines ls starts end i) n (slice_index ds i)) (sym (begin_at first ps i p begin is)) (a.each i (omega (arith, lt, many))) in
+    explored g (part_lines ls starts end i) p (slice_index ds i) are d)
 
 total_sum : (ds : List ℕ) → total ds ≡ sum ds
 total_sum ds = is_sum_by total (λ x. x) refl (λ _ _. refl) ds

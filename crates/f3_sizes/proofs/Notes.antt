@@ -1,6 +1,6 @@
 -- What is noted stays, and so much less is left.
-use Rattle.std.proofs.Common.{◌≡◌, ◌≢◌, ◌≤◌, ◌<◌, ℕ, zero, suc, ◌+◌, ◌*◌, false, List, [], ◌∷◌, length, get_or, cond, Option, None, Some, refl, sym, ap, ◌∙◌, subst, arith, ◌⊎◌, inl, inr}
-use Rattle.std.specs.Prelude.{slice_get, slice_set, is_some, is_none, count_by}
+use Rattle.std.proofs.Common.{◌≡◌, ◌≢◌, ◌≤◌, ◌<◌, ℕ, zero, suc, ◌+◌, ◌*◌, false, List, [], ◌∷◌, length, get_or, cond, Option, None, Some, refl, sym, ap, ◌∙◌, arith, ◌⊎◌, inl, inr}
+use Rattle.std.specs.Prelude.{slice_get, slice_set, is_some, is_none}
 use Rattle.std.proofs.Math.ListN.{length-set}
 use Rattle.std.proofs.lemmas.Option.{get_or_from_slice_get, slice_get_within}
 use Rattle.std.proofs.lemmas.List.Sums.{sum_by-set}
@@ -58,7 +58,6 @@ note_right height hs at v is a e le =
       right = λ k h there. elim (after_set hs at k v h there) [ inl b ↦ b.1 ∙ e ∙ ap height (sym b.0) | inr b ↦ a.right k h b ];
       few = λ k h there. elim (after_set hs at k v h there) [ inl b ↦ omega (arith, b.1, le, less, same) | inr b ↦ omega (arith, a.few k h b, less, same) ];
     }
-
 
 pub set_others : (hs : Notes) (at v k : ℕ) → k ≢ at → slice_get (slice_set hs at (Some v)) k ≡ slice_get hs k
 set_others [] at v k ne = refl

@@ -7,7 +7,7 @@ use Rattle.f3_code.specs.declared.instruction.Instruction.TheVariants as i
 use Rattle.f3_gen_values.specs.declared.line.Line.{Line}
 use Rattle.f3_heights.specs.Effect.{effect}
 use Rattle.f3_heights.specs.Heights.{Leads, IsAt}
-use Rattle.f3_sizes.specs.Part.{Onward, LeadsInto, ArePart, IsNoted, AreNoted, Grows, IsReady, IsClosed, IsBegun, IsSameUpTo, unnoted}
+use Rattle.f3_sizes.specs.Part.{Onward, LeadsInto, IsNoted, AreNoted, Grows, IsReady, IsClosed, IsBegun, IsSameUpTo, unnoted}
 use Rattle.f3_sizes.proofs.Ways.{grows_on, stays, noted_on, into_next_on, into_far_on, IsNote}
 
 abbrev Notes : Type 0
@@ -141,9 +141,9 @@ back_known height first lines old mid new at cells over l begun p is here e n sa
     let k = back_line height first lines mid at cells over l (p.begun height first begun) is here e in
     let there = subst (λ hs. IsNoted hs (at - over)) same n.there in
     let closed = closed_more lines mid at p.closed (λ x is' m.
-        let s : l ≡ x = let t : Some l ≡ Some x = sym is ∙ is' in cc in
-        let e' : x.act ≡ i.GoBack over = ap (λ (y : Line). y.act) (sym s) ∙ e in
-        subst (λ y. LeadsInto (IsNoted mid) at y) (sym e') (k.less, there)) in
+    let s : l ≡ x = let t : Some l ≡ Some x = sym is ∙ is' in cc in
+    let e' : x.act ≡ i.GoBack over = ap (λ (y : Line). y.act) (sym s) ∙ e in
+    subst (λ y. LeadsInto (IsNoted mid) at y) (sym e') (k.less, there)) in
     let passed : Passed lines old mid (at + 1) = record { begun = p.begun; grows = p.grows; closed = closed } in
     subst (λ hs. Passed lines old hs (at + 1)) (sym same) passed
 

@@ -1,5 +1,5 @@
 -- Pieces of code that lead to their own lines alone, one behind another.
-use Rattle.std.proofs.Common.{◌≡◌, ◌≤◌, ◌<◌, ℕ, zero, suc, ◌+◌, ◌-◌, List, [], ◌∷◌, ◌++◌, map, length, take, drop, Option, None, Some, refl, sym, ap, ◌∙◌, subst, arith, append_assoc, append-nil, length-append}
+use Rattle.std.proofs.Common.{◌≡◌, ◌≤◌, ◌<◌, ℕ, zero, suc, ◌+◌, ◌-◌, List, [], ◌∷◌, ◌++◌, map, length, Option, None, Some, refl, sym, ap, ◌∙◌, subst, arith, append_assoc, length-append}
 use Rattle.std.specs.Prelude.{slice_get, slice_index}
 use Rattle.std.proofs.lemmas.Option.{slice_get-map}
 use Rattle.std.proofs.lemmas.List.{length-map}
@@ -11,17 +11,17 @@ use Rattle.f3_code.specs.declared.instruction.Instruction.{Instruction}
 use Rattle.f3_code.specs.declared.instruction.Instruction.TheVariants as i
 use Rattle.f3_code.specs.State as code
 use Rattle.f3_code.specs.State.{line, Entry}
-use Rattle.f3_code.specs.Code.{work_code, body_code, main_code, procedures_code, entries, routines_code, places_of, program_code}
+use Rattle.f3_code.specs.Code.{work_code, body_code, main_code, procedures_code, entries, routines_code, places_of}
 use Rattle.f3_gen_values.specs.declared.line.Line.{Line}
 use Rattle.f3_gen_values.specs.Emitted.{line_in, lines_in}
 use Rattle.f3_heights.specs.Effect.{Far, effect}
 use Rattle.f3_heights.specs.Heights.{IsAt}
 use Rattle.f3_heights.specs.Needs.{KeptNext, KeptFar, IsKept}
-use Rattle.f3_heights.specs.Program.{work_heights, body_heights, main_heights, procedures_heights, routines_heights, program_heights}
+use Rattle.f3_heights.specs.Program.{work_heights, body_heights, main_heights, procedures_heights, routines_heights}
 use Rattle.f3_heights.specs.Room.{greatest, alike}
-use Rattle.f3_heights.proofs.Parts.{HeightsAt, LinesAt, Part, line_of}
+use Rattle.f3_heights.proofs.Parts.{LinesAt, Part, line_of}
 use Rattle.f3_heights.proofs.OfProgram.{Any, body_part, main_part, routine_part, heights_all}
-use Rattle.f3_heights.proofs.Regions.{AllAt, all_of, Own, own}
+use Rattle.f3_heights.proofs.Regions.{all_of, Own, own}
 use Rattle.f3_sizes.specs.Part.{IntoNext, IntoFar, LeadsInto, ArePart}
 
 pub record Piece : Type 0 where

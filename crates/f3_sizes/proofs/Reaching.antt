@@ -1,12 +1,12 @@
 -- The lines of a part that ways lead to.
-use Rattle.std.proofs.Common.{◌≡◌, ◌≢◌, ◌≤◌, ◌<◌, ◌⊎◌, ℕ, zero, suc, ◌+◌, ◌*◌, Bool, true, false, List, [], ◌∷◌, ◌++◌, take, drop, length, get_or, append-nil, replicate, Option, None, Some, refl, sym, ap, ◌∙◌, subst, arith, inl, inr, below_more, max}
+use Rattle.std.proofs.Common.{◌≡◌, ◌≤◌, ◌<◌, ◌⊎◌, ℕ, zero, suc, ◌+◌, ◌*◌, true, List, [], ◌++◌, take, drop, length, get_or, append-nil, replicate, Option, None, Some, refl, sym, ap, ◌∙◌, subst, arith, inl, inr, below_more, max}
 use Rattle.std.specs.Prelude.{slice_get, is_some}
 use Rattle.std.specs.Ordering.{nat_cmp, ord_max}
 use Rattle.std.proofs.lemmas.Grind.{common_steps}
 use Rattle.std.proofs.lemmas.List.{take_all, drop_all}
-use Rattle.std.proofs.lemmas.Option.{slice_get_within, slice_get-get_or, get_or_from_slice_get}
+use Rattle.std.proofs.lemmas.Option.{slice_get_within, get_or_from_slice_get}
 use Rattle.f3_gen_values.specs.declared.line.Line.{Line}
-use Rattle.f3_sizes.specs.Part.{LeadsInto, ArePart, IsNoted, AreNoted, Grows, IsClosed, IsBegun, IsGreatest, IsDepth, unnoted}
+use Rattle.f3_sizes.specs.Part.{ArePart, IsNoted, AreNoted, Grows, IsClosed, IsBegun, IsGreatest, IsDepth, unnoted}
 use Rattle.std.proofs.lemmas.List.Folds.{sum_by-replicate}
 use Rattle.f3_sizes.proofs.Notes.{one_if_none}
 use Rattle.f3_sizes.proofs.Ways.{noted_on}
@@ -44,15 +44,15 @@ pub begins : (lines : List Line) (first : ℕ) (hs none : Notes) → first ≤ 1
     first + 2 * unnoted none ≤ 2 * length none + 2 → AreNoted height hs) → Reached lines first hs 0
 begins lines first hs none low as_many there is noted =
     let same : length hs ≡ length lines = as_many ∙ ap (λ (ns : Notes). length ns) is ∙ none_length (length lines) in record {
-  begun = λ height p. record {
-    part = p;
-    noted = noted height (subst (λ ns. AreNoted height ns) (sym is) (none_noted height (length lines))) (sym p.begins)
-        (omega (arith, low, ap (λ ns. unnoted ns) is, ap (λ (ns : Notes). length ns) is, all_unnoted (length lines), none_length (length lines)));
-    same = same;
-  };
-  start = there;
-  closed = λ k l lt is n. absurd (omega (arith, lt));
-}
+      begun = λ height p. record {
+        part = p;
+        noted = noted height (subst (λ ns. AreNoted height ns) (sym is) (none_noted height (length lines))) (sym p.begins)
+            (omega (arith, low, ap (λ ns. unnoted ns) is, ap (λ (ns : Notes). length ns) is, all_unnoted (length lines), none_length (length lines)));
+        same = same;
+      };
+      start = there;
+      closed = λ k l lt is n. absurd (omega (arith, lt));
+    }
 
 pub again : (lines : List Line) (first : ℕ) (old new : Notes) (from at : ℕ) → Reached lines first old from → Grows old new →
     ((height : ℕ → ℕ) (first : ℕ) → IsBegun height first lines old → IsBegun height first lines new) → IsClosed lines new at → Reached lines first new at

@@ -1,6 +1,6 @@
 -- Pieces with what was found of them: the lines that ways lead to, and how many cells these need.
-use Rattle.std.proofs.Common.{◌≡◌, ◌≤◌, ◌<◌, ℕ, zero, suc, ◌+◌, ◌-◌, Bool, true, false, List, [], ◌∷◌, ◌++◌, map, length, Option, None, Some, refl, sym, ap, ◌∙◌, subst, arith, append_assoc, length-append, if◌then◌else◌, ◌⊎◌, inl, inr}
-use Rattle.std.specs.Prelude.{slice_get, slice_index, nat_lt, nat_eq}
+use Rattle.std.proofs.Common.{◌≡◌, ◌≤◌, ◌<◌, ℕ, zero, suc, ◌+◌, ◌-◌, Bool, true, false, List, [], ◌∷◌, ◌++◌, length, Option, None, Some, refl, sym, ap, ◌∙◌, subst, arith, length-append, if◌then◌else◌, ◌⊎◌, inl, inr}
+use Rattle.std.specs.Prelude.{slice_get, slice_index, nat_lt}
 use Rattle.std.proofs.lemmas.Option.{slice_get_within}
 use Rattle.std.proofs.lemmas.List.{length-map}
 use Rattle.f3_meaning_whole.specs.Act.{Setting}
@@ -14,8 +14,8 @@ use Rattle.f3_heights.specs.Heights.{IsAt}
 use Rattle.f3_heights.specs.Needs.{IsKept}
 use Rattle.f3_heights.specs.Room.{greatest, alike}
 use Rattle.f3_heights.proofs.Parts.{HeightsAt, heights_front, heights_back}
-use Rattle.f3_heights.proofs.Regions.{AllAt, all_of, greatest_first, Own, own}
-use Rattle.f3_sizes.specs.Part.{IntoNext, IntoFar, Onward, LeadsInto, IsDepth}
+use Rattle.f3_heights.proofs.Regions.{all_of, greatest_first, Own, own}
+use Rattle.f3_sizes.specs.Part.{IntoNext, IntoFar, LeadsInto, IsDepth}
 use Rattle.f3_sizes.proofs.Pieces.{Piece, lines_of, heights_of, as_many, emitted_from, piece_is_part}
 
 -- ---- what was found of a piece
@@ -157,10 +157,9 @@ module _ (R : ℕ → Bool) (height N : ℕ → ℕ) where
       let same : at + length hs ≡ at + len = omega (arith, many) in
       let same' : at + length (alike (need_of t) hs) ≡ at + len = omega (arith, many, alike_length (need_of t) hs) in
       let rest : (k : ℕ) → R (at + len + k) ≡ reach ts k = λ k.
-          let e : at + len + k ≡ at + (len + k) = omega arith in
-          let back : len + k - len ≡ k = omega arith in
-          ap R e ∙ r (len + k) ∙ if_false (nat_lt (len + k) len) (t.found.reached (len + k)) (reach ts (len + k - len)) (less_not (len + k) len (omega arith)) ∙ ap (reach ts) back in
-      (
+      let e : at + len + k ≡ at + (len + k) = omega arith in
+      let back : len + k - len ≡ k = omega arith in
+      ap R e ∙ r (len + k) ∙ if_false (nat_lt (len + k) len) (t.found.reached (len + k)) (reach ts (len + k - len)) (less_not (len + k) len (omega arith)) ∙ ap (reach ts) back in (
         record {
           reached = λ k lt. r k ∙ if_true (nat_lt k len) (t.found.reached k) (reach ts (k - len)) (less_so k len lt);
           heights = heights_front height at hs (heights_of (pieces_in ts)) h;

@@ -1,13 +1,13 @@
 -- What is noted where an instruction leads.
-use Rattle.std.proofs.Common.{◌≡◌, ◌≢◌, ◌≤◌, ◌<◌, ℕ, zero, suc, ◌+◌, ◌-◌, ◌*◌, List, [], ◌∷◌, ◌++◌, length, get_or, take, Option, None, Some, refl, sym, add-one, ap, ◌∙◌, subst, arith}
+use Rattle.std.proofs.Common.{◌≡◌, ◌≢◌, ◌≤◌, ◌<◌, ℕ, zero, suc, ◌+◌, ◌-◌, ◌*◌, List, [], ◌∷◌, length, get_or, take, Option, None, Some, refl, sym, ap, ◌∙◌, subst, arith}
 use Rattle.std.specs.Prelude.{slice_get}
 use Rattle.f3_code.specs.declared.instruction.Instruction.{Instruction}
 use Rattle.f3_heights.specs.Effect as heights
 use Rattle.f3_heights.specs.Effect.{effect}
-use Rattle.f3_heights.specs.Heights.{IsNext, AreFar, Leads}
+use Rattle.f3_heights.specs.Heights.{IsNext, AreFar}
 use Rattle.f3_sizes.specs.declared.effect.Far.{Far}
 use Rattle.f3_sizes.specs.Effect.{far_in}
-use Rattle.f3_sizes.specs.Part.{IntoNext, IntoFar, Onward, IsNoted, AreNoted, Grows, IsReady, IsSameUpTo, unnoted}
+use Rattle.f3_sizes.specs.Part.{IntoNext, IntoFar, IsNoted, AreNoted, Grows, IsReady, IsSameUpTo, unnoted}
 use Rattle.f3_sizes.proofs.Few.{FewNext, FewFar, few_next, few_far}
 
 abbrev Notes : Type 0

@@ -1,8 +1,7 @@
 -- A program as tiles, and what is said of its activations.
-use Rattle.std.proofs.Common.{◌≡◌, ◌≤◌, ◌<◌, ℕ, zero, suc, ◌+◌, ◌-◌, Bool, true, false, List, [], ◌∷◌, ◌++◌, map, length, Option, None, Some, refl, sym, ap, ◌∙◌, subst, arith, append_assoc, append-nil, length-append, zero-add}
+use Rattle.std.proofs.Common.{◌≡◌, ◌≤◌, ◌<◌, ℕ, zero, suc, ◌+◌, ◌-◌, Bool, true, List, [], ◌∷◌, ◌++◌, map, length, Option, None, Some, refl, sym, ap, ◌∙◌, subst, arith, append_assoc, length-append, zero-add}
 use Rattle.std.specs.Prelude.{slice_get, slice_index, nat_lt, nat_eq}
 use Rattle.std.proofs.lemmas.List.{length-map}
-use Rattle.std.proofs.lemmas.Option.{slice_get-get_or, slice_get_within}
 use Rattle.f3_core.specs.Work as w
 use Rattle.f3_core.specs.Core as c
 use Rattle.f3_code.specs.declared.instruction.Instruction.TheVariants as i
@@ -10,19 +9,18 @@ use Rattle.f3_code.specs.State as code
 use Rattle.f3_code.specs.State.{line, Entry, Frame, State}
 use Rattle.f3_code.specs.Code.{work_code, body_code, main_code, procedures_code, entries, routines_code, places_of, program_code}
 use Rattle.f3_heights.specs.Needs.{RoutineHasRoom}
-use Rattle.f3_heights.specs.Program.{work_heights, body_heights, main_heights, routines_heights, program_heights}
-use Rattle.f3_heights.specs.Room.{greatest, alike, home, routines_need, procedure_need, main_need, state_after}
+use Rattle.f3_heights.specs.Program.{main_heights, routines_heights, program_heights}
+use Rattle.f3_heights.specs.Room.{alike, home, routines_need, procedure_need}
 use Rattle.f3_heights.proofs.Parts.{HeightsAt}
 use Rattle.f3_heights.proofs.OfProgram.{heights_all, code_has_heights}
-use Rattle.f3_heights.proofs.Regions.{AllAt, all_on, all_of}
+use Rattle.f3_heights.proofs.Regions.{all_on, all_of}
 use Rattle.f3_heights.proofs.Older.{IsOlder, work_older}
 use Rattle.f3_heights.proofs.Needing.{places_length}
 use Rattle.f3_sizes.specs.declared.answer.Needs.{Needs}
-use Rattle.f3_sizes.specs.Part.{LeadsInto}
-use Rattle.f3_sizes.specs.Needs.{answer_for, IsLineOf, IsWithinAnswer, height_in, CallersWithinAnswers, AreNeverDeeper, AreNotPadded}
+use Rattle.f3_sizes.specs.Needs.{answer_for, IsLineOf, CallersWithinAnswers, AreNeverDeeper, AreNotPadded}
 use Rattle.f3_sizes.proofs.Pieces.{Piece, lines_of, heights_of, as_many, main_piece, routine_piece, procedure_piece, routine_pieces, procedure_pieces, routine_lines, routine_heights, procedure_lines, procedure_heights}
 use Rattle.f3_sizes.proofs.Tiles.{Explored, Tile, need_of, pieces_in, needs_in, reach, reach_within, AllTiles, tiles_front, tiles_back, TileAt, tiles_at, LineAt, tile_line, InTile, line_in_tile}
-use Rattle.f3_sizes.proofs.Blanking.{IsCovered, IsFew, FramesFew, states_steady, steady_few}
+use Rattle.f3_sizes.proofs.Blanking.{IsCovered, FramesFew, states_steady, steady_few}
 
 abbrev pub total : List ℕ → ℕ
 total [] = 0

@@ -147,9 +147,9 @@ pub(crate) fn effect_of(act: Instruction) -> Effect
         Instruction::Associated => onward(2, 3),
         Instruction::Triplet | Instruction::EndAssociate => onward(3, 1),
         Instruction::CountBegin => onward(4, 1),
-        Instruction::Array(count) | Instruction::Structure(_, count) | Instruction::Call(_, count) => {
-            onward(count, 1)
-        }
+        Instruction::Array(count)
+        | Instruction::Structure(_, count)
+        | Instruction::Call(_, count) => { onward(count, 1) }
         Instruction::Select(_, count) | Instruction::Allocate(_, count) => onward(count + 1, 1),
         Instruction::SelectOf(_, _, count) => onward(count + 2, 1),
         Instruction::Unwind(count) => onward(count, 0),

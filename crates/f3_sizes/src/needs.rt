@@ -105,11 +105,7 @@ fn told(
 ///
 /// Only lines to which ways lead count, each with the cells that stand there, and for each type the same of its routine.
 /// `AllocError` where the host has no memory for what is noted of lines.
-pub fn needs(
-    alloc: Global,
-    program: &Program,
-    emission: &Emission,
-) -> Result<Needs, AllocError>
+pub fn needs(alloc: Global, program: &Program, emission: &Emission) -> Result<Needs, AllocError>
     requires { code_in program.now emission.now ≡ program_code (lowered_program program.now) }
     ensures never_deeper { IfOk result (AreNeverDeeper (lowered_program program.now)) }
     ensures not_padded { IfOk result (AreNotPadded (lowered_program program.now)) }

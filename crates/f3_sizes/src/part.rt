@@ -90,11 +90,7 @@ fn note_all(lines: &[Line], heights: &mut [Option<usize>], first: usize)
 }
 
 /// How many cells stand at each line to which ways lead from the first, at which so many stand, and nothing of the others.
-fn reached(
-    alloc: Global,
-    lines: &[Line],
-    first: usize,
-) -> Result<Vec<Option<usize>>, AllocError>
+fn reached(alloc: Global, lines: &[Line], first: usize) -> Result<Vec<Option<usize>>, AllocError>
     requires part { (height : ℕ → ℕ) × ArePart height first lines.now }
     requires low { first ≤ 1 }
     ensures begun { IfOk result (λ v. (height : ℕ → ℕ) → ArePart height first lines.now → IsBegun height first lines.now v.items) }

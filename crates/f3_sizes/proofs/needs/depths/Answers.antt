@@ -1,4 +1,4 @@
-use Rattle.std.proofs.Common.{◌≡◌, ◌++◌, ◌∷◌, [], List, ℕ, sym, subst, ◌+◌}
+use Rattle.std.proofs.Common.{sym, subst, ◌+◌}
 use Rattle.f3_sizes.specs.Parts.{AreDepths}
 use Rattle.f3_sizes.proofs.Depths.{depths_more}
 use Rattle.f3_sizes.proofs.needs.depths.Goals as goal

@@ -1,7 +1,7 @@
-use Rattle.std.proofs.Common.{◌≡◌, ℕ, ◌+◌, List, map, length, take, refl, sym, ap, ◌∙◌, subst, arith}
+use Rattle.std.proofs.Common.{ℕ, ◌+◌, List, map, length, take, sym, ap, ◌∙◌, subst}
 use Rattle.std.specs.Prelude.{sum}
 use Rattle.f3_sizes.specs.Part.{IsDepth}
-use Rattle.f3_sizes.specs.Parts.{first_of, IsPartAt, AreDepths, behind_routines, behind_main}
+use Rattle.f3_sizes.specs.Parts.{first_of, IsPartAt, AreDepths}
 use Rattle.f3_sizes.proofs.needs.told.Goals as goal
 
 pub depths-requires-clause-parts : goal.depths-requires-clause-parts

@@ -1,4 +1,4 @@
-use Rattle.std.proofs.Common.{◌≡◌, ◌≤◌, ◌<◌, ◌+◌, ◌*◌, ℕ, List, Option, None, Some, length, max, get_or, sym, ap, ◌∙◌, subst, arith}
+use Rattle.std.proofs.Common.{◌≡◌, ◌≤◌, ◌+◌, ℕ, List, Option, length, max, sym, ap, ◌∙◌, subst, arith}
 use Rattle.f3_sizes.specs.Part.{IsGreatest}
 use Rattle.f3_sizes.proofs.Reaching.{is_depth, greatest_more, greatest_none_more, greatest_less, ord_max_nat}
 use Rattle.f3_sizes.proofs.part.depth.Goals as goal

@@ -1,5 +1,4 @@
-use Rattle.std.proofs.Common.{◌≡◌, ◌∙◌, sym, None, Some, arith}
-use Rattle.std.specs.Prelude.{slice_get}
+use Rattle.std.proofs.Common.{◌∙◌, sym}
 use Rattle.f3_sizes.proofs.Notes.{none_here, note_grows, note_there, note_right, set_others}
 use Rattle.f3_sizes.proofs.part.note.Goals as goal
 

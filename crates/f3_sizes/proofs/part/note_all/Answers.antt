@@ -1,4 +1,4 @@
-use Rattle.std.proofs.Common.{◌≡◌, ◌≤◌, ◌<◌, ◌+◌, ◌*◌, ℕ, List, Option, None, Some, length, replicate, sym, ap, ◌∙◌, subst, arith}
+use Rattle.std.proofs.Common.{◌<◌, subst, arith}
 use Rattle.std.specs.Prelude.{IfSome}
 use Rattle.f3_sizes.specs.Part.{IsClosed, unnoted}
 use Rattle.f3_sizes.proofs.Reaching.{begins, again}

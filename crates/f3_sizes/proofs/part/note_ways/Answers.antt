@@ -1,7 +1,5 @@
-use Rattle.std.proofs.Common.{◌≡◌, ◌≤◌, ◌<◌, ◌+◌, ◌*◌, ℕ, List, length, Option, None, Some, get_or, ◌-◌, Fits, w64, ap, sym, ◌∙◌, subst, arith}
-use Rattle.f3_heights.specs.Effect.{effect}
-use Rattle.f3_sizes.specs.Effect.{effect_in}
-use Rattle.f3_sizes.proofs.Ways.{WaysNoted, IsNote, IsWay, far_way, far_more, far_none, next_first, none_first}
+use Rattle.std.proofs.Common.{◌+◌, ℕ, List, Option, ◌-◌, ap, sym, ◌∙◌, subst, arith}
+use Rattle.f3_sizes.proofs.Ways.{WaysNoted, far_way, far_more, far_none, next_first, none_first}
 use Rattle.f3_sizes.proofs.part.note_ways.Goals as goal
 use Rattle.f3_sizes.proofs.part.note_ways.Goals.{in-Some, in_default, in-Some-way, in_default-way}
 

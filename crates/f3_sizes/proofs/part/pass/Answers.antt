@@ -1,7 +1,6 @@
-use Rattle.std.proofs.Common.{◌≡◌, ◌≤◌, ◌<◌, ◌+◌, ◌*◌, ◌-◌, ℕ, List, Option, None, Some, length, get_or, sym, ◌∙◌, subst, arith}
+use Rattle.std.proofs.Common.{◌≡◌, ◌+◌, ℕ, List, Option, sym, subst, arith}
 use Rattle.std.specs.Bool.{OnFalse}
-use Rattle.f3_sizes.proofs.Ways.{IsNote}
-use Rattle.f3_sizes.proofs.Passing.{Passed, unnoted_line, ready_read, onward_read, back_read, new_read, known_read}
+use Rattle.f3_sizes.proofs.Passing.{Passed, unnoted_line, ready_read, onward_read, new_read, known_read}
 use Rattle.f3_sizes.proofs.part.pass.Goals as goal
 use Rattle.f3_sizes.proofs.part.pass.Goals.{in-Some+in-GoBack+else-note, in-Some+in_default-act, in_default}
 

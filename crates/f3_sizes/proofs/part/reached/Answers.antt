@@ -1,4 +1,4 @@
-use Rattle.std.proofs.Common.{◌≡◌, ◌≤◌, ◌<◌, ◌+◌, ◌*◌, ℕ, List, Option, None, Some, length, replicate, sym, ap, ◌∙◌, subst, arith}
+use Rattle.std.proofs.Common.{ℕ, List, Option, length, sym, ap, subst, arith}
 use Rattle.f3_sizes.specs.Part.{IsClosed}
 use Rattle.f3_sizes.proofs.Reaching.{written}
 use Rattle.f3_sizes.proofs.part.reached.Goals as goal

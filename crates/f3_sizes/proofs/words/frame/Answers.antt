@@ -1,6 +1,6 @@
-use Rattle.std.proofs.Common.{◌≡◌, ◌+◌, List, ap, ◌∙◌, sym, subst}
+use Rattle.std.proofs.Common.{List, sym, subst}
 use Rattle.f3_program.specs.declared.declarations.Declared.{Declared}
-use Rattle.f3_rooms.specs.Forms.{total, room}
+use Rattle.f3_rooms.specs.Forms.{total}
 use Rattle.f3_sizes.specs.Words.{AreWords}
 use Rattle.f3_sizes.proofs.Rows.{total_with, total_none}
 use Rattle.f3_sizes.proofs.words.frame.Goals as goal

@@ -1,4 +1,4 @@
-use Rattle.std.proofs.Common.{◌≡◌, ◌+◌, take, sym, subst}
+use Rattle.std.proofs.Common.{take, sym, subst}
 use Rattle.f3_rooms.specs.Forms.{total}
 use Rattle.f3_sizes.specs.Words.{AreWords}
 use Rattle.f3_sizes.proofs.Rows.{total_more}

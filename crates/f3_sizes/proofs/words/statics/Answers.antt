@@ -1,4 +1,4 @@
-use Rattle.std.proofs.Common.{◌≡◌, ◌+◌, take, map, sym, subst}
+use Rattle.std.proofs.Common.{take, map, sym, subst}
 use Rattle.f3_program.specs.declared.program.Static.{Static}
 use Rattle.f3_rooms.specs.Forms.{total}
 use Rattle.f3_sizes.specs.Words.{AreWords}
