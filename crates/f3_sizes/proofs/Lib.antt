@@ -1,0 +1,13 @@
+pub mod Notes
+pub mod Few
+pub mod Ways
+pub mod Passing
+pub mod Reaching
+pub mod Depths
+pub mod Pieces
+pub mod Families
+pub mod Tiles
+pub mod Blanking
+pub mod Whole
+pub mod Laying
+pub mod Rows
