@@ -1,0 +1,7 @@
+pub mod Active
+pub mod States
+pub mod Sound
+pub mod Places
+pub mod Scalars
+pub mod Initial
+pub mod Laws
