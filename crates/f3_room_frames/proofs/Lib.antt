@@ -1,2 +1,4 @@
 pub mod Spots
 pub mod ScalarLaws
+pub mod Levels
+pub mod Placed
