@@ -2,3 +2,5 @@ pub mod Spots
 pub mod ScalarLaws
 pub mod Levels
 pub mod Placed
+pub mod Owned
+pub mod Holders
