@@ -4,3 +4,4 @@ pub mod Levels
 pub mod Placed
 pub mod Owned
 pub mod Holders
+pub mod Behind
