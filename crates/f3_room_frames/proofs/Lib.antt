@@ -5,3 +5,4 @@ pub mod Placed
 pub mod Owned
 pub mod Holders
 pub mod Behind
+pub mod Calling
