@@ -6,3 +6,4 @@ pub mod Owned
 pub mod Holders
 pub mod Behind
 pub mod Calling
+pub mod InitialLaws
