@@ -7,3 +7,4 @@ pub mod Holders
 pub mod Behind
 pub mod Calling
 pub mod InitialLaws
+pub mod Changing

@@ -5,3 +5,4 @@ pub mod Places
 pub mod Scalars
 pub mod Initial
 pub mod Laws
+pub mod Changes

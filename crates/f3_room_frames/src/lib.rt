@@ -2,5 +2,6 @@
 //! depth.
 #![tactic(auto)]
 
+pub mod changes;
 pub mod laws;
 pub mod places;
