@@ -8,3 +8,4 @@ pub mod Behind
 pub mod Calling
 pub mod InitialLaws
 pub mod Changing
+pub mod LayoutLaws

@@ -6,3 +6,5 @@ pub mod Scalars
 pub mod Initial
 pub mod Laws
 pub mod Changes
+pub mod Layouts
+pub mod LayoutProps
