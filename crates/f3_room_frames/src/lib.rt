@@ -7,4 +7,5 @@ pub mod laws;
 pub mod laying;
 pub mod layout;
 pub mod layouts;
+pub mod parts;
 pub mod places;
