@@ -9,3 +9,4 @@ pub mod Calling
 pub mod InitialLaws
 pub mod Changing
 pub mod LayoutLaws
+pub mod PartLaws
