@@ -10,3 +10,4 @@ pub mod InitialLaws
 pub mod Changing
 pub mod LayoutLaws
 pub mod PartLaws
+pub mod Filling

@@ -1,5 +1,5 @@
 -- Parts of objects of derived types, by the tables of these.
-use Rattle.std.proofs.Common.{◌≡◌, ℕ, zero, suc, ◌+◌, ◌<◌, ◌≤◌, Bool, true, false, List, [], ◌∷◌, ◌++◌, length, take, get_or, map, refl, sym, ap, subst, ◌∙◌, arith, append-nil, append_assoc}
+use Rattle.std.proofs.Common.{◌≡◌, ℕ, zero, suc, ◌+◌, ◌<◌, false, List, [], ◌∷◌, ◌++◌, length, take, get_or, map, refl, sym, ap, subst, ◌∙◌, arith, append-nil, append_assoc}
 use Rattle.std.specs.Prelude.{Option, None, Some, if◌then◌else◌, slice_get}
 use Rattle.std.proofs.lemmas.List.{length-take-le}
 use Rattle.std.proofs.lemmas.Option.{slice_get_read}
@@ -7,10 +7,10 @@ use Rattle.f3_program.specs.declared.declarations.Base.{Base}
 use Rattle.f3_program.specs.declared.declarations.Base.TheVariants as base
 use Rattle.f3_program.specs.declared.declarations.Component.{Component}
 use Rattle.f3_program.specs.declared.declarations.Derived.{Derived}
-use Rattle.f3_meaning_whole.specs.Shape.{Shape, Whole, Logical, Record, shape_in, parts_in, shapes_from, shapes_of, spans_declared}
+use Rattle.f3_meaning_whole.specs.Shape.{Shape, Whole, Record, shape_in, parts_in, shapes_from, shapes_of, spans_declared}
 use Rattle.f3_meaning_whole.specs.Store as store
 use Rattle.f3_meaning_whole.specs.Store.{Step}
-use Rattle.f3_rooms.specs.Forms.{Form, Laid, Allocatable, form_of, form_words, words_for, words_for_parts}
+use Rattle.f3_rooms.specs.Forms.{Laid, Allocatable, form_of, form_words, words_for, words_for_parts}
 use Rattle.f3_type_tables.specs.declared.table.TypeTable.{TypeTable}
 use Rattle.f3_type_tables.specs.Tables.{IsTable, AreTables, offsets_from}
 use Rattle.f3_room_types.proofs.TableLaws.{shape_next, shapes_number, shape_stands}

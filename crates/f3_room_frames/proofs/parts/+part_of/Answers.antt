@@ -1,6 +1,5 @@
 use Rattle.std.proofs.Common.{arith, ◌≡◌, ◌<◌, length, take, get_or, vec_len, sym, ap, subst, ◌∙◌}
 use Rattle.std.proofs.lemmas.List.{length-take-le}
-use Rattle.f3_program.specs.declared.declarations.Component.{Component}
 use Rattle.f3_program.specs.declared.declarations.Derived.{Derived}
 use Rattle.f3_room_frames.proofs.PartLaws.{same_type, tables_many, tables_before, offset_there, part_stands}
 use Rattle.f3_room_frames.proofs.parts.+part_of.Goals as goal
