@@ -1,6 +1,6 @@
 //! Laws of what changes where allocatables get objects, and where these are gone.
 
-ghost use Rattle.f3_room_frames.specs.Changes.{RoomsChange, ChangesAreSound, ObjectsAreAllocated, ObjectsAreFreed};
+ghost use Rattle.f3_room_frames.specs.Changes.{RoomsChange, ChangesAreSound, ObjectsAreAllocated, ObjectsAreFreed, ObjectsMove};
 
 /// Where something else is held in a part of a variable, what is active stands in the rooms with that held there; it is sound, and has the
 /// new value there, where these are sound and have it.
@@ -17,4 +17,9 @@ pub fn objects_are_allocated()
 /// What an allocatable holds is given back with all beneath (6.3.3).
 pub fn objects_are_freed()
     ensures { ObjectsAreFreed }
+{}
+
+/// What an allocatable holds goes over to another (13.7.82).
+pub fn objects_move()
+    ensures { ObjectsMove }
 {}
