@@ -25,3 +25,13 @@ pub struct Layout {
     pub words: usize,
     pub ghost few: { words ≤ most_words },
 }
+
+/// An allocatable part of an object: which of the object's words is the first of its own, its rank, and the type of its elements, with how
+/// many words each has.
+#[derive(Clone, Copy)]
+pub struct Holding {
+    pub at: usize,
+    pub rank: usize,
+    pub of: Base,
+    pub width: usize,
+}
