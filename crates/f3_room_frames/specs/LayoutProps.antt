@@ -12,7 +12,7 @@ use Rattle.f3_type_tables.specs.Tables.{IsTable, AreTables}
 use Rattle.f3_room_frames.specs.declared.layout.Variable.{Variable}
 use Rattle.f3_room_frames.specs.declared.layout.Layout.{Layout}
 use Rattle.f3_room_frames.specs.Sound.{CanStand}
-use Rattle.f3_room_frames.specs.Layouts.{StandsFrom, AreLaidOut, IsLayout, HasLayout, HaveLayouts, AreLayouts}
+use Rattle.f3_room_frames.specs.Layouts.{StandsFrom, AreLaidOut, IsLayout, HasLayout, HaveLayouts, AreLayouts, CanBeLaidOut}
 
 can-prop : (ts : List Shape) (ds : List Declared) → IsProp (CanStand ts ds)
 can-prop ts ds = hlevel props
@@ -52,3 +52,6 @@ tables-prop [] [] = hlevel props
 tables-prop [] (x ∷ xs) = hlevel props
 tables-prop (s ∷ ss) [] = hlevel props
 tables-prop (s ∷ ss) (x ∷ xs) = hlevel (props, table-prop, tables-prop ss xs)
+
+pub fits-prop : (p : Program) → IsProp (CanBeLaidOut p)
+fits-prop p = hlevel (props, can-prop)

@@ -7,7 +7,7 @@ ghost use Rattle.f3_type_tables.specs.Tables.{AreTables};
 ghost use Rattle.f3_room_frames.specs.States.{types_of, variables_of};
 ghost use Rattle.f3_room_frames.specs.Sound.{CanStand};
 ghost use Rattle.f3_room_frames.specs.Layouts.{IsLayout, HaveLayouts, AreLayouts, CanBeLaidOut};
-ghost use Rattle.f3_room_frames.specs.LayoutProps.{layouts-prop, tables-prop};
+ghost use Rattle.f3_room_frames.specs.LayoutProps.{layouts-prop, tables-prop, fits-prop};
 
 use crate::laying::{lay_out_procedure, lay_out_statics};
 use crate::layout::Layout;
@@ -28,6 +28,7 @@ pub struct Layouts<'a> {
     pub main: Layout,
     pub procedures: Vec<Option<Layout>>,
     pub ghost typed: { AreTables (types_of program.now) tables.items } by { tables-prop _ _ },
+    pub ghost fits: { CanBeLaidOut program.now } by { fits-prop _ },
     pub ghost laid: { AreLayouts program.now statics main procedures.items } by { layouts-prop _ _ _ _ },
 }
 

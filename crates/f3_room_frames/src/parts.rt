@@ -38,22 +38,12 @@ fn part_of(
         return None;
     }
     let before = tables[number].offsets[*first];
-    let (place, scalar) = part_of(
-        &tables[..number],
-        &types[..number],
-        declared.kind.of,
-        rest,
-    )?;
+    let (place, scalar) = part_of(&tables[..number], &types[..number], declared.kind.of, rest)?;
     Some((before.checked_add(place)?, scalar))
 }
 
 /// An allocatable part of an object of a type, among the types of a program up to it.
-fn holder_of(
-    tables: &[TypeTable],
-    types: &[Derived],
-    of: Base,
-    way: &[usize],
-) -> Option<Holding>
+fn holder_of(tables: &[TypeTable], types: &[Derived], of: Base, way: &[usize]) -> Option<Holding>
     requires { AreTables (shapes_of types.now) tables.now }
     ensures { IfSome result (λ r. IsHolding (holder_in (shape_in (shapes_of types.now) of) of (map store.Component way.now)) r) }
 {
@@ -83,12 +73,7 @@ fn holder_of(
     if declared.kind.rank > 0 {
         return None;
     }
-    let inner = holder_of(
-        &tables[..number],
-        &types[..number],
-        declared.kind.of,
-        rest,
-    )?;
+    let inner = holder_of(&tables[..number], &types[..number], declared.kind.of, rest)?;
     Some(Holding {
         at: before.checked_add(inner.at)?,
         rank: inner.rank,
