@@ -11,3 +11,4 @@ pub mod Changing
 pub mod LayoutLaws
 pub mod PartLaws
 pub mod Filling
+pub mod BareLaws

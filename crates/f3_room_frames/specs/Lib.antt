@@ -8,3 +8,4 @@ pub mod Laws
 pub mod Changes
 pub mod Layouts
 pub mod LayoutProps
+pub mod Bare

@@ -2,6 +2,7 @@
 //! depth; how these variables are laid out, and with which words they begin.
 #![tactic(auto)]
 
+pub mod bare;
 pub mod beginning;
 pub mod changes;
 pub mod laws;
