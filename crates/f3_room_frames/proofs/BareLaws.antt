@@ -1,10 +1,10 @@
 -- Types of which no component is initialized.
-use Rattle.std.proofs.Common.{◌≡◌, ℕ, zero, suc, ◌+◌, ◌<◌, ◌≤◌, Bool, true, false, List, [], ◌∷◌, ◌++◌, length, take, get_or, refl, sym, ap, subst, ◌∙◌, arith}
+use Rattle.std.proofs.Common.{◌≡◌, ℕ, zero, suc, ◌+◌, ◌<◌, ◌≤◌, Bool, true, false, List, [], ◌∷◌, ◌++◌, length, take, get_or, add-one, refl, sym, ap, subst, ◌∙◌, arith}
 use Rattle.std.specs.Prelude.{Some, slice_get, Vec, vec_len}
 use Rattle.std.specs.declared.alloc.Global.{Global}
 use Rattle.std.specs.Bool.{MatchBool, ◌==◌}
 use Rattle.std.proofs.lemmas.Bool.Decides.{nat_tests}
-use Rattle.std.proofs.lemmas.List.{take_more}
+use Rattle.std.proofs.lemmas.List.{take_more, take_all}
 use Rattle.std.proofs.lemmas.Option.{slice_get_read}
 use Rattle.f3_program.specs.declared.declarations.Base.TheVariants as base
 use Rattle.f3_program.specs.declared.declarations.Component.{Component}
@@ -13,7 +13,14 @@ use Rattle.f3_program.specs.declared.declarations.Derived.{Derived}
 use Rattle.f3_meaning_whole.specs.Shape.{Shape, Whole, shape_in, parts_in, shapes_of}
 use Rattle.f3_rooms.specs.Laws.{IsBare, AreBare}
 use Rattle.f3_room_types.proofs.TableLaws.{shape_next, next_shape}
+use Rattle.f3_program.specs.declared.declarations.Declared.{Declared}
+use Rattle.f3_rooms.specs.Forms.{room}
+use Rattle.f3_room_frames.specs.declared.layout.Variable.{Variable}
+use Rattle.f3_room_frames.specs.declared.layout.Layout.{Layout}
 use Rattle.f3_room_frames.specs.Bare.{TellBare}
+use Rattle.f3_room_frames.specs.Initial.{HaveBareTypes}
+use Rattle.f3_room_frames.specs.Layouts.{AreLaidOut, IsLayout}
+use Rattle.f3_room_frames.proofs.LayoutLaws.{next_is}
 
 abbrev pub Tells : Bool → Shape → Type 0
 Tells b s = MatchBool b (IsBare s) (IsBare s → ⊥)
@@ -94,3 +101,48 @@ module _ (cs : List Component) (i : ℕ) (c : Component) (lt : i < length cs) (i
   pub one_not : (b : Bool) → Tells b (shape_in ts c.declared.kind.of) → b ≡ false → AreBare (parts_in ts cs) → ⊥
   one_not true h e k = cc
   one_not false h e k = h (bare_at ts cs i c at k).1
+
+-- ---- variables
+
+-- what is declared of the variable of a number
+laid_at : (ts : List Shape) (at : ℕ) (ds : List Declared) (vs : List Variable) (i : ℕ) (v : Variable) → AreLaidOut ts at ds vs → slice_get vs i ≡ Some v
+    → (d : Declared) × (slice_get ds i ≡ Some d) × (v.of ≡ d.kind.of)
+laid_at ts o [] [] i v h e = absurd (cc)
+laid_at ts o [] (w ∷ vs) i v h e = absurd h
+laid_at ts o (d ∷ ds) [] i v h e = absurd h
+laid_at ts o (d ∷ ds) (w ∷ vs) zero v h e = let f : w ≡ v = cc in (d, refl, ap (λ (y : Variable). y.of) (sym f) ∙ (h.0).of)
+laid_at ts o (d ∷ ds) (w ∷ vs) (suc i) v h e = laid_at ts (o + room ts d) ds vs i v h.1 e
+
+laid_many : (ts : List Shape) (at : ℕ) (ds : List Declared) (vs : List Variable) → AreLaidOut ts at ds vs → length vs ≡ length ds
+laid_many ts o [] [] h = refl
+laid_many ts o [] (v ∷ vs) h = absurd h
+laid_many ts o (d ∷ ds) [] h = absurd h
+laid_many ts o (d ∷ ds) (v ∷ vs) h = ap suc (laid_many ts (o + room ts d) ds vs h.1)
+
+types_more : (ts : List Shape) (ds : List Declared) (d : Declared) → HaveBareTypes ts ds → IsBare (shape_in ts d.kind.of) → HaveBareTypes ts (ds ++ d ∷ [])
+types_more ts [] d h k = (k, tt)
+types_more ts (c ∷ ds) d h k = (h.0, types_more ts ds d h.1 k)
+
+types_at : (ts : List Shape) (ds : List Declared) (i : ℕ) (d : Declared) → slice_get ds i ≡ Some d → HaveBareTypes ts ds → IsBare (shape_in ts d.kind.of)
+types_at ts [] i d e h = absurd (cc)
+types_at ts (c ∷ ds) zero d e h = let f : c ≡ d = cc in subst (λ (y : Declared). IsBare (shape_in ts y.kind.of)) f h.0
+types_at ts (c ∷ ds) (suc i) d e h = types_at ts ds i d e h.1
+
+module _ (l : Layout) (vs : List Variable) (same : vs ≡ l.variables.items) (i : ℕ) (v : Variable) (lt : i < length vs) (is : v ≡ get_or vs i v) (ts : List Shape) (ds : List Declared) (h : IsLayout ts ds l) where
+  declared : (d : Declared) × (slice_get ds i ≡ Some d) × (v.of ≡ d.kind.of)
+  declared = laid_at ts 0 ds vs i v (subst (AreLaidOut ts 0 ds) (sym same) h.variables) (slice_get_read vs (length vs) i v refl lt is)
+
+  pub next_types : (b : Bool) → HaveBareTypes ts (take i ds) → Tells b (shape_in ts v.of) → b ≡ true → HaveBareTypes ts (take (i + 1) ds)
+  next_types true k t e = rw add-one (subst (HaveBareTypes ts) (sym (next_is i ds (declared.0) (declared.1)))
+      (types_more ts (take i ds) declared.0 k (subst (λ b. IsBare (shape_in ts b)) declared.2 t)))
+  next_types false k t e = absurd (cc)
+
+  pub one_type_not : (b : Bool) → Tells b (shape_in ts v.of) → b ≡ false → HaveBareTypes ts ds → ⊥
+  one_type_not true t e k = cc
+  one_type_not false t e k = t (subst (λ b. IsBare (shape_in ts b)) (sym declared.2) (types_at ts ds i declared.0 declared.1 k))
+
+pub all_types : (l : Layout) (vs : List Variable) (n : ℕ) (ts : List Shape) (ds : List Declared) → vs ≡ l.variables.items → length vs ≤ n → IsLayout ts ds l → HaveBareTypes ts (take n ds)
+    → HaveBareTypes ts ds
+all_types l vs n ts ds same few h k =
+    let many : length vs ≡ length ds = laid_many ts 0 ds vs (subst (AreLaidOut ts 0 ds) (sym same) h.variables) in
+    subst (HaveBareTypes ts) (take_all n ds (omega arith)) k

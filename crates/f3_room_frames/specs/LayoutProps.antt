@@ -1,16 +1,19 @@
 -- Facts on layouts have one proof at most.
 use Rattle.std.proofs.Common.{ℕ, ◌+◌, List, [], ◌∷◌}
 use Rattle.std.proofs.Props.{props}
-use Rattle.std.specs.Prelude.{Option, None, Some}
+use Rattle.std.specs.Prelude.{Bool, true, false, Option, None, Some}
+use Rattle.std.specs.Bool.{MatchBool}
 use Rattle.f3_program.specs.declared.declarations.Declared.{Declared}
 use Rattle.f3_program.specs.declared.program.Procedure.{Procedure}
 use Rattle.f3_program.specs.declared.program.Program.{Program}
-use Rattle.f3_meaning_whole.specs.Shape.{Shape, Whole, Logical, Record}
+use Rattle.f3_meaning_whole.specs.Shape.{Shape, Whole, Logical, Record, Parts, nothing, and}
 use Rattle.f3_rooms.specs.Forms.{room}
 use Rattle.f3_type_tables.specs.declared.table.TypeTable.{TypeTable}
 use Rattle.f3_type_tables.specs.Tables.{IsTable, AreTables}
 use Rattle.f3_room_frames.specs.declared.layout.Variable.{Variable}
 use Rattle.f3_room_frames.specs.declared.layout.Layout.{Layout}
+use Rattle.f3_rooms.specs.Laws.{IsBare, AreBare}
+use Rattle.f3_room_frames.specs.Bare.{TellBare}
 use Rattle.f3_room_frames.specs.Sound.{CanStand}
 use Rattle.f3_room_frames.specs.Layouts.{StandsFrom, AreLaidOut, IsLayout, HasLayout, HaveLayouts, AreLayouts, CanBeLaidOut}
 
@@ -55,3 +58,23 @@ tables-prop (s ∷ ss) (x ∷ xs) = hlevel (props, table-prop, tables-prop ss xs
 
 pub fits-prop : (p : Program) → IsProp (CanBeLaidOut p)
 fits-prop p = hlevel (props, can-prop)
+
+mutual
+  bare_type-prop : (s : Shape) → IsProp (IsBare s)
+  bare_type-prop Whole = hlevel props
+  bare_type-prop Logical = hlevel props
+  bare_type-prop (Record t parts) = bare_parts-prop parts
+
+  bare_parts-prop : (parts : Parts) → IsProp (AreBare parts)
+  bare_parts-prop nothing = hlevel props
+  bare_parts-prop (and c s rest) = hlevel (props, bare_type-prop s, bare_parts-prop rest)
+
+tells-prop : (b : Bool) (s : Shape) → IsProp (MatchBool b (IsBare s) (IsBare s → ⊥))
+tells-prop true s = bare_type-prop s
+tells-prop false s = hlevel props
+
+pub bare-prop : (ss : List Shape) (bs : List Bool) → IsProp (TellBare ss bs)
+bare-prop [] [] = hlevel props
+bare-prop [] (b ∷ bs) = hlevel props
+bare-prop (s ∷ ss) [] = hlevel props
+bare-prop (s ∷ ss) (b ∷ bs) = hlevel (props, tells-prop, bare-prop ss bs)

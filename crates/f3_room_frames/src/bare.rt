@@ -4,8 +4,12 @@ ghost use Rattle.std.specs.Prelude.{List, IfOk};
 ghost use Rattle.std.specs.Bool.{MatchBool};
 ghost use Rattle.f3_meaning_whole.specs.Shape.{Shape, shape_in, shapes_of, parts_in};
 ghost use Rattle.f3_rooms.specs.Laws.{IsBare, AreBare};
+ghost use Rattle.f3_program.specs.declared.declarations.Declared.{Declared};
 ghost use Rattle.f3_room_frames.specs.Bare.{TellBare};
+ghost use Rattle.f3_room_frames.specs.Initial.{HaveBareTypes};
+ghost use Rattle.f3_room_frames.specs.Layouts.{IsLayout};
 
+use crate::layout::Layout;
 use f3_program::declarations::{Base, Component, Derived};
 use std::alloc::{AllocError, Global};
 
@@ -51,4 +55,16 @@ pub fn bare_types(alloc: Global, types: &[Derived]) -> Result<Vec<bool>, AllocEr
         bare.push(is)?;
     }
     Ok(bare)
+}
+
+/// Whether the types of all variables of a layout are such.
+pub fn have_bare_types(bare: &[bool], layout: &Layout) -> bool
+    ensures { (ts : List Shape) (ds : List Declared) → TellBare ts bare.now → IsLayout ts ds layout.now → MatchBool result (HaveBareTypes ts ds) (HaveBareTypes ts ds → ⊥) }
+{
+    for variable in &layout.variables {
+        if !is_bare(bare, variable.of) {
+            return false;
+        }
+    }
+    true
 }

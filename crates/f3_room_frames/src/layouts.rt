@@ -6,9 +6,15 @@ ghost use Rattle.f3_rooms.specs.Forms.{words_for, total};
 ghost use Rattle.f3_type_tables.specs.Tables.{AreTables};
 ghost use Rattle.f3_room_frames.specs.States.{types_of, variables_of};
 ghost use Rattle.f3_room_frames.specs.Sound.{CanStand};
+ghost use Rattle.std.specs.Bool.{MatchBool};
+ghost use Rattle.f3_program.specs.declared.declarations.Declared.{Declared};
+ghost use Rattle.f3_rooms.specs.Laws.{IsBare};
+ghost use Rattle.f3_room_frames.specs.Bare.{TellBare};
+ghost use Rattle.f3_room_frames.specs.Initial.{HaveBareTypes};
 ghost use Rattle.f3_room_frames.specs.Layouts.{IsLayout, HaveLayouts, AreLayouts, CanBeLaidOut};
-ghost use Rattle.f3_room_frames.specs.LayoutProps.{layouts-prop, tables-prop, fits-prop};
+ghost use Rattle.f3_room_frames.specs.LayoutProps.{layouts-prop, tables-prop, bare-prop, fits-prop};
 
+use crate::bare::{bare_types, have_bare_types, is_bare};
 use crate::laying::{lay_out_procedure, lay_out_statics};
 use crate::layout::Layout;
 use f3_program::declarations::Base;
@@ -18,16 +24,18 @@ use f3_room_types::words::base_words;
 use f3_type_tables::table::TypeTable;
 use std::alloc::{AllocError, Global};
 
-/// The tables of the types of a program, and where its variables stand: those that live for the whole run, the main program's, and each
+/// The tables of the types of a program, whether none of their components is initialized, and where its variables stand: those that live for the whole run, the main program's, and each
 /// procedure's, which has no layout where its variables cannot stand in a block.
 #[derive(Drop)]
 pub struct Layouts<'a> {
     pub program: &'a Program,
     pub tables: Vec<TypeTable>,
+    pub bare: Vec<bool>,
     pub statics: Layout,
     pub main: Layout,
     pub procedures: Vec<Option<Layout>>,
     pub ghost typed: { AreTables (types_of program.now) tables.items } by { tables-prop _ _ },
+    pub ghost told: { TellBare (types_of program.now) bare.items } by { bare-prop _ _ },
     pub ghost fits: { CanBeLaidOut program.now } by { fits-prop _ },
     pub ghost laid: { AreLayouts program.now statics main procedures.items } by { layouts-prop _ _ _ _ },
 }
@@ -65,9 +73,11 @@ impl<'a> Layouts<'a> {
             return Ok(None);
         };
         let procedures = lay_out_all(alloc, &tables, &program.procedures)?;
+        let bare = bare_types(alloc, &program.types)?;
         Ok(Some(Layouts {
             program,
             tables,
+            bare,
             statics,
             main,
             procedures,
@@ -110,5 +120,20 @@ impl<'a> Layouts<'a> {
         ensures { result ≡ words_for (shape_in (types_of self.now.program.now) of) }
     {
         base_words(&self.tables, of)
+    }
+
+    /// Whether no component of a type is initialized, at any depth (4.5.3.4).
+    pub fn is_bare(&self, of: Base) -> bool
+        ensures { MatchBool result (IsBare (shape_in (types_of self.now.program.now) of)) (IsBare (shape_in (types_of self.now.program.now) of) → ⊥) }
+    {
+        is_bare(&self.bare, of)
+    }
+
+    /// Whether that holds of the types of all variables of a layout.
+    pub fn have_bare_types(&self, layout: &Layout) -> bool
+        ensures { (ds : List Declared) → IsLayout (types_of self.now.program.now) ds layout.now
+            → MatchBool result (HaveBareTypes (types_of self.now.program.now) ds) (HaveBareTypes (types_of self.now.program.now) ds → ⊥) }
+    {
+        have_bare_types(&self.bare, layout)
     }
 }
