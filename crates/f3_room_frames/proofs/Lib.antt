@@ -12,3 +12,4 @@ pub mod LayoutLaws
 pub mod PartLaws
 pub mod Filling
 pub mod BareLaws
+pub mod Entering

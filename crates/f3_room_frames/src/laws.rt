@@ -3,7 +3,7 @@
 ghost use Rattle.f3_room_frames.specs.Initial.{InitialWordsAreInitial, InitialWordsAreEnough, ZerosAreInitial};
 ghost use Rattle.f3_room_frames.specs.Laws.{VariablesAreWords, WordsArePut, LocalsStand, BlocksHaveWords};
 ghost use Rattle.f3_room_frames.specs.Laws.{ExtrasChangeNothing, OwnExtrasChangeNothing, KeptBlocksKeep};
-ghost use Rattle.f3_room_frames.specs.Laws.{ActivationsBegin, ActivationsEnter, ActivationsLeave, ActivationsLeaveWithAll};
+ghost use Rattle.f3_room_frames.specs.Laws.{ActivationsBegin, ActivationsEnter, ActivationsBeginWith, ActivationsEnterWith, ActivationsLeave, ActivationsLeaveWithAll};
 
 /// What a scalar part of a variable holds, of an activation or of the whole run, is the scalar that its word is.
 pub fn variables_are_words()
@@ -38,6 +38,12 @@ pub fn extras_change_nothing()
 pub fn activations_enter()
     ensures first { ActivationsBegin }
     ensures others { ActivationsEnter }
+{}
+
+/// So it is with other words in that block, and where allocatables hold something: its level has the values that they are.
+pub fn activations_enter_with()
+    ensures first { ActivationsBeginWith }
+    ensures others { ActivationsEnterWith }
 {}
 
 /// Where the latest activation ends with its block, and with the blocks of what its allocatables hold, its levels do.
