@@ -1,20 +1,19 @@
 -- Activations that begin with words of their own.
-use Rattle.std.proofs.Common.{◌≡◌, ℕ, zero, suc, ◌+◌, ◌<◌, ◌≤◌, List, [], ◌∷◌, ◌++◌, length, map, refl, sym, ap, subst, ◌∙◌, arith, append_assoc, append-nil}
+use Rattle.std.proofs.Common.{◌≡◌, ℕ, zero, suc, ◌<◌, ◌≤◌, List, [], ◌∷◌, ◌++◌, length, map, refl, sym, ap, subst, ◌∙◌, arith, append_assoc, append-nil}
 use Rattle.f3_program.specs.declared.program.Program.{Program}
 use Rattle.f3_heap_laws.specs.Blocks.{Live, words_of, words_in, pins_of, pins_in}
 use Rattle.f3_meaning_whole.specs.Value.{Value}
-use Rattle.f3_meaning_whole.specs.Shape.{Shape}
 use Rattle.f3_meaning_whole.specs.Store.{Store}
 use Rattle.f3_meaning_whole.specs.Exec.{held}
 use Rattle.f3_meaning_whole.specs.Ran.{Entered, effect}
 use Rattle.f3_rooms.specs.Held.{blocks_in_all, times}
 use Rattle.f3_rooms.specs.Rooms.{Slot, Known, Rooms, room_values, room_blocks, level_blocks, levels_blocks, blocks_of as all_blocks, store_of as store_for}
 use Rattle.f3_rooms.specs.Sound.{IsSound as AreSound}
-use Rattle.f3_rooms.specs.Laws.{Keeps, with_level}
+use Rattle.f3_rooms.specs.Laws.{with_level}
 use Rattle.f3_rooms.proofs.Framing.{times_append}
 use Rattle.f3_rooms.proofs.Levels.{levels_begin}
 use Rattle.f3_room_frames.specs.Active.{Activation, Active}
-use Rattle.f3_room_frames.specs.States.{types_of, variables_of, arguments_of, room_of, level_of, level_held, levels_of, rooms_of, store_of}
+use Rattle.f3_room_frames.specs.States.{types_of, variables_of, arguments_of, room_of, level_of, level_held, levels_of, rooms_of}
 use Rattle.f3_room_frames.specs.Sound.{most_words, CanStand, AllCanStand, blocks_held, IsSound}
 use Rattle.f3_room_frames.specs.Laws.{HasRoom, ActivationsBeginWith, ActivationsEnterWith}
 use Rattle.f3_room_frames.proofs.Levels.{times_all}
