@@ -1,0 +1,15 @@
+pub mod Spots
+pub mod ScalarLaws
+pub mod Levels
+pub mod Placed
+pub mod Owned
+pub mod Holders
+pub mod Behind
+pub mod Calling
+pub mod InitialLaws
+pub mod Changing
+pub mod LayoutLaws
+pub mod PartLaws
+pub mod Filling
+pub mod BareLaws
+pub mod Entering
