@@ -1,4 +1,0 @@
-//! How blocks of words stand for a store of the meaning.
-#![tactic(auto)]
-
-pub mod laws;
