@@ -17,11 +17,12 @@ use Rattle.f3_code.specs.declared.instruction.Instruction.TheVariants as i
 use Rattle.f3_code.specs.State as s
 use Rattle.f3_code.specs.State.{Code, Line}
 use Rattle.f3_courses.specs.Courses.{Comes, Stand, Standing, at_line}
-use Rattle.f3_frames.specs.Active.{Activation, Active, Object, Objects, Spot}
-use Rattle.f3_frames.specs.Words.{scalar_in}
-use Rattle.f3_frames.specs.States.{names_of, object_of, path_of, store_of, variables_of, types_of}
-use Rattle.f3_frames.specs.Sound.{IsSound, is_scalar, total}
-use Rattle.f3_frames.specs.Places.{located}
+use Rattle.f3_room_frames.specs.Active.{Activation, Active, Object, Objects, Spot}
+use Rattle.f3_room_frames.specs.Places.{scalar_in}
+use Rattle.f3_room_frames.specs.States.{names_of, object_of, path_of, store_of, variables_of, types_of}
+use Rattle.f3_room_frames.specs.Sound.{IsSound, is_scalar}
+use Rattle.f3_rooms.specs.Forms.{total}
+use Rattle.f3_room_frames.specs.Places.{located}
 use Rattle.f3_frames.proofs.Keeping.{sound_still}
 use Rattle.f3_frames.proofs.Free.{located_free}
 use Rattle.f3_frames.proofs.ObjectLaws.{root_put}
