@@ -123,7 +123,7 @@ vacant_written m n b o rank s x live within is e =
       held = Empty;
       sound = put_there m b o (pos 0) within;
       value = sym e;
-      fills = fills_wider m (with_word m b o (pos 0)) b o 1 (1 + 2 * rank) [] (omega arith) (fills_word m b o (pos 0) live);
+      fills = fills_wider m (with_word m b o (pos 0)) b o o 1 (1 + 2 * rank) [] (omega arith) (omega arith) (fills_word m b o (pos 0) live);
       behind = omega arith;
     } in
     subst (λ k. HolderWritten m k rank s b o x (o + 1 + 2 * rank)) (sym is) all
