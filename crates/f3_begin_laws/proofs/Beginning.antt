@@ -17,14 +17,13 @@ use Rattle.f3_code.specs.declared.instruction.Instruction.TheVariants as i
 use Rattle.f3_code.specs.State as s
 use Rattle.f3_code.specs.State.{Code, Line}
 use Rattle.f3_courses.specs.Courses.{Comes, Stand, Standing, at_line}
-use Rattle.f3_frames.specs.Active.{Activation, Active, Object, Objects, Spot}
-use Rattle.f3_frames.specs.Words.{scalar_in}
-use Rattle.f3_frames.specs.States.{names_of, object_of, path_of, store_of, variables_of, types_of}
-use Rattle.f3_frames.specs.Sound.{IsSound, is_scalar, total}
-use Rattle.f3_frames.specs.Places.{located}
-use Rattle.f3_frames.proofs.Keeping.{sound_still}
-use Rattle.f3_frames.proofs.Free.{located_free}
-use Rattle.f3_frames.proofs.ObjectLaws.{root_put}
+use Rattle.f3_room_frames.specs.Active.{Activation, Active, Object, Objects, Spot}
+use Rattle.f3_room_frames.specs.Places.{scalar_in}
+use Rattle.f3_room_frames.specs.States.{names_of, object_of, path_of, store_of, variables_of, types_of}
+use Rattle.f3_room_frames.specs.Sound.{IsSound, is_scalar}
+use Rattle.f3_rooms.specs.Forms.{total}
+use Rattle.f3_room_frames.specs.Places.{located}
+use Rattle.f3_room_frames.proofs.ScalarLaws.{words_are_put}
 use Rattle.f3_register_code.specs.declared.act.Act.{Act}
 use Rattle.f3_register_code.specs.declared.act.Act.TheVariants as act
 use Rattle.f3_register_code.specs.declared.code.RegisterCode.{RegisterCode}
@@ -145,11 +144,11 @@ module _ (p : Program) (code : Code) (c : RegisterCode) (q : Point) (line : ℕ)
     first = constant_in d.kind.of (pos 0)
 
     sound : IsSound p blocks x
-    sound = sound_still p n x dummy.block dummy.at (pos 0) work.sound (located_free p n x object.root object.steps spot work.sound stands_at)
+    sound = (words_are_put p n x work.sound object.root object.steps spot (pos 0) stands_at).sound
 
     store_now : store_of p blocks x ≡ store.put (store_of p m x) (path_of object) (constant_value first)
     store_now =
-        root_put p n x object.root object.steps spot (pos 0) work.sound stands_at
+        (words_are_put p n x work.sound object.root object.steps spot (pos 0) stands_at).puts
         ∙ ap (λ y. store.put y (path_of object) (scalar_in object.of (pos 0))) before.store
         ∙ ap (λ (b : Base). store.put (store_of p m x) (path_of object) (scalar_in b (pos 0))) dummy.of
         ∙ ap (store.put (store_of p m x) (path_of object)) (scalar_is d.kind.of (pos 0) scalar)

@@ -9,8 +9,8 @@ use Rattle.f3_courses.specs.Courses.{Comes, Make, at_line}
 use Rattle.f3_courses.proofs.Ends.{next_object}
 use Rattle.f3_courses.proofs.Jumps.{drops}
 use Rattle.f3_courses.proofs.Standing.{make_both, make_one}
-use Rattle.f3_frames.specs.Active.{Objects}
-use Rattle.f3_frames.specs.States.{names_of, object_of, store_of}
+use Rattle.f3_room_frames.specs.Active.{Objects}
+use Rattle.f3_room_frames.specs.States.{names_of, object_of, store_of}
 use Rattle.f3_register_points.specs.declared.point.Entry.TheVariants as entry
 use Rattle.f3_register_points.specs.Values.{setting}
 use Rattle.f3_stretch_laws.proofs.Moving.{standing_with}

@@ -7,8 +7,8 @@ use Rattle.f3_code.specs.declared.instruction.Instruction.{Instruction}
 use Rattle.f3_code.specs.declared.instruction.Instruction.TheVariants as i
 use Rattle.f3_code.specs.State.{Code, Line}
 use Rattle.f3_courses.specs.Courses.{Stand}
-use Rattle.f3_frames.specs.Words.{scalar_in}
-use Rattle.f3_frames.specs.Sound.{is_scalar}
+use Rattle.f3_room_frames.specs.Places.{scalar_in}
+use Rattle.f3_room_frames.specs.Sound.{is_scalar}
 use Rattle.f3_register_code.specs.declared.act.Act.TheVariants as act
 use Rattle.f3_register_code.specs.declared.code.RegisterCode.{RegisterCode}
 use Rattle.f3_register_points.specs.declared.point.Entry.{Entry}

@@ -2,7 +2,7 @@
 
 use crate::showing::listed;
 use f3_compile::compile::compile;
-use f3_frames::layouts::Layouts;
+use f3_room_frames::layouts::Layouts;
 use f3_gen_laws::generate;
 use f3_gen_values::emission::Emission;
 use f3_places::source::Source;
