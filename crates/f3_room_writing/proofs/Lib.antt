@@ -1,0 +1,5 @@
+pub mod Bounding
+pub mod Filling
+pub mod Leaving
+pub mod Parts
+pub mod Tables
