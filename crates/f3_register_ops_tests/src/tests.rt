@@ -23,6 +23,11 @@ fn op_name(op: &Op) -> &'static str {
         Op::Again(..) => "again",
         Op::LendLocal(..) => "lend",
         Op::LendLocalThenCall(..) => "lend, call",
+        Op::LendOpened(..) => "lend part",
+        Op::LendOpenedThenGetBy(..) => "lend part, get",
+        Op::LendOpenedThenSetBy(..) => "lend part, set",
+        Op::LendOpenedThenSetBySmall(..) => "lend part, set small",
+        Op::GetBy(..) => "get",
         Op::Call(..) => "call",
         Op::Return(..) => "return",
         _ => "other",
@@ -91,5 +96,31 @@ fn another_loop_does_the_second_act(rt: HostRuntime) -> Result<(), Fail> {
     ];
     let text = shown(rt.alloc(), &acts)?;
     assert_eq!(rt; text.as_str(), "lend, call\ncall\nadd, return\nreturn\n");
+    Ok(())
+}
+
+#[test]
+fn a_part_is_lent_for_one_access(rt: HostRuntime) -> Result<(), Fail> {
+    let acts = [
+        Act::LendOpened(5, 0, 3, 2, 4, 1),
+        Act::GetBy(7, 5, 0),
+        Act::LendOpened(5, 0, 3, 2, 4, 1),
+        Act::SetBySmall(5, 7, 9),
+        Act::LendOpened(5, 0, 3, 2, 4, 1),
+        Act::SetBy(5, 7, 9),
+        Act::LendOpened(5, 0, 3, 2, 4, 1),
+        Act::GetBy(7, 6, 0),
+    ];
+    let text = shown(rt.alloc(), &acts)?;
+    let expected =
+        "lend part, get\nget\nlend part, set small\nother\nlend part, set\nother\nlend part\nget\n";
+    assert_eq!(rt; text.as_str(), expected);
+    Ok(())
+}
+
+#[test]
+fn acts_and_ops_are_short(rt: HostRuntime) -> Result<(), Fail> {
+    assert_eq!(rt; size_of::<Act>(), 24);
+    assert_eq!(rt; size_of::<Op>(), 32);
     Ok(())
 }
