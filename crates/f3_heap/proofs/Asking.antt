@@ -4,7 +4,7 @@ use Rattle.std.specs.Prelude.{Result, Ok, Err, None, IfOk, OnErr}
 use Rattle.std.specs.FinMap.{get}
 use Rattle.f3_heap.specs.declared.blocks.TakeFault.{TakeFault}
 use Rattle.f3_heap.specs.declared.blocks.TakeFault
-use Rattle.f3_heap_laws.specs.Blocks.{Live, with_taken}
+use Rattle.f3_live_blocks.specs.Blocks.{Live, with_taken}
 use Rattle.f3_heap_laws.specs.Answers.{Answer, Sizes, sizes, Took}
 use Rattle.f3_heap_laws.proofs.Answers.{took_one, took_full, took_memory}
 use Rattle.f3_heap.specs.Answers.{answer_of}

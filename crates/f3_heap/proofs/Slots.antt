@@ -14,11 +14,12 @@ use Rattle.f3_heap.specs.declared.plain.Slot.{Slot}
 use Rattle.std.proofs.lemmas.List.Elements.{All-set, All-push}
 use Rattle.std.specs.Prelude.{nat_le}
 use Rattle.std.proofs.lemmas.Bool.Decides.{nat_tests}
-use Rattle.f3_heap_laws.specs.Blocks.{Heap, Block, Live, IsLive, words_of, pins_of, words_in, pins_in, with_words, with_pins}
+use Rattle.f3_live_blocks.specs.Blocks.{Heap, Block, Live, IsLive, words_of, pins_of, words_in, pins_in, with_words, with_pins}
 use Rattle.f3_heap_laws.specs.Account.{r, used_by}
 use Rattle.f3_heap_laws.specs.Placed.{extent, named_from, live_from}
 use Rattle.f3_heap.specs.Plain.{slot_block, one_each, slot_used, live_slots, IsAccounted, IsPut, reused, pushed}
-use Rattle.f3_heap_laws.proofs.Placed.{get-live, get-at, find-past, find-first, find-other, replace-insert, replace-remove, used-live, block_used, same-self, same-is}
+use Rattle.f3_heap_laws.proofs.Placed.{get-live, get-at, find-past, find-first, find-other, replace-insert, replace-remove, used-live, block_used}
+use Rattle.f3_live_blocks.proofs.Names.{same-self, same-is}
 
 one-positive : (s : Slot) → 0 < one_each s
 one-positive s = omega arith

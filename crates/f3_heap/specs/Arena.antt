@@ -3,7 +3,7 @@ use Rattle.std.specs.Prelude.{◌≡◌, List}
 use Rattle.f3_raw.specs.Region.{region_words, region_size}
 use Rattle.f3_raw.specs.declared.region.Region.{Region}
 use Rattle.f3_heap.specs.declared.arena.Book.{Book}
-use Rattle.f3_heap_laws.specs.Blocks.{Live}
+use Rattle.f3_live_blocks.specs.Blocks.{Live}
 use Rattle.f3_heap_laws.specs.Segments.{Segment, segments, live_segments, IsHeap}
 use Rattle.f3_heap_laws.specs.Hints.{AreHints}
 

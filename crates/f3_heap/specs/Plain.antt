@@ -3,7 +3,7 @@ use Rattle.std.specs.Prelude.{ℕ, ◌≡◌, ◌≤◌, ◌<◌, ◌++◌, ◌�
 use Rattle.std.specs.List.{sum_by, All}
 use Rattle.f3_heap.specs.declared.plain.Slot.{Slot}
 use Rattle.f3_heap_laws.specs.Account.{r}
-use Rattle.f3_heap_laws.specs.Blocks.{Block, Live}
+use Rattle.f3_live_blocks.specs.Blocks.{Block, Live}
 use Rattle.f3_heap_laws.specs.Placed.{live_from}
 
 abbrev pub slot_block : Slot → Option Block

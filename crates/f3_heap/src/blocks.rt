@@ -4,7 +4,7 @@ ghost use Rattle.std.specs.Prelude.{◌≡◌, ◌≢◌, ◌↔◌, ◌<◌, �
 ghost use Rattle.std.specs.Prelude.{IfOk, IfSome, IfNone, OnOk, OnErr, IsOk, slice_set, slice_index_or};
 ghost use Rattle.std.specs.FinMap.{get, remove};
 ghost use Rattle.std.specs.Borrow.{sem, Lends, Array, i64 as word_type};
-ghost use Rattle.f3_heap_laws.specs.Blocks.{Live, IsLive, words_of, pins_of, with_taken, with_words, with_pins, written_over};
+ghost use Rattle.f3_live_blocks.specs.Blocks.{Live, IsLive, words_of, pins_of, with_taken, with_words, with_pins, written_over};
 ghost use Rattle.f3_heap_laws.specs.Account.{used_by};
 ghost use Rattle.f3_heap_laws.specs.Answers.{Answer, Full, Taken, Sizes, sizes};
 ghost use Rattle.f3_heap.specs.Answers.{answer_of};

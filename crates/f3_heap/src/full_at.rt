@@ -3,7 +3,7 @@
 ghost use Rattle.std.specs.Prelude.{◌≡◌, ◌↔◌, ℕ, cond, nat_eq, false, IfOk, OnErr};
 ghost use Rattle.std.specs.FinMap.{get};
 ghost use Rattle.std.proofs.Common.{ap};
-ghost use Rattle.f3_heap_laws.specs.Blocks.{with_taken};
+ghost use Rattle.f3_live_blocks.specs.Blocks.{with_taken};
 ghost use Rattle.f3_heap_laws.specs.Answers.{sizes};
 ghost use Rattle.f3_heap_laws.specs.Rules.{FullAtAllows, full_at_spent};
 ghost use Rattle.f3_heap_laws.proofs.Refusals.{full_at_refuses};

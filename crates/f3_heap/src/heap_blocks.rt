@@ -4,7 +4,7 @@ ghost use Rattle.std.specs.Prelude.{◌≡◌, ◌≢◌, ◌+◌, ◌^◌, ◌<
 ghost use Rattle.std.specs.List.{list_any};
 ghost use Rattle.std.specs.FinMap.{get, remove};
 ghost use Rattle.f3_heap_laws.specs.Account.{r};
-ghost use Rattle.f3_heap_laws.specs.Blocks.{with_taken};
+ghost use Rattle.f3_live_blocks.specs.Blocks.{with_taken};
 ghost use Rattle.f3_heap_laws.specs.Gaps.{gaps, places, is_wide, first_wide};
 ghost use Rattle.f3_heap_laws.specs.Segments.{UsedAt, FitsAt, NoneFits};
 ghost use Rattle.f3_heap_laws.specs.Hints.{classes, width};

@@ -3,7 +3,7 @@
 ghost use Rattle.std.specs.Prelude.{◌≡◌, ◌≤◌, ◌<◌, ◌+◌, ◌-◌, ◌^◌, ℕ, pos, nat_le, length, replicate, take};
 ghost use Rattle.std.specs.Prelude.{IfOk, OnOk, OnErr, false, get_or};
 ghost use Rattle.std.proofs.Common.{refl};
-ghost use Rattle.f3_heap_laws.specs.Blocks.{with_words, words_of, pins_of, written_over, IsLive};
+ghost use Rattle.f3_live_blocks.specs.Blocks.{with_words, words_of, pins_of, written_over, IsLive};
 ghost use Rattle.f3_heap_laws.specs.Account.{r, used_by};
 ghost use Rattle.std.specs.FinMap.{empty};
 ghost use Rattle.f3_heap_laws.specs.Rules.{plain_allows};
@@ -38,7 +38,7 @@ pub struct PlainBlocks {
 }
 
 impl Model for PlainBlocks {
-    ghost use Rattle.f3_heap_laws.specs.Blocks.{Heap, heap_code};
+    ghost use Rattle.f3_live_blocks.specs.Blocks.{Heap, heap_code};
 
     ghost Value = { Heap };
 

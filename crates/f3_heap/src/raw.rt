@@ -5,7 +5,7 @@
 ghost use Rattle.std.specs.Prelude.{◌≡◌, ◌≢◌, ◌↔◌, ℕ, ◌-◌, ◌*◌, ◌/◌, Some, None, true, false, IfOk, IfSome, IfNone, OnErr, IsOk};
 ghost use Rattle.std.specs.List.{list_any};
 ghost use Rattle.std.specs.FinMap.{get, empty};
-ghost use Rattle.f3_heap_laws.specs.Blocks.{with_taken, with_words, words_of, written_over};
+ghost use Rattle.f3_live_blocks.specs.Blocks.{with_taken, with_words, words_of, written_over};
 ghost use Rattle.std.proofs.Common.{refl};
 ghost use Rattle.f3_heap_laws.specs.Gaps.{gaps, places, is_wide, first_wide};
 ghost use Rattle.f3_heap_laws.specs.Answers.{Taken, sizes};
@@ -37,7 +37,7 @@ pub struct RawHeap {
 }
 
 impl Model for RawHeap {
-    ghost use Rattle.f3_heap_laws.specs.Blocks.{Heap, heap_code};
+    ghost use Rattle.f3_live_blocks.specs.Blocks.{Heap, heap_code};
 
     ghost Value = { Heap };
 

@@ -10,7 +10,7 @@ use mir.Syntax.{w64}
 use Rattle.std.specs.Int.{cast_signed}
 use Rattle.f3_raw.specs.Words.{overwritten, written}
 use Rattle.f3_heap_laws.specs.Account.{r}
-use Rattle.f3_heap_laws.specs.Blocks.{written_over}
+use Rattle.f3_live_blocks.specs.Blocks.{written_over}
 use Rattle.f3_heap_laws.specs.Placed.{extent}
 use Rattle.f3_heap_laws.specs.Segments.{Segment, Used, seg_size, seg_block, seg_used, used_words, first_free, last_free, cells, AreValid, Lays, segments, live_segments, IsHeap, AreApart, ends_free, UsedAt}
 use Rattle.f3_heap_laws.proofs.Segs.{length-cells, set-append_right, AreValid-front, AreValid-back, AreValid-append, cells-append, first_free-append}

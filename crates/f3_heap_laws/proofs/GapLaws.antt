@@ -6,7 +6,7 @@ use Rattle.std.specs.FinMap.{entries-from_sorted}
 use Rattle.std.specs.Ordering.{nat_cmp}
 use Rattle.std.proofs.lemmas.Bool.Decides.{nat_tests}
 use Rattle.f3_heap_laws.specs.Account.{r}
-use Rattle.f3_heap_laws.specs.Blocks.{Block}
+use Rattle.f3_live_blocks.specs.Blocks.{Block}
 use Rattle.f3_heap_laws.specs.Placed.{extent, named_from, live_from}
 use Rattle.f3_heap_laws.specs.Segments.{Segment, Used, Free, seg_size, seg_block, live_segments, AreApart, ends_free, NoneFits}
 use Rattle.f3_heap_laws.specs.Gaps.{places, lies_in, joined, runs_of, gaps, is_wide, first_word, first_wide}

@@ -7,7 +7,7 @@ use Rattle.std.proofs.lemmas.List.Sums.{sum_by-append, sum_by-cons}
 use Rattle.std.proofs.lemmas.List.{length-replicate}
 use Rattle.f3_raw.specs.Words.{written}
 use Rattle.f3_heap_laws.specs.Account.{r}
-use Rattle.f3_heap_laws.specs.Blocks.{with_taken}
+use Rattle.f3_live_blocks.specs.Blocks.{with_taken}
 use Rattle.f3_heap_laws.specs.Placed.{extent}
 use Rattle.f3_heap_laws.specs.Gaps.{gaps, places, is_wide, first_wide}
 use Rattle.f3_heap_laws.specs.Segments.{Segment, Used, Free, seg_size, seg_block, seg_used, used_words, Lays, segments, live_segments, NoneFits, FitsAt, Cuts, IsHeap, AreApart, ends_free, AllFree, BeginsLive, Around, with_next, with_prev, freed}

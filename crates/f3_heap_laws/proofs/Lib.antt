@@ -1,5 +1,4 @@
 pub mod Placed
-pub mod Laws
 pub mod Segs
 pub mod Relink
 pub mod BlockReads

@@ -9,10 +9,11 @@ use native.Mathlib.Decide.{dec_lt}
 use Prim.{yes, no}
 use Rattle.std.specs.List.{sum_by}
 use Rattle.f3_heap_laws.specs.Account.{r, used_by}
-use Rattle.f3_heap_laws.specs.Blocks.{Block, IsLive, words_in, pins_in, words_of, pins_of}
+use Rattle.f3_live_blocks.specs.Blocks.{Block, IsLive, words_in, pins_in, words_of, pins_of}
 use Rattle.f3_heap_laws.specs.Placed.{extent, named_from, live_from}
 use Rattle.f3_heap_laws.specs.Segments.{Segment, Used, Free, seg_size, seg_block, seg_used, live_segments, AllFree, UsedAt}
-use Rattle.f3_heap_laws.proofs.Placed.{get-live, get-at, find-before, find-past, find-append, named-append, or_else, extent-append, replace-insert, replace-remove, used-live, block_used, same-self, same-is}
+use Rattle.f3_heap_laws.proofs.Placed.{get-live, get-at, find-before, find-past, find-append, named-append, or_else, extent-append, replace-insert, replace-remove, used-live, block_used}
+use Rattle.f3_live_blocks.proofs.Names.{same-self, same-is}
 use Rattle.f3_heap_laws.proofs.Segs.{seg_positive}
 
 pub live-nil : live_segments [] ≡ empty

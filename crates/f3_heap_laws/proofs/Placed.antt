@@ -8,7 +8,8 @@ use Rattle.std.specs.Cmp.{nat_cmp_total, ranked, nat_cmp_is}
 use Rattle.std.proofs.Common.{Less, Equal, Greater}
 use Rattle.std.specs.List.{sum_by}
 use Rattle.std.proofs.lemmas.List.Sums.{sum_by-cons}
-use Rattle.f3_heap_laws.specs.Blocks.{Block}
+use Rattle.f3_live_blocks.specs.Blocks.{Block}
+use Rattle.f3_live_blocks.proofs.Names.{same-is, same-self, same-apart}
 use Rattle.f3_heap_laws.specs.Account.{r, used_by}
 use Rattle.f3_heap_laws.specs.Placed.{with_named, extent, named_from, live_from}
 
@@ -23,25 +24,6 @@ nothing_first o = refl
 unfoldable pub block_used : Option Block → ℕ
 block_used None = 0
 block_used (Some b) = r (length b.words)
-
-pub same-is : (q k : ℕ) → eq_by_cmp nat_cmp q k ≡ true → q ≡ k
-same-is q k t =
-    elim (nat_cmp q k) as (λ o. o ≡ nat_cmp q k → is_eq o ≡ true → q ≡ k) [
-      | Less ↦ λ e t. cc
-      | Equal ↦ λ e t. ranked q k Equal e
-      | Greater ↦ λ e t. cc
-    ] refl t
-
-pub same-self : (q : ℕ) → eq_by_cmp nat_cmp q q ≡ true
-same-self q = ap is_eq (sym (nat_cmp_is q q Equal refl))
-
-pub same-apart : (q k : ℕ) → q ≢ k → eq_by_cmp nat_cmp q k ≡ false
-same-apart q k ne =
-    elim (nat_cmp q k) as (λ o. o ≡ nat_cmp q k → is_eq o ≡ false) [
-      | Less ↦ λ e. refl
-      | Equal ↦ λ e. absurd (ne (ranked q k Equal e))
-      | Greater ↦ λ e. refl
-    ] refl
 
 both : (a b : Bool) → T a → T b → T (a && b)
 both true b p q = q

@@ -4,7 +4,7 @@ use mir.Syntax.{w64}
 use Rattle.std.specs.Int.{cast_signed, cast_unsigned}
 use Rattle.std.proofs.lemmas.Int.{of_z-to_z}
 use Rattle.f3_heap_laws.specs.Account.{r}
-use Rattle.f3_heap_laws.specs.Blocks.{Heap, IsLive, words_of, pins_of}
+use Rattle.f3_live_blocks.specs.Blocks.{Heap, IsLive, words_of, pins_of}
 use Rattle.f3_heap_laws.specs.Segments.{segments, live_segments, UsedAt, IsHeap}
 use Rattle.f3_heap_laws.proofs.Segs.{r-above}
 use Rattle.f3_heap_laws.proofs.BlockReads.{end-within, used-head, used-pins, used-within, used-valid}

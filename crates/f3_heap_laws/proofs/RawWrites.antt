@@ -10,7 +10,7 @@ use Rattle.std.specs.List.{list_any, length_refill}
 use Rattle.std.specs.FinMap.{insert, empty}
 use Rattle.f3_raw.specs.Words.{overwritten, Apart}
 use Rattle.f3_heap_laws.specs.Account.{r}
-use Rattle.f3_heap_laws.specs.Blocks.{Heap, IsLive, words_of, pins_of, with_words, with_pins, written_over}
+use Rattle.f3_live_blocks.specs.Blocks.{Heap, IsLive, words_of, pins_of, with_words, with_pins, written_over}
 use Rattle.f3_heap_laws.specs.Placed.{extent}
 use Rattle.f3_heap_laws.specs.Gaps.{gaps, places, is_wide}
 use Rattle.f3_heap_laws.specs.Segments.{Segment, Used, Free, seg_size, seg_block, used_words, segments, live_segments, UsedAt, IsHeap, NoneFits, FitsAt}

@@ -2,7 +2,7 @@
 use Rattle.std.specs.Prelude.{ℕ, ◌+◌, ◌*◌, ◌-◌, ◌/◌, length}
 use Rattle.std.specs.List.{sum_by}
 use Rattle.std.specs.FinMap.{values}
-use Rattle.f3_heap_laws.specs.Blocks.{Live}
+use Rattle.f3_live_blocks.specs.Blocks.{Live}
 
 -- n / d, rounded up
 abbrev pub div_ceil : ℕ → ℕ → ℕ

@@ -3,7 +3,7 @@
 use Rattle.std.specs.Prelude.{ℕ, ◌+◌, ◌-◌, Bool, cond, not, ◌&&◌, nat_eq, nat_lt, nat_le, List, [], ◌∷◌, map, length, get_or, Option, None, Some}
 use Rattle.std.specs.List.{filter, list_any, range_with_len}
 use Rattle.std.specs.FinMap.{entries}
-use Rattle.f3_heap_laws.specs.Blocks.{Live}
+use Rattle.f3_live_blocks.specs.Blocks.{Live}
 use Rattle.f3_heap_laws.specs.Account.{r}
 
 -- the live blocks as pairs of place (`word` less 1) and size

@@ -1,6 +1,5 @@
 pub mod Account
 pub mod Answers
-pub mod Blocks
 pub mod FreeRuns
 pub mod Gaps
 pub mod Hints

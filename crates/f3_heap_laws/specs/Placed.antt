@@ -2,7 +2,7 @@
 use Rattle.std.specs.Prelude.{ℕ, ◌+◌, List, [], ◌∷◌, Option, None, Some}
 use Rattle.std.specs.FinMap.{from_sorted}
 use Rattle.std.specs.Ordering.{nat_cmp}
-use Rattle.f3_heap_laws.specs.Blocks.{Block, Live}
+use Rattle.f3_live_blocks.specs.Blocks.{Block, Live}
 
 abbrev pub with_named : Option Block → ℕ → List (ℕ × Block) → List (ℕ × Block)
 with_named None p es = es

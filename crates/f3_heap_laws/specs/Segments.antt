@@ -9,7 +9,7 @@ use Rattle.std.specs.Int.{cast_signed, cast_unsigned}
 use mir.Syntax.{w64}
 use Rattle.f3_raw.specs.Words.{written}
 use Rattle.f3_heap_laws.specs.Account.{r}
-use Rattle.f3_heap_laws.specs.Blocks.{Block, Live}
+use Rattle.f3_live_blocks.specs.Blocks.{Block, Live}
 use Rattle.f3_heap_laws.specs.Placed.{extent, live_from}
 
 pub data Segment : Type 0 where

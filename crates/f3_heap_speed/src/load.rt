@@ -2,7 +2,7 @@
 #![tactic(auto, using(f3_heap_laws::proofs::Laws::live_laws))]
 
 ghost use Rattle.std.specs.Prelude.{◌≡◌, ◌<◌, length};
-ghost use Rattle.f3_heap_laws.specs.Blocks.{IsLive, words_of};
+ghost use Rattle.f3_live_blocks.specs.Blocks.{IsLive, words_of};
 ghost use Rattle.f3_heap_tests.specs.LiveOnce.{LiveOnce};
 
 use f3_heap::{BlockId, Blocks};

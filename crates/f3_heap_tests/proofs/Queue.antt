@@ -2,8 +2,8 @@
 use Rattle.std.proofs.Common.{◌≡◌, ◌≢◌, ℕ, List, [], ◌∷◌, ◌++◌, sym, subst}
 use Rattle.std.specs.Prelude.{None}
 use Rattle.std.specs.FinMap.{get, insert, remove}
-use Rattle.f3_heap_laws.specs.Blocks.{Live, Block, IsLive}
-use Rattle.f3_heap_laws.proofs.Laws.{live-insert, live-insert_same, live-remove_other, fresh-apart}
+use Rattle.f3_live_blocks.specs.Blocks.{Live, Block, IsLive}
+use Rattle.f3_live_blocks.proofs.Laws.{live-insert, live-insert_same, live-remove_other, fresh-apart}
 use Rattle.f3_heap_tests.specs.LiveOnce.{IsNoneOf, LiveOnce}
 
 pub once-insert : (m : Live) (b : ℕ) (k : Block) (bs : List ℕ) → LiveOnce m bs → LiveOnce (insert m b k) bs

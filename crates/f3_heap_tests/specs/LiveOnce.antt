@@ -1,6 +1,6 @@
 -- Names of live blocks, each once.
 use Rattle.std.specs.Prelude.{ℕ, ◌≢◌, List, [], ◌∷◌}
-use Rattle.f3_heap_laws.specs.Blocks.{Live, IsLive}
+use Rattle.f3_live_blocks.specs.Blocks.{Live, IsLive}
 
 abbrev pub IsNoneOf : ℕ → List ℕ → Type 0
 IsNoneOf b [] = Unit {0}

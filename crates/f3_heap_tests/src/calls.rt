@@ -1,7 +1,7 @@
 //! Calls on a heap whose live blocks stand in a queue, and their answers.
 
 ghost use Rattle.std.specs.Prelude.{◌≢◌, ℕ};
-ghost use Rattle.f3_heap_laws.specs.Blocks.{IsLive};
+ghost use Rattle.f3_live_blocks.specs.Blocks.{IsLive};
 ghost use Rattle.f3_heap_tests.specs.LiveOnce.{LiveOnce};
 
 use crate::turns::{give_front, take_back, turn_front};

@@ -1,6 +1,6 @@
 //! The answers of both heaps to a long list of calls, written down.
 
-ghost use Rattle.f3_heap_laws.specs.Blocks.{IsLive};
+ghost use Rattle.f3_live_blocks.specs.Blocks.{IsLive};
 ghost use Rattle.f3_heap_tests.specs.LiveOnce.{LiveOnce};
 
 use crate::calls::{Call, answer};

@@ -1,7 +1,7 @@
 //! One call on a heap whose live blocks stand in a queue.
 
 ghost use Rattle.std.specs.Prelude.{IfOk, IfSome};
-ghost use Rattle.f3_heap_laws.specs.Blocks.{IsLive};
+ghost use Rattle.f3_live_blocks.specs.Blocks.{IsLive};
 ghost use Rattle.f3_heap_tests.specs.LiveOnce.{LiveOnce};
 
 use f3_heap::{BlockId, Blocks, TakeFault};

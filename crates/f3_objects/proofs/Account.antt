@@ -4,11 +4,11 @@ use Rattle.std.specs.Prelude.{Option, None, Some}
 use Rattle.std.specs.Cmp.{nat_cmp_total}
 use Rattle.std.specs.FinMap.{get, remove, same_map, nat_cmp-IsAntisymmetric}
 use Rattle.std.proofs.lemmas.Bool.{cases_eq, eq-eqb}
-use Rattle.f3_heap_laws.specs.Blocks.{Block, Live, IsLive, pins_in, words_of, pins_of, with_words}
+use Rattle.f3_live_blocks.specs.Blocks.{Block, Live, IsLive, pins_in, words_of, pins_of, with_words}
 use Rattle.f3_heap_laws.specs.Account.{r, used_by}
 use Rattle.f3_heap_laws.specs.Answers.{Take, costs}
 use Rattle.f3_heap_laws.proofs.Answers.{used-removed, costs-append}
-use Rattle.f3_heap_laws.proofs.Laws.{get-insert_same, get-insert_other, get-remove_same, get-remove_other}
+use Rattle.f3_live_blocks.proofs.Laws.{get-insert_same, get-insert_other, get-remove_same, get-remove_other}
 use Rattle.f3_desc.specs.Shape.{Shape}
 use Rattle.f3_objects.specs.Tree.{Tree, End, Word, Unallocated, Allocated, words, times, one_at, footprint, IsBare}
 use Rattle.f3_objects.specs.Holds.{Held, Stands, Replaces, Frees, left}

@@ -1,7 +1,7 @@
 -- Laws on objects of zeros.
 use Rattle.std.proofs.Common.{zero, suc, ◌≡◌, ℕ, ℤ, pos, ◌+◌, ◌*◌, ◌≤◌, List, ◌∷◌, ◌++◌, length, replicate, take, drop, refl, ap, sym, ◌∙◌, arith}
 use Rattle.std.proofs.lemmas.List.{replicate-append-replicate, length-replicate, append-nil}
-use Rattle.f3_heap_laws.specs.Blocks.{Live, words_of}
+use Rattle.f3_live_blocks.specs.Blocks.{Live, words_of}
 use Rattle.f3_desc.specs.Shape.{Shape, Nothing, Plain, Holder, Both, Times, width}
 use Rattle.f3_objects.specs.Tree.{Tree, End, Word, Unallocated, Allocated, words, Repeats, unallocated, Fits, IsBare, blank, repeated}
 use Rattle.f3_objects.specs.Holds.{Held, Holds, with_words_at}

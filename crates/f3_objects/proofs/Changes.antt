@@ -2,7 +2,7 @@
 use Rattle.std.proofs.Common.{◌≡◌, ◌≢◌, ℕ, ℤ, ◌+◌, ◌<◌, ◌≤◌, inl, inr, cond, true, false, nat_eq, List, length, take, drop, refl, ap, sym, subst, ◌∙◌, arith, is_some, IsTrue}
 use Rattle.std.specs.Prelude.{Option, None}
 use Rattle.std.specs.FinMap.{get}
-use Rattle.f3_heap_laws.specs.Blocks.{Block, Live, IsLive, words_in, pins_in, words_of, pins_of}
+use Rattle.f3_live_blocks.specs.Blocks.{Block, Live, IsLive, words_in, pins_in, words_of, pins_of}
 use Rattle.f3_objects.specs.Tree.{Tree, End, Word, Unallocated, Allocated, ◌⊕◌, words, times, IsBare}
 use Rattle.f3_objects.specs.Holds.{Held, Stands, Replaces, with_words_at}
 use Rattle.f3_objects.proofs.Trees.{words-append, size-append, times-append, held_front, held_back, held_both, zero_or_more}

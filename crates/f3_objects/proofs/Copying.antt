@@ -3,8 +3,8 @@ use Rattle.std.proofs.Common.{suc, ◌≡◌, ◌≢◌, ℕ, ℤ, ◌+◌, ◌-
 use Rattle.std.specs.Prelude.{None}
 use Rattle.std.specs.FinMap.{get}
 use Rattle.std.proofs.lemmas.List.{drop_more, drop_all}
-use Rattle.f3_heap_laws.specs.Blocks.{Live, IsLive, words_of, pins_of, with_words}
-use Rattle.f3_heap_laws.proofs.Laws.{get-insert_other, pins-insert_same}
+use Rattle.f3_live_blocks.specs.Blocks.{Live, IsLive, words_of, pins_of, with_words}
+use Rattle.f3_live_blocks.proofs.Laws.{get-insert_other, pins-insert_same}
 use Rattle.f3_desc.specs.Shape.{Shape, row, shape_at, width, has_holder}
 use Rattle.f3_objects.specs.Tree.{Tree, End, ◌⊕◌, words, times, value, Joins, Repeats, Fits, IsBare}
 use Rattle.f3_objects.specs.Holds.{Stands, Replaces, with_words_at}

@@ -1,6 +1,6 @@
 -- Laws on a copy that is given back after a fault.
 use Rattle.std.proofs.Common.{zero, suc, ◌≡◌, ℕ, ◌+◌, ◌≤◌, cond, true, false, Bool, nat_eq, List, ◌++◌, length, ap, sym, subst, ◌∙◌, arith}
-use Rattle.f3_heap_laws.specs.Blocks.{Live, words_of, pins_of}
+use Rattle.f3_live_blocks.specs.Blocks.{Live, words_of, pins_of}
 use Rattle.f3_heap_laws.specs.Account.{used_by}
 use Rattle.f3_desc.specs.Shape.{Shape, Nothing, Plain, Holder, Both, Times}
 use Rattle.f3_objects.specs.Tree.{Tree, End, Unallocated, Allocated, words, elements, Joins, Repeats, IsHolder, unallocated, allocated, Fits, IsBare}

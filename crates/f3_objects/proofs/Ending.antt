@@ -1,7 +1,7 @@
 -- Laws on what a call that can fail ensures, and on where an object ends.
 use Rattle.std.proofs.Common.{◌≡◌, ◌<◌, ◌+◌, ℕ, false, Err, is_ok, refl, arith, length}
 use Rattle.std.specs.Prelude.{Result, Ok, List, [], OnOk, OnErr}
-use Rattle.f3_heap_laws.specs.Blocks.{Live, words_of}
+use Rattle.f3_live_blocks.specs.Blocks.{Live, words_of}
 use Rattle.f3_heap_laws.specs.Answers.{Answer}
 use Rattle.f3_desc.specs.Shape.{Shape, width}
 use Rattle.f3_objects.specs.Tree.{Tree}

@@ -1,7 +1,7 @@
 -- Laws on giving back what stands beneath parts one after another.
 use Rattle.std.proofs.Common.{zero, suc, ◌≡◌, ◌≢◌, ℕ, ◌+◌, ◌-◌, ◌*◌, ◌<◌, ◌≤◌, inl, inr, cond, true, false, Bool, ◌&&◌, nat_eq, List, length, map, drop, get_or, ◌/◌, refl, ap, sym, subst, ◌∙◌, arith}
 use Rattle.std.specs.FinMap.{get}
-use Rattle.f3_heap_laws.specs.Blocks.{Live, words_of, pins_of}
+use Rattle.f3_live_blocks.specs.Blocks.{Live, words_of, pins_of}
 use Rattle.f3_desc.specs.Shape.{Shape, Times, row, shape_at, width, has_holder}
 use Rattle.f3_objects.specs.Tree.{Tree, End, Word, Unallocated, Allocated, ◌⊕◌, words, times, Joins, Repeats, Fits}
 use Rattle.f3_objects.specs.Holds.{Stands, Holds, IsContents, Replaces, Frees, NonePinned, is_free, left}

@@ -5,8 +5,8 @@ use Rattle.std.proofs.lemmas.Int.{ints}
 use Rattle.std.specs.FinMap.{get, remove}
 use Rattle.std.proofs.lemmas.Bool.{eq-eqb, ne_eqb, cases_eq}
 use Rattle.std.proofs.lemmas.List.{take_all, get_or-take, get_or-drop}
-use Rattle.f3_heap_laws.specs.Blocks.{Live, IsLive, words_of, pins_of, with_words}
-use Rattle.f3_heap_laws.proofs.Laws.{get-insert_other, get-remove_same, get-remove_other, live-insert_same, words-insert_same, pins-insert_same, live-remove_other, words-remove_other, pins-remove_other}
+use Rattle.f3_live_blocks.specs.Blocks.{Live, IsLive, words_of, pins_of, with_words}
+use Rattle.f3_live_blocks.proofs.Laws.{get-insert_other, get-remove_same, get-remove_other, live-insert_same, words-insert_same, pins-insert_same, live-remove_other, words-remove_other, pins-remove_other}
 use Rattle.f3_desc.specs.Shape.{Shape, Holder, Times}
 use Rattle.f3_objects.specs.Tree.{Tree, End, Unallocated, Allocated, words, times, one_at, elements, first_block, IsHolder, unallocated, allocated, Fits, IsBare}
 use Rattle.f3_objects.specs.Holds.{Stands, Holds, IsContents, Replaces, Frees, is_free, left, with_words_at}

@@ -1,8 +1,8 @@
 -- Laws on an allocatable whose block is to hold a copy.
 use Rattle.std.proofs.Common.{suc, ◌≡◌, ◌≢◌, ℕ, ℤ, ◌+◌, ◌<◌, List, [], ◌∷◌, ◌++◌, length, take, drop, set, ap, sym, subst, ◌∙◌, arith}
 use Rattle.std.proofs.lemmas.List.{set_split}
-use Rattle.f3_heap_laws.specs.Blocks.{Live, IsLive, words_of, with_words}
-use Rattle.f3_heap_laws.proofs.Laws.{live-insert, words-insert_other}
+use Rattle.f3_live_blocks.specs.Blocks.{Live, IsLive, words_of, with_words}
+use Rattle.f3_live_blocks.proofs.Laws.{live-insert, words-insert_other}
 use Rattle.f3_objects.specs.Holds.{with_words_at}
 use Rattle.f3_objects.proofs.Spans.{written_behind, length-written}
 use Rattle.f3_objects.proofs.Writes.{with_words_again, words-with}

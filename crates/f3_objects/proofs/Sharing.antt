@@ -3,8 +3,8 @@ use Rattle.std.proofs.Common.{◌≡◌, ◌≢◌, ℕ, ℤ, pos, ◌+◌, ◌*
 use Rattle.std.specs.Prelude.{None, Some}
 use Rattle.std.specs.FinMap.{get}
 use Rattle.std.proofs.Math.Nat.{mul-div_cancel}
-use Rattle.f3_heap_laws.specs.Blocks.{Live, IsLive, words_in, pins_in, words_of, pins_of, with_words, with_taken}
-use Rattle.f3_heap_laws.proofs.Laws.{get-insert_same, get-insert_other, pins-insert_same, fresh-apart}
+use Rattle.f3_live_blocks.specs.Blocks.{Live, IsLive, words_in, pins_in, words_of, pins_of, with_words, with_taken}
+use Rattle.f3_live_blocks.proofs.Laws.{get-insert_same, get-insert_other, pins-insert_same, fresh-apart}
 use Rattle.f3_desc.specs.Shape.{Shape, Holder, Times, width}
 use Rattle.f3_objects.specs.Tree.{Tree, End, Unallocated, Allocated, words, times, value, Value, Nil, Present, elements, first_block, IsHolder, unallocated, allocated, Fits, IsBare, blank}
 use Rattle.f3_objects.specs.Holds.{Stands, Replaces, with_words_at}

@@ -4,9 +4,9 @@ use Rattle.std.specs.Prelude.{None}
 use Rattle.std.specs.FinMap.{get}
 use Rattle.std.proofs.lemmas.Bool.{cases_eq}
 use Rattle.std.proofs.lemmas.List.{length-set, take_more, get_or-drop, length-take-le, length-drop}
-use Rattle.f3_heap_laws.specs.Blocks.{Live, IsLive, words_of, with_words}
+use Rattle.f3_live_blocks.specs.Blocks.{Live, IsLive, words_of, with_words}
 use Rattle.f3_heap_laws.specs.Account.{used_by}
-use Rattle.f3_heap_laws.proofs.Laws.{get-insert_other, words-insert_other, live-insert}
+use Rattle.f3_live_blocks.proofs.Laws.{get-insert_other, words-insert_other, live-insert}
 use Rattle.f3_desc.specs.Shape.{Shape, Holder}
 use Rattle.f3_objects.specs.Tree.{Tree, words, times, first_block, IsHolder, unallocated, allocated, Fits}
 use Rattle.f3_objects.specs.Holds.{Holds, Moves, with_words_at, with_moved}

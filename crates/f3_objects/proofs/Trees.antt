@@ -1,6 +1,6 @@
 -- Laws on trees.
 use Rattle.std.proofs.Common.{zero, suc, ◌≡◌, ℕ, ℤ, pos, ◌+◌, ◌*◌, ◌<◌, ◌≤◌, ◌⊎◌, inl, inr, cond, true, false, Bool, ◌&&◌, ◌||◌, nat_eq, List, [], ◌∷◌, ◌++◌, length, refl, ap, sym, ◌∙◌, arith, append_assoc, length-append}
-use Rattle.f3_heap_laws.specs.Blocks.{Live}
+use Rattle.f3_live_blocks.specs.Blocks.{Live}
 use Rattle.f3_desc.specs.Shape.{Shape, Nothing, Plain, Holder, Both, Times, width, has_holder}
 use Rattle.f3_objects.specs.Tree.{Tree, End, Word, Unallocated, Allocated, ◌⊕◌, words, times, Value, Nil, Number, Absent, Present, value, Joins, Repeats, IsHolder, unallocated, allocated, Fits, IsBare}
 use Rattle.f3_objects.specs.Holds.{Held, is_free, left}

@@ -2,10 +2,10 @@
 use Rattle.std.proofs.Common.{◌≡◌, ◌≢◌, ℕ, ℤ, ◌+◌, ◌<◌, ◌≤◌, true, is_ok, List, [], ◌∷◌, length, take, drop, ap, sym, subst, ◌∙◌, refl, arith}
 use Rattle.std.specs.Prelude.{Result, Ok, Err, OnOk, OnErr}
 use Rattle.std.specs.FinMap.{get, remove}
-use Rattle.f3_heap_laws.specs.Blocks.{Live, IsLive, words_of, with_words}
+use Rattle.f3_live_blocks.specs.Blocks.{Live, IsLive, words_of, with_words}
 use Rattle.f3_heap_laws.specs.Account.{r, used_by}
 use Rattle.f3_heap_laws.proofs.Answers.{used-removed}
-use Rattle.f3_heap_laws.proofs.Laws.{get-insert_other, get-remove_same, get-remove_other}
+use Rattle.f3_live_blocks.proofs.Laws.{get-insert_other, get-remove_same, get-remove_other}
 use Rattle.f3_desc.specs.Shape.{Shape}
 use Rattle.f3_objects.specs.Tree.{Tree, words, times}
 use Rattle.f3_objects.specs.Holds.{with_words_at}

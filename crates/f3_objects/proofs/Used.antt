@@ -9,9 +9,9 @@ use Rattle.std.specs.FinMap.{get, insert, entries, put, find, len, get-entries, 
 use Rattle.std.specs.FinMap.Entries.{by_order}
 use Rattle.std.proofs.lemmas.Bool.{cases_eq}
 use Rattle.std.proofs.lemmas.List.Sums.{sum_by-cons}
-use Rattle.f3_heap_laws.specs.Blocks.{Block, Live, IsLive, words_of, pins_of, with_words}
+use Rattle.f3_live_blocks.specs.Blocks.{Block, Live, IsLive, words_of, pins_of, with_words}
 use Rattle.f3_heap_laws.specs.Account.{r, used_by}
-use Rattle.f3_heap_laws.proofs.Laws.{get-insert_same, get-insert_other}
+use Rattle.f3_live_blocks.proofs.Laws.{get-insert_same, get-insert_other}
 use Rattle.f3_objects.specs.Tree.{Tree, words, IsBare}
 use Rattle.f3_objects.specs.Holds.{Replaces, with_words_at}
 use Rattle.f3_objects.proofs.Writes.{with_words_same}

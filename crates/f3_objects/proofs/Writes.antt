@@ -5,8 +5,8 @@ use Rattle.std.specs.FinMap.{get, same_map, nat_cmp-IsAntisymmetric}
 use Rattle.std.specs.Cmp.{nat_cmp_total}
 use Rattle.std.proofs.lemmas.Bool.{cases_eq}
 use Rattle.std.proofs.lemmas.List.{set_split}
-use Rattle.f3_heap_laws.specs.Blocks.{Block, Live, IsLive, words_in, pins_in, words_of, pins_of, with_words}
-use Rattle.f3_heap_laws.proofs.Laws.{get-insert_same, get-insert_other, live-insert_same, words-insert_same, pins-insert_same}
+use Rattle.f3_live_blocks.specs.Blocks.{Block, Live, IsLive, words_in, pins_in, words_of, pins_of, with_words}
+use Rattle.f3_live_blocks.proofs.Laws.{get-insert_same, get-insert_other, live-insert_same, words-insert_same, pins-insert_same}
 use Rattle.f3_objects.specs.Holds.{with_words_at}
 use Rattle.f3_objects.proofs.Spans.{length-written, written_behind, written_same}
 

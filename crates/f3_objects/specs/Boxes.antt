@@ -1,7 +1,7 @@
 -- Objects that are all that a block holds (own rule), and what it is to take one out.
 use Rattle.std.specs.Prelude.{ℕ, ◌≡◌, None}
 use Rattle.std.specs.FinMap.{get, remove}
-use Rattle.f3_heap_laws.specs.Blocks.{Live, words_of, with_words}
+use Rattle.f3_live_blocks.specs.Blocks.{Live, words_of, with_words}
 use Rattle.f3_desc.specs.Shape.{Shape}
 use Rattle.f3_objects.specs.Tree.{Tree, words}
 use Rattle.f3_objects.specs.Holds.{Holds, with_words_at}

@@ -1,6 +1,6 @@
 -- Copies of objects (own rule): an equal tree in blocks of its own, and the takes that made it.
 use Rattle.std.specs.Prelude.{ℕ, ◌≡◌, ◌≢◌, ◌≤◌, List, [], ◌∷◌, ◌++◌, map, length, Result, Ok, Err}
-use Rattle.f3_heap_laws.specs.Blocks.{Live, words_of, with_words}
+use Rattle.f3_live_blocks.specs.Blocks.{Live, words_of, with_words}
 use Rattle.f3_heap_laws.specs.Answers.{Answer, Full, Memory, Taken, Take}
 use Rattle.f3_desc.specs.Shape.{Shape, Times}
 use Rattle.f3_objects.specs.Tree.{Tree, End, Word, Unallocated, Allocated, words, times, value, Fits, IsBare}

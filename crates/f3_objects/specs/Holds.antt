@@ -1,7 +1,7 @@
 -- Trees that blocks hold (own rule): the words at a place are a tree's, and each block beneath has the words of its contents, and stands there once.
 use Rattle.std.specs.Prelude.{ℕ, ℤ, ◌≡◌, ◌≢◌, ◌+◌, ◌<◌, ◌≤◌, Bool, true, cond, ◌&&◌, nat_eq, List, ◌++◌, take, drop, set, length, pos, None}
 use Rattle.std.specs.FinMap.{get}
-use Rattle.f3_heap_laws.specs.Blocks.{Live, IsLive, words_of, pins_of, with_words}
+use Rattle.f3_live_blocks.specs.Blocks.{Live, IsLive, words_of, pins_of, with_words}
 use Rattle.f3_desc.specs.Shape.{Shape, Holder, Times}
 use Rattle.f3_objects.specs.Tree.{Tree, End, Word, Unallocated, Allocated, words, times, Fits}
 

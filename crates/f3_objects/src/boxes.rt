@@ -1,7 +1,7 @@
 //! Objects that are all that a block holds.
 
 ghost use Rattle.std.specs.Prelude.{◌≡◌, ◌↔◌, ◌+◌, IsOk, OnOk, OnErr, length};
-ghost use Rattle.f3_heap_laws.specs.Blocks.{words_of, pins_of};
+ghost use Rattle.f3_live_blocks.specs.Blocks.{words_of, pins_of};
 ghost use Rattle.f3_heap_laws.specs.Account.{r, used_by};
 ghost use Rattle.f3_desc.specs.Shape.{Shape};
 ghost use Rattle.f3_objects.specs.Tree.{Tree};

@@ -3,7 +3,7 @@
 ghost use Rattle.std.specs.Prelude.{◌≡◌, ◌<◌, ◌+◌, ◌^◌, ℕ, [], None, OnOk, OnErr, IfOk, map, length};
 ghost use Rattle.std.specs.FinMap.{get};
 ghost use Rattle.std.specs.List.{All};
-ghost use Rattle.f3_heap_laws.specs.Blocks.{IsLive, words_of, with_taken};
+ghost use Rattle.f3_live_blocks.specs.Blocks.{IsLive, words_of, with_taken};
 ghost use Rattle.f3_heap_laws.specs.Account.{used_by};
 ghost use Rattle.f3_heap_laws.specs.Answers.{sizes, Took, Tried};
 ghost use Rattle.f3_desc.specs.Shape.{width, whole, row, shape_at, Holder, Times};

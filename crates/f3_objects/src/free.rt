@@ -2,7 +2,7 @@
 
 ghost use Rattle.std.specs.Prelude.{◌≡◌, ◌↔◌, ◌<◌, ◌+◌, ◌*◌, ◌^◌, ℕ, None, IsOk, OnOk, is_ok, map};
 ghost use Rattle.std.specs.FinMap.{get};
-ghost use Rattle.f3_heap_laws.specs.Blocks.{pins_of};
+ghost use Rattle.f3_live_blocks.specs.Blocks.{pins_of};
 ghost use Rattle.f3_heap_laws.specs.Account.{used_by};
 ghost use Rattle.std.specs.List.{All};
 ghost use Rattle.f3_desc.specs.Shape.{width, whole, row, shape_at, Holder, Times};

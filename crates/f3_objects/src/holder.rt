@@ -1,7 +1,7 @@
 //! The block of an allocatable.
 
 ghost use Rattle.std.specs.Prelude.{◌≡◌, ◌<◌, ℕ, length};
-ghost use Rattle.f3_heap_laws.specs.Blocks.{IsLive, words_of};
+ghost use Rattle.f3_live_blocks.specs.Blocks.{IsLive, words_of};
 ghost use Rattle.f3_desc.specs.Shape.{Shape, Holder};
 ghost use Rattle.f3_objects.specs.Tree.{Tree, first_block};
 ghost use Rattle.f3_objects.specs.Holds.{Holds};

@@ -1,7 +1,7 @@
 //! Moving an allocation.
 
 ghost use Rattle.std.specs.Prelude.{◌≡◌, ◌≢◌, ◌↔◌, ◌+◌, ◌*◌, ◌≤◌, ◌⊎◌, None, IsOk, OnOk, OnErr, IfSome, pos, length, take, drop, slice_set};
-ghost use Rattle.f3_heap_laws.specs.Blocks.{IsLive, words_of, pins_of, with_words};
+ghost use Rattle.f3_live_blocks.specs.Blocks.{IsLive, words_of, pins_of, with_words};
 ghost use Rattle.f3_heap_laws.specs.Account.{used_by};
 ghost use Rattle.f3_desc.specs.Shape.{Shape, Holder};
 ghost use Rattle.f3_objects.specs.Tree.{Tree, words, times, first_block};

@@ -1,7 +1,7 @@
 //! Copying words from one block to another.
 
 ghost use Rattle.std.specs.Prelude.{◌≡◌, ◌≢◌, ◌+◌, ◌*◌, ◌≤◌, ◌<◌, ◌∷◌, pos, length, take, drop};
-ghost use Rattle.f3_heap_laws.specs.Blocks.{IsLive, words_of, with_words};
+ghost use Rattle.f3_live_blocks.specs.Blocks.{IsLive, words_of, with_words};
 ghost use Rattle.f3_objects.specs.Holds.{with_words_at};
 
 use f3_heap::{BlockId, Blocks};

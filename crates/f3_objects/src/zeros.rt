@@ -1,7 +1,7 @@
 //! An object of zeros.
 
 ghost use Rattle.std.specs.Prelude.{◌≡◌, ◌+◌, ◌≤◌, pos, length, replicate};
-ghost use Rattle.f3_heap_laws.specs.Blocks.{IsLive, words_of, with_words};
+ghost use Rattle.f3_live_blocks.specs.Blocks.{IsLive, words_of, with_words};
 ghost use Rattle.f3_desc.specs.Shape.{width, whole};
 ghost use Rattle.f3_desc.specs.Layout.{pieces_of};
 ghost use Rattle.f3_objects.specs.Tree.{IsBare, blank};

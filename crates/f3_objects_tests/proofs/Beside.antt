@@ -2,8 +2,8 @@
 use Rattle.std.proofs.Common.{◌≡◌, ◌≢◌, ℕ, ℤ, ◌<◌, ◌≤◌, inl, inr, Bool, List, [], length, take, drop, ap, sym, subst, ◌∙◌, arith}
 use Rattle.std.specs.Prelude.{None, Result, Ok, Err, OnOk, OnErr}
 use Rattle.std.specs.FinMap.{get, remove}
-use Rattle.f3_heap_laws.specs.Blocks.{Live, IsLive, words_of, pins_of, with_taken, with_words}
-use Rattle.f3_heap_laws.proofs.Laws.{get-insert_other, get-remove_other}
+use Rattle.f3_live_blocks.specs.Blocks.{Live, IsLive, words_of, pins_of, with_taken, with_words}
+use Rattle.f3_live_blocks.proofs.Laws.{get-insert_other, get-remove_other}
 use Rattle.f3_desc.specs.Shape.{Shape}
 use Rattle.f3_objects.specs.Tree.{Tree, words, times, Fits, blank}
 use Rattle.f3_objects.specs.Holds.{Holds, Replaces, Frees}

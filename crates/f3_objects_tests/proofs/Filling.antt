@@ -4,8 +4,8 @@ use Rattle.std.specs.Prelude.{None, Ok, IfOk, Result}
 use Rattle.std.specs.FinMap.{get}
 use Rattle.std.proofs.Math.Seq.{take-length}
 use Rattle.std.proofs.lemmas.List.{length-set, length-replicate, take_more, take_more_set}
-use Rattle.f3_heap_laws.specs.Blocks.{Live, IsLive, words_in, words_of, with_taken, with_words}
-use Rattle.f3_heap_laws.proofs.Laws.{get-insert_same, get-insert_other}
+use Rattle.f3_live_blocks.specs.Blocks.{Live, IsLive, words_in, words_of, with_taken, with_words}
+use Rattle.f3_live_blocks.proofs.Laws.{get-insert_same, get-insert_other}
 use Rattle.f3_objects.proofs.Changes.{not_dead}
 use Rattle.f3_objects.proofs.Writes.{words-with, live-with}
 

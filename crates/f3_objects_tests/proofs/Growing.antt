@@ -3,8 +3,8 @@ use Rattle.std.proofs.Common.{zero, suc, ◌≡◌, ◌≢◌, ℕ, ℤ, pos, �
 use Rattle.std.specs.Prelude.{None, Some}
 use Rattle.std.specs.FinMap.{get}
 use Rattle.std.proofs.lemmas.List.{drop_more, drop_all, append-nil, length-replicate}
-use Rattle.f3_heap_laws.specs.Blocks.{Live, IsLive, words_in, pins_in, words_of, pins_of, with_taken, with_words}
-use Rattle.f3_heap_laws.proofs.Laws.{get-insert_same, get-insert_other, live-insert_same, words-insert_same, pins-insert_same}
+use Rattle.f3_live_blocks.specs.Blocks.{Live, IsLive, words_in, pins_in, words_of, pins_of, with_taken, with_words}
+use Rattle.f3_live_blocks.proofs.Laws.{get-insert_same, get-insert_other, live-insert_same, words-insert_same, pins-insert_same}
 use Rattle.f3_desc.specs.Shape.{Shape, Holder, Times, row, shape_at, width}
 use Rattle.f3_objects.specs.Tree.{Tree, End, Unallocated, Allocated, ◌⊕◌, words, times, elements, Joins, Repeats, IsHolder, unallocated, allocated, Fits, IsBare, blank}
 use Rattle.f3_objects.specs.Holds.{Stands, Holds, IsContents, Replaces, with_words_at}

@@ -4,7 +4,7 @@ use Rattle.std.specs.Prelude.{None, slice_index_or}
 use Rattle.std.specs.FinMap.{get}
 use Rattle.std.proofs.Math.Seq.{take-length}
 use Rattle.std.proofs.lemmas.Bool.{cases_eq}
-use Rattle.f3_heap_laws.specs.Blocks.{Live, IsLive, words_of}
+use Rattle.f3_live_blocks.specs.Blocks.{Live, IsLive, words_of}
 use Rattle.f3_heap_laws.specs.Answers.{Take}
 use Rattle.f3_desc.specs.Shape.{Shape, Plain, Holder, Times, shape_at, shapes_from}
 use Rattle.f3_desc.specs.Layout.{pieces_of, shapes, shape_in}

@@ -1,6 +1,6 @@
 -- Two allocatables in a block.
 use Rattle.std.specs.Prelude.{ℕ, pos, ◌≡◌, ◌≢◌, ◌<◌, [], ◌∷◌, length, slice_index_or}
-use Rattle.f3_heap_laws.specs.Blocks.{Live, IsLive, words_of}
+use Rattle.f3_live_blocks.specs.Blocks.{Live, IsLive, words_of}
 
 -- a block of two integers, and one of two allocatables of rank 1, of which the first has that block and the second is not allocated
 pub record AreLists (m : Live) (numbers lists : ℕ) : Type 0 where

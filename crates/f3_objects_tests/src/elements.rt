@@ -2,7 +2,7 @@
 //! that is all of a block.
 
 ghost use Rattle.std.specs.Prelude.{◌≡◌, [], ◌∷◌, IfOk, IsTrue};
-ghost use Rattle.f3_heap_laws.specs.Blocks.{IsLive};
+ghost use Rattle.f3_live_blocks.specs.Blocks.{IsLive};
 ghost use Rattle.f3_desc.specs.Layout.{pieces_of};
 ghost use Rattle.f3_desc.specs.declared.piece.Piece.TheVariants.{Word, Allocatable};
 ghost use Rattle.f3_objects_tests.specs.Lists.{AreLists, AreReady, IsHead};

@@ -1,7 +1,7 @@
 //! An allocatable with its block.
 
 ghost use Rattle.std.specs.Prelude.{◌≡◌, ◌+◌, ◌*◌, ◌<◌, ◌≤◌, ◌∷◌, pos, length};
-ghost use Rattle.f3_heap_laws.specs.Blocks.{IsLive, words_of, with_words};
+ghost use Rattle.f3_live_blocks.specs.Blocks.{IsLive, words_of, with_words};
 ghost use Rattle.f3_objects.specs.Holds.{with_words_at};
 ghost use Rattle.f3_objects_tests.specs.Grows.{dims_of};
 

@@ -2,7 +2,7 @@
 
 ghost use Rattle.std.specs.Prelude.{◌≡◌, ◌≢◌, ℕ, None, IfSome};
 ghost use Rattle.std.specs.FinMap.{get};
-ghost use Rattle.f3_heap_laws.specs.Blocks.{IsLive};
+ghost use Rattle.f3_live_blocks.specs.Blocks.{IsLive};
 ghost use Rattle.f3_desc.specs.Shape.{whole};
 ghost use Rattle.f3_desc.specs.Layout.{pieces_of};
 ghost use Rattle.f3_objects.specs.Tree.{Tree, blank, times};

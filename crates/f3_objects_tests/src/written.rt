@@ -2,7 +2,7 @@
 
 ghost use Rattle.std.specs.Prelude.{◌≡◌, ℕ, None, pos};
 ghost use Rattle.std.specs.FinMap.{get};
-ghost use Rattle.f3_heap_laws.specs.Blocks.{IsLive, words_of};
+ghost use Rattle.f3_live_blocks.specs.Blocks.{IsLive, words_of};
 
 use f3_heap::{BlockId, Blocks};
 use std::process::Abort;

@@ -2,7 +2,7 @@
 use Rattle.std.proofs.Common.{◌≡◌, ℕ, zero, suc, ◌+◌, List, [], ◌∷◌, ◌++◌, length, ap, refl, ◌∙◌, arith}
 use Rattle.std.specs.Prelude.{map, drop}
 use Rattle.f3_program.specs.declared.declarations.Declared.{Declared}
-use Rattle.f3_heap_laws.specs.Blocks.{Live, words_of}
+use Rattle.f3_live_blocks.specs.Blocks.{Live, words_of}
 use Rattle.f3_heap_laws.specs.Account.{r as taken_by}
 use Rattle.f3_meaning_whole.specs.Value.{Span, Value, joined, count, spans_of}
 use Rattle.f3_meaning_whole.specs.Shape.{Shape, Whole, Logical, Record, Parts, nothing, and, shape_in}

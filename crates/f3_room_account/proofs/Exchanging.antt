@@ -4,7 +4,7 @@ use Rattle.std.proofs.lemmas.Bool.{ltb-true}
 use Rattle.std.specs.Prelude.{None, Some, nat_lt, if◌then◌else◌, slice_index_or, slice_set}
 use Rattle.f3_program.specs.declared.declarations.Base.{Base}
 use Rattle.f3_program.specs.declared.declarations.Declared.{Declared}
-use Rattle.f3_heap_laws.specs.Blocks.{Live}
+use Rattle.f3_live_blocks.specs.Blocks.{Live}
 use Rattle.f3_meaning_whole.specs.Value.{Span, count}
 use Rattle.f3_meaning_whole.specs.Shape.{Shape, Whole, Logical, Record, Parts, nothing, and, shape_in}
 use Rattle.f3_meaning_whole.specs.Store.{Root, Static, Local, Step, Component, Element, Contents}

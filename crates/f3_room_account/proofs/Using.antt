@@ -11,9 +11,9 @@ use Rattle.std.specs.FinMap.Entries.{by_order}
 use Rattle.std.proofs.lemmas.Bool.{cases_eq}
 use Rattle.std.proofs.lemmas.Bool.Decides.{nat_tests}
 use Rattle.std.proofs.lemmas.List.Sums.{sum_by-cons}
-use Rattle.f3_heap_laws.specs.Blocks.{Block, Live, IsLive, words_in, words_of}
+use Rattle.f3_live_blocks.specs.Blocks.{Block, Live, IsLive, words_in, words_of}
 use Rattle.f3_heap_laws.specs.Account.{r, used_by}
-use Rattle.f3_heap_laws.proofs.Laws.{get-insert_same, get-insert_other, get-remove_same, get-remove_other}
+use Rattle.f3_live_blocks.proofs.Laws.{get-insert_same, get-insert_other, get-remove_same, get-remove_other}
 use Rattle.f3_rooms.specs.Held.{times}
 use Rattle.f3_rooms.specs.Laws.{without}
 use Rattle.f3_rooms.proofs.Framing.{one_here}

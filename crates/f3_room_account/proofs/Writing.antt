@@ -3,8 +3,8 @@ use Rattle.std.proofs.Common.{◌≡◌, ◌⊎◌, inl, inr, ℕ, zero, suc, �
 use Rattle.std.proofs.lemmas.Bool.{cases_eq}
 use Rattle.std.specs.Prelude.{None, replicate, slice_set}
 use Rattle.std.specs.FinMap.{get, insert}
-use Rattle.f3_heap_laws.specs.Blocks.{Block, Live, IsLive, words_of, pins_of, with_taken}
-use Rattle.f3_heap_laws.proofs.Laws.{get-insert_other, live-insert}
+use Rattle.f3_live_blocks.specs.Blocks.{Block, Live, IsLive, words_of, pins_of, with_taken}
+use Rattle.f3_live_blocks.proofs.Laws.{get-insert_other, live-insert}
 use Rattle.f3_meaning_whole.specs.Value.{Span}
 use Rattle.f3_rooms.specs.Held.{Empty, Holds, blocks_in, times}
 use Rattle.f3_rooms.specs.Rooms.{Rooms}

@@ -1,6 +1,6 @@
 -- Laws of the words in use.
 use Rattle.std.specs.Prelude.{◌≡◌, ◌<◌, ◌⊎◌, ℕ, ℤ, pos, List, [], length, map, drop, Some}
-use Rattle.f3_heap_laws.specs.Blocks.{Live, IsLive, words_of, with_taken}
+use Rattle.f3_live_blocks.specs.Blocks.{Live, IsLive, words_of, with_taken}
 use Rattle.f3_heap_laws.specs.Account.{r as taken_by, used_by}
 use Rattle.f3_meaning_whole.specs.Value.{Span, cleared}
 use Rattle.f3_meaning_whole.specs.Shape.{Shape}

@@ -3,9 +3,9 @@ use Rattle.std.proofs.Common.{◌≡◌, ◌≢◌, ◌∙◌, sym, ap, subst, r
 use Rattle.std.specs.Prelude.{Option, None, ℤ, map}
 use Rattle.std.specs.Prelude.{Result, Ok, Err, OnOk, OnErr, IfErr}
 use Rattle.std.specs.FinMap.{get}
-use Rattle.f3_heap_laws.specs.Blocks.{Block, Live, IsLive, words_of, with_words}
+use Rattle.f3_live_blocks.specs.Blocks.{Block, Live, IsLive, words_of, with_words}
 use Rattle.f3_heap_laws.specs.Answers.{Answer, Sizes, Take, Allowed, Tried}
-use Rattle.f3_heap_laws.proofs.Laws.{get-insert_other, live-insert, words-insert_other}
+use Rattle.f3_live_blocks.proofs.Laws.{get-insert_other, live-insert, words-insert_other}
 use Rattle.f3_desc.specs.Shape.{Shape, width}
 use Rattle.f3_objects.specs.Tree.{Tree, words, times, IsBare, blank}
 use Rattle.f3_objects.specs.Holds.{Holds, with_words_at}

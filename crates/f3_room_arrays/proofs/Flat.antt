@@ -1,7 +1,7 @@
 -- Objects with nothing allocatable in them are their words, whatever is held elsewhere.
 use Rattle.std.proofs.Common.{◌≡◌, ◌∙◌, ap, refl, ℕ, zero, suc, ◌+◌, ◌*◌, ◌<◌, ◌≤◌, Bool, true, false, ◌∷◌, arith}
 use Rattle.std.specs.Prelude.{◌||◌}
-use Rattle.f3_heap_laws.specs.Blocks.{Live}
+use Rattle.f3_live_blocks.specs.Blocks.{Live}
 use Rattle.f3_meaning_whole.specs.Value.{Number, Truth, Composite, Array, more, joined, count}
 use Rattle.f3_meaning_whole.specs.Shape.{Shape, Whole, Logical, Record, Parts, nothing, and}
 use Rattle.f3_desc.specs.Shape.{Shape as Layout, Times, row, has_holder}

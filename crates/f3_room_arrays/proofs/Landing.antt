@@ -4,8 +4,8 @@ use Rattle.std.specs.Prelude.{Some, ℤ, pos, ◌+ℤ◌, nat_eq, ◌&&◌, if�
 use Rattle.std.specs.List.{All, AllZip, AllPairs}
 use Rattle.std.proofs.lemmas.Bool.{eqb-true, eqb-false, eq-eqb, ne_eqb}
 use Rattle.std.proofs.lemmas.Int.{ints}
-use Rattle.f3_heap_laws.specs.Blocks.{Live, IsLive, words_of, with_words}
-use Rattle.f3_heap_laws.proofs.Laws.{live-insert, words-insert_other}
+use Rattle.f3_live_blocks.specs.Blocks.{Live, IsLive, words_of, with_words}
+use Rattle.f3_live_blocks.proofs.Laws.{live-insert, words-insert_other}
 use Rattle.f3_meaning_whole.specs.Value.{Value}
 use Rattle.f3_meaning_whole.specs.Shape.{Shape}
 use Rattle.f3_meaning_whole.specs.Store.{Root, Static, Local, Step, Component, Element, Contents, Path, put_all, same_root, same_step}

@@ -6,8 +6,8 @@ use Rattle.std.specs.FinMap.{get as find}
 use Rattle.std.proofs.lemmas.Bool.{cases_eq}
 use Rattle.std.proofs.lemmas.Int.{ints}
 use Rattle.std.proofs.lemmas.List.{length-take-le, get_or-take, get_or-drop, get_or_append_left, get_or-append-add}
-use Rattle.f3_heap_laws.specs.Blocks.{Live, IsLive, words_of, with_words}
-use Rattle.f3_heap_laws.proofs.Laws.{live-insert, words-insert_other, get-insert_other}
+use Rattle.f3_live_blocks.specs.Blocks.{Live, IsLive, words_of, with_words}
+use Rattle.f3_live_blocks.proofs.Laws.{live-insert, words-insert_other, get-insert_other}
 use Rattle.f3_meaning_whole.specs.Value.{Value, Span, Array, joined, count, shown, spread}
 use Rattle.f3_meaning_whole.specs.Shape.{Shape, Whole, Logical, Record}
 use Rattle.f3_meaning_whole.specs.Store.{Path, get, put, put_all}

@@ -5,8 +5,8 @@ use Rattle.std.specs.List.{All}
 use Rattle.std.proofs.lemmas.Int.{ints}
 use Rattle.std.proofs.lemmas.List.{drop-drop, length-take-le}
 use Rattle.std.proofs.Common.{length-drop}
-use Rattle.f3_heap_laws.specs.Blocks.{Live, IsLive, words_of, with_words}
-use Rattle.f3_heap_laws.proofs.Laws.{live-insert, words-insert_other}
+use Rattle.f3_live_blocks.specs.Blocks.{Live, IsLive, words_of, with_words}
+use Rattle.f3_live_blocks.proofs.Laws.{live-insert, words-insert_other}
 use Rattle.f3_desc.specs.Descriptor.{progression}
 use Rattle.f3_desc.specs.Inner.Congruent.{IsCongruent}
 use Rattle.f3_desc.proofs.Progressions.{step-more}

@@ -4,8 +4,8 @@ use Rattle.std.specs.Prelude.{None, Some, ◌⊎◌, ℤ, pos, map, slice_get, s
 use Rattle.std.specs.FinMap.{get as find}
 use Rattle.std.proofs.lemmas.List.{map-append, take_all}
 use Rattle.f3_program.specs.declared.declarations.Base.TheVariants.{Integer}
-use Rattle.f3_heap_laws.specs.Blocks.{Live, IsLive, pins_in, words_of, pins_of}
-use Rattle.f3_heap_laws.proofs.Laws.{live-insert, get-insert_other}
+use Rattle.f3_live_blocks.specs.Blocks.{Live, IsLive, pins_in, words_of, pins_of}
+use Rattle.f3_live_blocks.proofs.Laws.{live-insert, get-insert_other}
 use Rattle.f3_meaning_whole.specs.Value.{Span, count}
 use Rattle.f3_meaning_whole.specs.Shape.{Shape}
 use Rattle.f3_meaning_whole.specs.Store.{Path, get}

@@ -10,7 +10,7 @@ use Rattle.f3_desc.specs.declared.descriptor.Dim.{Dim}
 use Rattle.f3_desc.specs.Inner.Congruent.{IsCongruent}
 use Rattle.f3_desc.specs.Descriptor.{progression, places}
 use Rattle.f3_desc.specs.Laws.{size_of}
-use Rattle.f3_heap_laws.specs.Blocks.{Live, words_of}
+use Rattle.f3_live_blocks.specs.Blocks.{Live, words_of}
 use Rattle.f3_objects.proofs.Spans.{written_same}
 use Rattle.f3_objects.specs.Holds.{with_words_at}
 use Rattle.f3_room_arrays.specs.Words.{places_from, words_at, copied, IsInside, AreInside}

@@ -4,7 +4,7 @@ use Rattle.std.specs.Prelude.{None, Some, ℤ, pos, ◌+ℤ◌, if◌then◌else
 use Rattle.std.specs.List.{AllZip}
 use Rattle.std.proofs.lemmas.Bool.{lt-ltb}
 use Rattle.std.proofs.lemmas.Int.{ints}
-use Rattle.f3_heap_laws.specs.Blocks.{Live, words_of}
+use Rattle.f3_live_blocks.specs.Blocks.{Live, words_of}
 use Rattle.f3_meaning_whole.specs.Value.{Span, Value, joined, count}
 use Rattle.f3_meaning_whole.specs.Shape.{Shape}
 use Rattle.f3_meaning_whole.specs.Store.{Root, Step, Element, Path, get}

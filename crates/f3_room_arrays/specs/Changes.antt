@@ -1,7 +1,7 @@
 -- Reading and assigning many objects of a store (ISO/IEC 1539-1:2004, 7.1.8 and 7.4.1.3).
 use Rattle.std.specs.Prelude.{◌≡◌, ◌≤◌, ◌<◌, ◌⊎◌, ℕ, zero, suc, true, false, List, [], ◌∷◌, Some, length, map}
 use Rattle.std.specs.List.{All, AllPairs}
-use Rattle.f3_heap_laws.specs.Blocks.{Live, IsLive, words_of}
+use Rattle.f3_live_blocks.specs.Blocks.{Live, IsLive, words_of}
 use Rattle.f3_meaning_whole.specs.Value.{Span, Value, count, shown}
 use Rattle.f3_meaning_whole.specs.Shape.{Shape}
 use Rattle.f3_meaning_whole.specs.Store.{Path, get, put_all, same_root}

@@ -1,7 +1,7 @@
 -- Objects that are copied with what they hold, out of a store (ISO/IEC 1539-1:2004, 7.1.8 and 7.4.1.3).
 use Rattle.std.specs.Prelude.{◌≡◌, ◌≢◌, ℕ, List, length, map}
 use Rattle.std.specs.FinMap.{get as find}
-use Rattle.f3_heap_laws.specs.Blocks.{Live}
+use Rattle.f3_live_blocks.specs.Blocks.{Live}
 use Rattle.f3_heap_laws.specs.Answers.{Answer, Sizes}
 use Rattle.f3_meaning_whole.specs.Shape.{Shape}
 use Rattle.f3_meaning_whole.specs.Store.{Path, get}

@@ -1,7 +1,7 @@
 -- Which objects a descriptor tells of: whole arrays, sections, components of their elements (ISO/IEC 1539-1:2004, 6.1.2 and 6.2.2).
 use Rattle.std.specs.Prelude.{◌≡◌, ℕ, ℤ, pos, false, List, [], Some}
 use Rattle.std.specs.List.{AllZip}
-use Rattle.f3_heap_laws.specs.Blocks.{Live}
+use Rattle.f3_live_blocks.specs.Blocks.{Live}
 use Rattle.f3_meaning_whole.specs.Value.{Value}
 use Rattle.f3_meaning_whole.specs.Shape.{Shape}
 use Rattle.f3_meaning_whole.specs.Store.{Path}

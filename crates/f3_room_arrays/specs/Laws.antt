@@ -1,7 +1,7 @@
 -- Laws of what descriptors tell of.
 use Rattle.std.specs.Prelude.{⊤, ◌≡◌, ◌≤◌, ◌+◌, ℕ, zero, suc, pos, List, [], ◌∷◌, Some, length, map}
 use Rattle.std.specs.List.{All, AllPairs}
-use Rattle.f3_heap_laws.specs.Blocks.{Live, IsLive}
+use Rattle.f3_live_blocks.specs.Blocks.{Live, IsLive}
 use Rattle.f3_meaning_whole.specs.Value.{Span, Value, count}
 use Rattle.f3_meaning_whole.specs.Shape.{Shape, Record, Parts, nothing, and}
 use Rattle.f3_meaning_whole.specs.Store.{Root, Step, Component, Path, within, get}

@@ -2,7 +2,7 @@
 
 ghost use Rattle.std.specs.Prelude.{◌≡◌, ◌≢◌, ◌+◌, ◌*◌, ◌≤◌, ◌<◌, ◌^◌, ℕ, List, length, None, OnOk, OnErr, IfErr};
 ghost use Rattle.std.specs.FinMap.{get as find};
-ghost use Rattle.f3_heap_laws.specs.Blocks.{IsLive, words_of, pins_of};
+ghost use Rattle.f3_live_blocks.specs.Blocks.{IsLive, words_of, pins_of};
 ghost use Rattle.f3_meaning_whole.specs.Shape.{Shape};
 ghost use Rattle.f3_meaning_whole.specs.Store.{Path};
 ghost use Rattle.f3_desc.specs.Descriptor.{places};

@@ -1,7 +1,7 @@
 //! Arrays and sections are assigned.
 
 ghost use Rattle.std.specs.Prelude.{◌≡◌, ◌≢◌, ◌+◌, ◌*◌, ◌≤◌, ◌<◌, ◌^◌, pos, List, length};
-ghost use Rattle.f3_heap_laws.specs.Blocks.{IsLive, words_of, with_words};
+ghost use Rattle.f3_live_blocks.specs.Blocks.{IsLive, words_of, with_words};
 ghost use Rattle.f3_meaning_whole.specs.Value.{spread};
 ghost use Rattle.f3_meaning_whole.specs.Shape.{Shape};
 ghost use Rattle.f3_meaning_whole.specs.Store.{Path};

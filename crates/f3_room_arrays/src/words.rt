@@ -1,7 +1,7 @@
 //! Words of one block are copied to another.
 
 ghost use Rattle.std.specs.Prelude.{◌≡◌, ◌≢◌, ◌+◌, ◌*◌, ◌≤◌, ◌+ℤ◌, ◌*ℤ◌, true, pos, length, take, drop};
-ghost use Rattle.f3_heap_laws.specs.Blocks.{IsLive, words_of, with_words};
+ghost use Rattle.f3_live_blocks.specs.Blocks.{IsLive, words_of, with_words};
 ghost use Rattle.f3_desc.specs.Inner.Congruent.{IsCongruent};
 ghost use Rattle.f3_desc.specs.Descriptor.{progression};
 ghost use Rattle.f3_objects.specs.Holds.{with_words_at};

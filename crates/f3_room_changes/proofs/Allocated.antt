@@ -2,7 +2,7 @@
 use Rattle.std.proofs.Common.{◌≡◌, ℕ, ◌<◌, List, length, refl, sym, ap, subst, ◌∙◌}
 use Rattle.std.specs.Prelude.{None}
 use Rattle.std.specs.FinMap.{get as find}
-use Rattle.f3_heap_laws.specs.Blocks.{Live, with_taken}
+use Rattle.f3_live_blocks.specs.Blocks.{Live, with_taken}
 use Rattle.f3_heap_laws.specs.Answers.{Answer, Taken}
 use Rattle.f3_meaning_whole.specs.Value.{Span, Allocated}
 use Rattle.f3_meaning_whole.specs.Shape.{Shape}

@@ -1,8 +1,8 @@
 -- Parts that are cleared, and copies of parts.
 use Rattle.std.proofs.Common.{◌≡◌, ◌≢◌, ℕ, pos, List, [], replicate, refl, sym, ap, subst, ◌∙◌, arith}
-use Rattle.f3_heap_laws.specs.Blocks.{Live, words_of, with_words}
+use Rattle.f3_live_blocks.specs.Blocks.{Live, words_of, with_words}
 use Rattle.f3_heap_laws.specs.Answers.{Take}
-use Rattle.f3_heap_laws.proofs.Laws.{get-insert_other, live-insert_same, words-insert_same, pins-insert_same}
+use Rattle.f3_live_blocks.proofs.Laws.{get-insert_other, live-insert_same, words-insert_same, pins-insert_same}
 use Rattle.f3_meaning_whole.specs.Value.{Value}
 use Rattle.f3_meaning_whole.specs.Shape.{Shape}
 use Rattle.f3_meaning_whole.specs.Store.{Root, Step, get}

@@ -1,6 +1,6 @@
 -- Parts whose blocks were given back.
 use Rattle.std.proofs.Common.{◌≡◌, ℕ, true, List, refl, sym, ap, subst, ◌∙◌, arith}
-use Rattle.f3_heap_laws.specs.Blocks.{Live, pins_of}
+use Rattle.f3_live_blocks.specs.Blocks.{Live, pins_of}
 use Rattle.f3_meaning_whole.specs.Value.{Unallocated, cleared}
 use Rattle.f3_meaning_whole.specs.Shape.{Shape}
 use Rattle.f3_meaning_whole.specs.Store.{Root, Step, get, put}

@@ -1,7 +1,7 @@
 -- Parts at words of blocks.
 use Rattle.std.proofs.Common.{◌≡◌, ℕ, ◌+◌, ◌*◌, ◌<◌, ◌≤◌, List, length, sym, subst, arith}
 use Rattle.std.specs.Prelude.{◌↔◌, Result, Ok, Err, OnOk, OnErr}
-use Rattle.f3_heap_laws.specs.Blocks.{Live, IsLive, words_of, pins_of}
+use Rattle.f3_live_blocks.specs.Blocks.{Live, IsLive, words_of, pins_of}
 use Rattle.f3_meaning_whole.specs.Shape.{Shape}
 use Rattle.f3_meaning_whole.specs.Store.{Root, Step}
 use Rattle.f3_desc.specs.Shape.{Shape as Layout, width}

@@ -1,7 +1,7 @@
 -- Parts of variables that a machine changes, in blocks of a heap (ISO/IEC 1539-1:2004, 6.3).
 use Rattle.std.specs.Prelude.{◌≡◌, ◌≢◌, ◌+◌, ◌*◌, ◌≤◌, ◌⊎◌, ℕ, List, length, None, Some}
 use Rattle.std.specs.FinMap.{get as find}
-use Rattle.f3_heap_laws.specs.Blocks.{Live, with_taken}
+use Rattle.f3_live_blocks.specs.Blocks.{Live, with_taken}
 use Rattle.f3_heap_laws.specs.Answers.{Answer, Taken}
 use Rattle.f3_meaning_whole.specs.Value.{Span, Value, Unallocated, Allocated}
 use Rattle.f3_meaning_whole.specs.Shape.{Shape}

@@ -1,7 +1,7 @@
 //! The words of an allocatable.
 
 ghost use Rattle.std.specs.Prelude.{◌≡◌, ◌+◌, ◌*◌, ◌≤◌, ◌<◌, false, length};
-ghost use Rattle.f3_heap_laws.specs.Blocks.{IsLive, words_of};
+ghost use Rattle.f3_live_blocks.specs.Blocks.{IsLive, words_of};
 ghost use Rattle.f3_meaning_whole.specs.Exec.{too_many};
 ghost use Rattle.f3_data.specs.Values.{spans_of};
 ghost use Rattle.f3_rooms.specs.Laws.{with_bounds, with_holder};

@@ -1,7 +1,7 @@
 //! Clearing a part of a variable.
 
 ghost use Rattle.std.specs.Prelude.{◌≡◌, List, pos, replicate};
-ghost use Rattle.f3_heap_laws.specs.Blocks.{words_of, with_words};
+ghost use Rattle.f3_live_blocks.specs.Blocks.{words_of, with_words};
 ghost use Rattle.f3_meaning_whole.specs.Shape.{Shape};
 ghost use Rattle.f3_meaning_whole.specs.Store.{Root, Step};
 ghost use Rattle.f3_desc.specs.Shape.{whole, width};

@@ -1,7 +1,7 @@
 //! Giving back what allocatables hold.
 
 ghost use Rattle.std.specs.Prelude.{◌≡◌, ◌↔◌, ◌<◌, ◌+◌, ℕ, List, IsOk, OnOk, is_ok};
-ghost use Rattle.f3_heap_laws.specs.Blocks.{pins_of};
+ghost use Rattle.f3_live_blocks.specs.Blocks.{pins_of};
 ghost use Rattle.f3_heap_laws.specs.Account.{used_by};
 ghost use Rattle.f3_meaning_whole.specs.Value.{Unallocated, cleared};
 ghost use Rattle.f3_meaning_whole.specs.Shape.{Shape};

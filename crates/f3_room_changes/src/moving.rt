@@ -1,7 +1,7 @@
 //! Moving what an allocatable holds.
 
 ghost use Rattle.std.specs.Prelude.{◌≡◌, ◌↔◌, ℕ, List, IsOk, OnOk, OnErr};
-ghost use Rattle.f3_heap_laws.specs.Blocks.{pins_of};
+ghost use Rattle.f3_live_blocks.specs.Blocks.{pins_of};
 ghost use Rattle.f3_heap_laws.specs.Account.{used_by};
 ghost use Rattle.f3_meaning_whole.specs.Shape.{Shape};
 ghost use Rattle.f3_meaning_whole.specs.Store.{Root, Step};

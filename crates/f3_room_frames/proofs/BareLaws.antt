@@ -12,7 +12,7 @@ use Rattle.f3_program.specs.declared.declarations.Constant.{Constant}
 use Rattle.f3_program.specs.declared.declarations.Derived.{Derived}
 use Rattle.f3_meaning_whole.specs.Shape.{Shape, Whole, shape_in, parts_in, shapes_of}
 use Rattle.f3_rooms.specs.Laws.{IsBare, AreBare}
-use Rattle.f3_room_types.proofs.TableLaws.{shape_next, next_shape}
+use Rattle.f3_type_words.proofs.TableLaws.{shape_next, next_shape}
 use Rattle.f3_program.specs.declared.declarations.Declared.{Declared}
 use Rattle.f3_rooms.specs.Forms.{room}
 use Rattle.f3_room_frames.specs.declared.layout.Variable.{Variable}

@@ -1,7 +1,7 @@
 -- Activations that begin with words of their own.
 use Rattle.std.proofs.Common.{◌≡◌, ℕ, zero, suc, ◌<◌, ◌≤◌, List, [], ◌∷◌, ◌++◌, length, map, refl, sym, ap, subst, ◌∙◌, arith, append_assoc, append-nil}
 use Rattle.f3_program.specs.declared.program.Program.{Program}
-use Rattle.f3_heap_laws.specs.Blocks.{Live, words_of, words_in, pins_of, pins_in}
+use Rattle.f3_live_blocks.specs.Blocks.{Live, words_of, words_in, pins_of, pins_in}
 use Rattle.f3_meaning_whole.specs.Value.{Value}
 use Rattle.f3_meaning_whole.specs.Store.{Store}
 use Rattle.f3_meaning_whole.specs.Exec.{held}

@@ -10,7 +10,7 @@ use Rattle.f3_program.specs.declared.declarations.Base.TheVariants as base
 use Rattle.f3_program.specs.declared.declarations.Constant.{Constant}
 use Rattle.f3_program.specs.declared.declarations.Constant.TheVariants as constant
 use Rattle.f3_program.specs.declared.declarations.Declared.{Declared}
-use Rattle.f3_heap_laws.specs.Blocks.{Live, words_of}
+use Rattle.f3_live_blocks.specs.Blocks.{Live, words_of}
 use Rattle.f3_meaning_whole.specs.Value.{Span, Value, Number, Truth, Array, Unallocated, joined, count}
 use Rattle.f3_meaning_whole.specs.Shape.{Shape, shape_in, initial_of, arranged, spans_declared}
 use Rattle.f3_meaning_whole.specs.Arithmetic.{constant_value}

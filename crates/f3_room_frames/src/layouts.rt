@@ -19,8 +19,8 @@ use crate::laying::{lay_out_procedure, lay_out_statics};
 use crate::layout::Layout;
 use f3_program::declarations::Base;
 use f3_program::program::{Procedure, Program};
-use f3_room_types::tabling::tables;
-use f3_room_types::words::base_words;
+use f3_type_words::tabling::tables;
+use f3_type_words::words::base_words;
 use f3_type_tables::table::TypeTable;
 use std::alloc::{AllocError, Global};
 

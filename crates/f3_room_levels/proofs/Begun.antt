@@ -7,9 +7,9 @@ use Rattle.std.specs.FinMap.{get as find}
 use Rattle.f3_program.specs.declared.declarations.Declared.{Declared}
 use Rattle.f3_heap_laws.specs.Account.{used_by, r as taken_for}
 use Rattle.f3_heap_laws.specs.Answers.{sizes}
-use Rattle.f3_heap_laws.specs.Blocks.{Live, IsLive, words_of, with_taken}
+use Rattle.f3_live_blocks.specs.Blocks.{Live, IsLive, words_of, with_taken}
 use Rattle.f3_heap_laws.proofs.Answers.{sizes-with_words, used-taken, used_same}
-use Rattle.f3_heap_laws.proofs.Laws.{get-insert_other, live-insert_same, words-insert_same, fresh-apart}
+use Rattle.f3_live_blocks.proofs.Laws.{get-insert_other, live-insert_same, words-insert_same, fresh-apart}
 use Rattle.f3_meaning_whole.specs.Value.{Value}
 use Rattle.f3_meaning_whole.specs.Shape.{Shape}
 use Rattle.f3_meaning_whole.specs.Store.{Store}

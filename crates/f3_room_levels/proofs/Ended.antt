@@ -6,9 +6,9 @@ use Rattle.std.specs.FinMap.{get as find, remove}
 use Rattle.f3_program.specs.declared.declarations.Base.TheVariants as base
 use Rattle.f3_program.specs.declared.declarations.Declared.{Declared}
 use Rattle.f3_heap_laws.specs.Account.{used_by, r as taken_for}
-use Rattle.f3_heap_laws.specs.Blocks.{Live, IsLive, words_of, pins_of}
+use Rattle.f3_live_blocks.specs.Blocks.{Live, IsLive, words_of, pins_of}
 use Rattle.f3_heap_laws.proofs.Answers.{used-removed}
-use Rattle.f3_heap_laws.proofs.Laws.{get-remove_same, get-remove_other}
+use Rattle.f3_live_blocks.proofs.Laws.{get-remove_same, get-remove_other}
 use Rattle.f3_meaning_whole.specs.Shape.{Shape, Record}
 use Rattle.f3_desc.specs.Shape.{Shape as Layout}
 use Rattle.f3_objects.specs.Tree.{Tree, footprint, words, times as times_beneath}

@@ -6,7 +6,7 @@ use Rattle.f3_program.specs.declared.declarations.Declared.{Declared}
 use Rattle.f3_meaning_whole.specs.Shape.{Shape, shape_in}
 use Rattle.f3_rooms.specs.Forms.{room, total}
 use Rattle.f3_rooms.specs.Places.{with_word}
-use Rattle.f3_heap_laws.specs.Blocks.{Live, words_of}
+use Rattle.f3_live_blocks.specs.Blocks.{Live, words_of}
 use Rattle.f3_room_levels.specs.Initial.{word_of, repeated, variable_words, initial_words, CanBegin, TypeCanBegin, AllCanBegin}
 use Rattle.f3_room_levels.specs.Writing.{with_words_from, IsBlank}
 use Rattle.f3_room_levels.proofs.Widths.{repeated_many, variable_many, initial_many}

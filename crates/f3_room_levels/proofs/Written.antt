@@ -3,8 +3,8 @@ use Rattle.std.proofs.Common.{◌≡◌, ◌≢◌, inl, inr, ℕ, zero, suc, �
 use Rattle.std.proofs.lemmas.List.{set-get_or}
 use Rattle.std.specs.Prelude.{slice_set}
 use Rattle.std.specs.FinMap.{get as find}
-use Rattle.f3_heap_laws.specs.Blocks.{Live, IsLive, words_of, with_words}
-use Rattle.f3_heap_laws.proofs.Laws.{get-insert_other}
+use Rattle.f3_live_blocks.specs.Blocks.{Live, IsLive, words_of, with_words}
+use Rattle.f3_live_blocks.proofs.Laws.{get-insert_other}
 use Rattle.f3_objects.proofs.Writes.{with_words_same}
 use Rattle.f3_rooms.specs.Values.{word}
 use Rattle.f3_rooms.specs.Places.{with_word}

@@ -2,7 +2,7 @@
 use Rattle.std.specs.Prelude.{◌≡◌, ◌<◌, ◌≤◌, ℕ, ◌+◌, false, List, [], ◌∷◌, ◌++◌, length, take, None, Some, slice_get}
 use Rattle.std.specs.FinMap.{get as find}
 use Rattle.f3_program.specs.declared.declarations.Declared.{Declared}
-use Rattle.f3_heap_laws.specs.Blocks.{Live, words_of, with_taken}
+use Rattle.f3_live_blocks.specs.Blocks.{Live, words_of, with_taken}
 use Rattle.f3_heap_laws.specs.Account.{used_by, r as taken_for}
 use Rattle.f3_meaning_whole.specs.Shape.{Shape, Parts, nothing, and, shape_in}
 use Rattle.f3_desc.specs.Shape.{Shape as Layout, row}

@@ -1,6 +1,6 @@
 -- Words that are written one after another.
 use Rattle.std.specs.Prelude.{ℕ, ◌+◌, ◌≤◌, ℤ, List, [], ◌∷◌, length}
-use Rattle.f3_heap_laws.specs.Blocks.{Live, IsLive, words_of}
+use Rattle.f3_live_blocks.specs.Blocks.{Live, IsLive, words_of}
 use Rattle.f3_rooms.specs.Places.{with_word}
 use Rattle.f3_rooms.specs.Laws.{AreZeros}
 

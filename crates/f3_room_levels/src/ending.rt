@@ -1,7 +1,7 @@
 //! How a level of variables ends.
 
 ghost use Rattle.std.specs.Prelude.{◌≡◌, ◌↔◌, ◌<◌, ℕ, List, IsOk, OnOk, OnErr};
-ghost use Rattle.f3_heap_laws.specs.Blocks.{pins_of};
+ghost use Rattle.f3_live_blocks.specs.Blocks.{pins_of};
 ghost use Rattle.f3_meaning_whole.specs.Shape.{Shape};
 ghost use Rattle.f3_desc.specs.Shape.{whole};
 ghost use Rattle.f3_desc.specs.Layout.{pieces_of};

@@ -1,7 +1,7 @@
 //! What variables hold, given back.
 
 ghost use Rattle.std.specs.Prelude.{◌≡◌, ◌<◌, ℕ, length, is_ok};
-ghost use Rattle.f3_heap_laws.specs.Blocks.{IsLive, words_of};
+ghost use Rattle.f3_live_blocks.specs.Blocks.{IsLive, words_of};
 ghost use Rattle.f3_desc.specs.Shape.{Shape, Holder};
 ghost use Rattle.f3_desc.specs.Layout.{piece_count, shape_in};
 ghost use Rattle.f3_objects.specs.Tree.{Tree, first_block};

@@ -6,7 +6,7 @@ ghost use Rattle.f3_room_places.specs.Places.{HasTables, shapes};
 
 use f3_program::declarations::Declared;
 use f3_room_places::types::Types;
-use f3_room_types::words::words_of;
+use f3_type_words::words::words_of;
 
 /// How many words a variable or a component has.
 pub(crate) fn room_of(types: Types<'_>, declared: &Declared) -> usize

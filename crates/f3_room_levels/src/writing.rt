@@ -1,7 +1,7 @@
 //! Initial values of variables, written over words that are 0.
 
 ghost use Rattle.std.specs.Prelude.{◌≡◌, ◌≢◌, ◌<◌, ◌+◌, ◌*◌, [], false, length, map, replicate};
-ghost use Rattle.f3_heap_laws.specs.Blocks.{IsLive, words_of};
+ghost use Rattle.f3_live_blocks.specs.Blocks.{IsLive, words_of};
 ghost use Rattle.f3_meaning_whole.specs.Shape.{shape_in};
 ghost use Rattle.f3_rooms.specs.Forms.{words_for, room, total};
 ghost use Rattle.f3_room_places.specs.Places.{HasTables, shapes};

@@ -1,8 +1,8 @@
 -- Parts whose words become 0.
 use Rattle.std.proofs.Common.{◌≡◌, ℕ, zero, suc, ◌+◌, ◌*◌, pos, List, ◌∷◌, replicate, refl, sym, ap, subst, ◌∙◌, arith}
 use Rattle.std.specs.FinMap.{empty}
-use Rattle.f3_heap_laws.specs.Blocks.{Live, words_of, with_words}
-use Rattle.f3_heap_laws.proofs.Laws.{get-insert_other, live-insert_same, words-insert_same, pins-insert_same}
+use Rattle.f3_live_blocks.specs.Blocks.{Live, words_of, with_words}
+use Rattle.f3_live_blocks.proofs.Laws.{get-insert_other, live-insert_same, words-insert_same, pins-insert_same}
 use Rattle.f3_meaning_whole.specs.Value.{Span, count}
 use Rattle.f3_meaning_whole.specs.Shape.{Shape, Whole, Logical, Record, Parts, nothing, and}
 use Rattle.f3_desc.specs.Shape.{Shape as Layout, row, width}

@@ -1,6 +1,6 @@
 -- Parts whose blocks are given back.
 use Rattle.std.proofs.Common.{◌≡◌, ℕ, zero, suc, ◌+◌, Bool, true, false, ◌&&◌, nat_eq, List, [], ◌∷◌, map, refl, sym, ap, ◌∙◌, arith}
-use Rattle.f3_heap_laws.specs.Blocks.{Live, pins_of}
+use Rattle.f3_live_blocks.specs.Blocks.{Live, pins_of}
 use Rattle.f3_meaning_whole.specs.Value.{Span, Value, Composite, Array, Values, more, joined, count, cleared, all_cleared}
 use Rattle.f3_meaning_whole.specs.Shape.{Shape, Whole, Logical, Record, Parts, nothing, and}
 use Rattle.f3_meaning_whole.specs.Store.{get}

@@ -1,9 +1,9 @@
 -- What an allocatable holds is moved to another.
 use Rattle.std.proofs.Common.{◌≡◌, ◌≢◌, ◌⊎◌, inl, inr, ℕ, zero, suc, ◌+◌, ◌-◌, ◌*◌, ◌<◌, ◌≤◌, ℤ, pos, List, [], ◌∷◌, ◌++◌, length, take, drop, get_or, refl, sym, ap, subst, ◌∙◌, arith, append-nil, is_some}
 use Rattle.std.proofs.lemmas.Bool.{cases_eq, cases_lt}
-use Rattle.f3_heap_laws.specs.Blocks.{Live, IsLive, words_of, with_words}
+use Rattle.f3_live_blocks.specs.Blocks.{Live, IsLive, words_of, with_words}
 use Rattle.std.specs.FinMap.{get as find}
-use Rattle.f3_heap_laws.proofs.Laws.{get-insert_other, live-insert, live-insert_same, words-insert_same, words-insert_other}
+use Rattle.f3_live_blocks.proofs.Laws.{get-insert_other, live-insert, live-insert_same, words-insert_same, words-insert_other}
 use Rattle.f3_meaning_whole.specs.Value.{Span}
 use Rattle.f3_objects.specs.Tree.{words}
 use Rattle.f3_objects.specs.Holds.{with_words_at, with_moved}

@@ -1,7 +1,7 @@
 -- Parts whose trees become others, in stores.
 use Rattle.std.proofs.Common.{◌≡◌, ℕ, ◌≤◌, List, sym, ap, subst, ◌∙◌}
 use Rattle.std.specs.Prelude.{Some}
-use Rattle.f3_heap_laws.specs.Blocks.{Live}
+use Rattle.f3_live_blocks.specs.Blocks.{Live}
 use Rattle.f3_meaning_whole.specs.Value.{Value}
 use Rattle.f3_meaning_whole.specs.Shape.{Shape}
 use Rattle.f3_meaning_whole.specs.Store.{Root, Step, get, put}

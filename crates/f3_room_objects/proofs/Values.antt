@@ -1,6 +1,6 @@
 -- Values of parts, read from those of their trees.
 use Rattle.std.proofs.Common.{◌≡◌, ℕ, zero, suc, ◌+◌, ℤ, List, [], ◌∷◌, refl, sym, ap, ◌∙◌}
-use Rattle.f3_heap_laws.specs.Blocks.{Live}
+use Rattle.f3_live_blocks.specs.Blocks.{Live}
 use Rattle.f3_meaning_whole.specs.Value.{Span, Value, Number, Truth, Composite, Array, Unallocated, Allocated, Values, none, more, joined, count}
 use Rattle.f3_meaning_whole.specs.Shape.{Shape, Whole, Logical, Record, Parts, nothing, and}
 use Rattle.f3_objects.specs.Tree.{Tree, End, Word, Unallocated as NoBlock, Allocated as Block, ◌⊕◌, count_of, Value as Items, Nil, Number as Item, Absent, Present, value}

@@ -1,7 +1,7 @@
 -- What the calls on objects (f3_objects) do to a store.
 use Rattle.std.specs.Prelude.{◌≡◌, ◌≢◌, ◌≤◌, ◌⊎◌, ℕ, ◌+◌, ◌*◌, pos, true, List, replicate, Some}
 use Rattle.std.specs.FinMap.{empty}
-use Rattle.f3_heap_laws.specs.Blocks.{Live, words_of, with_words}
+use Rattle.f3_live_blocks.specs.Blocks.{Live, words_of, with_words}
 use Rattle.f3_meaning_whole.specs.Value.{Span, Value, Unallocated, cleared}
 use Rattle.f3_meaning_whole.specs.Shape.{Shape}
 use Rattle.f3_meaning_whole.specs.Store.{Root, Step, get, put}

@@ -1,6 +1,6 @@
 -- Laws of parts of variables as trees.
 use Rattle.std.specs.Prelude.{◌≡◌, ◌≤◌, ℕ, List, Some}
-use Rattle.f3_heap_laws.specs.Blocks.{Live}
+use Rattle.f3_live_blocks.specs.Blocks.{Live}
 use Rattle.f3_meaning_whole.specs.Shape.{Shape}
 use Rattle.f3_meaning_whole.specs.Store.{Root, Step}
 use Rattle.f3_objects.specs.Tree.{Tree, Fits, times as times_beneath}

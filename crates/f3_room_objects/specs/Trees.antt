@@ -1,7 +1,7 @@
 -- Parts of variables as trees of what they hold (f3_objects, Tree).
 use Rattle.std.proofs.Common.{zero, suc}
 use Rattle.std.specs.Prelude.{⊤, ◌≡◌, ℕ, ◌+◌, ◌*◌, ℤ, pos, List, [], ◌∷◌}
-use Rattle.f3_heap_laws.specs.Blocks.{Live}
+use Rattle.f3_live_blocks.specs.Blocks.{Live}
 use Rattle.f3_meaning_whole.specs.Value.{Span, count}
 use Rattle.f3_meaning_whole.specs.Shape.{Shape, Whole, Logical, Record, Parts, nothing, and}
 use Rattle.f3_desc.specs.Shape.{Shape as Layout, Plain, Holder, Times, row}

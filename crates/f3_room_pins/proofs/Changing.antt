@@ -3,8 +3,8 @@ use Rattle.std.proofs.Common.{◌≡◌, ℤ, pos, inl, inr, ℕ, zero, suc, ◌
 use Rattle.std.proofs.lemmas.Bool.{cases_eq}
 use Rattle.std.proofs.lemmas.List.{append-nil, append_assoc}
 use Rattle.std.specs.Prelude.{None, Some, slice_set}
-use Rattle.f3_heap_laws.specs.Blocks.{Block, Live, words_of, pins_of}
-use Rattle.f3_heap_laws.proofs.Laws.{pins-insert_same, pins-insert_other}
+use Rattle.f3_live_blocks.specs.Blocks.{Block, Live, words_of, pins_of}
+use Rattle.f3_live_blocks.proofs.Laws.{pins-insert_same, pins-insert_other}
 use Rattle.f3_meaning_whole.specs.Value.{Span}
 use Rattle.f3_meaning_whole.specs.Shape.{Shape, Whole, Logical, Record}
 use Rattle.f3_meaning_whole.specs.Store.{Root, Path, Step, Component, Element, Contents, same_root}

@@ -3,8 +3,8 @@ use Rattle.std.proofs.Common.{◌≡◌, ◌≢◌, inl, inr, ℕ, ◌+◌, ◌-
 use Rattle.std.proofs.lemmas.Bool.{cases_eq}
 use Rattle.std.proofs.lemmas.Bool.Decides.{nat_tests}
 use Rattle.std.specs.Prelude.{nat_eq, if◌then◌else◌, slice_index_or}
-use Rattle.f3_heap_laws.specs.Blocks.{Live, IsLive, words_of, pins_of, with_pins}
-use Rattle.f3_heap_laws.proofs.Laws.{get-insert_other, live-insert, words-insert_same, words-insert_other, pins-insert_same, pins-insert_other}
+use Rattle.f3_live_blocks.specs.Blocks.{Live, IsLive, words_of, pins_of, with_pins}
+use Rattle.f3_live_blocks.proofs.Laws.{get-insert_other, live-insert, words-insert_same, words-insert_other, pins-insert_same, pins-insert_other}
 use Rattle.f3_meaning_whole.specs.Shape.{Shape}
 use Rattle.f3_meaning_whole.specs.Reference.{Reference}
 use Rattle.f3_rooms.specs.Held.{times}

@@ -1,7 +1,7 @@
 -- Levels that begin and end keep pins.
 use Rattle.std.proofs.Common.{◌≡◌, inl, inr, ℕ, zero, suc, ◌+◌, ◌≤◌, ◌<◌, List, [], ◌∷◌, ◌++◌, length, take, refl, sym, ap, ◌∙◌, arith}
 use Rattle.std.specs.Prelude.{⊤, slice_index_or}
-use Rattle.f3_heap_laws.specs.Blocks.{pins_of}
+use Rattle.f3_live_blocks.specs.Blocks.{pins_of}
 use Rattle.f3_meaning_whole.specs.Shape.{Shape}
 use Rattle.f3_meaning_whole.specs.Store.{Root, Static, Local, Step, Component, Element, Contents}
 use Rattle.f3_meaning_whole.specs.Reference.{Reference}

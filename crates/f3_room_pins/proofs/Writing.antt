@@ -1,7 +1,7 @@
 -- Words that are written change no pins.
 use Rattle.std.proofs.Common.{◌≡◌, ◌≢◌, ℕ, pos, ◌+◌, ◌<◌, List, [], ◌∷◌, replicate, refl, sym, ap, subst, ◌∙◌, arith}
-use Rattle.f3_heap_laws.specs.Blocks.{Block, Live, pins_in, pins_of, with_taken}
-use Rattle.f3_heap_laws.proofs.Laws.{pins-insert_same, pins-insert_other}
+use Rattle.f3_live_blocks.specs.Blocks.{Block, Live, pins_in, pins_of, with_taken}
+use Rattle.f3_live_blocks.proofs.Laws.{pins-insert_same, pins-insert_other}
 use Rattle.f3_meaning_whole.specs.Value.{Span}
 use Rattle.f3_rooms.specs.Held.{Empty, Holds, blocks_in, times}
 use Rattle.f3_rooms.specs.Rooms.{Rooms, blocks_of}

@@ -1,7 +1,7 @@
 -- Laws of pins.
 use Rattle.std.specs.Prelude.{⊤, ◌≡◌, ◌≤◌, ◌<◌, ℕ, ◌+◌, ◌-◌, ℤ, pos, not, false, nat_eq, List, [], ◌∷◌, ◌++◌, length, None, Some}
 use Rattle.std.specs.FinMap.{get as find}
-use Rattle.f3_heap_laws.specs.Blocks.{Live, IsLive, pins_of, with_pins, with_taken}
+use Rattle.f3_live_blocks.specs.Blocks.{Live, IsLive, pins_of, with_pins, with_taken}
 use Rattle.f3_meaning_whole.specs.Value.{Span}
 use Rattle.f3_meaning_whole.specs.Shape.{Shape}
 use Rattle.f3_meaning_whole.specs.Store.{Root, Static, Local, Path, Step}

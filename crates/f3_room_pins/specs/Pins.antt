@@ -1,6 +1,6 @@
 -- When blocks are pinned (own rule): each by each lent reference whose path goes through it.
 use Rattle.std.specs.Prelude.{⊤, ◌≡◌, ◌<◌, ◌⊎◌, ℕ, ◌+◌, List, [], ◌∷◌, ◌++◌, Option, None, Some}
-use Rattle.f3_heap_laws.specs.Blocks.{Live, pins_of}
+use Rattle.f3_live_blocks.specs.Blocks.{Live, pins_of}
 use Rattle.f3_meaning_whole.specs.Shape.{Shape}
 use Rattle.f3_meaning_whole.specs.Store.{Root, Path, Step, Component, Element, Contents}
 use Rattle.f3_meaning_whole.specs.Reference.{Reference}

@@ -1,6 +1,6 @@
 -- Bounds that words tell.
 use Rattle.std.proofs.Common.{Some, slice_get, ◌≡◌, ◌≢◌, ℕ, ◌+◌, ◌-◌, ◌*◌, ◌≤◌, ◌<◌, zero, suc, ◌/◌, ℤ, pos, Bool, false, nat_lt, List, [], ◌∷◌, length, sym, ap, ◌∙◌, arith}
-use Rattle.f3_heap_laws.specs.Blocks.{Live, words_of}
+use Rattle.f3_live_blocks.specs.Blocks.{Live, words_of}
 use Rattle.f3_meaning_whole.specs.Value.{Span, count}
 use Rattle.f3_rooms.specs.Values.{word}
 use Rattle.f3_rooms.specs.Sound.{TellBounds}

@@ -2,7 +2,7 @@
 use Rattle.std.proofs.Common.{◌≡◌, ℕ, zero, suc, ◌+◌, ◌≤◌, List, [], ◌∷◌, length, refl, sym, ap, subst, ◌∙◌, arith}
 use Rattle.std.specs.Prelude.{Option, None, Some, slice_get, slice_index_or}
 use Rattle.f3_program.specs.declared.declarations.Declared.{Declared}
-use Rattle.f3_heap_laws.specs.Blocks.{Live, words_of}
+use Rattle.f3_live_blocks.specs.Blocks.{Live, words_of}
 use Rattle.f3_meaning_whole.specs.Shape.{Shape, shape_in}
 use Rattle.f3_meaning_whole.specs.Store.{Step}
 use Rattle.f3_rooms.specs.Held.{Row, first, others, part_at}

@@ -1,7 +1,7 @@
 -- What a machine knows of a part of a variable.
 use Rattle.std.proofs.Common.{zero, suc}
 use Rattle.std.specs.Prelude.{⊤, ◌≡◌, ℕ, ◌+◌, ◌*◌, ◌≤◌, List, [], length, Option, None, Some}
-use Rattle.f3_heap_laws.specs.Blocks.{Live, IsLive, words_of}
+use Rattle.f3_live_blocks.specs.Blocks.{Live, IsLive, words_of}
 use Rattle.f3_meaning_whole.specs.Value.{Span}
 use Rattle.f3_meaning_whole.specs.Shape.{Shape, shape_in, shapes_of, spans_declared}
 use Rattle.f3_meaning_whole.specs.Store.{Step}

@@ -1,5 +1,5 @@
 -- Places of scalars.
-use Rattle.f3_heap_laws.specs.Blocks.{Live}
+use Rattle.f3_live_blocks.specs.Blocks.{Live}
 use Rattle.f3_rooms.specs.Places.{Found, IsScalar}
 use Rattle.f3_room_places.specs.declared.place.Place.{Place}
 use Rattle.f3_room_places.specs.Places.{IsPlace}

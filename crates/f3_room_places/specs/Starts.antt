@@ -1,7 +1,7 @@
 -- Where variables begin that stand one after another.
 use Rattle.std.specs.Prelude.{◌≡◌, ℕ, ◌+◌, List, [], ◌∷◌}
 use Rattle.f3_program.specs.declared.declarations.Declared.{Declared}
-use Rattle.f3_heap_laws.specs.Blocks.{Live}
+use Rattle.f3_live_blocks.specs.Blocks.{Live}
 use Rattle.f3_meaning_whole.specs.Shape.{Shape}
 use Rattle.f3_rooms.specs.Forms.{room}
 use Rattle.f3_rooms.specs.Rooms.{Room}

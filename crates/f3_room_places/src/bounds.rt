@@ -2,7 +2,7 @@
 
 ghost use Rattle.std.specs.Prelude.{◌≡◌, ◌<◌, ◌+◌, ℕ, pos, List, length, nat_lt, slice_index_or, slice_get};
 ghost use Rattle.std.specs.Option.{option_map};
-ghost use Rattle.f3_heap_laws.specs.Blocks.{Live, IsLive, words_of};
+ghost use Rattle.f3_live_blocks.specs.Blocks.{Live, IsLive, words_of};
 ghost use Rattle.f3_data.specs.Values.{span_of};
 ghost use Rattle.f3_meaning_whole.specs.Value as m;
 ghost use Rattle.f3_meaning_whole.specs.Value.{count};

@@ -1,7 +1,7 @@
 //! Places of parts of variables.
 
 ghost use Rattle.std.specs.Prelude.{◌≡◌, []};
-ghost use Rattle.f3_heap_laws.specs.Blocks.{Live};
+ghost use Rattle.f3_live_blocks.specs.Blocks.{Live};
 ghost use Rattle.f3_rooms.specs.Forms.{Laid, form_of};
 ghost use Rattle.f3_room_places.specs.Places.{IsFormed, without_bounds};
 

@@ -2,7 +2,7 @@
 
 ghost use Rattle.std.specs.Prelude.{◌≡◌, length, slice_get};
 ghost use Rattle.std.specs.Option.{option_map};
-ghost use Rattle.f3_heap_laws.specs.Blocks.{Live};
+ghost use Rattle.f3_live_blocks.specs.Blocks.{Live};
 ghost use Rattle.f3_meaning_whole.specs.Value.{is_allocated, spans_of};
 ghost use Rattle.f3_data.specs.Values.{span_of};
 ghost use Rattle.f3_rooms.specs.Places.{Found, scalar_in, value_at};

@@ -21,7 +21,7 @@ use Rattle.f3_rooms.specs.Forms.{Laid, Allocatable, form_of, form_words, words_f
 use Rattle.f3_room_objects.specs.Trees.{layout_for, layouts_for, formed_as}
 use Rattle.f3_room_objects.proofs.Planting.{width_for}
 use Rattle.f3_room_types.specs.Pieces.{HasPiece, HavePieces, HasLayout, layouts_of, IsAt, AreAt, ArePartsAt, AreNumbered, Begins, Has, AddsPart, AddsType, HasParts}
-use Rattle.f3_room_types.proofs.TableLaws.{shape_next, next_shape, shape_stands, shapes_number, words_among}
+use Rattle.f3_type_words.proofs.TableLaws.{shape_next, next_shape, shape_stands, shapes_number, words_among}
 use Rattle.f3_room_types.proofs.PieceLaws.{begins_same, begins_trans, at_begins}
 
 -- ---- numbers of types

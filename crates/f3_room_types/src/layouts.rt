@@ -9,9 +9,9 @@ ghost use Rattle.f3_room_objects.specs.Trees.{layout_for};
 ghost use Rattle.f3_room_types.specs.Pieces.{AddsPart, AddsType, AreNumbered, HasLayout, HasParts, IsAt, layouts_of};
 
 use crate::pieces::Pieces;
-use crate::words::elements;
 use f3_desc::Layout;
 use f3_program::declarations::{Base, Component, Declared, Derived};
+use f3_type_words::words::elements;
 use std::alloc::{AllocError, Global};
 
 /// The most dimensions of an array (ISO/IEC 1539-1:2004, 5.1.2.5).

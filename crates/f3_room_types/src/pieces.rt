@@ -6,8 +6,8 @@ ghost use Rattle.f3_desc.specs.Shape.{Holder, Plain, Times, are_pieces, is_piece
 ghost use Rattle.f3_desc.specs.Layout.{pieces_of};
 ghost use Rattle.f3_room_types.specs.Pieces.{Has, IsAt, layouts_of};
 
-use crate::tabling::MOST_WORDS;
 use f3_desc::{Layout, Piece};
+use f3_type_words::tabling::MOST_WORDS;
 use std::alloc::{AllocError, Global};
 
 /// Pieces, of which each names earlier ones, and how many words each has.

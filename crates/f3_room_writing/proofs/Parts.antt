@@ -7,8 +7,8 @@ use Rattle.f3_program.specs.declared.declarations.Base.{Base}
 use Rattle.f3_program.specs.declared.declarations.Base.TheVariants as base
 use Rattle.f3_program.specs.declared.declarations.Component.{Component}
 use Rattle.f3_program.specs.declared.declarations.Derived.{Derived}
-use Rattle.f3_heap_laws.specs.Blocks.{Live, IsLive, words_of, with_taken}
-use Rattle.f3_heap_laws.proofs.Laws.{live-insert_same, words-insert_same}
+use Rattle.f3_live_blocks.specs.Blocks.{Live, IsLive, words_of, with_taken}
+use Rattle.f3_live_blocks.proofs.Laws.{live-insert_same, words-insert_same}
 use Rattle.f3_meaning_whole.specs.Value.{Span, Value, Number, Truth, Composite, Array, Unallocated, Allocated, more, joined, count, spans_of as bounds_of}
 use Rattle.f3_meaning_whole.specs.Shape.{Shape, Record, shape_in, shapes_of, parts_in}
 use Rattle.f3_data.specs.declared.value.Span.{Span as DataSpan}

@@ -4,8 +4,8 @@ use Rattle.std.proofs.lemmas.Bool.{eqb-true}
 use Rattle.std.proofs.lemmas.List.{length-replicate}
 use Rattle.std.specs.Prelude.{None, Some, if◌then◌else◌}
 use Rattle.std.specs.FinMap.{get as find, empty}
-use Rattle.f3_heap_laws.specs.Blocks.{Live, words_of, with_taken}
-use Rattle.f3_heap_laws.proofs.Laws.{live-insert, live-insert_same, words-insert_same, words-insert_other, fresh-apart}
+use Rattle.f3_live_blocks.specs.Blocks.{Live, words_of, with_taken}
+use Rattle.f3_live_blocks.proofs.Laws.{live-insert, live-insert_same, words-insert_same, words-insert_other, fresh-apart}
 use Rattle.f3_meaning_whole.specs.Value.{Span, Allocated}
 use Rattle.f3_meaning_whole.specs.Shape.{Shape}
 use Rattle.f3_meaning_whole.specs.Store.{Root, Step, put}

@@ -6,8 +6,8 @@ use Rattle.std.proofs.lemmas.List.{length-set, get_or-set_other}
 use Rattle.std.specs.Prelude.{Some, slice_index_or}
 use Rattle.f3_program.specs.declared.declarations.Base.{Base}
 use Rattle.f3_program.specs.declared.declarations.Declared.{Declared}
-use Rattle.f3_heap_laws.specs.Blocks.{Live, words_of}
-use Rattle.f3_heap_laws.proofs.Laws.{get-insert_other, live-insert, words-insert_same}
+use Rattle.f3_live_blocks.specs.Blocks.{Live, words_of}
+use Rattle.f3_live_blocks.proofs.Laws.{get-insert_other, live-insert, words-insert_same}
 use Rattle.f3_meaning_whole.specs.Shape.{Shape, Whole, Logical, Record, shape_in}
 use Rattle.f3_meaning_whole.specs.Store.{Static, Local, Step, Store}
 use Rattle.f3_rooms.specs.Held.{Held, Row, first, others, blocks_in, times}

@@ -3,7 +3,7 @@ use Rattle.std.proofs.Common.{◌≡◌, ℕ, zero, suc, ◌+◌, ◌*◌, ◌<�
 use Rattle.std.proofs.lemmas.Bool.{eq-eqb}
 use Rattle.std.specs.Prelude.{map}
 use Rattle.f3_program.specs.declared.declarations.Declared.{Declared}
-use Rattle.f3_heap_laws.specs.Blocks.{Live, IsLive, words_of}
+use Rattle.f3_live_blocks.specs.Blocks.{Live, IsLive, words_of}
 use Rattle.f3_meaning_whole.specs.Value.{Span, Value, Truth, Number, Composite, Array, Allocated, more, joined, count}
 use Rattle.f3_meaning_whole.specs.Shape.{Shape, Whole, Logical, Record, Parts, nothing, and, shape_in}
 use Rattle.f3_rooms.specs.Held.{Held, Row, Empty, Holds, Parts as Divided, end, next, parts_of, first, others, blocks_in, blocks_in_all, times}

@@ -2,8 +2,8 @@
 use Rattle.std.proofs.Common.{◌≡◌, inl, inr, ℕ, ◌+◌, ◌*◌, ◌<◌, ◌≤◌, pos, List, [], ◌∷◌, length, get_or, is_some, refl, sym, ap, subst, ◌∙◌, arith}
 use Rattle.std.specs.Prelude.{Some}
 use Rattle.std.specs.FinMap.{get as find, remove}
-use Rattle.f3_heap_laws.specs.Blocks.{Live, words_in, words_of}
-use Rattle.f3_heap_laws.proofs.Laws.{get-remove_other}
+use Rattle.f3_live_blocks.specs.Blocks.{Live, words_in, words_of}
+use Rattle.f3_live_blocks.proofs.Laws.{get-remove_other}
 use Rattle.f3_meaning_whole.specs.Value.{Unallocated}
 use Rattle.f3_meaning_whole.specs.Shape.{Shape}
 use Rattle.f3_meaning_whole.specs.Store.{Root, Step, put}

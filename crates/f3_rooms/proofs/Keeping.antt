@@ -2,7 +2,7 @@
 use Rattle.std.proofs.Common.{◌≡◌, ℕ, pos, List, [], ◌∷◌, length, map, is_some, refl, ap, ◌∙◌}
 use Rattle.std.specs.Prelude.{slice_index_or}
 use Rattle.std.specs.FinMap.{get as find}
-use Rattle.f3_heap_laws.specs.Blocks.{Live, words_in}
+use Rattle.f3_live_blocks.specs.Blocks.{Live, words_in}
 use Rattle.f3_meaning_whole.specs.Shape.{Shape}
 use Rattle.f3_meaning_whole.specs.Store.{Store}
 use Rattle.f3_rooms.specs.Rooms.{Slot, Rooms, room_values, level_values, room_blocks, level_blocks, levels_blocks, blocks_of, store_of}

@@ -3,8 +3,8 @@ use Rattle.std.proofs.Common.{◌≡◌, ◌≢◌, inl, inr, ℕ, ◌+◌, ◌*
 use Rattle.std.proofs.lemmas.Bool.{cases_eq}
 use Rattle.std.proofs.lemmas.List.{get_or-set_same, get_or-set_other, length-set}
 use Rattle.std.specs.Prelude.{◌⊎◌, slice_set}
-use Rattle.f3_heap_laws.specs.Blocks.{Live, IsLive, words_of}
-use Rattle.f3_heap_laws.proofs.Laws.{words-insert_same, words-insert_other, live-insert}
+use Rattle.f3_live_blocks.specs.Blocks.{Live, IsLive, words_of}
+use Rattle.f3_live_blocks.proofs.Laws.{words-insert_same, words-insert_other, live-insert}
 use Rattle.f3_meaning_whole.specs.Value.{Span}
 use Rattle.f3_rooms.specs.Values.{word}
 use Rattle.f3_rooms.specs.Places.{with_word}

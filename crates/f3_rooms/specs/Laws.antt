@@ -2,7 +2,7 @@
 use Rattle.std.specs.Prelude.{⊤, ◌≡◌, ◌≤◌, ◌<◌, ◌⊎◌, ℕ, ◌+◌, ℤ, pos, List, [], ◌∷◌, ◌++◌, length, take, None, Some}
 use Rattle.std.specs.FinMap.{get as find, remove, empty}
 use Rattle.f3_program.specs.declared.declarations.Declared.{Declared}
-use Rattle.f3_heap_laws.specs.Blocks.{Live, IsLive, words_of, with_taken}
+use Rattle.f3_live_blocks.specs.Blocks.{Live, IsLive, words_of, with_taken}
 use Rattle.f3_meaning_whole.specs.Value.{Span, Value, Unallocated, Allocated}
 use Rattle.f3_meaning_whole.specs.Shape.{Shape, Whole, Logical, Record, Parts, nothing, and, shape_in, initial_of, initial_declared}
 use Rattle.f3_meaning_whole.specs.Store.{Root, Step, Path, get, put}

@@ -3,7 +3,7 @@ use Rattle.std.proofs.Common.{zero, suc}
 use Rattle.std.specs.Prelude.{◌≡◌, ℕ, ◌+◌, ◌*◌, ◌-◌, ℤ, Bool, nat_lt, if◌then◌else◌, List, [], ◌∷◌, length, Option, None, Some, slice_index_or, slice_set}
 use Rattle.f3_program.specs.declared.declarations.Base.{Base}
 use Rattle.f3_program.specs.declared.declarations.Declared.{Declared}
-use Rattle.f3_heap_laws.specs.Blocks.{Live, words_of, with_words}
+use Rattle.f3_live_blocks.specs.Blocks.{Live, words_of, with_words}
 use Rattle.f3_meaning_whole.specs.Value.{Span, Value, Number, Truth, Unallocated, count}
 use Rattle.f3_meaning_whole.specs.Shape.{Shape, Whole, Logical, Record, Parts, nothing, and, shape_in}
 use Rattle.f3_meaning_whole.specs.Store.{Root, Static, Local, Step, Component, Element, Contents}

@@ -90,6 +90,44 @@ fn calling(alloc: Global, act: Act) -> Result<String, AllocError> {
     }
 }
 
+/// An act that lends a part of an element of what a component holds, or one of those that call.
+fn opening(alloc: Global, act: Act) -> Result<String, AllocError> {
+    match act {
+        Act::LendOpened(d, r, behind, x, width, part) => {
+            line(
+                alloc,
+                "lend opened",
+                &[
+                    d as i64,
+                    r as i64,
+                    behind as i64,
+                    x as i64,
+                    width as i64,
+                    part as i64,
+                ],
+                0,
+            )
+        }
+        Act::LendOpenedEntry(behind, d, r, x, y, width, part) => {
+            line(
+                alloc,
+                "lend opened entry",
+                &[
+                    behind as i64,
+                    d as i64,
+                    r as i64,
+                    x as i64,
+                    y as i64,
+                    width as i64,
+                    part as i64,
+                ],
+                0,
+            )
+        }
+        _ => calling(alloc, act),
+    }
+}
+
 /// An act by which another place takes the word of a slot, or one of the above.
 fn putting(alloc: Global, act: Act) -> Result<String, AllocError> {
     match act {
@@ -148,7 +186,7 @@ fn putting(alloc: Global, act: Act) -> Result<String, AllocError> {
                 0,
             )
         }
-        _ => calling(alloc, act),
+        _ => opening(alloc, act),
     }
 }
 

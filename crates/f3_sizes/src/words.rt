@@ -9,7 +9,7 @@ ghost use Rattle.f3_sizes.specs.Words.{AreWords, declared_statics};
 
 use f3_program::declarations::Declared;
 use f3_program::program::{Procedure, Program};
-use f3_room_types::words::words_of;
+use f3_type_words::words::words_of;
 use f3_type_tables::table::TypeTable;
 
 /// One object more behind so many words: none where they are 2 to the 64 or more.
@@ -33,7 +33,7 @@ fn row(tables: &[TypeTable], declared: &[Declared]) -> Option<u64>
 /// How many words the variables of an activation of a procedure, or of the main program, have, one after another: those that do not
 /// live for the whole run, and the result. None where they are 2 to the 64 or more.
 ///
-/// The tables are those of the program's types (`f3_room_types::tabling::tables`).
+/// The tables are those of the program's types (`f3_type_words::tabling::tables`).
 pub fn frame(tables: &[TypeTable], procedure: &Procedure) -> Option<u64>
     ensures { (ts : List Shape) → AreTables ts tables.now → AreWords result (total ts (declared_in procedure.now)) }
 {
@@ -46,7 +46,7 @@ pub fn frame(tables: &[TypeTable], procedure: &Procedure) -> Option<u64>
 
 /// How many words the variables have that live for the whole run, one after another. None where they are 2 to the 64 or more.
 ///
-/// The tables are those of the program's types (`f3_room_types::tabling::tables`).
+/// The tables are those of the program's types (`f3_type_words::tabling::tables`).
 pub fn statics(tables: &[TypeTable], program: &Program) -> Option<u64>
     ensures { (ts : List Shape) → AreTables ts tables.now → AreWords result (total ts (declared_statics program.now)) }
 {

@@ -1,7 +1,7 @@
 -- One object that is copied over words of another block.
 use Rattle.std.specs.Prelude.{◌≡◌, ◌≢◌, ◌≤◌, ◌<◌, ◌+◌, ℕ, ℤ, List, length, None}
 use Rattle.std.specs.FinMap.{get}
-use Rattle.f3_heap_laws.specs.Blocks.{Live, IsLive, words_of, pins_of, with_words}
+use Rattle.f3_live_blocks.specs.Blocks.{Live, IsLive, words_of, pins_of, with_words}
 use Rattle.f3_desc.specs.Shape.{Shape, width}
 use Rattle.f3_objects.specs.Tree.{Tree, words, times, value, Fits}
 use Rattle.f3_objects.specs.Holds.{Held, Holds, with_words_at}

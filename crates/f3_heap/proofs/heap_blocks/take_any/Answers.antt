@@ -5,7 +5,7 @@ use Rattle.f3_heap_laws.specs.Segments.{segments, live_segments}
 use Rattle.f3_heap_laws.proofs.HeapLaws.{end-heap, end-live, end-fresh, room-fits, first-fits, first-lacking}
 use Rattle.f3_heap_laws.proofs.BlockLaws.{heap-at, heap-words, heap-used, room-large, room-full, room-behind, fits-within}
 use Rattle.f3_heap_laws.specs.Segments.{NoneFits, FitsAt}
-use Rattle.f3_heap_laws.specs.Blocks.{with_taken}
+use Rattle.f3_live_blocks.specs.Blocks.{with_taken}
 use Rattle.f3_heap_laws.specs.Gaps.{gaps, places, is_wide, first_wide}
 use Rattle.std.specs.List.{list_any}
 use Rattle.std.specs.FinMap.{get}

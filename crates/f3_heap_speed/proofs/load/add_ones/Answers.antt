@@ -1,8 +1,8 @@
 -- A word is written.
 use Rattle.std.proofs.Common.{length, sym, ap, subst, ◌∙◌, arith}
 use Rattle.std.proofs.lemmas.List.{length-set}
-use Rattle.f3_heap_laws.specs.Blocks.{Live, IsLive, words_of}
-use Rattle.f3_heap_laws.proofs.Laws.{live-insert_same, words-insert_same}
+use Rattle.f3_live_blocks.specs.Blocks.{Live, IsLive, words_of}
+use Rattle.f3_live_blocks.proofs.Laws.{live-insert_same, words-insert_same}
 use Rattle.f3_heap_speed.proofs.load.add_ones.Goals as goal
 
 pub loop-preserved : goal.loop-preserved

@@ -1,6 +1,6 @@
 -- The block stays live, and as long, and `at` lies in it.
 use Rattle.std.proofs.Common.{length, ◌<◌, ◌≡◌}
-use Rattle.f3_heap_laws.specs.Blocks.{IsLive, words_of}
+use Rattle.f3_live_blocks.specs.Blocks.{IsLive, words_of}
 use Rattle.f3_heap_speed.proofs.load.add_ones.Given as goal
 
 abbrev pub invariant-loop : goal.invariant-loop

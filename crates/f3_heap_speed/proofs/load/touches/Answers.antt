@@ -1,8 +1,8 @@
 -- The new block is live and has so many words.
 use Rattle.std.proofs.Common.{pos, length, sym, ap, subst, ◌∙◌}
 use Rattle.std.proofs.lemmas.List.{length-replicate}
-use Rattle.f3_heap_laws.specs.Blocks.{Live, IsLive, words_of}
-use Rattle.f3_heap_laws.proofs.Laws.{live-insert_same, words-insert_same}
+use Rattle.f3_live_blocks.specs.Blocks.{Live, IsLive, words_of}
+use Rattle.f3_live_blocks.proofs.Laws.{live-insert_same, words-insert_same}
 use Rattle.f3_heap_speed.proofs.load.touches.Goals as goal
 
 pub add_ones-requires-clause-live : goal.add_ones-requires-clause-live

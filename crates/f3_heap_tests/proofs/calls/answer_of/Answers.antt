@@ -1,7 +1,7 @@
 -- A change of pins or words leaves every block live.
 use Rattle.std.proofs.Common.{sym, subst}
-use Rattle.f3_heap_laws.specs.Blocks.{Live, IsLive}
-use Rattle.f3_heap_laws.proofs.Laws.{live-insert}
+use Rattle.f3_live_blocks.specs.Blocks.{Live, IsLive}
+use Rattle.f3_live_blocks.proofs.Laws.{live-insert}
 use Rattle.f3_heap_tests.proofs.calls.answer_of.Goals as goal
 
 pub returns-in-Pin : goal.returns-in-Pin

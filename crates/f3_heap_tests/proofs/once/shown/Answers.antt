@@ -2,8 +2,8 @@
 use Rattle.std.proofs.Common.{◌≡◌, length, ap, ◌∙◌, arith}
 use Rattle.std.specs.Prelude.{pos}
 use Rattle.std.proofs.lemmas.List.{length-replicate}
-use Rattle.f3_heap_laws.specs.Blocks.{words_of, with_taken}
-use Rattle.f3_heap_laws.proofs.Laws.{words-insert_same}
+use Rattle.f3_live_blocks.specs.Blocks.{words_of, with_taken}
+use Rattle.f3_live_blocks.proofs.Laws.{words-insert_same}
 use Rattle.f3_heap_tests.proofs.once.shown.Goals as goal
 
 pub read-requires-clause-within : goal.read-requires-clause-within

@@ -1,6 +1,6 @@
 -- The queue stays one of live blocks, each once.
 use Rattle.std.proofs.Common.{ℕ, List, ◌∷◌, ◌++◌, [], sym, subst}
-use Rattle.f3_heap_laws.specs.Blocks.{Live}
+use Rattle.f3_live_blocks.specs.Blocks.{Live}
 use Rattle.f3_heap_tests.specs.LiveOnce.{LiveOnce}
 use Rattle.f3_heap_tests.proofs.Queue.{once-give, once-turn, once-rest}
 use Rattle.f3_heap_tests.proofs.turns.give_front.Goals as goal

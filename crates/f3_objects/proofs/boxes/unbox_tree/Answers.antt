@@ -1,6 +1,6 @@
 use Rattle.std.proofs.Common.{◌≡◌, ℤ, List, ap, sym, ◌∙◌, arith}
 use Rattle.std.specs.FinMap.{remove}
-use Rattle.f3_heap_laws.specs.Blocks.{words_of, pins_of, with_words}
+use Rattle.f3_live_blocks.specs.Blocks.{words_of, pins_of, with_words}
 use Rattle.f3_objects.specs.Holds.{with_words_at}
 use Rattle.f3_objects.proofs.Changes.{same_live, same_pins}
 use Rattle.f3_objects.proofs.Unboxing.{whole_words, ok_then, never_err, boxed_fits, block_stays, unboxes, used_unboxed}

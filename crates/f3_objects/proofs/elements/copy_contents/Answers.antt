@@ -5,7 +5,7 @@ use Rattle.f3_desc.specs.Shape.{Times}
 use Rattle.f3_desc.specs.Layout.{shape_in}
 use Rattle.f3_objects.specs.Tree.{Tree, words}
 use Rattle.f3_objects.specs.Copies.{Copies, faults}
-use Rattle.f3_heap_laws.specs.Blocks.{Live, words_of}
+use Rattle.f3_live_blocks.specs.Blocks.{Live, words_of}
 use Rattle.f3_objects.specs.Holds.{IsContents}
 use Rattle.f3_objects.specs.Copies.{Refills}
 use Rattle.f3_heap_laws.specs.Answers.{Take}

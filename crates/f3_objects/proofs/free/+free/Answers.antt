@@ -1,7 +1,7 @@
 use Rattle.std.proofs.Common.{rules, ◌≡◌, ◌<◌, ◌+◌, ◌-◌, ◌*◌, ◌/◌, ◌^◌, ℕ, true, false, refl, sym, subst, ◌∙◌, arith, map, drop, get_or}
 use Rattle.std.proofs.lemmas.Result.{err_from_is_err_and}
 use Rattle.std.proofs.lemmas.List.Elements.{All-get_or}
-use Rattle.f3_heap_laws.specs.Blocks.{pins_of}
+use Rattle.f3_live_blocks.specs.Blocks.{pins_of}
 use Rattle.f3_desc.specs.Shape.{width, row, shape_at, has_holder, Times}
 use Rattle.f3_desc.specs.Layout.{shapes, shape_in, piece_count}
 use Rattle.f3_objects.specs.Tree.{elements, Repeats, Fits}

@@ -1,5 +1,5 @@
 use Rattle.std.proofs.Common.{◌+◌, ◌*◌, take, drop, refl, ◌∙◌, arith, w64, rules}
-use Rattle.f3_heap_laws.specs.Blocks.{words_of}
+use Rattle.f3_live_blocks.specs.Blocks.{words_of}
 use mir.Val.{SFits}
 use Rattle.std.proofs.lemmas.Int.{to_z-of_z}
 use Rattle.f3_objects.proofs.Writes.{wrote_none, wrote_live, wrote_length}

@@ -1,5 +1,5 @@
 use Rattle.std.proofs.Common.{◌≡◌, take, drop}
-use Rattle.f3_heap_laws.specs.Blocks.{words_of}
+use Rattle.f3_live_blocks.specs.Blocks.{words_of}
 use Rattle.f3_objects.proofs.Writes.{Wrote}
 use Rattle.f3_objects.proofs.shift.move_tree.Given as goal
 

@@ -1,7 +1,7 @@
 use Rattle.std.proofs.Common.{rules, w64, ◌+◌, ◌*◌, pos, length, ◌∙◌, ap, arith, ℤ, set}
 use mir.Val.{SFits}
 use Rattle.std.proofs.lemmas.Int.{to_z-of_z}
-use Rattle.f3_heap_laws.specs.Blocks.{words_of, with_words}
+use Rattle.f3_live_blocks.specs.Blocks.{words_of, with_words}
 use Rattle.f3_objects.proofs.Linking.{first_length, first_live, first_other, first_then}
 use Rattle.f3_objects.proofs.words.link_copy.Goals as goal
 

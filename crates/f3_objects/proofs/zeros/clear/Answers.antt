@@ -1,6 +1,6 @@
 use Rattle.std.proofs.Common.{◌≡◌, ℕ, ℤ, List, pos, replicate, refl, ap, subst, ◌∙◌, arith}
 use Rattle.std.proofs.lemmas.List.{length-replicate, replicate_more}
-use Rattle.f3_heap_laws.specs.Blocks.{words_of, with_words}
+use Rattle.f3_live_blocks.specs.Blocks.{words_of, with_words}
 use Rattle.f3_objects.specs.Holds.{with_words_at}
 use Rattle.f3_desc.specs.Shape.{width, whole}
 use Rattle.f3_desc.specs.Layout.{pieces_of}

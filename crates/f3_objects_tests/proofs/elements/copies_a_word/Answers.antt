@@ -1,7 +1,7 @@
 use Rattle.std.proofs.Common.{◌≡◌, ℕ, ℤ, pos, List, [], ◌∷◌, ◌∙◌, length, take, drop, refl, ap, sym, subst, arith}
 use Rattle.std.specs.Prelude.{None}
 use Rattle.std.specs.FinMap.{get}
-use Rattle.f3_heap_laws.specs.Blocks.{Live, IsLive, words_of}
+use Rattle.f3_live_blocks.specs.Blocks.{Live, IsLive, words_of}
 use Rattle.f3_desc.specs.Shape.{Plain, whole}
 use Rattle.f3_desc.specs.declared.piece.Piece.{Piece}
 use Rattle.f3_objects.specs.Tree.{End, Word}

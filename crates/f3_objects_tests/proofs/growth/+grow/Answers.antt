@@ -1,6 +1,6 @@
 use Rattle.std.proofs.Common.{rules, ◌≡◌, ◌<◌, ◌+◌, ◌-◌, ◌*◌, ◌^◌, ℕ, pos, refl, ap, sym, subst, ◌∙◌, arith, map, drop, get_or, ◌∷◌}
 use Rattle.std.proofs.lemmas.List.Elements.{All-get_or}
-use Rattle.f3_heap_laws.specs.Blocks.{Live, words_of, with_taken, with_words}
+use Rattle.f3_live_blocks.specs.Blocks.{Live, words_of, with_taken, with_words}
 use Rattle.f3_desc.specs.Shape.{width, row, shape_at, Holder, Times}
 use Rattle.f3_desc.specs.Layout.{shapes, shape_in, piece_count}
 use Rattle.f3_objects.specs.Tree.{Repeats, Fits, blank}

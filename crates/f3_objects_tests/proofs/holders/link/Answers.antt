@@ -1,7 +1,7 @@
 use Rattle.std.proofs.Common.{zero, suc, ◌≡◌, ◌<◌, ℕ, ℤ, List, [], ◌∷◌, pos, refl, ap, sym, ◌∙◌, arith, rules, w64}
 use mir.Val.{SFits}
 use Rattle.std.proofs.lemmas.Int.{to_z-of_z, ints}
-use Rattle.f3_heap_laws.specs.Blocks.{words_of, with_words}
+use Rattle.f3_live_blocks.specs.Blocks.{words_of, with_words}
 use Rattle.f3_objects.specs.Holds.{with_words_at}
 use Rattle.f3_objects.proofs.Writes.{wrote_live, wrote_length}
 use Rattle.f3_objects_tests.specs.Grows.{dims_of}

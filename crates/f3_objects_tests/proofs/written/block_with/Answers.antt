@@ -2,7 +2,7 @@ use Rattle.std.proofs.Common.{rules, ◌≡◌, pos, get_or, to_z, of_z, w64, le
 use Rattle.std.proofs.lemmas.Int.{to_z-of_z}
 use Rattle.std.specs.Prelude.{None}
 use Rattle.std.specs.FinMap.{get}
-use Rattle.f3_heap_laws.specs.Blocks.{with_taken}
+use Rattle.f3_live_blocks.specs.Blocks.{with_taken}
 use Rattle.f3_objects_tests.proofs.Filling.{if_ok, fills_none, fills_more}
 use Rattle.f3_objects_tests.proofs.written.block_with.Goals as goal
 

@@ -1,7 +1,7 @@
 use Rattle.std.proofs.Common.{sym, subst, arith}
 use Rattle.f3_desc.specs.Shape.{Shape, Times}
 use Rattle.f3_objects.specs.Holds.{Holds}
-use Rattle.f3_heap_laws.specs.Blocks.{pins_of}
+use Rattle.f3_live_blocks.specs.Blocks.{pins_of}
 use Rattle.f3_objects.proofs.Trees.{times-left}
 use Rattle.f3_room_arrays.proofs.copying.give_back.Goals as goal
 

@@ -1,6 +1,6 @@
 use Rattle.std.proofs.Common.{◌≡◌, ◌∙◌, ap, subst, ℕ, ◌+◌, ◌*◌, ◌≤◌, length, List}
 use Rattle.std.specs.Prelude.{ℤ, pos}
-use Rattle.f3_heap_laws.specs.Blocks.{Live, words_of}
+use Rattle.f3_live_blocks.specs.Blocks.{Live, words_of}
 use Rattle.f3_desc.specs.Descriptor.{places, progression}
 use Rattle.f3_rooms.specs.Forms.{words_for}
 use Rattle.f3_objects.proofs.Writes.{words-with}

@@ -1,7 +1,7 @@
 use Rattle.std.proofs.Common.{◌≡◌, ◌∙◌, sym, ap, subst, ℕ, length}
 use Rattle.std.specs.Prelude.{pos}
 use Rattle.f3_meaning_whole.specs.Value.{spread}
-use Rattle.f3_heap_laws.specs.Blocks.{words_of, with_words}
+use Rattle.f3_live_blocks.specs.Blocks.{words_of, with_words}
 use Rattle.f3_desc.specs.Descriptor.{places, progression}
 use Rattle.f3_rooms.specs.Held.{Empty}
 use Rattle.f3_rooms.specs.Forms.{words_for}

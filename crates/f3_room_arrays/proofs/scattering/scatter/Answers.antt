@@ -1,6 +1,6 @@
 use Rattle.std.proofs.Common.{◌≡◌, ◌∙◌, sym, ap, subst, refl, ℕ, ◌+◌, ◌*◌, ◌≤◌, length}
 use Rattle.std.specs.Prelude.{pos}
-use Rattle.f3_heap_laws.specs.Blocks.{words_of, with_words}
+use Rattle.f3_live_blocks.specs.Blocks.{words_of, with_words}
 use Rattle.f3_desc.specs.Descriptor.{places, progression}
 use Rattle.f3_rooms.specs.Forms.{words_for}
 use Rattle.f3_rooms.specs.Sound.{Each, IsObject}

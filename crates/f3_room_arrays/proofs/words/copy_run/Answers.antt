@@ -1,7 +1,7 @@
 use Rattle.std.proofs.Common.{◌≡◌, ◌∙◌, sym, ap, subst, refl, rules, w64, FitsSigned, length, List, arith}
 use Rattle.std.specs.Prelude.{ℤ, pos, ◌+ℤ◌, ◌*ℤ◌}
 use Rattle.std.proofs.lemmas.Int.{to_z-of_z}
-use Rattle.f3_heap_laws.specs.Blocks.{words_of, with_words}
+use Rattle.f3_live_blocks.specs.Blocks.{words_of, with_words}
 use Rattle.f3_desc.specs.Inner.Congruent.{IsCongruent}
 use Rattle.f3_desc.specs.Descriptor.{progression}
 use Rattle.f3_room_arrays.specs.Words.{copied}

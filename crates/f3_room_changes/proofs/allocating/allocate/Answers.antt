@@ -1,6 +1,6 @@
 use Rattle.std.proofs.Common.{◌≡◌, ◌≢◌, length, sym, ap, subst, ◌∙◌, arith}
-use Rattle.f3_heap_laws.specs.Blocks.{Live, IsLive, words_of}
-use Rattle.f3_heap_laws.proofs.Laws.{live-insert, words-insert_other, fresh-apart}
+use Rattle.f3_live_blocks.specs.Blocks.{Live, IsLive, words_of}
+use Rattle.f3_live_blocks.proofs.Laws.{live-insert, words-insert_other, fresh-apart}
 use Rattle.f3_heap_laws.specs.Answers.{Answer, sizes}
 use Rattle.f3_data.specs.Values.{spans_of}
 use Rattle.f3_rooms.specs.Laws.{with_holder}

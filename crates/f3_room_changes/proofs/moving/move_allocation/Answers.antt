@@ -1,6 +1,6 @@
 use Rattle.std.proofs.Common.{◌≡◌, ℕ, sym, subst}
 use Rattle.std.specs.Prelude.{Option, IfSome}
-use Rattle.f3_heap_laws.specs.Blocks.{pins_of}
+use Rattle.f3_live_blocks.specs.Blocks.{pins_of}
 use Rattle.f3_room_objects.specs.Trees.{layout_for, tree_at}
 use Rattle.f3_room_changes.proofs.Moved.{source, beneath, named, target, vacant, apart, moved}
 use Rattle.f3_room_changes.proofs.Places.{when_ok}

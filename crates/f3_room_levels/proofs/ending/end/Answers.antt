@@ -1,6 +1,6 @@
 use Rattle.std.proofs.Common.{sym, subst}
 use Rattle.std.specs.Prelude.{is_ok}
-use Rattle.f3_heap_laws.specs.Blocks.{Live, pins_of}
+use Rattle.f3_live_blocks.specs.Blocks.{Live, pins_of}
 use Rattle.f3_objects.specs.Holds.{Replaces, left}
 use Rattle.f3_room_places.specs.Places.{shapes}
 use Rattle.f3_room_levels.specs.Levels.{room_tree}

@@ -1,5 +1,5 @@
 use Rattle.std.proofs.Common.{◌<◌, ◌≡◌, true, sym, ◌∙◌, arith}
-use Rattle.f3_heap_laws.specs.Blocks.{pins_of}
+use Rattle.f3_live_blocks.specs.Blocks.{pins_of}
 use Rattle.f3_desc.specs.Layout.{shape_in}
 use Rattle.f3_objects.specs.Tree.{elements}
 use Rattle.f3_objects.proofs.Holders.{allocation, frees_none, frees_pinned, frees_stuck, frees_holder, holder_gone, holder_within}

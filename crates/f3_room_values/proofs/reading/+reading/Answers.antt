@@ -5,7 +5,7 @@ use Rattle.std.proofs.lemmas.List.{map-append}
 use Rattle.f3_program.specs.declared.declarations.Derived.{Derived}
 use Rattle.f3_meaning_whole.specs.Value.{Number, Allocated}
 use Rattle.f3_meaning_whole.specs.Shape.{shape_in, shapes_of}
-use Rattle.f3_heap_laws.specs.Blocks.{words_of}
+use Rattle.f3_live_blocks.specs.Blocks.{words_of}
 use Rattle.f3_data.specs.Values.{spans_of, value_of, values_of}
 use Rattle.f3_rooms.specs.Forms.{words_for}
 use Rattle.f3_rooms.specs.Values.{object}

@@ -3,7 +3,7 @@ use Rattle.std.specs.Int.{w64}
 use Rattle.std.proofs.lemmas.Int.{to_z-of_z}
 use Rattle.std.proofs.lemmas.List.{length-take-le}
 use Rattle.f3_program.specs.declared.declarations.Derived.{Derived}
-use Rattle.f3_heap_laws.specs.Blocks.{words_of}
+use Rattle.f3_live_blocks.specs.Blocks.{words_of}
 use Rattle.f3_meaning_whole.specs.Value.{Allocated, spans_of}
 use Rattle.f3_meaning_whole.specs.Shape.{shape_in, shapes_of}
 use Rattle.f3_data.specs.declared.value.Value as v

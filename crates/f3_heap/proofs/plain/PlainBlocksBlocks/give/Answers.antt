@@ -1,7 +1,7 @@
 -- A live slot is emptied.
 use Rattle.std.proofs.Common.{◌≡◌, ◌∙◌, List, ap, sym, refl, arith, length}
 use Rattle.f3_heap.specs.declared.plain.Slot.{Slot}
-use Rattle.f3_heap_laws.specs.Blocks.{Heap, words_of}
+use Rattle.f3_live_blocks.specs.Blocks.{Heap, words_of}
 use Rattle.f3_heap_laws.specs.Account.{r}
 use Rattle.f3_heap.specs.Plain.{live_slots}
 use Rattle.f3_heap.proofs.Slots.{size-within, given-accounted, slot-given, read-words}

@@ -4,7 +4,7 @@ use Rattle.std.specs.List.{length_refill}
 use Rattle.std.specs.Vec.{with_items}
 use Rattle.std.proofs.lemmas.List.{with_items_is}
 use Rattle.f3_heap.specs.declared.plain.Slot.{Slot}
-use Rattle.f3_heap_laws.specs.Blocks.{Heap, IsLive, words_of, written_over}
+use Rattle.f3_live_blocks.specs.Blocks.{Heap, IsLive, words_of, written_over}
 use Rattle.f3_heap.specs.Plain.{live_slots, IsAccounted}
 use Rattle.f3_heap.proofs.Slots.{live-within, written-accounted, slot-written, read-words}
 use Rattle.f3_heap.proofs.plain.PlainBlocksBlocks.pair.Goals as goal

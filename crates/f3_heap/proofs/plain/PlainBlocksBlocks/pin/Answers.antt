@@ -1,6 +1,6 @@
 -- The pins of a live slot change.
 use Rattle.std.proofs.Common.{◌<◌, ◌+◌, ap, sym, subst, refl, arith, length}
-use Rattle.f3_heap_laws.specs.Blocks.{Heap, IsLive}
+use Rattle.f3_live_blocks.specs.Blocks.{Heap, IsLive}
 use Rattle.f3_heap.proofs.Slots.{live-within, slot-pinned, read-pins}
 use Rattle.f3_heap.proofs.plain.PlainBlocksBlocks.pin.Goals as goal
 

@@ -1,7 +1,7 @@
 -- What is left is the size less the account.
 use Rattle.std.proofs.Common.{◌+◌, ◌∙◌, ap, sym, nat_le}
 use Rattle.f3_heap_laws.specs.Account.{r, used_by}
-use Rattle.f3_heap_laws.specs.Blocks.{Heap}
+use Rattle.f3_live_blocks.specs.Blocks.{Heap}
 use Rattle.f3_heap.proofs.Slots.{room_is, used-slots}
 use Rattle.f3_heap.proofs.plain.PlainBlocksBlocks.room.Goals as goal
 

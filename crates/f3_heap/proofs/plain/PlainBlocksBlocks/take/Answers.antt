@@ -2,7 +2,7 @@
 use Rattle.std.proofs.Common.{◌<◌, ◌∙◌, ◌^◌, rules, pos, ap, sym, refl, length, arith}
 use Rattle.std.proofs.lemmas.List.{length-replicate}
 use Rattle.std.specs.FinMap.{get, insert}
-use Rattle.f3_heap_laws.specs.Blocks.{Heap, with_taken}
+use Rattle.f3_live_blocks.specs.Blocks.{Heap, with_taken}
 use Rattle.f3_heap_laws.proofs.Refusals.{plain_taken}
 use Rattle.f3_heap.specs.Plain.{live_slots}
 use Rattle.f3_heap.proofs.Slots.{put-fresh, put-taken, put-account, fits_in}

@@ -1,7 +1,7 @@
 -- The field is the account.
 use Rattle.std.proofs.Common.{◌∙◌, ap, sym}
 use Rattle.f3_heap_laws.specs.Account.{used_by}
-use Rattle.f3_heap_laws.specs.Blocks.{Heap}
+use Rattle.f3_live_blocks.specs.Blocks.{Heap}
 use Rattle.f3_heap.proofs.Slots.{used-slots}
 use Rattle.f3_heap.proofs.plain.PlainBlocksBlocks.used.Goals as goal
 

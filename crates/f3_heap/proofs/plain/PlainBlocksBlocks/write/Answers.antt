@@ -2,7 +2,7 @@
 use Rattle.std.proofs.Common.{◌<◌, ap, sym, subst, refl, arith, slice_set, length, w64}
 use Rattle.std.proofs.lemmas.Int.{to_z-of_z}
 use mir.Val.{SFits}
-use Rattle.f3_heap_laws.specs.Blocks.{Heap, IsLive}
+use Rattle.f3_live_blocks.specs.Blocks.{Heap, IsLive}
 use Rattle.f3_heap.proofs.Slots.{slot-written, read-words, live-within}
 use Rattle.f3_heap.proofs.plain.PlainBlocksBlocks.write.Goals as goal
 

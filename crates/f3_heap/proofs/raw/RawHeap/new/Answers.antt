@@ -1,7 +1,7 @@
 -- No block yet.
 use Rattle.std.proofs.Common.{◌<◌, ◌*◌, ◌/◌, ◌^◌, ◌∙◌, replicate, ap, sym, subst, arith}
 use Rattle.f3_raw.specs.Region.{region_words, region_size}
-use Rattle.f3_heap_laws.specs.Blocks.{Heap}
+use Rattle.f3_live_blocks.specs.Blocks.{Heap}
 use Rattle.f3_heap_laws.proofs.RawWrites.{new-heap, new-view}
 use Rattle.f3_heap_laws.proofs.HintHeaps.{new-hints}
 use Rattle.std.proofs.lemmas.List.{get_or-replicate}

@@ -1,7 +1,7 @@
 -- Two contents are lent.
 use Rattle.std.proofs.Common.{◌+◌, ◌∙◌, length, ap, sym, refl, arith}
 use Rattle.f3_raw.specs.Region.{region_words, region_size}
-use Rattle.f3_heap_laws.specs.Blocks.{Heap, words_of}
+use Rattle.f3_live_blocks.specs.Blocks.{Heap, words_of}
 use Rattle.f3_heap_laws.specs.Segments.{segments}
 use Rattle.f3_heap_laws.proofs.RawReads.{block, block-room, content-is}
 use Rattle.f3_heap_laws.proofs.RawWrites.{pair-heap, pair-hints, pair-view, content-run, blocks-apart}

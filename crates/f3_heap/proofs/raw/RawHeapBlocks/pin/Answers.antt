@@ -4,7 +4,7 @@ use Rattle.f3_raw.specs.Region.{region_words, region_size}
 use Rattle.f3_heap_laws.proofs.RawReads.{block-room, block-small, pin-count}
 use Rattle.f3_heap.proofs.raw.RawHeapBlocks.pin.Goals as goal
 use Rattle.f3_heap.proofs.raw.RawHeapBlocks.pin.Goals.{After-put_pin_count}
-use Rattle.f3_heap_laws.specs.Blocks.{pins_of, with_pins}
+use Rattle.f3_live_blocks.specs.Blocks.{pins_of, with_pins}
 use Rattle.f3_heap_laws.specs.Segments.{segments, live_segments}
 use Rattle.f3_heap_laws.proofs.BlockLaws.{heap-at}
 use Rattle.f3_heap_laws.proofs.HintHeaps.{hints-at}

@@ -2,7 +2,7 @@
 use Rattle.std.proofs.Common.{◌≡◌, ◌∙◌, ℕ, ap, sym, subst}
 use Rattle.std.specs.Prelude.{Option, IfSome}
 use Rattle.f3_heap.specs.declared.arena.Book.{Book}
-use Rattle.f3_heap_laws.specs.Blocks.{Heap}
+use Rattle.f3_live_blocks.specs.Blocks.{Heap}
 use Rattle.f3_heap_laws.specs.Answers.{Taken, sizes}
 use Rattle.f3_heap_laws.specs.Rules.{raw_allows}
 use Rattle.f3_heap_laws.proofs.Refusals.{raw_taken}

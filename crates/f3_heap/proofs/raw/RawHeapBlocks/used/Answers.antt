@@ -2,7 +2,7 @@
 use Rattle.std.proofs.Common.{◌∙◌, ap, sym}
 use Rattle.f3_raw.specs.Region.{region_words}
 use Rattle.f3_heap_laws.specs.Account.{used_by}
-use Rattle.f3_heap_laws.specs.Blocks.{Heap}
+use Rattle.f3_live_blocks.specs.Blocks.{Heap}
 use Rattle.f3_heap_laws.specs.Segments.{segments}
 use Rattle.f3_heap_laws.proofs.LiveSegs.{used-segments}
 use Rattle.f3_heap.specs.declared.arena.Book.{Book}

@@ -10,7 +10,7 @@ use f3_program::declarations::{Base, Declared, Dimension};
 use f3_type_tables::table::TypeTable;
 
 /// How many elements an array of bounds has (ISO/IEC 1539-1:2004, 6.2.2.2): none where they are 2 to the 64 or more.
-pub(crate) fn elements(bounds: &[Dimension]) -> Option<u64>
+pub fn elements(bounds: &[Dimension]) -> Option<u64>
     ensures { MatchOption result (2 ^ 64 ≤ count (spans_declared bounds.now)) (λ n. n ≡ count (spans_declared bounds.now)) }
 {
     let Some((first, others)) = bounds.split_first() else {

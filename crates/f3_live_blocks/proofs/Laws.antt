@@ -4,8 +4,8 @@ use Rattle.std.specs.Prelude.{Option, None, Some}
 use Rattle.std.specs.Ordering.{nat_cmp, eq_by_cmp}
 use Rattle.std.specs.FinMap.{get, insert, remove, get-insert, get-remove}
 use Rattle.std.specs.Cmp.{nat_cmp_total}
-use Rattle.f3_heap_laws.specs.Blocks.{Block, Live, IsLive, words_in, pins_in, words_of, pins_of}
-use Rattle.f3_heap_laws.proofs.Placed.{same-self, same-apart}
+use Rattle.f3_live_blocks.specs.Blocks.{Block, Live, IsLive, words_in, pins_in, words_of, pins_of}
+use Rattle.f3_live_blocks.proofs.Names.{same-self, same-apart}
 
 pub get-insert_same : (m : Live) (b : ℕ) (k : Block) → get (insert m b k) b ≡ Some k
 get-insert_same m b k = get-insert nat_cmp_total m b k b ∙ ap (λ t. cond t (Some k) (get m b)) (same-self b)

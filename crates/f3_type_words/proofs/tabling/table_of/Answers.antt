@@ -1,9 +1,9 @@
 use Rattle.std.proofs.Common.{arith, refl, ◌≡◌}
 use Rattle.std.specs.Prelude.{◌^◌}
 use Rattle.f3_rooms.specs.Forms.{room}
-use Rattle.f3_room_types.proofs.TableLaws.{tabled_more, not_tabled}
-use Rattle.f3_room_types.proofs.tabling.table_of.Goals as goal
-use Rattle.f3_room_types.proofs.tabling.table_of.Goals.{in_default-via-in-Some+else-more-words, in_default-via-in_default}
+use Rattle.f3_type_words.proofs.TableLaws.{tabled_more, not_tabled}
+use Rattle.f3_type_words.proofs.tabling.table_of.Goals as goal
+use Rattle.f3_type_words.proofs.tabling.table_of.Goals.{in_default-via-in-Some+else-more-words, in_default-via-in_default}
 
 pub returns-in_default : goal.returns-in_default
 returns-in_default c = λ ts t have. elim c.in_default.branch [

@@ -1,5 +1,5 @@
 use Rattle.std.proofs.Common.{length}
-use Rattle.f3_room_types.proofs.words.+elements.Given as goal
+use Rattle.f3_type_words.proofs.words.+elements.Given as goal
 
 abbrev pub decreases-elements : goal.decreases-elements
 decreases-elements l = length l.bounds.now

@@ -1,7 +1,7 @@
 //! Tables of the types of a program.
 
 ghost use Rattle.std.specs.Prelude.{◌≤◌, ◌<◌, ℕ, List, IfOk, IfSome, MatchOption, All, Any};
-ghost use Rattle.f3_desc.specs.Shape.{most_words};
+ghost use Rattle.f3_type_words.specs.Most.{most_words};
 ghost use Rattle.f3_meaning_whole.specs.Shape.{Shape, Record, parts_in, shapes_of};
 ghost use Rattle.f3_rooms.specs.Forms.{words_for, words_for_parts};
 ghost use Rattle.f3_type_tables.specs.Tables.{AreTables, IsTable};
@@ -12,7 +12,7 @@ use f3_type_tables::table::TypeTable;
 use std::alloc::{AllocError, Global};
 
 /// The most words of an object that has a layout: 16,777,216 times 15, which are the words of an allocatable of rank 7.
-pub(crate) const MOST_WORDS: usize = 251_658_240;
+pub const MOST_WORDS: usize = 251_658_240;
 
 /// The table of a type with these components, by those of the types before it: none where its objects have more words than a layout
 /// may have.
