@@ -1,5 +1,5 @@
 //! What is measured.
-#![tactic(auto, using(f3_heap_laws::proofs::Laws::live_laws))]
+#![tactic(auto, using(f3_live_blocks::proofs::Laws::live_laws))]
 
 ghost use Rattle.std.specs.Prelude.{◌≡◌, ◌<◌, length};
 ghost use Rattle.f3_live_blocks.specs.Blocks.{IsLive, words_of};

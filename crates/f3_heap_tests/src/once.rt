@@ -5,7 +5,7 @@ ghost use Rattle.std.specs.Prelude.{◌<◌};
 use f3_heap::{Blocks, RawHeap};
 
 /// Takes a block, writes its word 4, and gives it back at once, and tells whether all this was done.
-#[tactic(auto, using(f3_heap_laws::proofs::Laws::live_laws))]
+#[tactic(auto, using(f3_live_blocks::proofs::Laws::live_laws))]
 fn has_used<B: Blocks>(heap: &mut B, words: usize) -> bool
     requires { 4 < words }
 {
@@ -17,7 +17,7 @@ fn has_used<B: Blocks>(heap: &mut B, words: usize) -> bool
 }
 
 /// Takes a block at once, and shows its length, its word 4 and how many words are used.
-#[tactic(auto, using(f3_heap_laws::proofs::Laws::live_laws))]
+#[tactic(auto, using(f3_live_blocks::proofs::Laws::live_laws))]
 fn shown<B: Blocks>(heap: &mut B, words: usize) -> Option<(usize, i64, usize)>
     requires { 4 < words }
 {
@@ -28,7 +28,7 @@ fn shown<B: Blocks>(heap: &mut B, words: usize) -> Option<(usize, i64, usize)>
 }
 
 /// Takes a block, pins it, and asks for it at once, which is refused; tells whether the pin is still there.
-#[tactic(auto, using(f3_heap_laws::proofs::Laws::live_laws))]
+#[tactic(auto, using(f3_live_blocks::proofs::Laws::live_laws))]
 fn stays_pinned<B: Blocks>(heap: &mut B) -> bool {
     let Ok(block) = heap.take(1) else {
         return false;
