@@ -148,6 +148,29 @@ fn putting(alloc: Global, act: Act) -> Result<String, AllocError> {
                 0,
             )
         }
+        Act::LendOpened(d, r, at, x, width, part) => {
+            let numbers = [
+                d as i64,
+                r as i64,
+                at as i64,
+                x as i64,
+                width as i64,
+                part as i64,
+            ];
+            line(alloc, "lend opened", &numbers, 0)
+        }
+        Act::LendOpenedEntry(d, r, at, x, y, width, part) => {
+            let numbers = [
+                d as i64,
+                r as i64,
+                at as i64,
+                x as i64,
+                y as i64,
+                width as i64,
+                part as i64,
+            ];
+            line(alloc, "lend opened entry", &numbers, 0)
+        }
         _ => calling(alloc, act),
     }
 }
