@@ -12,8 +12,8 @@ ghost use Rattle.f3_room_frames.specs.Layouts.{StandsFrom, IsLayout, HasLayout, 
 use crate::layout::{Layout, Variable};
 use f3_program::declarations::Declared;
 use f3_program::program::{Procedure, Static};
-use f3_type_words::words::words_of;
 use f3_type_tables::table::TypeTable;
+use f3_type_words::words::words_of;
 use std::alloc::{AllocError, Global};
 
 /// How many words the variables of an activation may have together (own rule).

@@ -19,9 +19,9 @@ use crate::laying::{lay_out_procedure, lay_out_statics};
 use crate::layout::Layout;
 use f3_program::declarations::Base;
 use f3_program::program::{Procedure, Program};
+use f3_type_tables::table::TypeTable;
 use f3_type_words::tabling::tables;
 use f3_type_words::words::base_words;
-use f3_type_tables::table::TypeTable;
 use std::alloc::{AllocError, Global};
 
 /// The tables of the types of a program, whether none of their components is initialized, and where its variables stand: those that live for the whole run, the main program's, and each

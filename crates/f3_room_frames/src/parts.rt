@@ -11,8 +11,8 @@ ghost use Rattle.f3_room_frames.specs.Layouts.{IsHolding};
 use crate::layout::Holding;
 use crate::layouts::Layouts;
 use f3_program::declarations::{Base, Derived};
-use f3_type_words::words::base_words;
 use f3_type_tables::table::TypeTable;
+use f3_type_words::words::base_words;
 
 /// Which of the words of an object of a type, among the types of a program up to it, a scalar part is, and its type.
 fn part_of(

@@ -2,12 +2,12 @@
 
 use crate::showing::listed;
 use f3_compile::compile::compile;
-use f3_room_frames::layouts::Layouts;
 use f3_gen_laws::generate;
 use f3_gen_values::emission::Emission;
 use f3_places::source::Source;
 use f3_plans::planning::plan;
 use f3_program::program::Program;
+use f3_room_frames::layouts::Layouts;
 use std::alloc::{AllocError, Global};
 
 /// The acts of the plan of a program whose variables have these layouts.

@@ -9,8 +9,8 @@ ghost use Rattle.f3_sizes.specs.Words.{AreWords, declared_statics};
 
 use f3_program::declarations::Declared;
 use f3_program::program::{Procedure, Program};
-use f3_type_words::words::words_of;
 use f3_type_tables::table::TypeTable;
+use f3_type_words::words::words_of;
 
 /// One object more behind so many words: none where they are 2 to the 64 or more.
 fn behind(tables: &[TypeTable], words: Option<u64>, declared: &Declared) -> Option<u64>
