@@ -105,13 +105,7 @@ fn changing(alloc: Global, act: Act) -> Result<String, AllocError> {
             line(
                 alloc,
                 "allocate",
-                &[
-                    r as i64,
-                    behind as i64,
-                    x as i64,
-                    y as i64,
-                    width as i64,
-                ],
+                &[r as i64, behind as i64, x as i64, y as i64, width as i64],
                 n,
             )
         }
