@@ -90,7 +90,49 @@ fn calling(alloc: Global, act: Act) -> Result<String, AllocError> {
     }
 }
 
-/// An act that lends a part of an element of what a component holds, or one of those that call.
+/// An act that changes what an allocatable holds, or one of those that call.
+fn changing(alloc: Global, act: Act) -> Result<String, AllocError> {
+    match act {
+        Act::AllocateOne(r, behind, width, n) => {
+            line(
+                alloc,
+                "allocate one",
+                &[r as i64, behind as i64, width as i64],
+                n,
+            )
+        }
+        Act::Allocate(r, behind, x, y, width, n) => {
+            line(
+                alloc,
+                "allocate",
+                &[r as i64, behind as i64, x as i64, y as i64, width as i64],
+                n,
+            )
+        }
+        Act::Deallocate(r, behind, n) => {
+            line(alloc, "deallocate", &[r as i64, behind as i64], n)
+        }
+        Act::MoveOne(r, behind, q, beyond, n) => {
+            line(
+                alloc,
+                "move one",
+                &[r as i64, behind as i64, q as i64, beyond as i64],
+                n,
+            )
+        }
+        Act::Move(r, behind, q, beyond, n) => {
+            line(
+                alloc,
+                "move",
+                &[r as i64, behind as i64, q as i64, beyond as i64],
+                n,
+            )
+        }
+        _ => calling(alloc, act),
+    }
+}
+
+/// An act that lends a part of an element of what a component holds, or one of those above.
 fn opening(alloc: Global, act: Act) -> Result<String, AllocError> {
     match act {
         Act::LendOpened(d, r, behind, x, width, part) => {
@@ -124,7 +166,7 @@ fn opening(alloc: Global, act: Act) -> Result<String, AllocError> {
                 0,
             )
         }
-        _ => calling(alloc, act),
+        _ => changing(alloc, act),
     }
 }
 
