@@ -42,6 +42,10 @@ fn op_name(op: &Op) -> &'static str {
         Op::Count(_) => "count",
         Op::Case(_, _, _) => "case",
         Op::Print(_) => "print",
+        Op::Allocate(_, None) => "one",
+        Op::Allocate(_, Some(_)) => "array",
+        Op::Deallocate(_) => "deallocate",
+        Op::Move(_, _, _) => "move",
         _ => "other",
     }
 }
@@ -146,5 +150,81 @@ fn the_bounds_of_a_loop_and_a_case(rt: HostRuntime) -> Result<(), Fail> {
     let expected =
         "0 limit 1\n2 limit 2\n5 limit 1\n7 other 0\n8 count 1\n10 deed 0\n11 case 1\n13 deed 0\n";
     assert_eq!(rt; text.as_str(), expected);
+    Ok(())
+}
+
+#[test]
+fn an_array_is_allocated_and_a_scalar(rt: HostRuntime) -> Result<(), Fail> {
+    let lines = [
+        plain(Instruction::Begin),
+        plain(FIRST),
+        plain(Instruction::Component(0)),
+        plain(Instruction::Push(Constant::Number(1))),
+        plain(LAST),
+        plain(Instruction::Load),
+        plain(Instruction::Dimension),
+        plain(Instruction::Allocate(1, 1)),
+        plain(Instruction::SkipIfFailed(1)),
+        plain(Instruction::NoError),
+        plain(Instruction::Check),
+        plain(Instruction::Begin),
+        plain(LAST),
+        plain(Instruction::Allocate(0, 0)),
+        plain(Instruction::SkipIfFailed(1)),
+        plain(Instruction::NoError),
+        plain(Instruction::Check),
+        plain(Instruction::Begin),
+    ];
+    let found = ops(rt.alloc(), &lines)?;
+    let text = shown(rt.alloc(), &found)?;
+    let expected = "0 other 0\n1 array 9\n11 other 0\n12 one 4\n17 other 0\n";
+    assert_eq!(rt; text.as_str(), expected);
+    Ok(())
+}
+
+#[test]
+fn a_status_is_stored(rt: HostRuntime) -> Result<(), Fail> {
+    let lines = [
+        plain(FIRST),
+        plain(Instruction::Allocate(0, 0)),
+        plain(Instruction::SkipIfFailed(1)),
+        plain(Instruction::NoError),
+        plain(LAST),
+        plain(Instruction::StoreStatus),
+        plain(Instruction::Begin),
+    ];
+    let found = ops(rt.alloc(), &lines)?;
+    let text = shown(rt.alloc(), &found)?;
+    assert_eq!(rt; text.as_str(), "6 other 0\n");
+    Ok(())
+}
+
+#[test]
+fn an_object_is_deallocated_or_moves(rt: HostRuntime) -> Result<(), Fail> {
+    let lines = [
+        plain(FIRST),
+        plain(Instruction::Component(2)),
+        plain(Instruction::TestFree(5)),
+        plain(Instruction::OpenContents),
+        plain(Instruction::Drop),
+        plain(Instruction::Free),
+        plain(Instruction::Drop),
+        plain(Instruction::NoError),
+        plain(Instruction::SkipIfFailed(1)),
+        plain(Instruction::NoError),
+        plain(Instruction::Check),
+        plain(FIRST),
+        plain(LAST),
+        plain(Instruction::LendBoth),
+        plain(Instruction::SkipUnlessAllocated(3)),
+        plain(Instruction::OpenContents),
+        plain(Instruction::Drop),
+        plain(Instruction::Free),
+        plain(Instruction::TakeOver),
+        plain(Instruction::Begin),
+    ];
+    let found = ops(rt.alloc(), &lines)?;
+    let text = shown(rt.alloc(), &found)?;
+    assert_eq!(rt; text.as_str(), "0 deallocate 10\n11 move 7\n19 other 0\n");
     Ok(())
 }
