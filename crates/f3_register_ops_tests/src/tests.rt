@@ -120,7 +120,7 @@ fn a_part_is_lent_for_one_access(rt: HostRuntime) -> Result<(), Fail> {
 
 #[test]
 fn acts_and_ops_are_short(rt: HostRuntime) -> Result<(), Fail> {
-    assert_eq!(rt; size_of::<Act>(), 28);
+    assert_eq!(rt; size_of::<Act>(), 24);
     assert_eq!(rt; size_of::<Op>(), 32);
     Ok(())
 }
