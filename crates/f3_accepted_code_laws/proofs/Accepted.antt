@@ -26,7 +26,7 @@ use Rattle.f3_bounded_laws.proofs.Units.{bounded}
 use Rattle.f3_fitted_laws.proofs.Whole.{fits}
 use Rattle.f3_cell_kinds.proofs.OfProgram.{code_has_kinds}
 use Rattle.f3_cell_kinds.proofs.Running.{runs_hold}
-use Rattle.f3_sense_laws.proofs.Accepted.{accepted_sense}
+use Rattle.f3_accepted_laws.proofs.Sense.{accepted_sense}
 use Rattle.f3_accepted_code_laws.specs.Laws.{AcceptedFits, AcceptedCodeHasKinds, AcceptedRunsHold}
 
 module _ (sources : List Source) (t : Tree) (look : ℕ → ℕ → Lookup) (order : List ℕ) (p : Program) (accepted : Accepted sources t) (means : Means t look)

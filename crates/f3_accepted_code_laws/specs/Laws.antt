@@ -10,7 +10,7 @@ use Rattle.f3_accepted.specs.Breaks.{Means}
 use Rattle.f3_accepted.specs.Accepted.{Accepted}
 use Rattle.f3_elaboration.specs.DeclaredViews.{program_view}
 use Rattle.f3_elaboration.specs.Program.{elaborated}
-use Rattle.f3_core.specs.Lower.{lowered_program}
+use Rattle.f3_code.specs.Lower.{lowered_program}
 use Rattle.f3_code.specs.Code.{program_code}
 use Rattle.f3_code.specs.State.{State}
 use Rattle.f3_heights.specs.Room.{state_after}

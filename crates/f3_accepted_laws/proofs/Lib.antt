@@ -1,3 +1,5 @@
 pub mod Outer
 pub mod Join
 pub mod Accepted
+pub mod Sense
+pub mod Quiet

@@ -9,13 +9,13 @@ use Rattle.f3_meaning_whole.specs.declared.run_error.RunError.TheVariants.{Alrea
 use Rattle.f3_meaning_whole.specs.Ran.{Event, Ran, ◌>>=◌, gives, looks, does, asks}
 use Rattle.f3_meaning_whole.specs.Act.{Here, set, claim}
 use Rattle.f3_meaning_whole.specs.Exec.{request, too_many, vacant}
-use Rattle.f3_core.specs.Exec.{allocate}
+use Rattle.f3_code.specs.Exec.{allocate}
 use Rattle.f3_code.specs.State.{Cell, Object, Datum, Extent, Status, State, Next, Goes}
 use Rattle.f3_code.specs.Machine.{performs, on, on_object, on_datum, extent_of, on_many}
-use Rattle.f3_account.specs.Account.{block, words, objects, used}
-use Rattle.f3_answers.specs.Wants.{dimensions, renewed}
-use Rattle.f3_answers.specs.Wants as wants
-use Rattle.f3_answers.specs.Heap.{granted, with_answers}
+use Rattle.f3_code.specs.Account.{block, words, objects, used}
+use Rattle.f3_code.specs.Wants.{dimensions, renewed}
+use Rattle.f3_code.specs.Wants as wants
+use Rattle.f3_code.specs.Heap.{granted, with_answers}
 use Rattle.f3_account_laws.specs.Laws.{IsPlace, ObjectsTakeWhatTheyWant, AssignmentsTakeWhatTheyWant, ObjectsAreGivenBack}
 use Rattle.f3_account_laws.proofs.Putting.{put_used}
 use Rattle.f3_account_laws.proofs.Taking.{store_after}

@@ -3,8 +3,8 @@ use Rattle.std.proofs.Common.{◌≡◌, ◌⊎◌, inl, inr, ℕ, zero, suc, �
 use Rattle.std.specs.Prelude.{slice_index_or, slice_set}
 use Rattle.f3_meaning_whole.specs.Value.{Value, Number, Truth, Composite, Array, Unallocated, Allocated, Values, none, more}
 use Rattle.f3_meaning_whole.specs.Store.{Root, Static, Local, Step, Component, Element, Contents, Path, Store, at_root, with_root, part, part_at, with_part, with_part_at, get, put}
-use Rattle.f3_account.specs.Account.{words, row, level_words, used}
-use Rattle.f3_account.proofs.Rows.{level_words_set, levels_words_set, set_past}
+use Rattle.f3_code.specs.Account.{words, row, level_words, used}
+use Rattle.f3_code.proofs.Rows.{level_words_set, levels_words_set, set_past}
 
 -- no value is each value
 not_each : (v : Value) → ((x : Value) → v ≡ x) → ⊥

@@ -8,11 +8,11 @@ use Rattle.f3_meaning_whole.specs.Act.{Here, Passed, Given, Lent}
 use Rattle.f3_meaning_whole.specs.Exec.{held}
 use Rattle.f3_code.specs.State.{Entry, Cell, Argument, State, Failed, Next, Goes, Stays}
 use Rattle.f3_code.specs.Machine.{performs, begun, entered, called_at, argument_of, on_many}
-use Rattle.f3_account.specs.Account.{block, level_words, used}
-use Rattle.f3_account.proofs.Rows.{levels_words_append, levels_words_split}
-use Rattle.f3_answers.specs.Wants.{wants, given_words}
-use Rattle.f3_answers.specs.Wants as wants
-use Rattle.f3_answers.specs.Heap.{granted, with_answers}
+use Rattle.f3_code.specs.Account.{block, level_words, used}
+use Rattle.f3_code.proofs.Rows.{levels_words_append, levels_words_split}
+use Rattle.f3_code.specs.Wants.{wants, given_words}
+use Rattle.f3_code.specs.Wants as wants
+use Rattle.f3_code.specs.Heap.{granted, with_answers}
 use Rattle.f3_account_laws.specs.Laws.{CallsTakeWhatTheyWant, LevelsAreGivenBack}
 
 -- the store behind an instruction, and an empty one where it goes no further

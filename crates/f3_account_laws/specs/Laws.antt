@@ -9,9 +9,9 @@ use Rattle.f3_code.specs.declared.instruction.Instruction.{Instruction}
 use Rattle.f3_code.specs.declared.instruction.Instruction.TheVariants as i
 use Rattle.f3_code.specs.State.{Code, Cell, Datum, Object, State, Goes}
 use Rattle.f3_code.specs.Machine.{act}
-use Rattle.f3_account.specs.Account.{block, words, objects, levels_words, used}
-use Rattle.f3_answers.specs.Wants.{wants}
-use Rattle.f3_answers.specs.Heap.{granted, with_answers}
+use Rattle.f3_code.specs.Account.{block, words, objects, levels_words, used}
+use Rattle.f3_code.specs.Wants.{wants}
+use Rattle.f3_code.specs.Heap.{granted, with_answers}
 
 -- a reference means one object, and a store has it: what is put there is got there
 pub record IsPlace (store : Store) (r : Reference) : Type 0 where

@@ -12,7 +12,7 @@ use Rattle.f3_meaning_whole.specs.declared.run_error.RunError.TheVariants.{Alrea
 use Rattle.f3_meaning_whole.specs.Ran.{Asked, Gives, ◌>>=◌, gives, looks, does, asks}
 use Rattle.f3_meaning_whole.specs.Act.{Here, change}
 use Rattle.f3_meaning_whole.specs.Exec.{vacant, too_many}
-use Rattle.f3_core.specs.Exec.{allocate}
+use Rattle.f3_code.specs.Exec.{allocate}
 use Rattle.f3_arithmetic.specs.Turns.{turns_of}
 use Rattle.f3_data.specs.declared.store.Store.{Store}
 use Rattle.f3_data.specs.Stores.{store_of}

@@ -2,7 +2,7 @@
 
 ghost use Rattle.std.specs.Prelude.{◌≡◌, ◌<◌, ◌≤◌, ◌^◌, pos, true, IfOk, MatchOption, map};
 ghost use Rattle.f3_meaning_whole.specs.Value as m;
-ghost use Rattle.f3_core.specs.Exec.{allocate};
+ghost use Rattle.f3_code.specs.Exec.{allocate};
 ghost use Rattle.f3_arithmetic.specs.Turns.{turns_of};
 ghost use Rattle.f3_meaning_whole.specs.Exec as meaning;
 ghost use Rattle.f3_meaning_whole.specs.Exec.{status_number, too_many};

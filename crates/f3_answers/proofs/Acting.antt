@@ -6,12 +6,12 @@ use Rattle.f3_meaning_whole.specs.Reference.{Reference, spans, is_pinned}
 use Rattle.f3_meaning_whole.specs.declared.run_error.RunError.{RunError}
 use Rattle.f3_meaning_whole.specs.Act.{Setting, Here, Passed, given, passed_at}
 use Rattle.f3_meaning_whole.specs.Exec.{Flow, Onward, Cycled, Left, Returned}
-use Rattle.f3_core.specs.Exec.{is_held}
+use Rattle.f3_code.specs.Exec.{is_held}
 use Rattle.f3_code.specs.declared.instruction.Instruction.{Instruction}
 use Rattle.f3_code.specs.declared.instruction.Instruction.TheVariants as i
 use Rattle.f3_code.specs.State.{Line, placed, Entry, Code, Cell, Frame, State, Next}
 use Rattle.f3_code.specs.Machine.{act, does_line, called_at, returned, outward, passed_in, routine_at, departs, branches, next_turn_at, next_element, next_object, next_argument, skips_failed, argument_of, choice_of, extent_of, selector_of, no_calls}
-use Rattle.f3_answers.specs.Heap.{with_answers}
+use Rattle.f3_code.specs.Heap.{with_answers}
 use Rattle.f3_answers.proofs.Regular.{gives_regular, looks_regular, does_regular, prints_regular, bind_regular, reach_regular}
 use Rattle.f3_answers.proofs.Parts.{converted_regular, apply_regular, change_regular, claim_regular, claim_for_regular, built_regular, read_regular, print_regular, picks_in_each_regular, named_regular, contents_regular, opens_regular, selects_regular, result_regular, asked_regular, structure_regular, allocate_regular, unless_regular, take_over_regular, begun_regular, checked_regular, tested_regular}
 use Rattle.f3_answers.proofs.Steered.{Steered, straight, performing, if_steered, at_datum, at_object, at_bound, at_bounds, at_status, at_turns, at_elements, at_objects, at_to, at_level, at_outside, at_going, at_any, at_many}

@@ -19,7 +19,7 @@ use Rattle.f3_meaning_whole.specs.Shape.{Parts, nothing, and, spans_declared}
 use Rattle.f3_meaning_whole.specs.Act.{Setting, Here, Passed, Given, Lent, Calls, claim, claim_for, needs_storage, named, opened, contents_by, contents, read, Chosen, some_zero_step, all_inside, places, picks, picks_in_each, fitted, fitted_contents, fitted_argument, structure, passed_at}
 use Rattle.f3_meaning_whole.specs.Eval.{result, built, asked}
 use Rattle.f3_meaning_whole.specs.Exec.{text_of, print_value, request, too_many, unless_zero, take_over}
-use Rattle.f3_core.specs.Exec.{allocate}
+use Rattle.f3_code.specs.Exec.{allocate}
 use Rattle.f3_code.specs.Machine.{begun, opens, checked, tested, selects}
 use Rattle.f3_answers.proofs.Regular.{Regular, gives_regular, fails_regular, looks_regular, does_regular, asks_regular, prints_regular, bind_regular, if_regular, each_regular}
 

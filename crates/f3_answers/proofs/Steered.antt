@@ -10,7 +10,7 @@ use Rattle.f3_meaning_whole.specs.Act.{Here}
 use Rattle.f3_meaning_whole.specs.Exec.{Flow}
 use Rattle.f3_code.specs.State.{Cell, Datum, Object, Bound, Bounds, Status, Turns, Elements, Objects, To, Level, Outside, Going, State, Next, Goes, Stays}
 use Rattle.f3_code.specs.Machine.{ends_so, performs, on_datum, on_object, on_bound, on_bounds, on_status, on_turns, on_elements, on_objects, on_to, on_level, on_outside, on_going, on_any, on_some, on_many}
-use Rattle.f3_answers.specs.Heap.{with_answers}
+use Rattle.f3_code.specs.Heap.{with_answers}
 use Rattle.f3_answers.proofs.Regular.{Regular, world_with, end_with}
 
 -- the state to which it goes, with these answers instead

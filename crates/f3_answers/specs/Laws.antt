@@ -1,9 +1,9 @@
 -- The machine over a heap of a size is a machine with answers.
 use Rattle.std.specs.Prelude.{◌≡◌, ◌≤◌, ℕ, Bool}
-use Rattle.f3_core.specs.Core.{Program}
+use Rattle.f3_code.specs.Core.{Program}
 use Rattle.f3_code.specs.State.{Code}
 use Rattle.f3_code.specs.Run.{after}
-use Rattle.f3_answers.specs.Heap.{heap_after}
+use Rattle.f3_code.specs.Heap.{heap_after}
 
 -- for so many instructions, with these answers
 abbrev pub AnswersOf : ℕ → ℕ → Program → Code → ℕ → (ℕ → Bool) → Type 0

@@ -38,14 +38,14 @@ use Rattle.f3_register_points.specs.Points.{constant_in}
 use Rattle.f3_register_points.specs.Standing.{IsAtWork}
 use Rattle.f3_register_points.specs.Straight.{straight}
 use Rattle.f3_register_points.specs.Values.{Computes, setting}
-use Rattle.f3_value_laws.specs.Keeping.{IsSame}
-use Rattle.f3_value_laws.proofs.Dummies.{keeps_both}
-use Rattle.f3_value_laws.proofs.Keeping.{cells_kept, selected_kept, work_in}
-use Rattle.f3_value_laws.proofs.Making.{frame_word, has_computed, word_put}
-use Rattle.f3_value_laws.proofs.Operators.{scalar_is}
-use Rattle.f3_value_laws.proofs.References.{dummy_of, led_has, led_is, located_here, nothing, stands_has}
-use Rattle.f3_value_laws.proofs.Storing.{variables_keep_calls, variables_keep_own}
-use Rattle.f3_value_laws.proofs.Values.{constants_compute, known_are_fixed}
+use Rattle.f3_register_points.specs.Keeping.{IsSame}
+use Rattle.f3_register_points.proofs.Dummies.{keeps_both}
+use Rattle.f3_register_points.proofs.Keeping.{cells_kept, selected_kept, work_in}
+use Rattle.f3_register_points.proofs.Making.{frame_word, has_computed, word_put}
+use Rattle.f3_register_points.proofs.Operators.{scalar_is}
+use Rattle.f3_register_points.proofs.References.{dummy_of, led_has, led_is, located_here, nothing, stands_has}
+use Rattle.f3_register_points.proofs.Storing.{variables_keep_calls, variables_keep_own}
+use Rattle.f3_register_points.proofs.Values.{constants_compute, known_are_fixed}
 use Rattle.f3_stretch_laws.specs.Coming.{Prefixed, StandsAt}
 use Rattle.f3_stretch_laws.proofs.Assigning.{has_stored}
 use Rattle.f3_stretch_laws.proofs.Behind.{IsBefore, is_before}

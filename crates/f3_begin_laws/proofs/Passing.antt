@@ -15,7 +15,7 @@ use Rattle.f3_register_points.specs.declared.point.Entry.TheVariants as entry
 use Rattle.f3_register_points.specs.Values.{setting}
 use Rattle.f3_stretch_laws.proofs.Moving.{standing_with}
 use Rattle.f3_stretch_laws.proofs.Prefixing.{prefix_then, top_of}
-use Rattle.f3_value_laws.proofs.References.{nothing}
+use Rattle.f3_register_points.proofs.References.{nothing}
 use Rattle.f3_begin_laws.specs.Laws.{DummiesAreLaid, DummiesArePassed, passed}
 use Rattle.f3_begin_laws.proofs.Names.{names_from}
 

@@ -9,7 +9,7 @@ use Rattle.f3_meaning_whole.specs.Act.{Here, Setting, at, set}
 use Rattle.f3_code.specs.declared.instruction.Instruction.TheVariants as i
 use Rattle.f3_code.specs.State.{Cell, Code, Line, Object, Objects, State}
 use Rattle.f3_code.specs.Machine.{on}
-use Rattle.f3_answers.specs.Heap.{heap_act}
+use Rattle.f3_code.specs.Heap.{heap_act}
 use Rattle.f3_courses.specs.Courses.{Comes, Stand, Standing, at_line, over}
 use Rattle.f3_courses.proofs.Coming.{both}
 use Rattle.f3_courses.proofs.Ends.{next_object}

@@ -2,7 +2,7 @@
 
 ghost use Rattle.std.specs.Prelude.{◌≡◌, ◌<◌, ◌^◌, IfOk};
 ghost use Rattle.f3_code.specs.declared.instruction.Instruction.TheVariants.{ResultOf, Return};
-ghost use Rattle.f3_core.specs.Exec.{result_at};
+ghost use Rattle.f3_code.specs.Exec.{result_at};
 ghost use Rattle.f3_data.specs.Values.{value_of};
 ghost use Rattle.f3_data.specs.Stores.{store_of};
 ghost use Rattle.f3_cells.specs.Follows.{Does};

@@ -15,9 +15,9 @@ use Rattle.f3_program.specs.declared.program.Program.{Program}
 use Rattle.f3_meaning_whole.specs.Act.{component_in, component_of}
 use Rattle.f3_meaning_whole.specs.Formed.{all, of_kind, referenced, takes}
 use Rattle.f3_meaning_whole.specs.Run.{setting_of}
-use Rattle.f3_core.specs.Work as w
-use Rattle.f3_core.specs.Core as c
-use Rattle.f3_core.specs.Lower.{finals_in, final_work, object_work, finish_work, routine_of, routines_from, routines, is_derived, discard_work, destroy_work, end_work, initial, overwriting, filling, assigning, out_work}
+use Rattle.f3_code.specs.Work as w
+use Rattle.f3_code.specs.Core as c
+use Rattle.f3_code.specs.Lower.{finals_in, final_work, object_work, finish_work, routine_of, routines_from, routines, is_derived, discard_work, destroy_work, end_work, initial, overwriting, filling, assigning, out_work}
 use Rattle.f3_cell_kinds.specs.Effect.{held_kind}
 use Rattle.f3_cell_kinds.specs.Values.{kind_of_part, component_at}
 use Rattle.f3_cell_kinds.specs.Sense.{final_fits}

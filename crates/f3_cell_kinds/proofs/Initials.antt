@@ -23,7 +23,7 @@ use Rattle.f3_meaning_whole.specs.Act.{components_of}
 use Rattle.f3_meaning_whole.specs.Exec.{declared_in, initial_value}
 use Rattle.f3_meaning_whole.specs.Formed.{all, of_kind, is_before, is_declared, is_final, are_types, are_declared, is_procedure, IsWellFormed}
 use Rattle.f3_meaning_whole.specs.Run.{setting_of}
-use Rattle.f3_core.specs.Lower.{initial}
+use Rattle.f3_code.specs.Lower.{initial}
 use Rattle.f3_cell_kinds.specs.Sense.{constant_fits, initial_fits, MakesSense}
 use Rattle.f3_cell_kinds.specs.Holds.{IsOf, AreComponents, AreElements}
 use Rattle.f3_cell_kinds.proofs.Asked.{some_same, and_is, or_is, kind_same}

@@ -14,9 +14,9 @@ use Rattle.f3_program.specs.declared.statement.Selector.TheVariants as selector
 use Rattle.f3_program.specs.declared.program.Program.{Program}
 use Rattle.f3_meaning_whole.specs.Formed.{all, given_all, of_kind, is_whole_number, value_kind, object_kind, is_status, is_bound, is_request, has_bounds, is_item, selected}
 use Rattle.f3_meaning_whole.specs.Run.{setting_of}
-use Rattle.f3_core.specs.Work as w
-use Rattle.f3_core.specs.Lower.{initial, destroy_work, discard_work, allocation, deallocation}
-use Rattle.f3_core.specs.Lower as lower
+use Rattle.f3_code.specs.Work as w
+use Rattle.f3_code.specs.Lower.{initial, destroy_work, discard_work, allocation, deallocation}
+use Rattle.f3_code.specs.Lower as lower
 use Rattle.f3_code.specs.declared.instruction.Instruction.TheVariants as i
 use Rattle.f3_code.specs.State.{Line, line, line_with}
 use Rattle.f3_code.specs.Code.{work_code, dimensions_code, allocate_code, free_code, deallocate_code, status_code, bytes_code, items_code, ranges_code, selectors_code, discards_code}

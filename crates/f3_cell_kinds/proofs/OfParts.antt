@@ -6,8 +6,8 @@ use Rattle.f3_program.specs.declared.declarations.Kind.{Kind}
 use Rattle.f3_program.specs.declared.program.Program.{Program}
 use Rattle.f3_meaning_whole.specs.Formed.{only, takes}
 use Rattle.f3_meaning_whole.specs.Run.{setting_of}
-use Rattle.f3_core.specs.Core as c
-use Rattle.f3_core.specs.Lower.{initial}
+use Rattle.f3_code.specs.Core as c
+use Rattle.f3_code.specs.Lower.{initial}
 use Rattle.f3_code.specs.declared.instruction.Instruction.TheVariants as i
 use Rattle.f3_code.specs.State.{Line, line, line_with}
 use Rattle.f3_code.specs.Code.{transfer_code}

@@ -13,9 +13,9 @@ use Rattle.f3_program.specs.declared.program.Static.{Static}
 use Rattle.f3_meaning_whole.specs.Exec.{with_result, declared_in}
 use Rattle.f3_meaning_whole.specs.Formed.{all, of_kind, kinds_of, kind_of_name, found, is_formed, is_procedure, is_declared, are_types, are_declared, IsWellFormed}
 use Rattle.f3_meaning_whole.specs.Run.{setting_of}
-use Rattle.f3_core.specs.Work as w
-use Rattle.f3_core.specs.Core as c
-use Rattle.f3_core.specs.Lower.{end_work, out_work, discard_work, result_number, lowered_procedure, lowered_main, lowered_program}
+use Rattle.f3_code.specs.Work as w
+use Rattle.f3_code.specs.Core as c
+use Rattle.f3_code.specs.Lower.{end_work, out_work, discard_work, result_number, lowered_procedure, lowered_main, lowered_program}
 use Rattle.f3_code.specs.declared.instruction.Instruction.TheVariants as i
 use Rattle.f3_code.specs.State.{line}
 use Rattle.f3_code.specs.Code.{work_code, begin_code, finish_code, discard_code, body_ways, last_code, body_code, main_ways, main_code, procedures_code, entries, routines_code, places_of, program_code}

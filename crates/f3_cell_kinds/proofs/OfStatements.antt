@@ -10,9 +10,9 @@ use Rattle.f3_program.specs.declared.statement.Statement as y
 use Rattle.f3_program.specs.declared.program.Program.{Program}
 use Rattle.f3_meaning_whole.specs.Formed.{some, given_all, of_kind, is_number, is_scalar, is_condition, is_whole_number, takes, value_kind, object_kind, is_object_of, selected, or_none, is_formed, are_formed}
 use Rattle.f3_meaning_whole.specs.Run.{setting_of}
-use Rattle.f3_core.specs.Core as c
-use Rattle.f3_core.specs.Lower.{assigning, end_work, lowered, lowered_block}
-use Rattle.f3_core.specs.Lower as lower
+use Rattle.f3_code.specs.Core as c
+use Rattle.f3_code.specs.Lower.{assigning, end_work, lowered, lowered_block}
+use Rattle.f3_code.specs.Lower as lower
 use Rattle.f3_code.specs.declared.instruction.Instruction.TheVariants as i
 use Rattle.f3_code.specs.State.{Line, line}
 use Rattle.f3_code.specs.Code.{Ways, farther, looped, counting, scoped, departing_code, up_code, value_code, locate_code, work_code, code_of}

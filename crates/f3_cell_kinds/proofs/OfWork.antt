@@ -9,8 +9,8 @@ use Rattle.f3_program.specs.declared.program.Program.{Program}
 use Rattle.f3_meaning_whole.specs.Act.{component_of}
 use Rattle.f3_meaning_whole.specs.Formed.{Given, of_kind, is_scalar, referenced}
 use Rattle.f3_meaning_whole.specs.Run.{setting_of}
-use Rattle.f3_core.specs.Work as w
-use Rattle.f3_core.specs.Lower.{initial}
+use Rattle.f3_code.specs.Work as w
+use Rattle.f3_code.specs.Lower.{initial}
 use Rattle.f3_code.specs.declared.instruction.Instruction.TheVariants as i
 use Rattle.f3_code.specs.State.{Line, line, line_with}
 use Rattle.f3_code.specs.Code.{work_code}

@@ -15,7 +15,7 @@ use Rattle.f3_meaning_whole.specs.declared.run_error.RunError.TheVariants.{InUse
 use Rattle.f3_meaning_whole.specs.Ran.{World, End, Gives, Fails, Stops, Beyond, Ran, ◌>>=◌, looks}
 use Rattle.f3_meaning_whole.specs.Act.{Setting, Here, Chosen, claim_for, named, whole, type_of, static_type, component, component_of, component_type, contents, contents_by, opened, read}
 use Rattle.f3_meaning_whole.specs.Formed.{of_kind, kind_of_name, sectioned, count_ranges}
-use Rattle.f3_core.specs.Exec.{result_at}
+use Rattle.f3_code.specs.Exec.{result_at}
 use Rattle.f3_code.specs.State as state
 use Rattle.f3_code.specs.State.{State, Next}
 use Rattle.f3_code.specs.Machine.{performs, ends_so, opens, selects}

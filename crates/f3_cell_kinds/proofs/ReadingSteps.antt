@@ -11,7 +11,7 @@ use Rattle.f3_meaning_whole.specs.Eval.{by_reach, spans_of_component}
 use Rattle.f3_meaning_whole.specs.Formed.{Given, all, of_kind, sectioned, element_of_each, IsWellFormed}
 use Rattle.f3_meaning_whole.specs.Shape.{Whole, shapes_of}
 use Rattle.f3_meaning_whole.specs.Value.{Composite}
-use Rattle.f3_core.specs.Exec.{result_at}
+use Rattle.f3_code.specs.Exec.{result_at}
 use Rattle.f3_code.specs.declared.instruction.Instruction.{Instruction}
 use Rattle.f3_code.specs.declared.instruction.Instruction.TheVariants as i
 use Rattle.f3_code.specs.State as state

@@ -5,8 +5,8 @@ use Rattle.f3_meaning_whole.specs.Ran.{Event, End, Gives, Fails, Stops, Beyond, 
 use Rattle.f3_meaning_whole.specs.Act.{Setting, claim, enter}
 use Rattle.f3_meaning_whole.specs.Shape.{shapes_of}
 use Rattle.f3_meaning_whole.specs.Formed.{IsWellFormed}
-use Rattle.f3_core.specs.Lower.{lowered_program}
-use Rattle.f3_core.specs.Run.{core_setting, core_here, core_world}
+use Rattle.f3_code.specs.Lower.{lowered_program}
+use Rattle.f3_code.specs.CoreRun.{core_setting, core_here, core_world}
 use Rattle.f3_code.specs.State as state
 use Rattle.f3_code.specs.State.{Line, Code, State, Next, Goes}
 use Rattle.f3_code.specs.Machine.{ends_so, step}

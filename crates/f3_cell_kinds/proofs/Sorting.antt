@@ -18,9 +18,9 @@ use Rattle.f3_program.specs.declared.program.Procedure.{Procedure}
 use Rattle.f3_program.specs.declared.program.Program.{Program}
 use Rattle.f3_meaning_whole.specs.Formed.{of_kind, kinds_of}
 use Rattle.f3_meaning_whole.specs.Run.{setting_of}
-use Rattle.f3_core.specs.Work as w
-use Rattle.f3_core.specs.Core as c
-use Rattle.f3_core.specs.Lower.{out_work, discard_work, lowered_procedure, lowered_program}
+use Rattle.f3_code.specs.Work as w
+use Rattle.f3_code.specs.Core as c
+use Rattle.f3_code.specs.Lower.{out_work, discard_work, lowered_procedure, lowered_program}
 use Rattle.f3_code.specs.Code.{argument_count, subscript_count}
 use Rattle.f3_sorts.specs.Effect.{Sort, times}
 use Rattle.f3_sorts.specs.Effect as sort

@@ -3,7 +3,7 @@ use Rattle.std.proofs.Common.{refl}
 use Rattle.f3_program.specs.declared.program.Program.{Program}
 use Rattle.f3_meaning_whole.specs.Ran.{World}
 use Rattle.f3_meaning_whole.specs.Formed.{IsWellFormed}
-use Rattle.f3_core.specs.Lower.{lowered_program}
+use Rattle.f3_code.specs.Lower.{lowered_program}
 use Rattle.f3_code.specs.Run.{start}
 use Rattle.f3_cell_kinds.specs.Holds.{Fits}
 use Rattle.f3_cell_kinds.specs.Sense.{MakesSense}

@@ -17,7 +17,7 @@ use Rattle.f3_meaning_whole.specs.Act.{Setting, Here, given, begins, claim, clai
 use Rattle.f3_meaning_whole.specs.Eval.{result, built, asked}
 use Rattle.f3_meaning_whole.specs.Exec.{Flow, Onward, Cycled, Left, Returned, unless_zero, print_value, vacant, status_number, take_over}
 use Rattle.f3_meaning_whole.specs.Formed.{of_kind}
-use Rattle.f3_core.specs.Exec.{allocate, is_held}
+use Rattle.f3_code.specs.Exec.{allocate, is_held}
 use Rattle.f3_code.specs.declared.instruction.Instruction.{Instruction}
 use Rattle.f3_code.specs.declared.instruction.Instruction.TheVariants as i
 use Rattle.f3_code.specs.State as state

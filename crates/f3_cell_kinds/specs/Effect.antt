@@ -24,7 +24,7 @@ use Rattle.f3_meaning_whole.specs.Permitted.{same_type}
 use Rattle.f3_meaning_whole.specs.Run.{setting_of}
 use Rattle.f3_meaning_whole.specs.Formed.{Given, all, some, only, found, alike, is_number, of_kind, is_scalar}
 use Rattle.f3_meaning_whole.specs.Formed.{is_whole_number, takes, constructed, kind_of_name, sectioned, element_of_each, structured, referenced}
-use Rattle.f3_core.specs.Lower.{initial}
+use Rattle.f3_code.specs.Lower.{initial}
 use Rattle.f3_code.specs.declared.instruction.Instruction.{Instruction}
 use Rattle.f3_code.specs.declared.instruction.Instruction.TheVariants as i
 use Rattle.f3_cell_kinds.specs.Types.{Scope, Around, Told, Untold, CellType, Datum, Object, Each, Argument, Choice, Bound, Bounds, Extent}

@@ -11,7 +11,7 @@ use Rattle.f3_program.specs.declared.program.Procedure.{Procedure}
 use Rattle.f3_program.specs.declared.program.Program.{Program}
 use Rattle.f3_meaning_whole.specs.Act.{component_of}
 use Rattle.f3_meaning_whole.specs.Formed.{Given, of_kind, value_kind, object_kind, kind_of_name}
-use Rattle.f3_core.specs.Work as w
+use Rattle.f3_code.specs.Work as w
 use Rattle.f3_cell_kinds.specs.Types.{Scope, Told, CellType, Site, arguments_on, choices_on}
 use Rattle.f3_cell_kinds.specs.Types as cell
 use Rattle.f3_cell_kinds.specs.Effect.{truth, held_kind, declared_kind, part_cell}

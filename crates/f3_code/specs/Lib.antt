@@ -1,4 +1,12 @@
+pub mod Core
+pub mod Work
+pub mod Exec
+pub mod CoreRun
+pub mod Lower
+pub mod Account
 pub mod State
 pub mod Machine
 pub mod Code
 pub mod Run
+pub mod Wants
+pub mod Heap

@@ -20,7 +20,7 @@ use Rattle.f3_meaning_whole.specs.Shape.{Parts, nothing, and, spans_declared}
 use Rattle.f3_meaning_whole.specs.Act.{Setting, Here, Passed, Given, Lent, claim, claim_for, needs_storage, read, set, clear, begins, enter, leave, named, component, opened, contents, contents_by, Chosen, some_zero_step, all_inside, places, picks, picks_in_each, fitted, fitted_contents, fitted_argument, structure, passed_at}
 use Rattle.f3_meaning_whole.specs.Eval.{result, built, asked, by_reach}
 use Rattle.f3_meaning_whole.specs.Exec.{text_of, print_value, request, unless_zero, too_many, take_over}
-use Rattle.f3_core.specs.Exec.{allocate}
+use Rattle.f3_code.specs.Exec.{allocate}
 use Rattle.f3_code.specs.Machine.{begun, opens, checked, tested, selects, no_calls}
 use Rattle.f3_code_laws.proofs.Reaching.{Ends, bind_ends, gives_end, fails_end, looks_end, does_end, asks_end, if_ends}
 

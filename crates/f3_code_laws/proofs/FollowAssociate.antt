@@ -7,9 +7,9 @@ use Rattle.f3_meaning_whole.specs.Reference.{Reference}
 use Rattle.f3_meaning_whole.specs.Ran.{World, Ran, ◌>>=◌, gives, looks}
 use Rattle.f3_meaning_whole.specs.Act.{Setting, Here, Calls, enter, leave, associating}
 use Rattle.f3_meaning_whole.specs.Exec.{held_by, associates}
-use Rattle.f3_core.specs.Work.{Work, routines_of}
-use Rattle.f3_core.specs.Core as c
-use Rattle.f3_core.specs.Exec.{exec, discard_selectors}
+use Rattle.f3_code.specs.Work.{Work, routines_of}
+use Rattle.f3_code.specs.Core as c
+use Rattle.f3_code.specs.Exec.{exec, discard_selectors}
 use Rattle.f3_code.specs.declared.instruction.Instruction.TheVariants as i
 use Rattle.f3_code.specs.State.{Line, line, placed, Code, Cell, Object, Objects, Selector, Level, Outside, Going, Frame, Goes}
 use Rattle.f3_code.specs.Machine.{act, step, selector_of}

@@ -8,10 +8,10 @@ use Rattle.f3_meaning_whole.specs.declared.run_error.RunError.TheVariants.{Calls
 use Rattle.f3_meaning_whole.specs.Ran.{World, Ran, ◌>>=◌, gives, looks}
 use Rattle.f3_meaning_whole.specs.Act.{Setting, Here, Passed, Calls, at, begins, claim, enter, leave}
 use Rattle.f3_meaning_whole.specs.Exec.{Flow, Onward, Cycled, Left, Returned, held, dummies, left_at}
-use Rattle.f3_core.specs.Work.{Work, routines_of}
-use Rattle.f3_core.specs.Core as c
-use Rattle.f3_core.specs.Exec.{works_each, exec, finish_from, result_at, discard_arguments, called}
-use Rattle.f3_core.specs.Run.{core_setting, call_of, core_calls}
+use Rattle.f3_code.specs.Work.{Work, routines_of}
+use Rattle.f3_code.specs.Core as c
+use Rattle.f3_code.specs.Exec.{works_each, exec, finish_from, result_at, discard_arguments, called}
+use Rattle.f3_code.specs.CoreRun.{core_setting, call_of, core_calls}
 use Rattle.f3_code.specs.declared.instruction.Instruction.TheVariants as i
 use Rattle.f3_code.specs.State.{Line, line, placed, Entry, Code, Cell, Datum, Objects, Argument, Frame, Failed, Next, Stays}
 use Rattle.f3_code.specs.Machine.{act, step, argument_of, begun, entered, called_at}

@@ -12,9 +12,9 @@ use Rattle.f3_meaning_whole.specs.Act.{Setting, Here, Calls, begins, at}
 use Rattle.f3_meaning_whole.specs.Eval.{value, locate}
 use Rattle.f3_meaning_whole.specs.Exec.{Flow, Onward, Cycled, Left, Returned}
 use Rattle.f3_meaning_whole.specs.Exec as meaning
-use Rattle.f3_core.specs.Work.{Work, routines_of}
-use Rattle.f3_core.specs.Core as c
-use Rattle.f3_core.specs.Exec.{exec}
+use Rattle.f3_code.specs.Work.{Work, routines_of}
+use Rattle.f3_code.specs.Core as c
+use Rattle.f3_code.specs.Exec.{exec}
 use Rattle.f3_code.specs.declared.instruction.Instruction.TheVariants as i
 use Rattle.f3_code.specs.State.{Line, line, placed, Code, Cell, Datum, Object, Frame, State, Goes}
 use Rattle.f3_code.specs.Machine.{act, step}

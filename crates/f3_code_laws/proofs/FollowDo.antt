@@ -11,9 +11,9 @@ use Rattle.f3_meaning_whole.specs.Arithmetic.{converted, trips}
 use Rattle.f3_meaning_whole.specs.Act.{Setting, Here, Calls, set}
 use Rattle.f3_meaning_whole.specs.Exec.{Flow, unless_zero}
 use Rattle.f3_meaning_whole.specs.Exec as meaning
-use Rattle.f3_core.specs.Work.{Work, routines_of}
-use Rattle.f3_core.specs.Core as c
-use Rattle.f3_core.specs.Exec.{exec}
+use Rattle.f3_code.specs.Work.{Work, routines_of}
+use Rattle.f3_code.specs.Core as c
+use Rattle.f3_code.specs.Exec.{exec}
 use Rattle.f3_code.specs.declared.instruction.Instruction.TheVariants as i
 use Rattle.f3_code.specs.State.{line, placed, Code, Cell, Datum, Object, Turns, Frame}
 use Rattle.f3_code.specs.Code.{value_code, locate_code, counting, up_code, turns_code, code_of}

@@ -13,9 +13,9 @@ use Rattle.f3_meaning_whole.specs.Act.{Setting, Here, Calls, set}
 use Rattle.f3_meaning_whole.specs.Eval.{value, locate}
 use Rattle.f3_meaning_whole.specs.Exec.{print_value, status_number, unless_failed, vacant}
 use Rattle.f3_meaning_whole.specs.Exec as meaning
-use Rattle.f3_core.specs.Work.{Work}
-use Rattle.f3_core.specs.Core as c
-use Rattle.f3_core.specs.Exec.{allocate, allocate_all}
+use Rattle.f3_code.specs.Work.{Work}
+use Rattle.f3_code.specs.Core as c
+use Rattle.f3_code.specs.Exec.{allocate, allocate_all}
 use Rattle.f3_code.specs.declared.instruction.Instruction.TheVariants as i
 use Rattle.f3_code.specs.State.{Line, line, line_with, placed, Code, Cell, Datum, Object, Extent, Status, Frame}
 use Rattle.f3_code.specs.Machine.{tested, checked, act, step, extent_of}

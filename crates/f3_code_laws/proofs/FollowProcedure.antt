@@ -5,8 +5,8 @@ use Rattle.f3_program.specs.declared.expression.Name.TheVariants as name
 use Rattle.f3_meaning_whole.specs.Reference.{Reference}
 use Rattle.f3_meaning_whole.specs.Ran.{World, gives}
 use Rattle.f3_meaning_whole.specs.Act.{Setting, Here, Calls, named, passed_at}
-use Rattle.f3_core.specs.Work.{Work, routines_of}
-use Rattle.f3_core.specs.Exec.{finish_from, works, works_each, is_held, discard_arguments}
+use Rattle.f3_code.specs.Work.{Work, routines_of}
+use Rattle.f3_code.specs.Exec.{finish_from, works, works_each, is_held, discard_arguments}
 use Rattle.f3_code.specs.declared.instruction.Instruction.TheVariants as i
 use Rattle.f3_code.specs.State.{Line, line, placed, Code, Cell, Object, Objects, Frame, Goes}
 use Rattle.f3_code.specs.Machine.{act, step, passed_in, next_argument}

@@ -4,7 +4,7 @@ use Rattle.std.specs.Prelude.{slice_get, nat_lt, nat_eq}
 use Rattle.f3_meaning_whole.specs.Reference.{Reference}
 use Rattle.f3_meaning_whole.specs.Ran.{World}
 use Rattle.f3_meaning_whole.specs.Act.{Setting, Here, Calls, at}
-use Rattle.f3_core.specs.Work.{Work, work, routines_of}
+use Rattle.f3_code.specs.Work.{Work, work, routines_of}
 use Rattle.f3_code.specs.declared.instruction.Instruction.TheVariants as i
 use Rattle.f3_code.specs.State.{Line, line, placed, Code, Cell, Object, To, Frame, Next, Goes}
 use Rattle.f3_code.specs.Machine.{step, routine_at}

@@ -11,9 +11,9 @@ use Rattle.f3_meaning_whole.specs.Ran.{World, ◌>>=◌, looks}
 use Rattle.f3_meaning_whole.specs.Act.{Setting, Here, Calls, at, selecting, lending}
 use Rattle.f3_meaning_whole.specs.Exec.{Flow, Onward, Cycled, Left, Returned, next_turn, counted, unless_zero}
 use Rattle.f3_meaning_whole.specs.Exec as meaning
-use Rattle.f3_core.specs.Work.{Work, routines_of}
-use Rattle.f3_core.specs.Core as c
-use Rattle.f3_core.specs.Exec.{move_alloc}
+use Rattle.f3_code.specs.Work.{Work, routines_of}
+use Rattle.f3_code.specs.Core as c
+use Rattle.f3_code.specs.Exec.{move_alloc}
 use Rattle.f3_code.specs.declared.instruction.Instruction.TheVariants as i
 use Rattle.f3_code.specs.declared.instruction.Way.TheVariants as way
 use Rattle.f3_code.specs.State.{Line, line, placed, Code, Cell, Datum, Object, Outside, Going, Frame, Goes}

@@ -18,9 +18,9 @@ use Rattle.f3_meaning_whole.specs.Act.{Setting, Here, Calls, claim, claim_for, c
 use Rattle.f3_meaning_whole.specs.Eval.{value, locate}
 use Rattle.f3_meaning_whole.specs.Exec.{print_value, vacant, Association, Holds, Means}
 use Rattle.f3_meaning_whole.specs.Exec as meaning
-use Rattle.f3_core.specs.Work.{Work, routines_of}
-use Rattle.f3_core.specs.Core as c
-use Rattle.f3_core.specs.Exec.{by_state, works, transfer, deallocate, deallocate_all, selectors}
+use Rattle.f3_code.specs.Work.{Work, routines_of}
+use Rattle.f3_code.specs.Core as c
+use Rattle.f3_code.specs.Exec.{by_state, works, transfer, deallocate, deallocate_all, selectors}
 use Rattle.f3_code.specs.declared.instruction.Instruction.TheVariants as i
 use Rattle.f3_code.specs.State.{Line, line, line_with, placed, Code, Cell, Datum, Object, Status, Selector, Frame, State, Next, Goes}
 use Rattle.f3_code.specs.Machine.{tested, act, step, branches}

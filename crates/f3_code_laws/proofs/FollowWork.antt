@@ -8,8 +8,8 @@ use Rattle.f3_meaning_whole.specs.Reference.{Language, One, Reference, paths, sp
 use Rattle.f3_meaning_whole.specs.declared.run_error.RunError.TheVariants.{InUse}
 use Rattle.f3_meaning_whole.specs.Ran.{World, Ran, ◌>>=◌, gives, fails, each}
 use Rattle.f3_meaning_whole.specs.Act.{Setting, Here, Lent, Calls, set, clear, lending, component, moved, contents}
-use Rattle.f3_core.specs.Work as w
-use Rattle.f3_core.specs.Work.{Routines, work}
+use Rattle.f3_code.specs.Work as w
+use Rattle.f3_code.specs.Work.{Routines, work}
 use Rattle.f3_code.specs.declared.instruction.Instruction.TheVariants as i
 use Rattle.f3_code.specs.State.{Line, line, line_with, placed, Code, Cell, Datum, Object, Argument, Elements, To, Frame, State, Next, Goes}
 use Rattle.f3_code.specs.Machine.{opens, act, step, routine_at}

@@ -7,9 +7,9 @@ use Rattle.f3_meaning_whole.specs.declared.run_error.RunError.{RunError}
 use Rattle.f3_meaning_whole.specs.Ran.{Event, World, End, Gives, Fails, Stops, Beyond, Ran, go_on, ◌>>=◌}
 use Rattle.f3_meaning_whole.specs.Act.{Setting, Here, at, begins, claim, enter}
 use Rattle.f3_meaning_whole.specs.Exec.{Flow, Onward, Cycled, Left, Returned}
-use Rattle.f3_core.specs.Core as c
-use Rattle.f3_core.specs.Exec.{exec}
-use Rattle.f3_core.specs.Run.{core_setting, core_here, core_world, core_calls, core_runs, core_run_of}
+use Rattle.f3_code.specs.Core as c
+use Rattle.f3_code.specs.Exec.{exec}
+use Rattle.f3_code.specs.CoreRun.{core_setting, core_here, core_world, core_calls, core_runs, core_run_of}
 use Rattle.f3_code.specs.declared.instruction.Instruction.TheVariants as i
 use Rattle.f3_code.specs.State.{line, Code, Frame, State, Course, Halt, Running, Done, Stopped, Failed, Stuck, Next, Stays}
 use Rattle.f3_code.specs.Machine.{before, performs, ends_so, advance, step, run, course}

@@ -2,8 +2,8 @@
 use Rattle.std.specs.Prelude.{ℕ, Bool}
 use Rattle.f3_program.specs.declared.program.Program as source
 use Rattle.f3_meaning_whole.specs.Run.{run_of}
-use Rattle.f3_core.specs.Core.{Program}
-use Rattle.f3_core.specs.Lower.{lowered_program}
+use Rattle.f3_code.specs.Core.{Program}
+use Rattle.f3_code.specs.Lower.{lowered_program}
 use Rattle.f3_code.specs.Code.{program_code}
 use Rattle.f3_code.specs.Run.{after, Does, Behaves}
 

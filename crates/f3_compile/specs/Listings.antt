@@ -2,7 +2,7 @@
 use Rattle.std.specs.Prelude.{◌≡◌, String, string_bytes}
 use Rattle.std.specs.Global.{Global}
 use Rattle.f3_program.specs.declared.program.Program.{Program}
-use Rattle.f3_core.specs.Lower.{lowered_program}
+use Rattle.f3_code.specs.Lower.{lowered_program}
 use Rattle.f3_code.specs.Code.{program_code}
 use Rattle.f3_gen_values.specs.declared.emission.Emission.{Emission}
 use Rattle.f3_gen_values.specs.Emission.{code_in}

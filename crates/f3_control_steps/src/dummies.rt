@@ -4,7 +4,7 @@ ghost use Rattle.std.specs.Prelude.{◌≡◌, ◌∷◌, ◌<◌, ◌^◌, ℕ,
 ghost use Rattle.f3_program.specs.declared.program.Program.{Program};
 ghost use Rattle.f3_meaning_whole.specs.Act as m;
 ghost use Rattle.f3_meaning_whole.specs.Act.{passed_at};
-ghost use Rattle.f3_core.specs.Exec.{is_held};
+ghost use Rattle.f3_code.specs.Exec.{is_held};
 ghost use Rattle.f3_code.specs.declared.instruction.Instruction.TheVariants.{Dummies, Outward, NextArgument};
 ghost use Rattle.f3_code.specs.Machine.{passed_in};
 ghost use Rattle.f3_cells.specs.Cells.{passed_of};

@@ -5,7 +5,7 @@ use Rattle.std.specs.declared.alloc.Global.{Global}
 use Rattle.f3_meaning_whole.specs.Ran.{◌>>=◌, gives, fails, stops, beyond, looks, does, asks, prints_bytes}
 use Rattle.f3_meaning_whole.specs.Arithmetic.{converted, divided}
 use Rattle.f3_meaning_whole.specs.Act.{fitted}
-use Rattle.f3_core.specs.Run.{core_calls, core_runs, core_run_of}
+use Rattle.f3_code.specs.CoreRun.{core_calls, core_runs, core_run_of}
 use Rattle.f3_core_rows.specs.Control as row
 
 selectors : (h : Global) → row.selectors_shows h

@@ -1,8 +1,8 @@
 -- Programs by their Core, and what these print. Sources stand beside the programs, in f3_meaning_rows; the answers are those of the rules.
 use Rattle.std.specs.Prelude.{◌≡◌, [], ◌∷◌, codes}
 use Rattle.std.specs.declared.alloc.Global.{Global}
-use Rattle.f3_core.specs.Lower.{lowered_program}
-use Rattle.f3_core.specs.Run.{core_run_of, core_runs}
+use Rattle.f3_code.specs.Lower.{lowered_program}
+use Rattle.f3_code.specs.CoreRun.{core_run_of, core_runs}
 use Rattle.f3_meaning_rows.specs.Shown.{shown, lines, Failed, Finished, Unfinished, granted, refusing}
 use Rattle.f3_meaning_rows.specs.Corners.{corner_associates, corner_functions}
 use Rattle.f3_meaning_rows.specs.More.{held_value}

@@ -1,9 +1,9 @@
 -- What is written out in the Core of a program.
 use Rattle.std.specs.Prelude.{◌≡◌, [], ◌∷◌, map}
 use Rattle.std.specs.declared.alloc.Global.{Global}
-use Rattle.f3_core.specs.Work.{Work, Rest, And, Lending, Of_rank, Final, Routine, Of_component, Of_elements, If_allocated, Of_contents, Clear}
-use Rattle.f3_core.specs.Core.{Procedure}
-use Rattle.f3_core.specs.Lower.{lowered_program}
+use Rattle.f3_code.specs.Work.{Work, Rest, And, Lending, Of_rank, Final, Routine, Of_component, Of_elements, If_allocated, Of_contents, Clear}
+use Rattle.f3_code.specs.Core.{Procedure}
+use Rattle.f3_code.specs.Lower.{lowered_program}
 use Rattle.f3_meaning_rows.specs.Corners.{corner_finals_of_sections}
 
 -- an object of the type of that program is destroyed: the final subroutine for its rank, its components, what is beneath

@@ -3,8 +3,8 @@ use Rattle.std.proofs.Common.{◌≡◌, ℕ, ◌+◌, ◌*◌, ◌-◌, ◌%◌
 use Rattle.std.proofs.lemmas.List.{map-set, map-append, take_more, length-map, length-drop, take_all, take-append-drop}
 use Rattle.std.specs.Prelude.{slice_set}
 use Rattle.f3_meaning_whole.specs.Value.{joined}
-use Rattle.f3_account.specs.Account.{block, words, row, objects, all_objects, level_words, levels_words}
-use Rattle.f3_account.proofs.Rows.{row_joined, level_words_append, all_objects_append, levels_words_append, level_words_set, levels_words_set}
+use Rattle.f3_code.specs.Account.{block, words, row, objects, all_objects, level_words, levels_words}
+use Rattle.f3_code.proofs.Rows.{row_joined, level_words_append, all_objects_append, levels_words_append, level_words_set, levels_words_set}
 use Rattle.f3_data.specs.declared.value.Span.{Span}
 use Rattle.f3_data.specs.declared.value.Elements.{Elements}
 use Rattle.f3_data.specs.declared.value.Value as v

@@ -1,7 +1,7 @@
 -- What is in memory, as it takes words of a heap.
 use Rattle.std.specs.Prelude.{ℕ, List, map, Vec}
 use Rattle.std.specs.declared.alloc.Global.{Global}
-use Rattle.f3_account.specs.Account.{used}
+use Rattle.f3_code.specs.Account.{used}
 use Rattle.f3_data.specs.declared.value.Value.{Value}
 use Rattle.f3_data.specs.Values.{values_of}
 

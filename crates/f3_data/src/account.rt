@@ -2,7 +2,7 @@
 
 ghost use Rattle.std.specs.Prelude.{◌≡◌, true, ◌%◌, ◌^◌};
 ghost use Rattle.f3_meaning_whole.specs.Value.{joined};
-ghost use Rattle.f3_account.specs.Account.{block, words, objects, all_objects, level_words, levels_words};
+ghost use Rattle.f3_code.specs.Account.{block, words, objects, all_objects, level_words, levels_words};
 ghost use Rattle.f3_data.specs.Values.{value_of, values_of};
 ghost use Rattle.f3_data.specs.Stores.{levels_of};
 

@@ -4,7 +4,7 @@ ghost use Rattle.std.specs.Prelude.{◌≡◌, ◌∷◌, [], ◌+◌, ◌%◌, 
 ghost use Rattle.f3_meaning_whole.specs.Value as m;
 ghost use Rattle.f3_meaning_whole.specs.Value.{joined};
 ghost use Rattle.f3_meaning_whole.specs.Store.{with_part, with_part_at};
-ghost use Rattle.f3_account.specs.Account.{words, row};
+ghost use Rattle.f3_code.specs.Account.{words, row};
 ghost use Rattle.f3_data.specs.Values.{value_of, values_of};
 ghost use Rattle.f3_data.specs.Stores.{steps_of};
 ghost use Rattle.f3_data.specs.References.{counted, numbers_of};

@@ -54,7 +54,7 @@ impl Store {
     ghost use Rattle.f3_meaning_whole.specs.Arithmetic.{constant_value};
     ghost use Rattle.f3_meaning_whole.specs.Store.{at_root, get, put, put_all};
     ghost use Rattle.f3_meaning_whole.specs.Ran.{Entered, Ended, effect};
-    ghost use Rattle.f3_account.specs.Account.{used};
+    ghost use Rattle.f3_code.specs.Account.{used};
     ghost use Rattle.f3_data.specs.Values.{value_of, values_of};
     ghost use Rattle.f3_data.specs.Stores.{root_of, steps_of, path_of, store_of, element_steps, Found};
     ghost use Rattle.f3_data.specs.References.{element_path, numbers_of};

@@ -4,8 +4,8 @@ use Rattle.f3_places.specs.declared.source.Place.{Place}
 use Rattle.f3_program.specs.declared.declarations.Derived.{Derived}
 use Rattle.f3_program.specs.declared.statement.Request.{Request}
 use Rattle.f3_meaning_whole.specs.Act.{Setting}
-use Rattle.f3_core.specs.Work as w
-use Rattle.f3_core.specs.Lower.{object_work, deallocation}
+use Rattle.f3_code.specs.Work as w
+use Rattle.f3_code.specs.Lower.{object_work, deallocation}
 use Rattle.f3_code.specs.State as c
 use Rattle.f3_code.specs.declared.instruction.Instruction.TheVariants as i
 use Rattle.f3_code.specs.Code.{free_code, locate_code, deallocate_code}

@@ -1,7 +1,7 @@
 //! The code of assignment, CALL and MOVE_ALLOC.
 
 ghost use Rattle.std.specs.Prelude.{◌∷◌, [], ◌++◌, length, OnOk};
-ghost use Rattle.f3_core.specs.Lower.{assigning, finish_work};
+ghost use Rattle.f3_code.specs.Lower.{assigning, finish_work};
 ghost use Rattle.f3_code.specs.State.{line};
 ghost use Rattle.f3_code.specs.Code.{locate_code, transfer_code, value_code, work_code};
 ghost use Rattle.f3_gen_values.specs.Emitted.{Emitted};

@@ -1,7 +1,7 @@
 //! The code of the ranges of a CASE and of the selectors of an ASSOCIATE.
 
 ghost use Rattle.std.specs.Prelude.{◌∷◌, [], ◌++◌, ◌+◌, length, map, OnOk};
-ghost use Rattle.f3_core.specs.Lower.{discard_work, selecting};
+ghost use Rattle.f3_code.specs.Lower.{discard_work, selecting};
 ghost use Rattle.f3_code.specs.Code.{discards_code, ranges_code, selectors_code, work_code};
 ghost use Rattle.f3_code.specs.State.{line};
 ghost use Rattle.f3_gen_values.specs.Emitted.{Emitted};

@@ -1,8 +1,8 @@
 //! The code of ALLOCATE and DEALLOCATE.
 
 ghost use Rattle.std.specs.Prelude.{◌∷◌, [], ◌++◌, length, map, OnOk};
-ghost use Rattle.f3_core.specs.Lower.{allocation, deallocation, object_work, initial};
-ghost use Rattle.f3_core.specs.Work as w;
+ghost use Rattle.f3_code.specs.Lower.{allocation, deallocation, object_work, initial};
+ghost use Rattle.f3_code.specs.Work as w;
 ghost use Rattle.f3_code.specs.State.{line, line_with};
 ghost use Rattle.f3_code.specs.Code.{allocate_code, deallocate_code, dimensions_code, free_code, locate_code, status_code, value_code};
 ghost use Rattle.f3_gen_values.specs.Emitted.{Emitted};

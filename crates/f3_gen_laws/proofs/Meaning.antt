@@ -3,7 +3,7 @@ use Rattle.std.proofs.Common.{◌≡◌, ℕ, Bool, subst, sym, Result, Ok, Err,
 use Rattle.std.specs.declared.alloc.AllocError.{AllocError}
 use Rattle.f3_program.specs.declared.program.Program.{Program}
 use Rattle.f3_meaning_whole.specs.Run.{run_of}
-use Rattle.f3_core.specs.Lower.{lowered_program}
+use Rattle.f3_code.specs.Lower.{lowered_program}
 use Rattle.f3_code.specs.Code.{program_code}
 use Rattle.f3_code.specs.Run.{Does, after}
 use Rattle.f3_gen_values.specs.declared.emission.Emission.{Emission}

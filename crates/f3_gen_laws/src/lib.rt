@@ -3,7 +3,7 @@
 
 ghost use Rattle.std.specs.Prelude.{◌≡◌, ℕ, Bool, IfOk};
 ghost use Rattle.f3_meaning_whole.specs.Run.{run_of};
-ghost use Rattle.f3_core.specs.Lower.{lowered_program};
+ghost use Rattle.f3_code.specs.Lower.{lowered_program};
 ghost use Rattle.f3_code.specs.Code.{program_code};
 ghost use Rattle.f3_code.specs.Run.{Does, after};
 ghost use Rattle.f3_gen_values.specs.Emission.{code_in};

@@ -1,7 +1,7 @@
 -- What frees held arguments runs no routines.
 use Rattle.std.proofs.Common.{◌≡◌, ℕ, suc, ◌+◌, ◌++◌, List, ◌∷◌, [], length, map, refl, ap, ◌∙◌, None}
 use Rattle.f3_program.specs.declared.program.Dummy.{Dummy}
-use Rattle.f3_core.specs.Lower.{discard_work}
+use Rattle.f3_code.specs.Lower.{discard_work}
 use Rattle.f3_code.specs.State as c
 use Rattle.f3_code.specs.declared.instruction.Instruction.TheVariants as i
 use Rattle.f3_code.specs.Code.{discard_code, work_code}

@@ -3,8 +3,8 @@ use Rattle.std.proofs.Common.{◌≡◌, ℕ, suc, ◌+◌, ◌<◌, ◌++◌, L
 use Rattle.std.proofs.lemmas.List.{take_more, length-take-le, reverse-append}
 use Rattle.f3_program.specs.declared.declarations.Component.{Component}
 use Rattle.f3_program.specs.declared.declarations.Derived.{Derived}
-use Rattle.f3_core.specs.Work as w
-use Rattle.f3_core.specs.Lower.{routine_of, routines_from}
+use Rattle.f3_code.specs.Work as w
+use Rattle.f3_code.specs.Lower.{routine_of, routines_from}
 use Rattle.f3_code.specs.State as c
 use Rattle.f3_code.specs.declared.instruction.Instruction.TheVariants as i
 use Rattle.f3_code.specs.Code.{routines_code, work_code}

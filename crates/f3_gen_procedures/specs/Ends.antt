@@ -1,7 +1,7 @@
 -- How many lines there are from a routine or a procedure to the end.
 use Rattle.std.specs.Prelude.{ℕ, ◌+◌, List, [], ◌∷◌, length}
-use Rattle.f3_core.specs.Core as c
-use Rattle.f3_core.specs.Work as w
+use Rattle.f3_code.specs.Core as c
+use Rattle.f3_code.specs.Work as w
 use Rattle.f3_code.specs.Code.{procedures_code, routines_code}
 
 -- from each routine on, where so many lines stand behind all of them

@@ -2,7 +2,7 @@
 
 ghost use Rattle.std.specs.Prelude.{◌≡◌, ◌∷◌, ◌++◌, [], length, OnOk};
 ghost use Rattle.f3_meaning_whole.specs.Act.{Setting};
-ghost use Rattle.f3_core.specs.Lower.{lowered, lowered_main, lowered_procedure, result_number as number_of_result};
+ghost use Rattle.f3_code.specs.Lower.{lowered, lowered_main, lowered_procedure, result_number as number_of_result};
 ghost use Rattle.f3_code.specs.Code.{body_code, body_ways, code_of, last_code, main_code};
 ghost use Rattle.f3_code.specs.State.{line};
 ghost use Rattle.f3_gen_work.specs.EmittedIn.{EmittedIn};

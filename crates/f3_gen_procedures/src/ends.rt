@@ -3,7 +3,7 @@
 ghost use Rattle.std.specs.Prelude.{◌∷◌, [], length, map, OnOk};
 ghost use Rattle.f3_program.specs.declared.declarations.Declared.{Declared};
 ghost use Rattle.f3_program.specs.declared.program.Dummy.{Dummy};
-ghost use Rattle.f3_core.specs.Lower.{discard_work, end_work, finish_work, out_work};
+ghost use Rattle.f3_code.specs.Lower.{discard_work, end_work, finish_work, out_work};
 ghost use Rattle.f3_code.specs.Code.{begin_code, discard_code, finish_code};
 ghost use Rattle.f3_gen_values.specs.Emitted.{Emitted};
 ghost use Rattle.f3_gen_work.specs.EmittedIn.{EmittedIn};

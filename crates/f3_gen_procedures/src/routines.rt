@@ -1,7 +1,7 @@
 //! The code of the routines of types.
 
 ghost use Rattle.std.specs.Prelude.{◌≡◌, ◌++◌, length, reverse, OnOk};
-ghost use Rattle.f3_core.specs.Lower.{routines};
+ghost use Rattle.f3_code.specs.Lower.{routines};
 ghost use Rattle.f3_code.specs.Code.{routines_code};
 ghost use Rattle.f3_gen_values.specs.Emitted.{Emitted};
 ghost use Rattle.f3_gen_procedures.specs.Ends.{routine_ends};

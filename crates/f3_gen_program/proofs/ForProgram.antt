@@ -5,7 +5,7 @@ use Rattle.f3_program.specs.declared.declarations.Derived.{Derived}
 use Rattle.f3_program.specs.declared.program.Program.{Program}
 use Rattle.f3_meaning_whole.specs.Act.{Setting}
 use Rattle.f3_meaning_whole.specs.Run.{setting_of}
-use Rattle.f3_core.specs.Lower.{lowered_main, routines}
+use Rattle.f3_code.specs.Lower.{lowered_main, routines}
 use Rattle.f3_code.specs.State as c
 use Rattle.f3_code.specs.Code.{main_code, routines_code}
 use Rattle.f3_gen_values.specs.declared.line.Line.{Line}

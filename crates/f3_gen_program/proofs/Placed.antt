@@ -7,9 +7,9 @@ use Rattle.std.proofs.lemmas.List.Elements.{All-append, All-cons, All-nil}
 use Rattle.f3_program.specs.declared.program.Procedure.{Procedure}
 use Rattle.f3_meaning_whole.specs.Act.{Setting}
 use Rattle.f3_meaning_whole.specs.Exec.{declared_in, variables}
-use Rattle.f3_core.specs.Core as o
-use Rattle.f3_core.specs.Work as w
-use Rattle.f3_core.specs.Lower.{lowered_procedure}
+use Rattle.f3_code.specs.Core as o
+use Rattle.f3_code.specs.Work as w
+use Rattle.f3_code.specs.Lower.{lowered_procedure}
 use Rattle.f3_code.specs.State as c
 use Rattle.f3_code.specs.declared.instruction.Instruction.TheVariants as i
 use Rattle.f3_code.specs.Code.{body_code, entries, places_of, procedures_code, routines_code, work_code}

@@ -3,8 +3,8 @@ use Rattle.std.proofs.Common.{◌≡◌, ℕ, ◌+◌, ◌-◌, ◌++◌, List, 
 use Rattle.std.proofs.lemmas.List.{map-append, reverse-append, reverse-reverse}
 use Rattle.f3_program.specs.declared.program.Program.{Program}
 use Rattle.f3_meaning_whole.specs.Run.{setting_of}
-use Rattle.f3_core.specs.Core as o
-use Rattle.f3_core.specs.Lower.{lowered_main, lowered_procedure, lowered_program, routines}
+use Rattle.f3_code.specs.Core as o
+use Rattle.f3_code.specs.Lower.{lowered_main, lowered_procedure, lowered_program, routines}
 use Rattle.f3_code.specs.State as c
 use Rattle.f3_code.specs.Code.{entries, main_code, places_of, procedures_code, program_code, routines_code}
 use Rattle.f3_gen_values.specs.declared.line.Line.{Line}

@@ -2,7 +2,7 @@
 
 ghost use Rattle.std.specs.Prelude.{◌≡◌, ◌++◌, length, map, reverse, OnOk};
 ghost use Rattle.f3_meaning_whole.specs.Run.{setting_of};
-ghost use Rattle.f3_core.specs.Lower.{lowered_procedure};
+ghost use Rattle.f3_code.specs.Lower.{lowered_procedure};
 ghost use Rattle.f3_code.specs.Code.{body_code, procedures_code};
 ghost use Rattle.f3_gen_procedures.specs.Ends.{procedure_ends};
 ghost use Rattle.f3_gen_program.specs.EmittedFor.{EmittedFor};

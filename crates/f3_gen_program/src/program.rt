@@ -1,7 +1,7 @@
 //! The code of a program.
 
 ghost use Rattle.std.specs.Prelude.{◌≡◌, IfOk};
-ghost use Rattle.f3_core.specs.Lower.{lowered_program};
+ghost use Rattle.f3_code.specs.Lower.{lowered_program};
 ghost use Rattle.f3_code.specs.Code.{program_code};
 ghost use Rattle.f3_gen_values.specs.Emission.{code_in};
 

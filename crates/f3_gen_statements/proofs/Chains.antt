@@ -11,8 +11,8 @@ use Rattle.f3_program.specs.declared.statement.Statement.{Statement, size-Statem
 use Rattle.f3_program.specs.declared.statement.Statement as s
 use Rattle.f3_program.specs.declared.statement.Statement.TheVariants as variants
 use Rattle.f3_meaning_whole.specs.Act.{Setting}
-use Rattle.f3_core.specs.Core as o
-use Rattle.f3_core.specs.Lower.{lowered}
+use Rattle.f3_code.specs.Core as o
+use Rattle.f3_code.specs.Lower.{lowered}
 use Rattle.f3_code.specs.State as c
 use Rattle.f3_code.specs.declared.instruction.Instruction.TheVariants as i
 use Rattle.f3_code.specs.Code.{Ways, code_of, farther, ranges_code, value_code}

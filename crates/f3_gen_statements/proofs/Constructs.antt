@@ -6,7 +6,7 @@ use Rattle.f3_places.specs.declared.source.Place.{Place}
 use Rattle.f3_program.specs.declared.declarations.Derived.{Derived}
 use Rattle.f3_program.specs.declared.expression.Expression.{Expression}
 use Rattle.f3_meaning_whole.specs.Act.{Setting}
-use Rattle.f3_core.specs.Core as o
+use Rattle.f3_code.specs.Core as o
 use Rattle.f3_code.specs.State as c
 use Rattle.f3_code.specs.declared.instruction.Instruction.{Instruction}
 use Rattle.f3_code.specs.declared.instruction.Instruction.TheVariants as i

@@ -8,8 +8,8 @@ use Rattle.f3_program.specs.declared.statement.Selector.{Selector}
 use Rattle.f3_program.specs.declared.statement.Selector.TheVariants as selector
 use Rattle.f3_program.specs.declared.statement.Statement as s
 use Rattle.f3_meaning_whole.specs.Act.{Setting}
-use Rattle.f3_core.specs.Core as o
-use Rattle.f3_core.specs.Lower.{lowered, lowered_block, selecting, discard_work}
+use Rattle.f3_code.specs.Core as o
+use Rattle.f3_code.specs.Lower.{lowered, lowered_block, selecting, discard_work}
 use Rattle.f3_code.specs.State as c
 use Rattle.f3_code.specs.declared.instruction.Instruction.TheVariants as i
 use Rattle.f3_code.specs.Code.{discards_code, limits_code, value_code, work_code}

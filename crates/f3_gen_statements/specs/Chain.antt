@@ -3,7 +3,7 @@ use Rattle.std.specs.Prelude.{ℕ, ◌+◌, false, List, [], ◌∷◌, ◌++◌
 use Rattle.f3_places.specs.declared.source.Place.{Place}
 use Rattle.f3_program.specs.declared.statement.Statement as s
 use Rattle.f3_meaning_whole.specs.Act.{Setting}
-use Rattle.f3_core.specs.Lower.{lowered}
+use Rattle.f3_code.specs.Lower.{lowered}
 use Rattle.f3_code.specs.State.{Line, line}
 use Rattle.f3_code.specs.declared.instruction.Instruction.TheVariants as i
 use Rattle.f3_code.specs.Code.{Ways, code_of, farther, ranges_code, value_code}

@@ -2,8 +2,8 @@
 use Rattle.std.specs.Prelude.{◌-◌, ◌≤◌, List, [], ◌∷◌, length}
 use Rattle.f3_program.specs.declared.statement.Statement.{Statement}
 use Rattle.f3_meaning_whole.specs.Act.{Setting}
-use Rattle.f3_core.specs.Core as c
-use Rattle.f3_core.specs.Lower.{lowered}
+use Rattle.f3_code.specs.Core as c
+use Rattle.f3_code.specs.Lower.{lowered}
 use Rattle.f3_code.specs.Code.{Ways}
 use Rattle.f3_gen_values.specs.declared.line.Line.{Line}
 use Rattle.f3_gen_statements.specs.declared.site.Exits.{Exits}

@@ -4,7 +4,7 @@ ghost use Rattle.std.specs.Prelude.{◌≡◌, ◌<◌, ◌≤◌, ℕ, IfOk};
 ghost use Rattle.std.specs.List.{All};
 ghost use Rattle.f3_program.specs.declared.statement.Statement.{size-Statement};
 ghost use Rattle.f3_meaning_whole.specs.Act.{Setting};
-ghost use Rattle.f3_core.specs.Lower.{lowered};
+ghost use Rattle.f3_code.specs.Lower.{lowered};
 ghost use Rattle.f3_code.specs.Code.{Ways, code_of};
 ghost use Rattle.f3_gen_statements.specs.Chain.{IsSingle, chain_code};
 

@@ -1,7 +1,7 @@
 //! The code of parts of statements that hold no others.
 
 ghost use Rattle.std.specs.Prelude.{◌∷◌, ◌++◌, [], length, map, OnOk};
-ghost use Rattle.f3_core.specs.Lower.{allocation, deallocation, selecting};
+ghost use Rattle.f3_code.specs.Lower.{allocation, deallocation, selecting};
 ghost use Rattle.f3_code.specs.State.{line};
 ghost use Rattle.f3_code.specs.Code.{allocate_code, deallocate_code, departing_code, discards_code, limits_code, status_code};
 ghost use Rattle.f3_gen_values.specs.Emitted.{Emitted};

@@ -1,8 +1,8 @@
 //! The code of statements, with the ways out of blocks, and of the constructs that hold them.
 
 ghost use Rattle.std.specs.Prelude.{◌∷◌, ◌++◌, [], true, length, map, OnOk};
-ghost use Rattle.f3_core.specs.Core as c;
-ghost use Rattle.f3_core.specs.Lower.{lowered, selecting};
+ghost use Rattle.f3_code.specs.Core as c;
+ghost use Rattle.f3_code.specs.Lower.{lowered, selecting};
 ghost use Rattle.f3_code.specs.State.{line};
 ghost use Rattle.f3_code.specs.Code.{code_of, counting, farther, locate_code, turns_code, up_code};
 ghost use Rattle.f3_gen_work.specs.EmittedIn.{EmittedIn};

@@ -6,7 +6,7 @@ use Rattle.f3_program.specs.declared.expression.Expression.{Expression}
 use Rattle.f3_program.specs.declared.expression.Expression as e
 use Rattle.f3_meaning_whole.specs.Value.{Value, Unallocated}
 use Rattle.f3_meaning_whole.specs.Act.{Setting}
-use Rattle.f3_core.specs.Lower.{initial}
+use Rattle.f3_code.specs.Lower.{initial}
 use Rattle.f3_code.specs.declared.instruction.Instruction.TheVariants as i
 use Rattle.f3_code.specs.State as c
 use Rattle.f3_code.specs.Code.{value_code}

@@ -6,8 +6,8 @@ use Rattle.f3_program.specs.declared.declarations.Base.TheVariants as base
 use Rattle.f3_program.specs.declared.declarations.Derived.{Derived}
 use Rattle.f3_program.specs.declared.declarations.Final.{Final}
 use Rattle.f3_program.specs.declared.declarations.Kind.{Kind}
-use Rattle.f3_core.specs.Lower.{final_work, finals_in, object_work, discard_work, is_derived}
-use Rattle.f3_core.specs.Work as w
+use Rattle.f3_code.specs.Lower.{final_work, finals_in, object_work, discard_work, is_derived}
+use Rattle.f3_code.specs.Work as w
 use Rattle.f3_code.specs.State as c
 use Rattle.f3_code.specs.declared.instruction.Instruction.TheVariants as i
 use Rattle.f3_code.specs.Code.{work_code}

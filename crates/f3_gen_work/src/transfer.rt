@@ -1,9 +1,9 @@
 //! The code of assignments, with the variable on top of the value.
 
 ghost use Rattle.std.specs.Prelude.{length, OnOk};
-ghost use Rattle.f3_core.specs.Core as c;
-ghost use Rattle.f3_core.specs.Work as w;
-ghost use Rattle.f3_core.specs.Lower.{overwriting, filling, assigning, destroy_work};
+ghost use Rattle.f3_code.specs.Core as c;
+ghost use Rattle.f3_code.specs.Work as w;
+ghost use Rattle.f3_code.specs.Lower.{overwriting, filling, assigning, destroy_work};
 ghost use Rattle.f3_code.specs.Code.{transfer_code};
 ghost use Rattle.f3_gen_work.specs.EmittedIn.{EmittedBy, EmittedIn};
 

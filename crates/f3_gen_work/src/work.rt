@@ -1,8 +1,8 @@
 //! The code of work on objects: final subroutines, deallocation, and what INTENT(OUT) asks for.
 
 ghost use Rattle.std.specs.Prelude.{◌<◌, ◌∷◌, [], length, if◌then◌else◌, OnOk, slice_get};
-ghost use Rattle.f3_core.specs.Work as w;
-ghost use Rattle.f3_core.specs.Lower.{final_work, finals_in, object_work, finish_work, routine_of, discard_work, out_work, initial};
+ghost use Rattle.f3_code.specs.Work as w;
+ghost use Rattle.f3_code.specs.Lower.{final_work, finals_in, object_work, finish_work, routine_of, discard_work, out_work, initial};
 ghost use Rattle.f3_code.specs.State.{line, line_with};
 ghost use Rattle.f3_code.specs.Code.{work_code};
 ghost use Rattle.f3_gen_values.specs.Emitted.{Emitted};

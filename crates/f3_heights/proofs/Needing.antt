@@ -1,8 +1,8 @@
 -- The needs of the code of a Core program.
 use Rattle.std.proofs.Common.{◌≡◌, ℕ, zero, suc, ◌+◌, ◌<◌, ◌≤◌, true, List, [], ◌∷◌, ◌++◌, length, None, Some, refl, sym, ap, ◌∙◌, subst, arith, append_assoc, length-append}
 use Rattle.std.specs.Prelude.{slice_get, nat_eq, nat_lt}
-use Rattle.f3_core.specs.Work as w
-use Rattle.f3_core.specs.Core as c
+use Rattle.f3_code.specs.Work as w
+use Rattle.f3_code.specs.Core as c
 use Rattle.f3_code.specs.declared.instruction.Instruction.TheVariants as i
 use Rattle.f3_code.specs.State.{Line, line, Entry}
 use Rattle.f3_code.specs.Code.{work_code, body_code, main_code, procedures_code, entries, routines_code, places_of, program_code}

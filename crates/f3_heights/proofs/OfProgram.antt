@@ -3,8 +3,8 @@ use Rattle.std.proofs.Common.{◌≡◌, ℕ, zero, suc, ◌+◌, List, [], ◌�
 use Rattle.std.specs.Prelude.{slice_get, slice_index}
 use Rattle.std.proofs.Math.Seq.{get_or-append_seam}
 use Rattle.f3_program.specs.declared.expression.Name.TheVariants as name
-use Rattle.f3_core.specs.Work as w
-use Rattle.f3_core.specs.Core as c
+use Rattle.f3_code.specs.Work as w
+use Rattle.f3_code.specs.Core as c
 use Rattle.f3_code.specs.declared.instruction.Instruction.TheVariants as i
 use Rattle.f3_code.specs.State.{line, Entry}
 use Rattle.f3_code.specs.Code.{work_code, begin_code, finish_code, discard_code, body_ways, last_code, body_code, main_ways, main_code, procedures_code, entries, routines_code, places_of, program_code}

@@ -5,7 +5,7 @@ use Rattle.f3_program.specs.declared.declarations.Kind.{Kind}
 use Rattle.f3_program.specs.declared.expression.Designator.{Designator}
 use Rattle.f3_program.specs.declared.expression.Expression.{Expression}
 use Rattle.f3_program.specs.declared.statement.Range.{Range}
-use Rattle.f3_core.specs.Core as c
+use Rattle.f3_code.specs.Core as c
 use Rattle.f3_code.specs.declared.instruction.Instruction.TheVariants as i
 use Rattle.f3_code.specs.State.{Line, line}
 use Rattle.f3_code.specs.Code.{Ways, farther, looped, counting, scoped, leaving_code, departing_code, case_code, while_code, up_code, turns_code, limits_code, code_of}

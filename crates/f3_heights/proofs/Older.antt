@@ -2,7 +2,7 @@
 use Rattle.std.proofs.Common.{◌≡◌, ℕ, ◌+◌, Bool, true, false, [], ◌∷◌, length, Option, refl, sym, ap, ◌∙◌, if◌then◌else◌}
 use Rattle.std.specs.Prelude.{nat_lt}
 use Rattle.f3_places.specs.declared.source.Place.{Place}
-use Rattle.f3_core.specs.Work as w
+use Rattle.f3_code.specs.Work as w
 use Rattle.f3_code.specs.declared.instruction.Instruction.TheVariants as i
 use Rattle.f3_code.specs.State.{Line, line}
 use Rattle.f3_code.specs.Code.{work_code}

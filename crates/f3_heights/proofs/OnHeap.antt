@@ -5,9 +5,9 @@ use Rattle.f3_meaning_whole.specs.Ran.{Event}
 use Rattle.f3_meaning_whole.specs.Act.{Setting}
 use Rattle.f3_code.specs.State.{Line, Code, State, Goes}
 use Rattle.f3_code.specs.Machine.{does_line, step}
-use Rattle.f3_account.specs.Account.{used}
-use Rattle.f3_answers.specs.Wants.{wants}
-use Rattle.f3_answers.specs.Heap.{with_answers, answers_to, heap_does_line, heap_step}
+use Rattle.f3_code.specs.Account.{used}
+use Rattle.f3_code.specs.Wants.{wants}
+use Rattle.f3_code.specs.Heap.{with_answers, answers_to, heap_does_line, heap_step}
 use Rattle.f3_heights.specs.Heights.{AreHeights, Fits}
 use Rattle.f3_heights.specs.Room.{IsWithin, NextWithin}
 use Rattle.f3_heights.proofs.Plain.{steps_fit}

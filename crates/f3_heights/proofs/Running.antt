@@ -4,9 +4,9 @@ use Rattle.std.specs.Prelude.{slice_get, slice_index}
 use Rattle.std.proofs.Math.Nat.{mul-le-mul_right}
 use Rattle.f3_meaning_whole.specs.Ran.{Event, World, End, Gives, Fails, Stops, Beyond, ◌>>=◌}
 use Rattle.f3_meaning_whole.specs.Act.{Setting, claim, enter}
-use Rattle.f3_core.specs.Work as w
-use Rattle.f3_core.specs.Core as c
-use Rattle.f3_core.specs.Run.{core_setting, core_here, core_world}
+use Rattle.f3_code.specs.Work as w
+use Rattle.f3_code.specs.Core as c
+use Rattle.f3_code.specs.CoreRun.{core_setting, core_here, core_world}
 use Rattle.f3_code.specs.State.{Code, Entry, Cell, To, Frame, State, Next, Goes}
 use Rattle.f3_code.specs.State as state
 use Rattle.f3_code.specs.Machine.{ends_so, step}

@@ -2,8 +2,8 @@
 use Rattle.std.proofs.Common.{◌≡◌, ℕ, zero, suc, ◌+◌, Bool, List, [], ◌++◌, Some, sym, ap, ◌∙◌, arith, append_assoc}
 use Rattle.f3_meaning_whole.specs.Ran.{Event, ◌>>=◌}
 use Rattle.f3_meaning_whole.specs.Act.{Setting, claim, enter}
-use Rattle.f3_core.specs.Core.{Program}
-use Rattle.f3_core.specs.Run.{core_setting, core_here, core_world}
+use Rattle.f3_code.specs.Core.{Program}
+use Rattle.f3_code.specs.CoreRun.{core_setting, core_here, core_world}
 use Rattle.f3_code.specs.State.{Code, State, Course, Next, Goes, Stays}
 use Rattle.f3_code.specs.Machine.{before, performs, step, advance, run, course}
 use Rattle.f3_code.specs.Run.{start, after}

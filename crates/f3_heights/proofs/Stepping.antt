@@ -11,7 +11,7 @@ use Rattle.f3_meaning_whole.specs.Shape.{Whole}
 use Rattle.f3_meaning_whole.specs.Act.{Setting, Here, Passed, set, clear, begins, enter, leave, claim, claim_for, named, component, component_of, contents, read, picks_in_each, structure, components_of, given, passed_at}
 use Rattle.f3_meaning_whole.specs.Eval.{result, spans_of_component, asked, built, by_reach}
 use Rattle.f3_meaning_whole.specs.Exec.{Flow, Onward, Cycled, Left, Returned, unless_zero, print_value, vacant, held_by, status_number, take_over}
-use Rattle.f3_core.specs.Exec.{allocate, is_held, result_at}
+use Rattle.f3_code.specs.Exec.{allocate, is_held, result_at}
 use Rattle.f3_code.specs.declared.instruction.Instruction.{Instruction}
 use Rattle.f3_code.specs.State.{Line, placed, Entry, Code, Cell, Datum, Object, To, Frame, State, Next, Goes}
 use Rattle.std.proofs.Common.{◌≡◌, ℕ, zero, suc, ◌+◌, ◌-◌, ◌<◌, true, ℤ, Bool, List, [], ◌∷◌, length, drop, Option, None, Some, refl, sym, subst, arith, slice_get, nat_eq, nat_lt}

@@ -2,13 +2,13 @@
 use Rattle.std.specs.Prelude.{◌≡◌, ℕ, suc, ◌+◌, ◌*◌, ◌<◌, ◌≤◌, Bool, List, [], length, Some, slice_get, slice_index}
 use Rattle.f3_meaning_whole.specs.Ran.{Event, World}
 use Rattle.f3_meaning_whole.specs.Act.{Setting}
-use Rattle.f3_core.specs.Core.{Procedure, Program}
-use Rattle.f3_core.specs.Run.{core_setting}
+use Rattle.f3_code.specs.Core.{Procedure, Program}
+use Rattle.f3_code.specs.CoreRun.{core_setting}
 use Rattle.f3_code.specs.State.{Code, Entry, State, Goes}
 use Rattle.f3_code.specs.Machine.{before, step, run}
 use Rattle.f3_code.specs.Run.{start, after}
 use Rattle.f3_code.specs.Code.{body_code, main_code, program_code}
-use Rattle.f3_answers.specs.Heap.{heap_step}
+use Rattle.f3_code.specs.Heap.{heap_step}
 use Rattle.f3_heights.specs.Heights.{AreHeights, Fits}
 use Rattle.f3_heights.specs.Needs.{AreNeeds}
 use Rattle.f3_heights.specs.Program.{program_heights}

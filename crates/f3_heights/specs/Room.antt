@@ -3,9 +3,9 @@ use Rattle.std.specs.Prelude.{⊤, ◌≡◌, ◌≤◌, ◌<◌, ℕ, zero, suc
 use Rattle.std.specs.Prelude.{Bool}
 use Rattle.f3_meaning_whole.specs.Ran.{◌>>=◌}
 use Rattle.f3_meaning_whole.specs.Act.{Setting, claim, enter}
-use Rattle.f3_core.specs.Work as w
-use Rattle.f3_core.specs.Core as c
-use Rattle.f3_core.specs.Run.{core_setting, core_here, core_world}
+use Rattle.f3_code.specs.Work as w
+use Rattle.f3_code.specs.Core as c
+use Rattle.f3_code.specs.CoreRun.{core_setting, core_here, core_world}
 use Rattle.f3_code.specs.State.{Code, Cell, To, Frame, State, Next, Goes}
 use Rattle.f3_code.specs.State as state
 use Rattle.f3_code.specs.Machine.{performs, step}

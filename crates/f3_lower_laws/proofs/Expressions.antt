@@ -13,8 +13,8 @@ use Rattle.f3_meaning_whole.specs.Reference.{Reference}
 use Rattle.f3_meaning_whole.specs.Act.{Setting, Here, Calls, named}
 use Rattle.f3_meaning_whole.specs.Eval.{value, bounds, argument, arguments, locate, select, select_in_each, chosen, subscript}
 use Rattle.f3_meaning_whole.specs.Run.{setting_of}
-use Rattle.f3_core.specs.Run.{core_setting}
-use Rattle.f3_core.specs.Lower.{lowered_program}
+use Rattle.f3_code.specs.CoreRun.{core_setting}
+use Rattle.f3_code.specs.Lower.{lowered_program}
 use Rattle.f3_lower_laws.proofs.Runs.{bind_same, then_same, if_same, reach_same}
 
 -- the types and variables of a program, which its Core keeps

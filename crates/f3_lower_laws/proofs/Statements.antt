@@ -33,12 +33,12 @@ use Rattle.f3_meaning_whole.specs.Destroy.{deallocate_by, destroy, finish}
 use Rattle.f3_meaning_whole.specs.Exec.{Flow, turns, result_in, declared_in, with_result, where_out, initialize, overwrite, fill, renew, assign, answer}
 use Rattle.f3_meaning_whole.specs.Exec.{dimensions, items, selectors, some_meets, increment, block, outs, finish_locals}
 use Rattle.f3_meaning_whole.specs.Exec as meaning
-use Rattle.f3_core.specs.Work as w
-use Rattle.f3_core.specs.Core as c
-use Rattle.f3_core.specs.Exec.{works, works_each, transfer, by_state, discard_selectors, discard_arguments, finish_from, is_held, result_at}
-use Rattle.f3_core.specs.Exec as core
-use Rattle.f3_core.specs.Lower.{is_derived, discard_work, destroy_work, end_work, initial, overwriting, filling, assigning, allocation, deallocation}
-use Rattle.f3_core.specs.Lower.{selecting, lowered, lowered_block, out_work, result_number, lowered_procedure, routines}
+use Rattle.f3_code.specs.Work as w
+use Rattle.f3_code.specs.Core as c
+use Rattle.f3_code.specs.Exec.{works, works_each, transfer, by_state, discard_selectors, discard_arguments, finish_from, is_held, result_at}
+use Rattle.f3_code.specs.Exec as core
+use Rattle.f3_code.specs.Lower.{is_derived, discard_work, destroy_work, end_work, initial, overwriting, filling, assigning, allocation, deallocation}
+use Rattle.f3_code.specs.Lower.{selecting, lowered, lowered_block, out_work, result_number, lowered_procedure, routines}
 use Rattle.f3_lower_laws.proofs.Runs.{bind_same, then_same, nothing_then, if_same, onward_same, failed_same, turns_same, counted_same}
 use Rattle.f3_lower_laws.proofs.Types.{all_follow, object_same, freed_same, finish_same}
 use Rattle.f3_lower_laws.proofs.Expressions.{bare, value_same, locate_same}

@@ -18,8 +18,8 @@ use Rattle.f3_meaning_whole.specs.Shape.{Shape, Whole, Record, shape_in, parts_i
 use Rattle.f3_meaning_whole.specs.Act.{Here, Lent, Calls, clear, lending, contents, moved, components_of}
 use Rattle.f3_meaning_whole.specs.Run.{setting_of}
 use Rattle.f3_meaning_whole.specs.Destroy.{deallocate_by, finish_by, release_by, final_of, finalize, destroy, destroy_parts}
-use Rattle.f3_core.specs.Work.{Work, Rest, And, Lending, Of_elements, Routine, Clear, If_allocated, Of_contents, Routines, work, routines_of}
-use Rattle.f3_core.specs.Lower.{finals_in, final_work, object_work, finish_work, routine_of, routines_from, routines}
+use Rattle.f3_code.specs.Work.{Work, Rest, And, Lending, Of_elements, Routine, Clear, If_allocated, Of_contents, Routines, work, routines_of}
+use Rattle.f3_code.specs.Lower.{finals_in, final_work, object_work, finish_work, routine_of, routines_from, routines}
 use Rattle.f3_lower_laws.proofs.Expressions.{bare}
 use Rattle.f3_lower_laws.proofs.Runs.{bind_same, then_same, bind_assoc, if_same, each_same}
 

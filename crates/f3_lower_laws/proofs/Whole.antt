@@ -7,9 +7,9 @@ use Rattle.f3_program.specs.declared.program.Program.{Program}
 use Rattle.f3_meaning_whole.specs.Ran.{Outcome, Ran}
 use Rattle.f3_meaning_whole.specs.Act.{Here, Passed, Calls}
 use Rattle.f3_meaning_whole.specs.Run.{call_of, calls_of, setting_of, main_of, first_here, first_world, runs, run_of}
-use Rattle.f3_core.specs.Run.{core_calls, core_main, core_runs, core_run_of}
-use Rattle.f3_core.specs.Run as core
-use Rattle.f3_core.specs.Lower.{lowered_procedure, lowered_program}
+use Rattle.f3_code.specs.CoreRun.{core_calls, core_main, core_runs, core_run_of}
+use Rattle.f3_code.specs.CoreRun as core
+use Rattle.f3_code.specs.Lower.{lowered_procedure, lowered_program}
 use Rattle.f3_lower_laws.proofs.Expressions.{bare}
 use Rattle.f3_lower_laws.proofs.Runs.{bind_same, then_same}
 use Rattle.f3_lower_laws.proofs.Statements.{table, exec_same, called_same}

@@ -6,8 +6,8 @@ ghost use Rattle.f3_meaning_whole.specs.Exec.{initial_value};
 ghost use Rattle.f3_meaning_whole.specs.Run.{setting_of};
 ghost use Rattle.f3_data.specs.Values.{values_of};
 ghost use Rattle.f3_data.specs.Stores.{store_of};
-ghost use Rattle.f3_account.specs.Account.{block, level_words, used};
-ghost use Rattle.f3_answers.specs.Heap.{is_full};
+ghost use Rattle.f3_code.specs.Account.{block, level_words, used};
+ghost use Rattle.f3_code.specs.Heap.{is_full};
 ghost use Rattle.f3_machine.specs.Steps.{Begins, Denied, HasBegun, IsDenied};
 
 use f3_call_steps::activations::variables;

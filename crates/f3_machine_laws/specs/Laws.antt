@@ -2,7 +2,7 @@
 use Rattle.std.specs.Prelude.{◌≡◌, ◌≢◌, ◌≤◌, ℕ, Bool}
 use Rattle.f3_program.specs.declared.program.Program.{Program}
 use Rattle.f3_meaning_whole.specs.Run.{run_of, ending, Unfinished}
-use Rattle.f3_core.specs.Lower.{lowered_program}
+use Rattle.f3_code.specs.Lower.{lowered_program}
 use Rattle.f3_code.specs.Code.{program_code}
 use Rattle.f3_cells.specs.declared.scene.Scene.{Scene}
 use Rattle.f3_cells.specs.States.{code_of}

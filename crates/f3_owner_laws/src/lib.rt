@@ -57,7 +57,7 @@ pub fn accepted_is_pure()
     ensures { AcceptedIsPure }
 {
     spelling::sources_spell_one_tree();
-    f3_quiet_laws::accepted_is_pure();
+    f3_accepted_laws::accepted_is_pure();
 }
 
 /// Each function of such a program is a pure procedure, none of whose dummies may be defined.

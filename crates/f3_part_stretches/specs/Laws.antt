@@ -16,8 +16,8 @@ use Rattle.f3_register_points.specs.declared.point.Operand.TheVariants as operan
 use Rattle.f3_register_points.specs.declared.point.Point.{Point}
 use Rattle.f3_register_points.specs.Arrays.{steps_to}
 use Rattle.f3_register_points.specs.Stretches.{IsStretch}
-use Rattle.f3_value_laws.specs.Sorts.{is_truth}
-use Rattle.f3_value_laws.specs.Variables.{parts}
+use Rattle.f3_register_points.specs.Sorts.{is_truth}
+use Rattle.f3_register_points.specs.Variables.{parts}
 use Rattle.f3_stretch_laws.specs.Coming.{IsNext, Prefixed}
 use Rattle.f3_stretch_laws.specs.Forms.{take_or_fill}
 use Rattle.f3_stretch_laws.specs.HeldForms.{sets_by}

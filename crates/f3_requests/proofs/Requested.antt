@@ -19,7 +19,7 @@ use Rattle.f3_meaning_whole.specs.Act as a
 use Rattle.f3_meaning_whole.specs.Act.{Here, at, claim, claim_for, needs_storage, set}
 use Rattle.f3_meaning_whole.specs.Exec.{Holds, vacant}
 use Rattle.f3_meaning_whole.specs.Run.{output}
-use Rattle.f3_core.specs.Exec.{allocate}
+use Rattle.f3_code.specs.Exec.{allocate}
 use Rattle.f3_code.specs.declared.instruction.Instruction.{Instruction}
 use Rattle.f3_code.specs.declared.instruction.Instruction.TheVariants as i
 use Rattle.f3_code.specs.State.{Entry, Next, Goes, Stays, Done, Failed}
@@ -36,8 +36,8 @@ use Rattle.f3_cells.specs.Follows.{StopsSo, Follows}
 use Rattle.f3_cells.specs.Moves.{OnWith, WentOn}
 use Rattle.f3_cells.specs.Popped.{PoppedMany, extent_in}
 use Rattle.f3_cells.specs.States.{state_of, world_of, code_of, granted}
-use Rattle.f3_answers.specs.Wants.{allocated, assigned, called, dimensions, held, renewed}
-use Rattle.f3_answers.specs.Heap.{is_full, refused_once, with_answers}
+use Rattle.f3_code.specs.Wants.{allocated, assigned, called, dimensions, held, renewed}
+use Rattle.f3_code.specs.Heap.{is_full, refused_once, with_answers}
 use Rattle.f3_requests.specs.Requests.{Answered, refused, refuses}
 use Rattle.f3_requests.specs.Inner.Counted.{DoesRefused, too_large, wanted}
 

@@ -8,7 +8,7 @@ use Rattle.f3_meaning_whole.specs.Value.{count}
 use Rattle.f3_meaning_whole.specs.Shape.{spans_declared}
 use Rattle.f3_meaning_whole.specs.Exec.{too_many}
 use Rattle.f3_arithmetic.specs.Turns.{turns_of}
-use Rattle.f3_account.proofs.Modulo.{product_left}
+use Rattle.f3_code.proofs.Modulo.{product_left}
 use Rattle.f3_data.specs.declared.value.Span.{Span}
 use Rattle.f3_data.specs.Values.{spans_of}
 use Rattle.f3_cells.specs.declared.cell.Cell as c

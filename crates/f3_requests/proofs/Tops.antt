@@ -9,7 +9,7 @@ use Rattle.f3_cells.specs.declared.cell.Cell as c
 use Rattle.f3_cells.specs.declared.cell.Cell.TheVariants as cell
 use Rattle.f3_cells.specs.declared.cell.Passed.TheVariants as passed
 use Rattle.f3_cells.specs.Cells.{cell_of, cells_of}
-use Rattle.f3_answers.specs.Wants.{given_words, dimensions}
+use Rattle.f3_code.specs.Wants.{given_words, dimensions}
 use Rattle.f3_requests.specs.Inner.Counted.{held_words, extents}
 
 -- so many on top

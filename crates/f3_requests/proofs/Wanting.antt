@@ -17,16 +17,16 @@ use Rattle.f3_code.specs.State.{Code, Entry, Next, Stays, Done}
 use Rattle.f3_code.specs.State as s
 use Rattle.f3_code.specs.Machine.{stuck, on_object, on_datum}
 use Rattle.f3_gen_values.specs.Emission.{entries_in}
-use Rattle.f3_account.specs.Account.{block, level_words, words, objects}
-use Rattle.f3_account.proofs.Modulo.{product_right}
+use Rattle.f3_code.specs.Account.{block, level_words, words, objects}
+use Rattle.f3_code.proofs.Modulo.{product_right}
 use Rattle.f3_program.specs.declared.program.Program.{Program}
 use Rattle.f3_shaping.specs.Results.{is_array}
 use Rattle.f3_cells.specs.declared.scene.Scene.{Scene}
 use Rattle.f3_cells.specs.declared.state.State.{State}
 use Rattle.f3_cells.specs.Cells.{cells_of}
 use Rattle.f3_cells.specs.States.{state_of, frame_of, code_of}
-use Rattle.f3_answers.specs.Wants.{allocated, assigned, called, copies, given_words, held, renewed, wants}
-use Rattle.f3_answers.specs.Heap.{is_full}
+use Rattle.f3_code.specs.Wants.{allocated, assigned, called, copies, given_words, held, renewed, wants}
+use Rattle.f3_code.specs.Heap.{is_full}
 use Rattle.f3_requests.specs.Inner.Counted.{called_with, counted, too_large, wanted}
 
 -- procedures by their numbers

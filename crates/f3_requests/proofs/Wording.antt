@@ -7,9 +7,9 @@ use Rattle.f3_meaning_whole.specs.Value.{Span, Value, joined, count}
 use Rattle.f3_meaning_whole.specs.Arithmetic.{constant_value}
 use Rattle.f3_meaning_whole.specs.Shape.{initialized}
 use Rattle.f3_meaning_whole.specs.Exec.{vacant}
-use Rattle.f3_account.specs.Account.{words, row, level_words}
-use Rattle.f3_account.proofs.Modulo.{product_left, product_right}
-use Rattle.f3_account.proofs.Rows.{row_replicate, level_words_append}
+use Rattle.f3_code.specs.Account.{words, row, level_words}
+use Rattle.f3_code.proofs.Modulo.{product_left, product_right}
+use Rattle.f3_code.proofs.Rows.{row_replicate, level_words_append}
 
 pub product_both : (a b : ℕ) → (a % 2 ^ 64 * (b % 2 ^ 64)) % 2 ^ 64 ≡ (a * b) % 2 ^ 64
 product_both a b = product_right (a % 2 ^ 64) b ∙ product_left a b

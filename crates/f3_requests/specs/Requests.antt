@@ -14,9 +14,9 @@ use Rattle.f3_cells.specs.declared.state.Stop.TheVariants as stop
 use Rattle.f3_cells.specs.Cells.{here_of}
 use Rattle.f3_cells.specs.Follows.{GoesOn, StopsBy}
 use Rattle.f3_cells.specs.States.{state_of, setting, code_of}
-use Rattle.f3_account.specs.Account.{used}
-use Rattle.f3_answers.specs.Wants.{wants}
-use Rattle.f3_answers.specs.Heap.{is_full, refused_once, with_answers}
+use Rattle.f3_code.specs.Account.{used}
+use Rattle.f3_code.specs.Wants.{wants}
+use Rattle.f3_code.specs.Heap.{is_full, refused_once, with_answers}
 
 -- whether a heap of so many words refuses what an instruction with a value asks in a state
 abbrev pub refuses : ℕ → Scene → Instruction → Value → State → Bool

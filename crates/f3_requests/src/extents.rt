@@ -4,7 +4,7 @@ ghost use Rattle.std.specs.Prelude.{◌≡◌, ℕ, ◌*◌, ◌≤◌, ◌%◌,
 ghost use Rattle.f3_meaning_whole.specs.Value as m;
 ghost use Rattle.f3_meaning_whole.specs.Value.{count};
 ghost use Rattle.f3_meaning_whole.specs.Exec.{too_many, vacant};
-ghost use Rattle.f3_account.specs.Account.{words};
+ghost use Rattle.f3_code.specs.Account.{words};
 ghost use Rattle.f3_arithmetic.specs.Turns.{turns_of};
 ghost use Rattle.f3_data.specs.Values.{spans_of};
 ghost use Rattle.f3_cells.specs.declared.cell.Cell.{Cell};

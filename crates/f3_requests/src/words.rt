@@ -6,7 +6,7 @@ ghost use Rattle.f3_meaning_whole.specs.Value.{count, joined};
 ghost use Rattle.f3_meaning_whole.specs.Shape.{shapes_of, shape_in, parts_in, spans_declared, initialized, initial_of, initial_parts, initial_declared};
 ghost use Rattle.f3_meaning_whole.specs.Exec.{initial_value, variables};
 ghost use Rattle.f3_meaning_whole.specs.Run.{setting_of};
-ghost use Rattle.f3_account.specs.Account.{words, row, level_words};
+ghost use Rattle.f3_code.specs.Account.{words, row, level_words};
 ghost use Rattle.f3_gen_values.specs.Emitted.{taken};
 ghost use Rattle.f3_cells.specs.States.{setting};
 

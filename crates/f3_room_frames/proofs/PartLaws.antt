@@ -13,8 +13,8 @@ use Rattle.f3_meaning_whole.specs.Shape.{Shape, Whole, Record, shape_in, parts_i
 use Rattle.f3_meaning_whole.specs.Store as store
 use Rattle.f3_meaning_whole.specs.Store.{Step}
 use Rattle.f3_rooms.specs.Forms.{Laid, Allocatable, form_of, form_words, words_for, words_for_parts}
-use Rattle.f3_type_tables.specs.declared.table.TypeTable.{TypeTable}
-use Rattle.f3_type_tables.specs.Tables.{IsTable, AreTables, offsets_from}
+use Rattle.f3_type_words.specs.declared.table.TypeTable.{TypeTable}
+use Rattle.f3_type_words.specs.Tables.{IsTable, AreTables, offsets_from}
 use Rattle.f3_type_words.proofs.TableLaws.{shape_next, shapes_number, shape_stands}
 use Rattle.f3_room_frames.specs.Places.{behind, formed_part, part_in, component_in, Kind, formed_holder, holder_in, holder_among}
 use Rattle.f3_room_frames.specs.declared.layout.Holding.{Holding}

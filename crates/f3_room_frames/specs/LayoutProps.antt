@@ -8,8 +8,8 @@ use Rattle.f3_program.specs.declared.program.Procedure.{Procedure}
 use Rattle.f3_program.specs.declared.program.Program.{Program}
 use Rattle.f3_meaning_whole.specs.Shape.{Shape, Whole, Logical, Record, Parts, nothing, and}
 use Rattle.f3_rooms.specs.Forms.{room}
-use Rattle.f3_type_tables.specs.declared.table.TypeTable.{TypeTable}
-use Rattle.f3_type_tables.specs.Tables.{IsTable, AreTables}
+use Rattle.f3_type_words.specs.declared.table.TypeTable.{TypeTable}
+use Rattle.f3_type_words.specs.Tables.{IsTable, AreTables}
 use Rattle.f3_room_frames.specs.declared.layout.Variable.{Variable}
 use Rattle.f3_room_frames.specs.declared.layout.Layout.{Layout}
 use Rattle.f3_rooms.specs.Laws.{IsBare, AreBare}

@@ -5,14 +5,14 @@ ghost use Rattle.f3_program.specs.declared.program.Static as static;
 ghost use Rattle.f3_meaning_whole.specs.Exec.{declared_in};
 ghost use Rattle.f3_meaning_whole.specs.Shape.{Shape};
 ghost use Rattle.f3_rooms.specs.Forms.{room};
-ghost use Rattle.f3_type_tables.specs.Tables.{AreTables};
+ghost use Rattle.f3_type_words.specs.Tables.{AreTables};
 ghost use Rattle.f3_room_frames.specs.Sound.{most_words};
 ghost use Rattle.f3_room_frames.specs.Layouts.{StandsFrom, IsLayout, HasLayout, Added};
 
 use crate::layout::{Layout, Variable};
 use f3_program::declarations::Declared;
 use f3_program::program::{Procedure, Static};
-use f3_type_tables::table::TypeTable;
+use f3_type_words::table::TypeTable;
 use f3_type_words::words::words_of;
 use std::alloc::{AllocError, Global};
 

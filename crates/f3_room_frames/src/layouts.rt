@@ -3,7 +3,7 @@
 ghost use Rattle.std.specs.Prelude.{◌≡◌, List, [], IfOk, MatchOption};
 ghost use Rattle.f3_meaning_whole.specs.Shape.{Shape, shape_in};
 ghost use Rattle.f3_rooms.specs.Forms.{words_for, total};
-ghost use Rattle.f3_type_tables.specs.Tables.{AreTables};
+ghost use Rattle.f3_type_words.specs.Tables.{AreTables};
 ghost use Rattle.f3_room_frames.specs.States.{types_of, variables_of};
 ghost use Rattle.f3_room_frames.specs.Sound.{CanStand};
 ghost use Rattle.std.specs.Bool.{MatchBool};
@@ -19,7 +19,7 @@ use crate::laying::{lay_out_procedure, lay_out_statics};
 use crate::layout::Layout;
 use f3_program::declarations::Base;
 use f3_program::program::{Procedure, Program};
-use f3_type_tables::table::TypeTable;
+use f3_type_words::table::TypeTable;
 use f3_type_words::tabling::tables;
 use f3_type_words::words::base_words;
 use std::alloc::{AllocError, Global};

@@ -3,7 +3,7 @@
 ghost use Rattle.std.specs.Prelude.{◌≡◌, IfSome, Some, map};
 ghost use Rattle.f3_meaning_whole.specs.Shape.{shape_in, shapes_of};
 ghost use Rattle.f3_meaning_whole.specs.Store as store;
-ghost use Rattle.f3_type_tables.specs.Tables.{AreTables};
+ghost use Rattle.f3_type_words.specs.Tables.{AreTables};
 ghost use Rattle.f3_room_frames.specs.States.{types_of};
 ghost use Rattle.f3_room_frames.specs.Places.{part_in, holder_in};
 ghost use Rattle.f3_room_frames.specs.Layouts.{IsHolding};
@@ -11,7 +11,7 @@ ghost use Rattle.f3_room_frames.specs.Layouts.{IsHolding};
 use crate::layout::Holding;
 use crate::layouts::Layouts;
 use f3_program::declarations::{Base, Derived};
-use f3_type_tables::table::TypeTable;
+use f3_type_words::table::TypeTable;
 use f3_type_words::words::base_words;
 
 /// Which of the words of an object of a type, among the types of a program up to it, a scalar part is, and its type.

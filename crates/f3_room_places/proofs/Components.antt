@@ -14,8 +14,8 @@ use Rattle.f3_rooms.specs.Held.{Row, first, others, part_at}
 use Rattle.f3_rooms.specs.Forms.{form_of, form_words, words_for, words_for_parts}
 use Rattle.f3_rooms.specs.Places.{in_component}
 use Rattle.f3_rooms.specs.Sound.{IsForm, IsObject, AreComponents}
-use Rattle.f3_type_tables.specs.Tables.{IsTable, offsets_from}
-use Rattle.f3_type_tables.specs.declared.table.TypeTable.{TypeTable}
+use Rattle.f3_type_words.specs.Tables.{IsTable, offsets_from}
+use Rattle.f3_type_words.specs.declared.table.TypeTable.{TypeTable}
 use Rattle.f3_room_places.specs.Components.{declared_at, offset_at}
 use Rattle.f3_room_places.proofs.Trees.{tree_is, past_types}
 use Rattle.f3_room_places.proofs.Ways.{whole, form_whole}

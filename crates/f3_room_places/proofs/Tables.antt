@@ -5,8 +5,8 @@ use Rattle.f3_program.specs.declared.declarations.Base.TheVariants as base
 use Rattle.f3_program.specs.declared.declarations.Derived.{Derived}
 use Rattle.f3_meaning_whole.specs.Shape.{Shape, Whole, Logical, Record, shape_in, shapes_of}
 use Rattle.f3_rooms.specs.Forms.{words_for}
-use Rattle.f3_type_tables.specs.Tables.{IsTable, AreTables}
-use Rattle.f3_type_tables.specs.declared.table.TypeTable.{TypeTable}
+use Rattle.f3_type_words.specs.Tables.{IsTable, AreTables}
+use Rattle.f3_type_words.specs.declared.table.TypeTable.{TypeTable}
 use Rattle.f3_room_places.proofs.Trees.{as_many, past_types, trees_before}
 
 tables_many : (ss : List Shape) (xs : List TypeTable) → AreTables ss xs → length ss ≡ length xs

@@ -5,7 +5,7 @@ use Rattle.f3_program.specs.declared.declarations.Declared.{Declared}
 use Rattle.f3_program.specs.declared.declarations.Component.{Component}
 use Rattle.f3_program.specs.declared.declarations.Derived.{Derived}
 use Rattle.f3_meaning_whole.specs.Shape.{Shape, Whole, Logical, Record}
-use Rattle.f3_type_tables.specs.Tables.{offsets_from}
+use Rattle.f3_type_words.specs.Tables.{offsets_from}
 
 -- what the component of a number of the type of a number is declared as
 abbrev pub declared_at : List Derived → ℕ → ℕ → Option Declared

@@ -9,7 +9,7 @@ use Rattle.f3_rooms.specs.Forms as room
 use Rattle.f3_rooms.specs.Places.{Found, in_form, in_object}
 use Rattle.f3_rooms.specs.Sound.{TellBounds}
 use Rattle.f3_rooms.specs.Laws.{IsWithin}
-use Rattle.f3_type_tables.specs.Tables.{AreTables}
+use Rattle.f3_type_words.specs.Tables.{AreTables}
 use Rattle.f3_room_places.specs.declared.types.Types.{Types}
 use Rattle.f3_room_places.specs.declared.place.Bounds.{Bounds}
 use Rattle.f3_room_places.specs.declared.place.Bounds.TheVariants.{Declared, Told}

@@ -8,7 +8,7 @@ ghost use Rattle.f3_room_places.specs.Places.{HasTables, shapes};
 ghost use Rattle.f3_room_places.specs.Components.{declared_at, offset_at};
 
 use f3_program::declarations::{Base, Declared, Derived};
-use f3_type_tables::table::TypeTable;
+use f3_type_words::table::TypeTable;
 
 /// The types of a program, or those that stand before one of them, and the table of each.
 #[derive(Clone, Copy)]

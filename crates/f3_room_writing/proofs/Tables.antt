@@ -3,8 +3,8 @@ use Rattle.std.proofs.Common.{◌≡◌, refl, ℕ, zero, suc, ◌<◌, List, []
 use Rattle.std.proofs.lemmas.List.{length-take-le}
 use Rattle.f3_program.specs.declared.declarations.Derived.{Derived}
 use Rattle.f3_meaning_whole.specs.Shape.{Shape, Record, parts_in, shapes_from, shapes_of}
-use Rattle.f3_type_tables.specs.declared.table.TypeTable.{TypeTable}
-use Rattle.f3_type_tables.specs.Tables.{AreTables}
+use Rattle.f3_type_words.specs.declared.table.TypeTable.{TypeTable}
+use Rattle.f3_type_words.specs.Tables.{AreTables}
 use Rattle.f3_type_words.proofs.TableLaws.{shapes_number}
 
 as_many : (ss : List Shape) (xs : List TypeTable) → AreTables ss xs → length xs ≡ length ss

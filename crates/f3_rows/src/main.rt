@@ -3,6 +3,7 @@
 #![tactic(auto)]
 
 mod folder;
+mod planning;
 mod running;
 
 use crate::running::is_as_expected;

@@ -1,10 +1,10 @@
 //! A case, run.
 
 use crate::folder::Folder;
+use crate::planning::acts_of;
 use f3_command::program::f3;
 use f3_output::output::Output;
 use f3_row_cases::cases::{Case, Text};
-use f3_row_cases::planning::acts_of;
 use std::alloc::{AllocError, Global};
 use std::io::Write;
 

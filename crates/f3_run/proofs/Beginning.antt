@@ -1,9 +1,9 @@
 -- A run that did not begin.
 use Rattle.std.proofs.Common.{ℕ, Bool, refl, arith}
 use Rattle.f3_program.specs.declared.program.Program.{Program}
-use Rattle.f3_core.specs.Lower.{lowered_program}
+use Rattle.f3_code.specs.Lower.{lowered_program}
 use Rattle.f3_code.specs.Code.{program_code}
-use Rattle.f3_answers.specs.Heap.{heap_after}
+use Rattle.f3_code.specs.Heap.{heap_after}
 use Rattle.f3_answers.proofs.Answering.{heap_answers}
 use Rattle.f3_meaning_whole.specs.Run.{run_of, output}
 use Rattle.f3_output.specs.Output.{State}

@@ -7,9 +7,9 @@ use Rattle.f3_program.specs.declared.program.Procedure as x
 use Rattle.f3_program.specs.declared.program.Program.{Program}
 use Rattle.f3_meaning_whole.specs.Act.{Setting}
 use Rattle.f3_meaning_whole.specs.Run.{setting_of}
-use Rattle.f3_core.specs.Work as w
-use Rattle.f3_core.specs.Core as c
-use Rattle.f3_core.specs.Lower.{lowered_program, lowered_procedure}
+use Rattle.f3_code.specs.Work as w
+use Rattle.f3_code.specs.Core as c
+use Rattle.f3_code.specs.Lower.{lowered_program, lowered_procedure}
 use Rattle.f3_code.specs.State as code
 use Rattle.f3_code.specs.State.{Entry, Code}
 use Rattle.f3_code.specs.Code.{body_code, main_code, procedures_code, entries, routines_code, program_code}

@@ -2,8 +2,8 @@
 use Rattle.std.proofs.Common.{◌≡◌, ◌≤◌, ◌<◌, ℕ, zero, suc, ◌+◌, ◌-◌, Bool, true, List, [], ◌∷◌, ◌++◌, map, length, Option, None, Some, refl, sym, ap, ◌∙◌, subst, arith, append_assoc, length-append, zero-add}
 use Rattle.std.specs.Prelude.{slice_get, slice_index, nat_lt, nat_eq}
 use Rattle.std.proofs.lemmas.List.{length-map}
-use Rattle.f3_core.specs.Work as w
-use Rattle.f3_core.specs.Core as c
+use Rattle.f3_code.specs.Work as w
+use Rattle.f3_code.specs.Core as c
 use Rattle.f3_code.specs.declared.instruction.Instruction.TheVariants as i
 use Rattle.f3_code.specs.State as code
 use Rattle.f3_code.specs.State.{line, Entry, Frame, State}

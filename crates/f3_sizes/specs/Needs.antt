@@ -1,6 +1,6 @@
 -- What activations need, as the calls say it.
 use Rattle.std.specs.Prelude.{⊤, ◌≡◌, ◌≤◌, ◌<◌, ℕ, suc, ◌+◌, ◌-◌, Bool, List, [], ◌∷◌, length, Option, None, Some, slice_get, slice_index}
-use Rattle.f3_core.specs.Core.{Procedure, Program}
+use Rattle.f3_code.specs.Core.{Procedure, Program}
 use Rattle.f3_code.specs.State.{Entry, Frame, State}
 use Rattle.f3_code.specs.Code.{body_code, main_code, program_code}
 use Rattle.f3_heights.specs.Program.{program_heights}

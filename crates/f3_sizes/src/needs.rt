@@ -1,7 +1,7 @@
 //! How many cells the stacks of activations need.
 
 ghost use Rattle.std.specs.Prelude.{◌≡◌, ◌≤◌, ◌+◌, ◌*◌, ◌^◌, ◌<◌, IfOk, length, map, sum};
-ghost use Rattle.f3_core.specs.Lower.{lowered_program};
+ghost use Rattle.f3_code.specs.Lower.{lowered_program};
 ghost use Rattle.f3_code.specs.Code.{program_code};
 ghost use Rattle.f3_gen_values.specs.Emission.{code_in};
 ghost use Rattle.f3_sizes.specs.Part.{IsDepth};

@@ -4,12 +4,12 @@ ghost use Rattle.std.specs.Prelude.{◌+◌, ℕ, List};
 ghost use Rattle.f3_meaning_whole.specs.Exec.{declared_in};
 ghost use Rattle.f3_meaning_whole.specs.Shape.{Shape};
 ghost use Rattle.f3_rooms.specs.Forms.{room, total};
-ghost use Rattle.f3_type_tables.specs.Tables.{AreTables};
+ghost use Rattle.f3_type_words.specs.Tables.{AreTables};
 ghost use Rattle.f3_sizes.specs.Words.{AreWords, declared_statics};
 
 use f3_program::declarations::Declared;
 use f3_program::program::{Procedure, Program};
-use f3_type_tables::table::TypeTable;
+use f3_type_words::table::TypeTable;
 use f3_type_words::words::words_of;
 
 /// One object more behind so many words: none where they are 2 to the 64 or more.

@@ -12,8 +12,8 @@ use Rattle.f3_program.specs.declared.statement.Bounds.{Bounds}
 use Rattle.f3_program.specs.declared.statement.Item.{Item}
 use Rattle.f3_program.specs.declared.statement.Item.TheVariants as item
 use Rattle.f3_program.specs.declared.statement.Range.{Range}
-use Rattle.f3_core.specs.Work as w
-use Rattle.f3_core.specs.Core as c
+use Rattle.f3_code.specs.Work as w
+use Rattle.f3_code.specs.Core as c
 use Rattle.f3_code.specs.Code.{argument_count, subscript_count}
 use Rattle.f3_heights.specs.Program.{allocate_heights, argument_heights, arguments_heights, body_heights, bounds_heights, bytes_heights, case_heights, chosen_heights, code_heights, deallocate_heights, departing_heights, dimensions_heights, discards_heights, each_heights, finish_heights, free_heights, if_heights, items_heights, last_heights, leaving_heights, limits_heights, locate_heights, main_heights, procedures_heights, program_heights, ranges_heights, routines_heights, select_heights, select_of_heights, selectors_heights, status_heights, subscript_heights, transfer_heights, turns_heights, up_heights, value_heights, while_heights, work_heights}
 use Rattle.f3_sorts.specs.Effect.{Sort, times}

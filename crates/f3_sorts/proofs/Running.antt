@@ -3,14 +3,14 @@ use Rattle.std.proofs.Common.{◌≡◌, ℕ, zero, suc, Bool, List, [], Some, r
 use Rattle.std.specs.Prelude.{slice_index_or}
 use Rattle.f3_meaning_whole.specs.Ran.{Event, World, End, Gives, Fails, Stops, Beyond, ◌>>=◌}
 use Rattle.f3_meaning_whole.specs.Act.{Setting, claim, enter}
-use Rattle.f3_core.specs.Core as c
-use Rattle.f3_core.specs.Run.{core_setting, core_here, core_world}
+use Rattle.f3_code.specs.Core as c
+use Rattle.f3_code.specs.CoreRun.{core_setting, core_here, core_world}
 use Rattle.f3_code.specs.State as state
 use Rattle.f3_code.specs.State.{Code, State, Next, Goes}
 use Rattle.f3_code.specs.Machine.{ends_so, step}
 use Rattle.f3_code.specs.Run.{start}
 use Rattle.f3_code.specs.Code.{program_code}
-use Rattle.f3_answers.specs.Heap.{with_answers, heap_step}
+use Rattle.f3_code.specs.Heap.{with_answers, heap_step}
 use Rattle.f3_heights.specs.Room.{state_next, state_run, state_after}
 use Rattle.f3_heights.proofs.OnHeap.{heap_answers}
 use Rattle.f3_sorts.specs.Effect.{Sort}

@@ -2,11 +2,11 @@
 use Rattle.std.specs.Prelude.{◌≡◌, ℕ, Bool, List, [], length, Some, slice_get, slice_index, slice_index_or}
 use Rattle.f3_meaning_whole.specs.Ran.{Event}
 use Rattle.f3_meaning_whole.specs.Act.{Setting}
-use Rattle.f3_core.specs.Core.{Program}
+use Rattle.f3_code.specs.Core.{Program}
 use Rattle.f3_code.specs.State.{Line, Code, State, Stuck, Goes, Stays}
 use Rattle.f3_code.specs.Machine.{step}
 use Rattle.f3_code.specs.Code.{program_code}
-use Rattle.f3_answers.specs.Heap.{heap_step}
+use Rattle.f3_code.specs.Heap.{heap_step}
 use Rattle.f3_heights.specs.Room.{state_after}
 use Rattle.f3_heights.specs.Program.{program_heights}
 use Rattle.f3_sorts.specs.Effect.{Sort}

@@ -10,8 +10,8 @@ use Rattle.f3_program.specs.declared.statement.Bounds.{Bounds}
 use Rattle.f3_program.specs.declared.statement.Item.{Item}
 use Rattle.f3_program.specs.declared.statement.Item.TheVariants as item
 use Rattle.f3_program.specs.declared.statement.Range.{Range}
-use Rattle.f3_core.specs.Work as w
-use Rattle.f3_core.specs.Core as c
+use Rattle.f3_code.specs.Work as w
+use Rattle.f3_code.specs.Core as c
 use Rattle.f3_code.specs.Code.{argument_count, subscript_count}
 use Rattle.f3_sorts.specs.Effect.{Sort, times}
 use Rattle.f3_sorts.specs.Effect as sort

@@ -13,9 +13,9 @@ use Rattle.f3_program.specs.declared.statement.Bounds.{Bounds}
 use Rattle.f3_program.specs.declared.statement.Item.{Item}
 use Rattle.f3_program.specs.declared.statement.Item.TheVariants as item
 use Rattle.f3_program.specs.declared.statement.Range.{Range}
-use Rattle.f3_core.specs.Work as w
-use Rattle.f3_core.specs.Core as c
-use Rattle.f3_core.specs.Lower.{lowered_program}
+use Rattle.f3_code.specs.Work as w
+use Rattle.f3_code.specs.Core as c
+use Rattle.f3_code.specs.Lower.{lowered_program}
 use Rattle.f3_code.specs.declared.instruction.Instruction.TheVariants as i
 use Rattle.f3_code.specs.State.{Line, line}
 use Rattle.f3_code.specs.Code.{value_code, bounds_code, argument_code, arguments_code, locate_code, select_code, select_of_code, chosen_code, subscript_code, work_code, transfer_code, dimensions_code, allocate_code, free_code, deallocate_code, status_code, bytes_code, items_code, ranges_code, selectors_code, discards_code, Ways, farther, looped, counting, scoped, leaving_code, departing_code, if_code, case_code, while_code, up_code, turns_code, limits_code, code_of, begin_code, finish_code, discard_code, body_ways, last_code, body_code, main_ways, main_code, procedures_code, routines_code, program_code}

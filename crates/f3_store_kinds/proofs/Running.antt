@@ -14,14 +14,14 @@ use Rattle.f3_meaning_whole.specs.Exec.{declared_in, initial_value}
 use Rattle.f3_meaning_whole.specs.Run.{setting_of}
 use Rattle.f3_meaning_whole.specs.Shape.{shapes_of}
 use Rattle.f3_meaning_whole.specs.Formed.{all, is_declared, IsWellFormed}
-use Rattle.f3_core.specs.Lower.{lowered_procedure, lowered_program}
-use Rattle.f3_core.specs.Run.{core_setting, core_here, core_world}
+use Rattle.f3_code.specs.Lower.{lowered_procedure, lowered_program}
+use Rattle.f3_code.specs.CoreRun.{core_setting, core_here, core_world}
 use Rattle.f3_code.specs.State as state
 use Rattle.f3_code.specs.State.{Line, Entry, Code, State, Next, Goes}
 use Rattle.f3_code.specs.Machine.{ends_so, step, does_line}
 use Rattle.f3_code.specs.Run.{start}
 use Rattle.f3_code.specs.Code.{body_code, entries, program_code}
-use Rattle.f3_answers.specs.Heap.{with_answers}
+use Rattle.f3_code.specs.Heap.{with_answers}
 use Rattle.f3_heights.proofs.OnHeap.{heap_answers}
 use Rattle.f3_heights.specs.Room.{state_next, state_run, state_after}
 use Rattle.f3_cell_kinds.specs.Types.{Site}

@@ -20,7 +20,7 @@ use Rattle.f3_cell_kinds.specs.Types.{Scope, Around, Told, Untold, InRoutine, Ce
 use Rattle.f3_cell_kinds.specs.Types as cell
 use Rattle.f3_cell_kinds.specs.Holds.{Reaches, Refers, IsOf, AreElements, IsPassed, Is, InScope, Stand, Knows}
 use Rattle.f3_cell_kinds.specs.Stands.{PassedStands, CellStands, CellsStand, VariablesStand, Stands}
-use Rattle.f3_core.specs.Lower.{lowered_program}
+use Rattle.f3_code.specs.Lower.{lowered_program}
 use Rattle.f3_code.specs.Code.{program_code}
 use Rattle.f3_heights.specs.Room.{state_after}
 use Rattle.f3_cell_kinds.specs.Laws.{site_at}

@@ -5,7 +5,7 @@ use Rattle.std.proofs.lemmas.Bool.{eqb-true}
 use Rattle.f3_places.specs.declared.source.Place.{Place}
 use Rattle.f3_program.specs.declared.declarations.Base.{Base}
 use Rattle.f3_program.specs.declared.declarations.Base.TheVariants as base
-use Rattle.f3_core.specs.Lower.{initial}
+use Rattle.f3_code.specs.Lower.{initial}
 use Rattle.f3_meaning_whole.specs.Run.{setting_of}
 use Rattle.f3_program.specs.declared.declarations.Derived.{Derived}
 use Rattle.f3_program.specs.declared.declarations.Kind.{Kind}
@@ -24,7 +24,7 @@ use Rattle.f3_meaning_whole.specs.Act as meaning
 use Rattle.f3_meaning_whole.specs.Eval.{result, built, asked, by_reach, spans_of_component}
 use Rattle.f3_meaning_whole.specs.Exec.{Flow, Onward, Cycled, Left, Returned, unless_zero, print_value, vacant, status_number, take_over, held, dummies, held_by, associates, declared_in, too_many}
 use Rattle.f3_meaning_whole.specs.Formed.{takes, is_number, of_kind, kinds_of, sectioned, element_of_each, IsWellFormed}
-use Rattle.f3_core.specs.Exec.{allocate, is_held, result_at}
+use Rattle.f3_code.specs.Exec.{allocate, is_held, result_at}
 use Rattle.f3_code.specs.declared.instruction.Instruction.{Instruction}
 use Rattle.f3_code.specs.declared.instruction.Instruction.TheVariants as i
 use Rattle.f3_code.specs.declared.instruction.Way.{Way}

@@ -14,11 +14,11 @@ use Rattle.f3_meaning_whole.specs.Act.{Setting, Here, Chosen, component, compone
 use Rattle.f3_meaning_whole.specs.Formed.{of_kind, IsWellFormed}
 use Rattle.f3_meaning_whole.specs.Shape.{shapes_of}
 use Rattle.f3_meaning_whole.specs.Exec.{declared_in}
-use Rattle.f3_core.specs.Lower.{lowered_program}
+use Rattle.f3_code.specs.Lower.{lowered_program}
 use Rattle.f3_code.specs.State.{Entry, Code, State, Goes}
 use Rattle.f3_code.specs.Machine.{step}
 use Rattle.f3_code.specs.Code.{program_code}
-use Rattle.f3_answers.specs.Heap.{heap_step}
+use Rattle.f3_code.specs.Heap.{heap_step}
 use Rattle.f3_heights.specs.Room.{state_after}
 use Rattle.f3_cell_kinds.specs.Types.{Site}
 use Rattle.f3_cell_kinds.specs.Kinds.{AreKinds}

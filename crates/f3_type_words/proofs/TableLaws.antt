@@ -9,8 +9,8 @@ use Rattle.f3_program.specs.declared.declarations.Derived.{Derived}
 use Rattle.f3_meaning_whole.specs.Shape.{Shape, Whole, Logical, Record, parts_in, shapes_from, shapes_of}
 use Rattle.f3_type_words.specs.Most.{most_words}
 use Rattle.f3_rooms.specs.Forms.{room, words_for, words_for_parts}
-use Rattle.f3_type_tables.specs.declared.table.TypeTable.{TypeTable}
-use Rattle.f3_type_tables.specs.Tables.{IsTable, AreTables, offsets_from}
+use Rattle.f3_type_words.specs.declared.table.TypeTable.{TypeTable}
+use Rattle.f3_type_words.specs.Tables.{IsTable, AreTables, offsets_from}
 
 -- ---- types one after another
 

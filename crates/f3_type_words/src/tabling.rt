@@ -4,11 +4,11 @@ ghost use Rattle.std.specs.Prelude.{◌≤◌, ◌<◌, ℕ, List, IfOk, IfSome,
 ghost use Rattle.f3_type_words.specs.Most.{most_words};
 ghost use Rattle.f3_meaning_whole.specs.Shape.{Shape, Record, parts_in, shapes_of};
 ghost use Rattle.f3_rooms.specs.Forms.{words_for, words_for_parts};
-ghost use Rattle.f3_type_tables.specs.Tables.{AreTables, IsTable};
+ghost use Rattle.f3_type_words.specs.Tables.{AreTables, IsTable};
 
 use crate::words::words_of;
 use f3_program::declarations::{Component, Derived};
-use f3_type_tables::table::TypeTable;
+use f3_type_words::table::TypeTable;
 use std::alloc::{AllocError, Global};
 
 /// The most words of an object that has a layout: 16,777,216 times 15, which are the words of an allocatable of rank 7.

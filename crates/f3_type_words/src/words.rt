@@ -4,10 +4,10 @@ ghost use Rattle.std.specs.Prelude.{◌≡◌, ◌≤◌, ◌^◌, List, MatchOp
 ghost use Rattle.f3_meaning_whole.specs.Value.{count};
 ghost use Rattle.f3_meaning_whole.specs.Shape.{Shape, shape_in, spans_declared};
 ghost use Rattle.f3_rooms.specs.Forms.{laid_words, words_for, room};
-ghost use Rattle.f3_type_tables.specs.Tables.{AreTables};
+ghost use Rattle.f3_type_words.specs.Tables.{AreTables};
 
 use f3_program::declarations::{Base, Declared, Dimension};
-use f3_type_tables::table::TypeTable;
+use f3_type_words::table::TypeTable;
 
 /// How many elements an array of bounds has (ISO/IEC 1539-1:2004, 6.2.2.2): none where they are 2 to the 64 or more.
 pub fn elements(bounds: &[Dimension]) -> Option<u64>

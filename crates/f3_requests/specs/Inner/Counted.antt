@@ -15,8 +15,8 @@ use Rattle.f3_cells.specs.declared.state.Stop.{Stop}
 use Rattle.f3_cells.specs.Follows.{Follows}
 use Rattle.f3_cells.specs.States.{state_of, code_of}
 use Rattle.f3_code.specs.State.{Entry}
-use Rattle.f3_account.specs.Account.{all_objects, block, level_words, words}
-use Rattle.f3_answers.specs.Wants.{copies, wants}
+use Rattle.f3_code.specs.Account.{all_objects, block, level_words, words}
+use Rattle.f3_code.specs.Wants.{copies, wants}
 use Rattle.f3_requests.specs.Requests.{refused}
 
 -- words modulo 2 ^ 64, where some are wanted

@@ -1,7 +1,7 @@
 use Rattle.std.proofs.Common.{◌∷◌, map, ap, subst, ◌∙◌}
 use Rattle.f3_meaning_whole.specs.Act.{at}
 use Rattle.f3_data.specs.References.{reference_of}
-use Rattle.f3_core.specs.Exec.{allocate}
+use Rattle.f3_code.specs.Exec.{allocate}
 use Rattle.f3_gen_values.specs.Emitted.{taken}
 use Rattle.f3_code.specs.State as s
 use Rattle.f3_code.specs.Machine.{on, ends_so}

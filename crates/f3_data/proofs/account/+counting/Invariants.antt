@@ -1,5 +1,5 @@
 use Rattle.std.proofs.Common.{◌≡◌, ◌%◌, ◌^◌, take}
-use Rattle.f3_account.specs.Account.{level_words}
+use Rattle.f3_code.specs.Account.{level_words}
 use Rattle.f3_data.specs.Values.{values_of}
 use Rattle.f3_data.proofs.account.+counting.Given as goal
 

@@ -1,6 +1,6 @@
 use Rattle.std.proofs.Common.{◌≡◌, ◌%◌, ◌^◌, take}
 use Rattle.f3_meaning_whole.specs.Value.{joined}
-use Rattle.f3_account.specs.Account.{all_objects}
+use Rattle.f3_code.specs.Account.{all_objects}
 use Rattle.f3_data.specs.Values.{values_of}
 use Rattle.f3_data.proofs.account.+holding.Given as goal
 

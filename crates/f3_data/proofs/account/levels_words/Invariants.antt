@@ -1,5 +1,5 @@
 use Rattle.std.proofs.Common.{◌≡◌, ◌%◌, ◌^◌, take}
-use Rattle.f3_account.specs.Account.{levels_words}
+use Rattle.f3_code.specs.Account.{levels_words}
 use Rattle.f3_data.specs.Stores.{levels_of}
 use Rattle.f3_data.proofs.account.levels_words.Given as goal
 

@@ -1,7 +1,7 @@
 use Rattle.std.proofs.Common.{◌≡◌, ◌+◌, ◌%◌, ◌^◌, drop, length}
 use Rattle.std.specs.Vec.Iter.{into_iter_items}
 use Rattle.f3_meaning_whole.specs.Value.{joined}
-use Rattle.f3_account.specs.Account.{row}
+use Rattle.f3_code.specs.Account.{row}
 use Rattle.f3_data.specs.Values.{values_of}
 use Rattle.f3_data.specs.Stores.{steps_of}
 use Rattle.f3_data.specs.Each.{row_with}

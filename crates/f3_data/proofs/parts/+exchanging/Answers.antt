@@ -1,7 +1,7 @@
 use Rattle.std.proofs.Common.{◌≡◌, ◌∙◌, ap, sym, arith, rules}
 use Rattle.std.specs.Box.{with_value}
 use Rattle.f3_meaning_whole.specs.Store.{part, with_part}
-use Rattle.f3_account.specs.Account.{words}
+use Rattle.f3_code.specs.Account.{words}
 use Rattle.f3_data.specs.declared.value.Value as v
 use Rattle.f3_data.specs.declared.value.Elements.{Elements}
 use Rattle.f3_data.specs.Values.{value_of}

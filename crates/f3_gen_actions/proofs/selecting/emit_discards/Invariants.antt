@@ -1,5 +1,5 @@
 use Rattle.std.proofs.Common.{◌≤◌, length, drop, map}
-use Rattle.f3_core.specs.Lower.{selecting}
+use Rattle.f3_code.specs.Lower.{selecting}
 use Rattle.f3_code.specs.Code.{discards_code}
 use Rattle.f3_gen_work.specs.EmittedIn.{EmittedBy}
 use Rattle.f3_gen_actions.proofs.selecting.emit_discards.Given as goal

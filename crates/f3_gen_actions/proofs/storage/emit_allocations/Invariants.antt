@@ -1,5 +1,5 @@
 use Rattle.std.proofs.Common.{◌≡◌, ◌≤◌, length, drop, map}
-use Rattle.f3_core.specs.Lower.{allocation}
+use Rattle.f3_code.specs.Lower.{allocation}
 use Rattle.f3_code.specs.Code.{allocate_code}
 use Rattle.f3_gen_work.specs.EmittedIn.{EmittedBy}
 use Rattle.f3_gen_actions.proofs.storage.emit_allocations.Given as goal

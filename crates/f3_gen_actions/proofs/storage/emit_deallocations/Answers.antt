@@ -1,5 +1,5 @@
 use Rattle.std.proofs.Common.{length, drop, map, subst, arith}
-use Rattle.f3_core.specs.Lower.{deallocation}
+use Rattle.f3_code.specs.Lower.{deallocation}
 use Rattle.f3_code.specs.Code.{deallocate_code}
 use Rattle.f3_gen_work.specs.EmittedIn.{EmittedIn}
 use Rattle.f3_gen_work.proofs.Dropping.{drop_before}

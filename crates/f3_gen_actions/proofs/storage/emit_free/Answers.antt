@@ -2,8 +2,8 @@ use Rattle.std.proofs.Common.{◌∷◌, [], length, arith}
 use Rattle.std.proofs.lemmas.List.{length-append}
 use Rattle.f3_code.specs.declared.instruction.Instruction.TheVariants as i
 use Rattle.f3_code.specs.State.{line}
-use Rattle.f3_core.specs.Lower.{object_work}
-use Rattle.f3_core.specs.Work as w
+use Rattle.f3_code.specs.Lower.{object_work}
+use Rattle.f3_code.specs.Work as w
 use Rattle.f3_code.specs.Code.{work_code}
 use Rattle.f3_gen_values.proofs.Emitting.{emitted_then}
 use Rattle.f3_gen_work.proofs.Emitting.{emitted_over, on_ok}

@@ -1,6 +1,6 @@
 use Rattle.std.proofs.Common.{◌≤◌, length, drop, map}
 use Rattle.f3_program.specs.declared.program.Dummy.{Dummy}
-use Rattle.f3_core.specs.Lower.{out_work}
+use Rattle.f3_code.specs.Lower.{out_work}
 use Rattle.f3_code.specs.Code.{begin_code}
 use Rattle.f3_gen_work.specs.EmittedIn.{EmittedIn}
 use Rattle.f3_gen_procedures.proofs.ends.emit_beginnings.Given as goal

@@ -1,6 +1,6 @@
 use Rattle.std.proofs.Common.{◌≤◌, length, drop, map}
 use Rattle.f3_program.specs.declared.declarations.Declared.{Declared}
-use Rattle.f3_core.specs.Lower.{end_work}
+use Rattle.f3_code.specs.Lower.{end_work}
 use Rattle.f3_code.specs.Code.{finish_code}
 use Rattle.f3_gen_work.specs.EmittedIn.{EmittedIn}
 use Rattle.f3_gen_procedures.proofs.ends.emit_finishes.Given as goal

@@ -1,6 +1,6 @@
 use Rattle.std.proofs.Common.{◌≤◌, length, drop, map}
 use Rattle.f3_program.specs.declared.program.Dummy.{Dummy}
-use Rattle.f3_core.specs.Lower.{discard_work}
+use Rattle.f3_code.specs.Lower.{discard_work}
 use Rattle.f3_code.specs.Code.{discard_code}
 use Rattle.f3_gen_values.specs.Emitted.{Emitted}
 use Rattle.f3_gen_procedures.proofs.ends.emit_held_arguments.Given as goal

@@ -1,5 +1,5 @@
 use Rattle.std.proofs.Common.{◌+◌, ◌∷◌, [], length, take, arith}
-use Rattle.f3_core.specs.Lower.{routine_of, routines_from}
+use Rattle.f3_code.specs.Lower.{routine_of, routines_from}
 use Rattle.f3_code.specs.Code.{routines_code}
 use Rattle.f3_gen_values.specs.Emitted.{Emitted}
 use Rattle.f3_gen_values.proofs.Emitting.{emitted_then}

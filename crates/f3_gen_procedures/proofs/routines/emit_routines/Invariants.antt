@@ -1,5 +1,5 @@
 use Rattle.std.proofs.Common.{◌≡◌, ◌++◌, length, reverse, take, []}
-use Rattle.f3_core.specs.Lower.{routines_from}
+use Rattle.f3_code.specs.Lower.{routines_from}
 use Rattle.f3_code.specs.Code.{routines_code}
 use Rattle.f3_gen_values.specs.Emitted.{Emitted}
 use Rattle.f3_gen_procedures.specs.Ends.{routine_ends}

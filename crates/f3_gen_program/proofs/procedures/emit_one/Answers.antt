@@ -1,5 +1,5 @@
 use Rattle.std.proofs.Common.{length}
-use Rattle.f3_core.specs.Lower.{lowered_procedure}
+use Rattle.f3_code.specs.Lower.{lowered_procedure}
 use Rattle.f3_code.specs.Code.{body_code}
 use Rattle.f3_gen_work.proofs.Emitting.{on_ok}
 use Rattle.f3_gen_program.proofs.ForProgram.{in_program}

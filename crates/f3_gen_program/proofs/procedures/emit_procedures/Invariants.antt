@@ -1,6 +1,6 @@
 use Rattle.std.proofs.Common.{◌≡◌, ◌≤◌, ◌++◌, length, drop, map, reverse}
 use Rattle.f3_meaning_whole.specs.Run.{setting_of}
-use Rattle.f3_core.specs.Lower.{lowered_procedure}
+use Rattle.f3_code.specs.Lower.{lowered_procedure}
 use Rattle.f3_code.specs.Code.{procedures_code}
 use Rattle.f3_gen_procedures.specs.Ends.{procedure_ends}
 use Rattle.f3_gen_program.specs.EmittedFor.{EmittedFor}

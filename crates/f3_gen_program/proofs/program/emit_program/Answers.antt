@@ -1,7 +1,7 @@
 use Rattle.std.proofs.Common.{◌≡◌, ◌-◌, ◌≤◌, ◌++◌, length, map, reverse, sym, ap, subst, ◌∙◌, arith}
 use Rattle.std.specs.Prelude.{All}
 use Rattle.f3_meaning_whole.specs.Run.{setting_of}
-use Rattle.f3_core.specs.Lower.{lowered_procedure, routines}
+use Rattle.f3_code.specs.Lower.{lowered_procedure, routines}
 use Rattle.f3_gen_procedures.specs.Ends.{procedure_ends, routine_ends}
 use Rattle.f3_gen_program.proofs.ForProgram.{main_for, routines_for}
 use Rattle.f3_gen_program.proofs.Placed.{procedures_within, routines_within}

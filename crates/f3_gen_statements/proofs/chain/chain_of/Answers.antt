@@ -1,8 +1,8 @@
 use Rattle.std.proofs.Common.{◌≡◌, ◌<◌, refl, arith}
 use Rattle.f3_program.specs.declared.statement.Statement.{size-Statement}
 use Rattle.f3_meaning_whole.specs.Act.{Setting}
-use Rattle.f3_core.specs.Core as o
-use Rattle.f3_core.specs.Lower.{lowered}
+use Rattle.f3_code.specs.Core as o
+use Rattle.f3_code.specs.Lower.{lowered}
 use Rattle.f3_gen_statements.proofs.Chains.{case_more, if_more, met_smaller, next_smaller, other_smaller, parts_more, taken_smaller}
 use Rattle.f3_gen_statements.proofs.chain.chain_of.Goals as goal
 

@@ -2,7 +2,7 @@ use Rattle.std.proofs.Common.{◌≡◌, ◌<◌, ◌≤◌, ℕ}
 use Rattle.std.specs.List.{All}
 use Rattle.f3_program.specs.declared.statement.Statement.{size-Statement}
 use Rattle.f3_meaning_whole.specs.Act.{Setting}
-use Rattle.f3_core.specs.Lower.{lowered}
+use Rattle.f3_code.specs.Lower.{lowered}
 use Rattle.f3_code.specs.Code.{Ways, code_of}
 use Rattle.f3_gen_statements.specs.Chain.{chain_code}
 use Rattle.f3_gen_statements.proofs.chain.chain_of.Given as goal

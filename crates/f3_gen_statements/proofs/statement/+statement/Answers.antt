@@ -1,7 +1,7 @@
 use Rattle.std.proofs.Common.{◌≡◌, ◌-◌, ◌∷◌, [], length, refl, sym, ap, ◌∙◌, append_assoc, arith}
 use Rattle.std.proofs.lemmas.List.{length-map}
-use Rattle.f3_core.specs.Core as o
-use Rattle.f3_core.specs.Lower.{lowered, selecting}
+use Rattle.f3_code.specs.Core as o
+use Rattle.f3_code.specs.Lower.{lowered, selecting}
 use Rattle.f3_code.specs.State.{line}
 use Rattle.f3_code.specs.declared.instruction.Instruction.TheVariants as i
 use Rattle.f3_code.specs.Code.{code_of, locate_code}

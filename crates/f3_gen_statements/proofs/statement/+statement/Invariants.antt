@@ -1,6 +1,6 @@
 use Rattle.std.proofs.Common.{◌+◌, ◌*◌, ◌≤◌, length, drop}
 use Rattle.f3_program.specs.declared.statement.Statement.{size-Statement}
-use Rattle.f3_core.specs.Lower.{lowered}
+use Rattle.f3_code.specs.Lower.{lowered}
 use Rattle.f3_code.specs.Code.{code_of}
 use Rattle.f3_gen_work.specs.EmittedIn.{EmittedIn}
 use Rattle.f3_gen_statements.specs.Chain.{chain_code}

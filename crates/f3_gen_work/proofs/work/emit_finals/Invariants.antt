@@ -1,5 +1,5 @@
 use Rattle.std.proofs.Common.{◌≡◌, ◌≤◌, length, drop}
-use Rattle.f3_core.specs.Lower.{final_work}
+use Rattle.f3_code.specs.Lower.{final_work}
 use Rattle.f3_code.specs.Code.{work_code}
 use Rattle.f3_gen_values.specs.Emitted.{Emitted}
 use Rattle.f3_gen_work.proofs.work.emit_finals.Given as goal

@@ -1,5 +1,5 @@
 use Rattle.std.proofs.Common.{◌≤◌, length, drop, None}
-use Rattle.f3_core.specs.Lower.{routine_of}
+use Rattle.f3_code.specs.Lower.{routine_of}
 use Rattle.f3_code.specs.Code.{work_code}
 use Rattle.f3_gen_values.specs.Emitted.{Emitted}
 use Rattle.f3_gen_work.proofs.work.emit_routine.Given as goal

@@ -1,5 +1,5 @@
 use Rattle.std.proofs.Common.{sym, ◌∙◌}
-use Rattle.f3_account.specs.Account.{used}
+use Rattle.f3_code.specs.Account.{used}
 use Rattle.f3_data.specs.Stores.{store_of}
 use Rattle.f3_gen_values.specs.Emitted.{taken}
 use Rattle.f3_cells.specs.States.{setting}

@@ -4,7 +4,7 @@ use Rattle.f3_cells.specs.Cells.{cells_of}
 use Rattle.f3_requests.specs.Inner.Counted.{counted}
 use Rattle.f3_gen_values.specs.Emitted.{taken}
 use Rattle.std.proofs.Common.{drop, take, suc, arith}
-use Rattle.f3_answers.specs.Wants.{dimensions}
+use Rattle.f3_code.specs.Wants.{dimensions}
 use Rattle.f3_data.specs.Stores.{store_of}
 use Rattle.f3_cells.specs.States.{setting}
 use Rattle.f3_requests.specs.Inner.Counted.{extents, too_large}

@@ -1,5 +1,5 @@
 use Rattle.std.proofs.Common.{◌<◌, ◌≤◌, length, take, ap, sym, ◌∙◌, arith}
-use Rattle.f3_answers.specs.Wants.{given_words}
+use Rattle.f3_code.specs.Wants.{given_words}
 use Rattle.f3_cells.specs.Cells.{cells_of}
 use Rattle.f3_requests.specs.Inner.Counted.{held_words}
 use Rattle.f3_requests.proofs.Tops.{given_are}

@@ -1,6 +1,6 @@
 use Rattle.std.proofs.Common.{◌^◌, ◌%◌, ap, sym, ◌∙◌}
 use Rattle.f3_data.specs.Values.{value_of, values_of}
-use Rattle.f3_account.specs.Account.{all_objects}
+use Rattle.f3_code.specs.Account.{all_objects}
 use Rattle.f3_meaning_whole.specs.Value.{joined}
 use Rattle.f3_requests.proofs.Wanting.{copied}
 use Rattle.f3_requests.proofs.asking.copies.Goals as goal

@@ -1,5 +1,5 @@
 use Rattle.std.proofs.Common.{ap, sym, ◌∙◌}
-use Rattle.f3_answers.specs.Wants.{copies}
+use Rattle.f3_code.specs.Wants.{copies}
 use Rattle.f3_data.specs.Values.{value_of}
 use Rattle.f3_data.proofs.Rows.{array_is, array_of}
 use Rattle.f3_requests.proofs.asking.elements_of.Goals as goal

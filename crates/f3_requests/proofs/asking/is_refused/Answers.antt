@@ -1,4 +1,4 @@
-use Rattle.f3_account.specs.Account as account
+use Rattle.f3_code.specs.Account as account
 use Rattle.f3_data.specs.Stores.{store_of}
 use Rattle.f3_gen_values.specs.Emitted.{taken}
 use Rattle.f3_cells.specs.States.{setting}

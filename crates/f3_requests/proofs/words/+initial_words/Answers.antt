@@ -2,8 +2,8 @@ use Rattle.std.proofs.Common.{◌%◌, ◌^◌, ◌∙◌, ap, sym, arith, take,
 use Rattle.std.proofs.lemmas.List.{take_all}
 use Rattle.f3_program.specs.declared.declarations.Derived.{Derived}
 use Rattle.f3_meaning_whole.specs.Shape.{shapes_of, parts_in, initial_parts}
-use Rattle.f3_account.specs.Account.{level_words, row, words}
-use Rattle.f3_account.proofs.Rows.{row_joined}
+use Rattle.f3_code.specs.Account.{level_words, row, words}
+use Rattle.f3_code.proofs.Rows.{row_joined}
 use Rattle.f3_shaping.specs.Results.{component_value}
 use Rattle.f3_shaping.proofs.Trees.{number_past, tree_is, parts_are}
 use Rattle.f3_requests.proofs.Wording.{next}

@@ -1,6 +1,6 @@
 use Rattle.std.proofs.Common.{◌≡◌, ◌+◌, ◌*◌, ◌%◌, ◌^◌, take, length, map}
 use Rattle.f3_meaning_whole.specs.Shape.{shapes_of}
-use Rattle.f3_account.specs.Account.{level_words}
+use Rattle.f3_code.specs.Account.{level_words}
 use Rattle.f3_shaping.specs.Results.{component_value}
 use Rattle.f3_requests.proofs.words.+initial_words.Given as goal
 

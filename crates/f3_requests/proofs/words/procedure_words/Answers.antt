@@ -2,7 +2,7 @@ use Rattle.std.proofs.Common.{◌%◌, ◌^◌, map, ap, ◌∙◌}
 use Rattle.f3_meaning_whole.specs.Shape.{shapes_of, shape_in, initial_of, initial_declared}
 use Rattle.f3_meaning_whole.specs.Exec.{initial_value}
 use Rattle.f3_meaning_whole.specs.Run.{setting_of}
-use Rattle.f3_account.specs.Account.{level_words, words}
+use Rattle.f3_code.specs.Account.{level_words, words}
 use Rattle.f3_requests.proofs.Wording.{one_more}
 use Rattle.f3_requests.proofs.words.procedure_words.Goals as goal
 

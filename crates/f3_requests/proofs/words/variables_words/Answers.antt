@@ -2,7 +2,7 @@ use Rattle.std.proofs.Common.{◌%◌, ◌^◌, ap, ◌∙◌, arith}
 use Rattle.f3_meaning_whole.specs.Shape.{shapes_of, shape_in, initial_of, initial_declared}
 use Rattle.f3_meaning_whole.specs.Exec.{initial_value}
 use Rattle.f3_meaning_whole.specs.Run.{setting_of}
-use Rattle.f3_account.specs.Account.{words}
+use Rattle.f3_code.specs.Account.{words}
 use Rattle.f3_requests.proofs.Wording.{next}
 use Rattle.f3_requests.proofs.words.variables_words.Goals as goal
 

@@ -1,4 +1,4 @@
-use Rattle.f3_type_tables.specs.Tables.{AreTables}
+use Rattle.f3_type_words.specs.Tables.{AreTables}
 use Rattle.std.proofs.Common.{List, take}
 use Rattle.f3_room_frames.specs.Layouts.{IsLayout}
 use Rattle.f3_meaning_whole.specs.Shape.{Shape}

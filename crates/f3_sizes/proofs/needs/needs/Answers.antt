@@ -1,6 +1,6 @@
 use Rattle.std.proofs.Common.{◌≡◌, ℕ, List, length, take, sym, ap, ◌∙◌, arith}
 use Rattle.std.proofs.lemmas.List.{length-take-le}
-use Rattle.f3_core.specs.Lower.{lowered_program}
+use Rattle.f3_code.specs.Lower.{lowered_program}
 use Rattle.f3_sizes.specs.Parts.{AreCodeParts, AreAnswers}
 use Rattle.f3_sizes.specs.Needs.{AreNeverDeeper, AreNotPadded}
 use Rattle.f3_sizes.proofs.Laying.{enough, code_parts, answers_never_deeper, answers_not_padded, moved, if_ok_on}

@@ -2,7 +2,7 @@ use Rattle.std.proofs.Common.{List, take, map}
 use Rattle.f3_program.specs.declared.program.Static.{Static}
 use Rattle.f3_meaning_whole.specs.Shape.{Shape}
 use Rattle.f3_rooms.specs.Forms.{total}
-use Rattle.f3_type_tables.specs.Tables.{AreTables}
+use Rattle.f3_type_words.specs.Tables.{AreTables}
 use Rattle.f3_sizes.specs.Words.{AreWords}
 use Rattle.f3_sizes.proofs.words.statics.Given as goal
 

@@ -1,7 +1,7 @@
 use Rattle.std.proofs.Common.{arith, take, ◌≤◌, ◌<◌}
 use Rattle.f3_type_words.specs.Most.{most_words}
 use Rattle.f3_rooms.specs.Forms.{words_for}
-use Rattle.f3_type_tables.specs.Tables.{IsTable}
+use Rattle.f3_type_words.specs.Tables.{IsTable}
 use Rattle.f3_type_words.proofs.TableLaws.{shape_next, is_made, next_table, some_large, all_small, is_small}
 use Rattle.f3_type_words.proofs.tabling.tables.Goals as goal
 

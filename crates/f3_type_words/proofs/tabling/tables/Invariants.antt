@@ -3,7 +3,7 @@ use Rattle.std.specs.Prelude.{All}
 use Rattle.f3_meaning_whole.specs.Shape.{shapes_of}
 use Rattle.f3_type_words.specs.Most.{most_words}
 use Rattle.f3_rooms.specs.Forms.{words_for}
-use Rattle.f3_type_tables.specs.Tables.{AreTables}
+use Rattle.f3_type_words.specs.Tables.{AreTables}
 use Rattle.f3_type_words.proofs.tabling.tables.Given as goal
 
 abbrev pub invariant-loop-one : goal.invariant-loop-one

@@ -1,7 +1,7 @@
 use Rattle.std.proofs.Common.{subst, List}
 use Rattle.f3_program.specs.declared.declarations.Derived.{Derived}
 use Rattle.f3_meaning_whole.specs.Shape.{shapes_of}
-use Rattle.f3_type_tables.specs.Tables.{AreTables}
+use Rattle.f3_type_words.specs.Tables.{AreTables}
 use Rattle.f3_room_frames.specs.Bare.{TellBare}
 use Rattle.f3_room_frames.proofs.layouts.Layouts.new.Goals as goal
 

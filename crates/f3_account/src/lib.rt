@@ -1,2 +1,0 @@
-//! How many words of a heap the values of a run take.
-#![tactic(auto)]

@@ -1,2 +1,0 @@
-//! Core: what programs do, with the work that the source leaves to its reader written out.
-#![tactic(auto)]
