@@ -6,9 +6,9 @@ ghost use Rattle.f3_meaning_whole.specs.Shape.{Shape, Record, parts_in, shapes_o
 ghost use Rattle.f3_rooms.specs.Forms.{words_for, words_for_parts};
 ghost use Rattle.f3_type_words.specs.Tables.{AreTables, IsTable};
 
+use crate::table::TypeTable;
 use crate::words::words_of;
 use f3_program::declarations::{Component, Derived};
-use f3_type_words::table::TypeTable;
 use std::alloc::{AllocError, Global};
 
 /// The most words of an object that has a layout: 16,777,216 times 15, which are the words of an allocatable of rank 7.

@@ -6,8 +6,8 @@ ghost use Rattle.f3_meaning_whole.specs.Shape.{Shape, shape_in, spans_declared};
 ghost use Rattle.f3_rooms.specs.Forms.{laid_words, words_for, room};
 ghost use Rattle.f3_type_words.specs.Tables.{AreTables};
 
+use crate::table::TypeTable;
 use f3_program::declarations::{Base, Declared, Dimension};
-use f3_type_words::table::TypeTable;
 
 /// How many elements an array of bounds has (ISO/IEC 1539-1:2004, 6.2.2.2): none where they are 2 to the 64 or more.
 pub fn elements(bounds: &[Dimension]) -> Option<u64>
