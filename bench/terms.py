@@ -29,6 +29,8 @@ def lay(folder):
         place = f"{folder}/crates/{os.path.relpath(path, f'{TOP}/tools')}"
         os.makedirs(os.path.dirname(place), exist_ok=True)
         shutil.copy(path, place.removesuffix(".txt"))
+    # acts are planned there as in the cases of f3_rows
+    shutil.copy(f"{TOP}/crates/f3_rows/src/planning.rt", f"{folder}/crates/f3_act_lines/src")
     with open(f"{folder}/crates.txt", "w", encoding="utf-8") as lists:
         for name in ("crates.txt", "tools/crates"):
             with open(f"{TOP}/{name}", encoding="utf-8") as file:
