@@ -1,5 +1,6 @@
 //! Ops, made of a few acts.
 
+use f3_program::expression::Query;
 use f3_register_code::act::Act;
 use f3_register_code::code::RegisterCode;
 use f3_register_ops::op::Op;
@@ -28,6 +29,8 @@ fn op_name(op: &Op) -> &'static str {
         Op::LendOpenedThenSetBy(..) => "lend part, set",
         Op::LendOpenedThenSetBySmall(..) => "lend part, set small",
         Op::GetBy(..) => "get",
+        Op::GetState(..) => "state",
+        Op::GetBound(..) => "bound",
         Op::Call(..) => "call",
         Op::Return(..) => "return",
         _ => "other",
@@ -115,6 +118,18 @@ fn a_part_is_lent_for_one_access(rt: HostRuntime) -> Result<(), Fail> {
     let expected =
         "lend part, get\nget\nlend part, set small\nother\nlend part, set\nother\nlend part\nget\n";
     assert_eq!(rt; text.as_str(), expected);
+    Ok(())
+}
+
+#[test]
+fn what_an_allocatable_tells_is_read_alone(rt: HostRuntime) -> Result<(), Fail> {
+    let acts = [
+        Act::GetState(5, 0, 3, 0),
+        Act::GetBound(5, 0, 3, 1, Query::Upper, 0),
+        Act::GetBy(7, 5, 0),
+    ];
+    let text = shown(rt.alloc(), &acts)?;
+    assert_eq!(rt; text.as_str(), "state\nbound\nget\n");
     Ok(())
 }
 

@@ -1,5 +1,6 @@
 //! Acts as lines: what an act is, in words, its numbers, and behind a bar how many instructions the stretch has that it ends.
 
+use f3_program::expression::Query;
 use f3_register_code::act::{Act, Slot};
 use std::alloc::{AllocError, Global};
 
@@ -261,6 +262,33 @@ fn operating(alloc: Global, act: Act) -> Result<String, AllocError> {
     }
 }
 
+/// What is asked of a dimension.
+fn bound(query: Query) -> &'static str {
+    match query {
+        Query::Extent => "bound extent",
+        Query::Lower => "bound lower",
+        Query::Upper => "bound upper",
+    }
+}
+
+/// An act that reads what the words of an allocatable tell, or one of the above.
+fn telling(alloc: Global, act: Act) -> Result<String, AllocError> {
+    match act {
+        Act::GetState(d, r, behind, n) => {
+            line(alloc, "state", &[d as i64, r as i64, behind as i64], n)
+        }
+        Act::GetBound(d, r, behind, k, query, n) => {
+            line(
+                alloc,
+                bound(query),
+                &[d as i64, r as i64, behind as i64, k as i64],
+                n,
+            )
+        }
+        _ => operating(alloc, act),
+    }
+}
+
 /// An act.
 fn shown(alloc: Global, act: Act) -> Result<String, AllocError> {
     match act {
@@ -280,7 +308,7 @@ fn shown(alloc: Global, act: Act) -> Result<String, AllocError> {
                 n,
             )
         }
-        _ => operating(alloc, act),
+        _ => telling(alloc, act),
     }
 }
 
