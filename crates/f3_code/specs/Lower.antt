@@ -1,5 +1,5 @@
 -- The Core of a program.
-use Rattle.std.specs.Prelude.{ℕ, suc, Bool, true, false, not, ◌||◌, nat_eq, nat_lt, if◌then◌else◌, List, [], ◌∷◌, map, length, Option, None, Some, slice_get}
+use Rattle.std.specs.Prelude.{ℕ, suc, Bool, true, false, not, ◌&&◌, ◌||◌, nat_eq, nat_lt, if◌then◌else◌, List, [], ◌∷◌, map, length, Option, None, Some, slice_get, slice_index_or}
 use Rattle.f3_program.specs.declared.declarations.Base.{Base}
 use Rattle.f3_program.specs.declared.declarations.Base.TheVariants as base
 use Rattle.f3_program.specs.declared.declarations.Component.{Component}
@@ -18,7 +18,8 @@ use Rattle.f3_program.specs.declared.program.Procedure.{Procedure}
 use Rattle.f3_program.specs.declared.program.Program.{Program}
 use Rattle.f3_program.specs.declared.program.Static as x
 use Rattle.f3_meaning_whole.specs.Value.{Value}
-use Rattle.f3_meaning_whole.specs.Shape.{initial_of, shape_in}
+use Rattle.f3_meaning_whole.specs.Shape.{Whole, initial_of, shape_in, shapes_of}
+use Rattle.f3_meaning_whole.specs.Destroy.{is_destroyed}
 use Rattle.f3_meaning_whole.specs.Act.{Setting}
 use Rattle.f3_meaning_whole.specs.Exec.{initial_value, declared_in, variables}
 use Rattle.f3_meaning_whole.specs.Run.{setting_of}
@@ -38,13 +39,14 @@ final_work [] = w.Rest
 final_work (f ∷ fs) = w.Of_rank f.rank (w.Final f.procedure) (final_work fs)
 
 -- An object is destroyed (4.5.5.1), lent throughout: the final subroutine, the routine of the type on each element, and at
--- the end what has been allocated again beneath is freed. Only types of lower numbers have routines.
+-- the end what has been allocated again beneath is freed. Only types of lower numbers have routines. Where nothing in it is finalized
+-- or deallocated there is no work.
 abbrev pub object_work : List Derived → ℕ → Base → w.Work
 object_work types m base.Integer = w.Rest
 object_work types m base.Long = w.Rest
 object_work types m base.Logical = w.Rest
 object_work types m (base.Derived t) =
-    if nat_lt t m then w.And (w.Lending (w.And (final_work (finals_in (slice_get types t))) (w.Of_elements (w.Routine t)))) w.Clear else w.Rest
+    if nat_lt t m && is_destroyed types (slice_index_or (shapes_of types) t Whole) then w.And (w.Lending (w.And (final_work (finals_in (slice_get types t))) (w.Of_elements (w.Routine t)))) w.Clear else w.Rest
 
 -- an allocatable object is deallocated where it is allocated, another destroyed (6.3.3.1, 4.5.5.2)
 abbrev pub finish_work : List Derived → ℕ → Kind → w.Work

@@ -3,7 +3,7 @@
 
 ghost use Rattle.f3_core_rows.specs.Control.{ControlShows};
 ghost use Rattle.f3_core_rows.specs.Destroying.{DestroyingShows};
-ghost use Rattle.f3_core_rows.specs.Shape.{CoreStands};
+ghost use Rattle.f3_core_rows.specs.Shape.{CoreStands, ObjectsStand};
 
 /// Objects that are destroyed, deallocated, assigned and moved: these programs print this and end so.
 pub fn destroying_shows()
@@ -18,4 +18,9 @@ pub fn control_shows()
 /// What the Core of a program is.
 pub fn core_stands()
     ensures { CoreStands }
+{}
+
+/// What is done to objects that go, by what their types have.
+pub fn objects_stand()
+    ensures { ObjectsStand }
 {}

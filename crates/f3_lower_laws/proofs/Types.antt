@@ -2,7 +2,7 @@
 use Rattle.std.proofs.Common.{◌≡◌, ℕ, zero, suc, ◌+◌, ◌<◌, ◌≤◌, Bool, true, false, List, [], ◌∷◌, ◌++◌, length, Option, None, Some, refl, sym, ap, ◌∙◌}
 use Rattle.std.proofs.Common.{arith, if◌then◌else◌}
 use mathlib.Core.Path.{subst}
-use Rattle.std.specs.Prelude.{⊤, nat_eq, nat_lt, slice_get, slice_index_or}
+use Rattle.std.specs.Prelude.{⊤, ◌&&◌, nat_eq, nat_lt, slice_get, slice_index_or}
 use Rattle.std.proofs.lemmas.Bool.{eqb-true, eqb-false, ltb-true, ltb-false}
 use Rattle.std.proofs.Math.Seq.{get_or-append_seam}
 use Rattle.f3_program.specs.declared.declarations.Base.{Base}
@@ -14,10 +14,10 @@ use Rattle.f3_program.specs.declared.declarations.Kind.{Kind}
 use Rattle.f3_program.specs.declared.program.Program.{Program}
 use Rattle.f3_meaning_whole.specs.Reference.{One, Reference, paths, spans, is_pinned}
 use Rattle.f3_meaning_whole.specs.Ran.{Ran, ◌>>=◌, gives, each}
-use Rattle.f3_meaning_whole.specs.Shape.{Shape, Whole, Record, shape_in, parts_in, shapes_from, shapes_of, final_for}
+use Rattle.f3_meaning_whole.specs.Shape.{Shape, Whole, Record, Parts, shape_in, parts_in, shapes_from, shapes_of, final_for}
 use Rattle.f3_meaning_whole.specs.Act.{Here, Lent, Calls, clear, lending, contents, moved, components_of}
 use Rattle.f3_meaning_whole.specs.Run.{setting_of}
-use Rattle.f3_meaning_whole.specs.Destroy.{deallocate_by, finish_by, release_by, final_of, finalize, destroy, destroy_parts}
+use Rattle.f3_meaning_whole.specs.Destroy.{deallocate_by, finish_by, release_by, final_of, is_destroyed, finalize, destroy, destroy_parts}
 use Rattle.f3_code.specs.Work.{Work, Rest, And, Lending, Of_elements, Routine, Clear, If_allocated, Of_contents, Routines, work, routines_of}
 use Rattle.f3_code.specs.Lower.{finals_in, final_work, object_work, finish_work, routine_of, routines_from, routines}
 use Rattle.f3_lower_laws.proofs.Expressions.{bare}
@@ -57,6 +57,27 @@ elsewhere [] x y (suc t) apart = refl
 elsewhere (z ∷ xs) x y zero apart = refl
 elsewhere (z ∷ xs) x y (suc t) apart = elsewhere xs x y t (λ e. apart (ap suc e))
 
+-- a longer list is the same before its end
+front_same : {A : Type 0} (xs : List A) (x y : A) (t : ℕ) → t < length xs → slice_index_or (xs ++ x ∷ []) t y ≡ slice_index_or xs t y
+front_same xs x y t below = elsewhere xs x y t (λ e. apart t (length xs) below e)
+  where
+    apart : (t n : ℕ) → t < n → t ≡ n → ⊥
+    apart t n below e = absurd (omega arith)
+
+-- the trees of further types change none of those in front
+front_kept : (ts : List Derived) (shapes : List Shape) (t : ℕ) → t < length shapes →
+    slice_index_or (shapes_from shapes ts) t Whole ≡ slice_index_or shapes t Whole
+front_kept [] shapes t below = refl
+front_kept (x ∷ ts) shapes t below =
+    front_kept ts (shapes ++ newest ∷ []) t (subst (λ k. t < k) (sym (one_more shapes newest)) (further t (length shapes) below))
+    ∙ front_same shapes newest Whole t below
+  where
+    newest : Shape
+    newest = Record (length shapes) (parts_in shapes x.components.items)
+
+    further : (t n : ℕ) → t < n → t < suc n
+    further t n below = omega arith
+
 module _ (p : Program) (calls : Calls) where
   finals_same : (routines : Routines) (fs : List Final) (r : Reference) (here : Here) → work (bare p) calls routines (final_work fs) r here
       ≡ finalize (setting_of p) calls (final_for (length (spans r.reach)) fs) r here
@@ -80,6 +101,7 @@ module _ (p : Program) (calls : Calls) where
     pub routines_are : length older ≡ m
     pub inside : (t : ℕ) → nat_lt t m ≡ true → slice_index_or shapes t Whole ≡ Record t (components_of (slice_index_or shapes t Whole))
     pub outside : (t : ℕ) → nat_lt t m ≡ false → slice_index_or shapes t Whole ≡ Whole
+    pub whole : (t : ℕ) → nat_lt t m ≡ true → slice_index_or (shapes_of p.types.items) t Whole ≡ slice_index_or shapes t Whole
     pub by : (t : ℕ) (r : Reference) (here : Here) → routines_of (bare p) calls older t r here
         ≡ destroy_parts (setting_of p) calls (components_of (slice_index_or shapes t Whole)) t 0 r here
 
@@ -98,13 +120,26 @@ module _ (p : Program) (calls : Calls) where
         inner : Here
         inner = lending (r ∷ []) here
 
-        derived : (b : Bool) → nat_lt t m ≡ b → work (bare p) calls (routines_of (bare p) calls older) (if b then whole_work else Rest) r here
-            ≡ destroy (setting_of p) calls (slice_index_or shapes t Whole) r here
-        derived true e =
+        destroyed : (parts : Parts) → components_of (slice_index_or shapes t Whole) ≡ parts → (b : Bool) →
+            work (bare p) calls (routines_of (bare p) calls older) (if b then whole_work else Rest) r here
+            ≡ (if b then (finalize (setting_of p) calls (final_of (slice_get p.types.items t) (length (spans r.reach))) r inner >>= λ done.
+            each (paths r) (λ q. destroy_parts (setting_of p) calls parts t 0 (moved r q One) inner) >>= λ done. clear r here) else gives tt)
+        destroyed parts e false = refl
+        destroyed parts e true =
             bind_assoc (work (bare p) calls (routines_of (bare p) calls older) (final_work (finals_in (slice_get p.types.items t))) r inner)
             (λ done. each (paths r) (λ q. routines_of (bare p) calls older t (moved r q One) inner)) (λ done. clear r here)
             ∙ bind_same (final_same _ (slice_get p.types.items t) r inner)
-            (λ done. bind_same (each_same (paths r) (λ q. follow.by t (moved r q One) inner)) (λ done. refl))
+            (λ done. bind_same (each_same (paths r) (λ q. follow.by t (moved r q One) inner
+            ∙ ap (λ (parts : Parts). destroy_parts (setting_of p) calls parts t 0 (moved r q One) inner) e)) (λ done. refl))
+
+        derived : (b : Bool) → nat_lt t m ≡ b → work (bare p) calls (routines_of (bare p) calls older)
+            (if b && is_destroyed p.types.items (slice_index_or (shapes_of p.types.items) t Whole) then whole_work else Rest) r here
+            ≡ destroy (setting_of p) calls (slice_index_or shapes t Whole) r here
+        derived true e =
+            ap (λ (s : Shape). work (bare p) calls (routines_of (bare p) calls older) (if is_destroyed p.types.items s then whole_work else Rest) r here)
+            (follow.whole t e ∙ follow.inside t e)
+            ∙ destroyed (components_of (slice_index_or shapes t Whole)) refl
+            (is_destroyed p.types.items (Record t (components_of (slice_index_or shapes t Whole))))
             ∙ ap (λ (s : Shape). destroy (setting_of p) calls s r here) (sym (follow.inside t e))
         derived false e = ap (λ (s : Shape). destroy (setting_of p) calls s r here) (sym (follow.outside t e))
 
@@ -139,6 +174,7 @@ module _ (p : Program) (calls : Calls) where
     routines_are = refl;
     inside = λ t e. absurd (none t e);
     outside = λ t e. refl;
+    whole = λ t e. absurd (none t e);
     by = λ t r here. refl;
   }
     where
@@ -146,13 +182,15 @@ module _ (p : Program) (calls : Calls) where
       none t e = let below : t < 0 = ltb-true t 0 e in absurd (omega arith)
 
   -- one type more
-  one_type_more : (m : ℕ) (shapes : List Shape) (older : List Work) → Follow m shapes older → (cs : List Component) →
+  one_type_more : (m : ℕ) (shapes : List Shape) (older : List Work) → Follow m shapes older → (cs : List Component) (ts : List Derived) →
+      shapes_from (shapes ++ Record m (parts_in shapes cs) ∷ []) ts ≡ shapes_of p.types.items →
       Follow (suc m) (shapes ++ Record m (parts_in shapes cs) ∷ []) (routine_of p.types.items m 0 cs ∷ older)
-  one_type_more m shapes older follow cs = record {
+  one_type_more m shapes older follow cs ts all = record {
     shapes_are = one_more shapes newest ∙ ap suc follow.shapes_are;
     routines_are = ap suc follow.routines_are;
     inside = λ t e. inside_by t (nat_eq t m) refl e;
     outside = λ t e. outside_by t (nat_eq t m) refl e;
+    whole = λ t e. ap (λ (ss : List Shape). slice_index_or ss t Whole) (sym all) ∙ front_kept ts longer t (within t e);
     by = λ t r here. ap (λ (l : ℕ). if nat_eq t l then first r here else routines_of (bare p) calls older t r here) follow.routines_are
         ∙ by_number t r here (nat_eq t m) refl;
   }
@@ -162,6 +200,9 @@ module _ (p : Program) (calls : Calls) where
 
       longer : List Shape
       longer = shapes ++ newest ∷ []
+
+      within : (t : ℕ) → nat_lt t (suc m) ≡ true → t < length longer
+      within t e = subst (λ k. t < k) (sym (one_more shapes newest ∙ ap suc follow.shapes_are)) (ltb-true t (suc m) e)
 
       first : Reference → Here → Ran ⊤
       first r here = work (bare p) calls (routines_of (bare p) calls older) (routine_of p.types.items m 0 cs) r here
@@ -190,27 +231,30 @@ module _ (p : Program) (calls : Calls) where
       by_number t r here false e = follow.by t r here ∙ ap (λ (s : Shape). destroy_parts (setting_of p) calls (components_of s) t 0 r here) (sym (before t e))
 
   types_more : (ts : List Derived) (m : ℕ) (shapes : List Shape) (older : List Work) → Follow m shapes older →
-      Follow (m + length ts) (shapes_from shapes ts) (routines_from p.types.items older ts)
-  types_more [] m shapes older follow = subst (λ k. Follow k shapes older) (nothing_more m) follow
+      shapes_from shapes ts ≡ shapes_of p.types.items → Follow (m + length ts) (shapes_from shapes ts) (routines_from p.types.items older ts)
+  types_more [] m shapes older follow all = subst (λ k. Follow k shapes older) (nothing_more m) follow
     where
       nothing_more : (m : ℕ) → m ≡ m + 0
       nothing_more m = omega arith
-  types_more (x ∷ ts) m shapes older follow =
+  types_more (x ∷ ts) m shapes older follow all =
       subst (λ k. Follow k (shapes_from shapes (x ∷ ts)) (routines_from p.types.items older (x ∷ ts))) (counted m (length ts))
       (subst (λ k. Follow (suc m + length ts) (shapes_from (shapes ++ Record k (parts_in shapes x.components.items) ∷ []) ts)
       (routines_from p.types.items older (x ∷ ts))) (sym follow.shapes_are)
       (subst (λ k. Follow (suc m + length ts) (shapes_from (shapes ++ Record m (parts_in shapes x.components.items) ∷ []) ts)
       (routines_from p.types.items (routine_of p.types.items k 0 x.components.items ∷ older) ts)) (sym follow.routines_are)
       (types_more ts (suc m) (shapes ++ Record m (parts_in shapes x.components.items) ∷ []) (routine_of p.types.items m 0 x.components.items ∷ older)
-      (one_type_more m shapes older follow x.components.items))))
+      (one_type_more m shapes older follow x.components.items ts (numbered ∙ all)) (numbered ∙ all))))
     where
       counted : (m k : ℕ) → suc m + k ≡ m + suc k
       counted m k = omega arith
 
+      numbered : shapes_from (shapes ++ Record m (parts_in shapes x.components.items) ∷ []) ts ≡ shapes_from shapes (x ∷ ts)
+      numbered = ap (λ (k : ℕ). shapes_from (shapes ++ Record k (parts_in shapes x.components.items) ∷ []) ts) (sym follow.shapes_are)
+
   -- the routines of all types follow their trees
   pub all_follow : Follow (length p.types.items) (shapes_of p.types.items) (routines p.types.items)
   all_follow = subst (λ k. Follow k (shapes_of p.types.items) (routines p.types.items)) (from_zero (length p.types.items))
-      (types_more p.types.items 0 [] [] no_types)
+      (types_more p.types.items 0 [] [] no_types refl)
     where
       from_zero : (k : ℕ) → 0 + k ≡ k
       from_zero k = omega arith

@@ -40,7 +40,7 @@ use Rattle.f3_meaning_whole.specs.Ran.{Ran, gives, fails}
 use Rattle.f3_meaning_whole.specs.Shape.{Shape, Whole, Logical, Record, Parts, nothing, and, shape_in, final_for}
 use Rattle.f3_meaning_whole.specs.Act.{set, given, Setting, Here, Passed, Given, Lent, Calls, at, lending, named, selecting, associating, type_of, derived_of, component_type, to_root, moved, right_to, Chosen, picks, picks_in_each, contents}
 use Rattle.f3_meaning_whole.specs.Eval.{by_reach, value, bounds, argument, arguments, locate, select, select_in_each, chosen, subscript}
-use Rattle.f3_meaning_whole.specs.Destroy.{final_of, deallocate_by, release_by, finish_by, finalize, destroy, destroy_parts, finish}
+use Rattle.f3_meaning_whole.specs.Destroy.{final_of, is_destroyed, deallocate_by, release_by, finish_by, finalize, destroy, destroy_parts, finish}
 use Rattle.f3_meaning_whole.specs.Exec.{Flow, Onward, Cycled, Left, Returned, onward, next_turn, turns, counted, where_out, unless_failed, status_number, declared_in, Association, held_by, allocate, too_many, initialize, overwrite, fill, renew, assign, answer, dimensions, allocate_all, deallocate, deallocate_all, take_over, move_alloc, items, selectors, increment, some_meets, exec, block, finish_locals, outs, called, right_of, based_reach, bound, dummies, argument_at, shown_reach, associated, associates, left_at, new_value, variables, held}
 use Rattle.f3_meaning_whole.specs.Run.{call_of, calls_of, main_of, runs, run_of, setting_of, first_here, first_store, first_world, changes}
 use Rattle.f3_meaning_whole.specs.Permitted.{Each, Permitted, is_define, is_in, same_type, Lendable, Scope, lendable, unknown, dummies_in, names_of, names_in, name_of, designated, selectable_of, selectable_in, selectable, MayPass, MayPassAll, MayValue, MayArgument, MayArguments, MayLocate, MayTake, MaySubscripts, MaySubscript, MayDefine, MayDefineAs, MayStat, MayBound, MayRequest, MayItem, MayBe, names_by, naming, MayExec, MayBlock, scope_of, MayRun, IsFinalOf, HaveFinals, IsLawful, numbers, IsAt}
@@ -368,9 +368,9 @@ module _ (g : Setting) (calls : Calls) (c : CallsKeep g calls) (shaped : AreShap
     destroy_keeps Whole of w r here k = gives_safe g.program tt
     destroy_keeps Logical of w r here k = gives_safe g.program tt
     destroy_keeps (Record t parts) of w r here k =
-        bind_keeps g.program (finalize_keeps of _ r (lending (r ∷ []) here) k (subst (λ b. Takes g.program b (final_of (slice_get g.program.types.items t) (length (spans r.reach)))) (ap base.Derived (from_zero t) ∙ sym w.0) (takes_of g.program 0 g.program.types.items t (length (spans r.reach)) finals))) (λ done z.
+        if_keeps g.program (is_destroyed g.program.types.items (Record t parts)) (bind_keeps g.program (finalize_keeps of _ r (lending (r ∷ []) here) k (subst (λ b. Takes g.program b (final_of (slice_get g.program.types.items t) (length (spans r.reach)))) (ap base.Derived (from_zero t) ∙ sym w.0) (takes_of g.program 0 g.program.types.items t (length (spans r.reach)) finals))) (λ done z.
         bind_keeps g.program (each_keeps g.program (paths r) _ (IsAt r.path.root (numbers r.makers)) k.honest.parts (λ q e. parts_keep parts of t 0 w.1 (moved r q One) (lending (r ∷ []) here) (record { honest = honest_moved g.program r k.honest q e.0 One (e, tt); right = k.right; of = k.of }))) (λ done z.
-        clear_keeps g.program r here k.honest (k.right refl)))
+        clear_keeps g.program r here k.honest (k.right refl)))) (gives_safe g.program tt)
 
     parts_keep : (xs : Parts) (of : Base) (t k : ℕ) → AreParts g.program.types.items xs of k → Destroys of (destroy_parts g calls xs t k)
     parts_keep nothing of t k w r here h = gives_safe g.program tt

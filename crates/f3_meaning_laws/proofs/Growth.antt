@@ -27,7 +27,7 @@ use Rattle.f3_meaning_whole.specs.Ran.{Event, End, Gives, Fails, Stops, Beyond, 
 use Rattle.f3_meaning_whole.specs.Shape.{Shape, Whole, Logical, Record, Parts, nothing, and}
 use Rattle.f3_meaning_whole.specs.Act.{Setting, Here, Passed, Calls, at, lending}
 use Rattle.f3_meaning_whole.specs.Eval.{by_reach, value, bounds, argument, arguments, locate, select, select_in_each, chosen, subscript}
-use Rattle.f3_meaning_whole.specs.Destroy.{deallocate_by, release_by, finish_by, finalize, destroy, destroy_parts, finish}
+use Rattle.f3_meaning_whole.specs.Destroy.{is_destroyed, deallocate_by, release_by, finish_by, finalize, destroy, destroy_parts, finish}
 use Rattle.f3_meaning_whole.specs.Exec.{Flow, Onward, Cycled, Left, Returned, onward, next_turn, turns, counted, where_out, unless_failed, overwrite, renew, assign, answer, dimensions, allocate_all, deallocate, deallocate_all, move_alloc, items, selectors, some_meets, exec, block, finish_locals, outs, called}
 use Rattle.f3_meaning_whole.specs.Run.{call_of, calls_of, setting_of, first_here, first_world, main_of, runs, run_of}
 use Rattle.f3_meaning_laws.specs.Laws.{GrowsAs, Extends, Grows}
@@ -194,7 +194,8 @@ module _ (g : Setting) (calls calls' : Calls) (c : (here : Here) (f : ℕ) (ps :
     destroy_grows Whole r here = same _
     destroy_grows Logical r here = same _
     destroy_grows (Record t parts) r here =
-        bind_grows (finalize_grows _ r _) (λ done. bind_grows (each_grows _ _ _ (λ p. parts_grow parts t 0 _ _)) (λ done. same _))
+        if_grows (is_destroyed g.program.types.items (Record t parts))
+        (bind_grows (finalize_grows _ r _) (λ done. bind_grows (each_grows _ _ _ (λ p. parts_grow parts t 0 _ _)) (λ done. same _))) (same _)
 
     parts_grow : (xs : Parts) (t k : ℕ) (r : Reference) (here : Here) → Grows (destroy_parts g calls xs t k r here) (destroy_parts g calls' xs t k r here)
     parts_grow nothing t k r here = same _

@@ -11,7 +11,7 @@ use Rattle.f3_meaning_whole.specs.Reference.{Language, One, Reference, paths, sp
 use Rattle.f3_meaning_whole.specs.Ran.{Ran}
 use Rattle.f3_meaning_whole.specs.Shape.{Shape, Whole, Logical, Record, Parts, nothing, and, shape_in, shapes_of, final_for}
 use Rattle.f3_meaning_whole.specs.Act.{Here, Lent, Calls, lending, moved}
-use Rattle.f3_meaning_whole.specs.Destroy.{final_of, deallocate_by, release_by, finish_by, finalize, destroy, destroy_parts, finish}
+use Rattle.f3_meaning_whole.specs.Destroy.{final_of, is_destroyed, deallocate_by, release_by, finish_by, finalize, destroy, destroy_parts, finish}
 use Rattle.f3_meaning_whole.specs.Run.{setting_of}
 use Rattle.f3_meaning_whole.specs.Permitted.{Each}
 use Rattle.f3_pure_laws.specs.Pure.{finals_of, HasPureFinals, HavePureFinals, MayEnd}
@@ -62,9 +62,9 @@ module _ (p : Program) (pure : ℕ → Bool) (level : ℕ) (free : Root → Bool
     destroy_quiet Whole m r here h = gives_quiet level free tt
     destroy_quiet Logical m r here h = gives_quiet level free tt
     destroy_quiet (Record t parts) m r here h =
-        bind_runs level free (finalize_quiet _ r (lending (r ∷ []) here) h (final_pure pure (length (spans r.reach)) (slice_get p.types.items t) m.0)) (λ done z.
+        if_runs level free (is_destroyed p.types.items (Record t parts)) (bind_runs level free (finalize_quiet _ r (lending (r ∷ []) here) h (final_pure pure (length (spans r.reach)) (slice_get p.types.items t) m.0)) (λ done z.
         bind_runs level free (each_runs level free (paths r) _ (IsFree free) h.1 (λ q e. parts_quiet parts t 0 m.1 (moved r q One) (lending (r ∷ []) here) (e, (e, tt)))) (λ done z.
-        clear_runs level free r here h.1))
+        clear_runs level free r here h.1))) (gives_quiet level free tt)
 
     parts_quiet : (xs : Parts) (t k : ℕ) → HavePureFinals p pure xs → Destroys (destroy_parts (setting_of p) calls xs t k)
     parts_quiet nothing t k m r here h = gives_quiet level free tt
