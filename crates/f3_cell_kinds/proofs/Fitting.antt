@@ -1,6 +1,6 @@
 -- What the language does to objects fits their kinds.
-use Rattle.std.proofs.Common.{◌≡◌, ◌∙◌, sym, refl, ap, ℕ, zero, suc, ◌+◌, Bool, true, false, ◌||◌, not, List, [], ◌∷◌, length, Option, Some, None, subst, arith, if◌then◌else◌}
-use Rattle.std.specs.Prelude.{nat_lt, nat_eq, slice_get}
+use Rattle.std.proofs.Common.{◌≡◌, ◌∙◌, sym, refl, ap, ℕ, zero, suc, ◌+◌, Bool, true, false, ◌&&◌, ◌||◌, not, List, [], ◌∷◌, length, Option, Some, None, subst, arith, if◌then◌else◌}
+use Rattle.std.specs.Prelude.{nat_lt, nat_eq, slice_get, slice_index_or}
 use Rattle.std.proofs.lemmas.Bool.{eqb-true}
 use Rattle.std.proofs.Math.Dec.{eqb-suc-zero}
 use Rattle.f3_program.specs.declared.declarations.Base.{Base}
@@ -13,6 +13,8 @@ use Rattle.f3_program.specs.declared.program.Intent.{Intent}
 use Rattle.f3_program.specs.declared.program.Intent.TheVariants as intent
 use Rattle.f3_program.specs.declared.program.Program.{Program}
 use Rattle.f3_meaning_whole.specs.Act.{component_in, component_of}
+use Rattle.f3_meaning_whole.specs.Shape.{Whole, shapes_of}
+use Rattle.f3_meaning_whole.specs.Destroy.{is_destroyed}
 use Rattle.f3_meaning_whole.specs.Formed.{all, of_kind, referenced, takes}
 use Rattle.f3_meaning_whole.specs.Run.{setting_of}
 use Rattle.f3_code.specs.Work as w
@@ -57,7 +59,7 @@ module _ (p : Program) where
   object_fits fits m k base.Integer e held = tt
   object_fits fits m k base.Long e held = tt
   object_fits fits m k base.Logical e held = tt
-  object_fits fits m k (base.Derived t) e held = derived_fits fits (nat_lt t m) t k e held
+  object_fits fits m k (base.Derived t) e held = derived_fits fits (nat_lt t m && is_destroyed p.types.items (slice_index_or (shapes_of p.types.items) t Whole)) t k e held
 
   finish_fits_by : FinalsFit → (m : ℕ) (k : Kind) (b : Bool) → k.is_allocatable ≡ b →
       WorkFits p k (if b then w.If_allocated (w.Of_contents (object_work p.types.items m k.of)) else object_work p.types.items m k.of)

@@ -12,9 +12,10 @@ use f3_code::instruction::Instruction;
 use f3_gen_values::line::{Line, put};
 use f3_gen_values::value::{emit_object, emit_value};
 use f3_gen_work::transfer::emit_transfer;
+use f3_gen_work::types::Types;
 use f3_gen_work::work::emit_end;
 use f3_places::source::Place;
-use f3_program::declarations::{Derived, Kind};
+use f3_program::declarations::Kind;
 use f3_program::expression::{Designator, Expression};
 use std::alloc::AllocError;
 
@@ -22,7 +23,7 @@ use std::alloc::AllocError;
 pub fn emit_assignment(
     code: &mut Vec<Line>,
     place: Option<Place>,
-    types: &[Derived],
+    types: &Types<'_>,
     variable: &Designator,
     kind: Kind,
     value: &Expression,
@@ -39,7 +40,7 @@ pub fn emit_assignment(
 fn emit_moving(
     code: &mut Vec<Line>,
     place: Option<Place>,
-    types: &[Derived],
+    types: &Types<'_>,
     kind: Kind,
     is_from_first: bool,
 ) -> Result<(), AllocError>
@@ -60,7 +61,7 @@ fn emit_moving(
 pub fn emit_move(
     code: &mut Vec<Line>,
     place: Option<Place>,
-    types: &[Derived],
+    types: &Types<'_>,
     kind: Kind,
     is_from_first: bool,
     first: &Designator,

@@ -11,9 +11,10 @@ ghost use Rattle.f3_gen_work.specs.EmittedIn.{EmittedBy, EmittedIn};
 use f3_code::instruction::Instruction;
 use f3_gen_values::line::{Line, put};
 use f3_gen_values::value::{emit_object, emit_object_then, emit_value, emit_value_then};
+use f3_gen_work::types::Types;
 use f3_gen_work::work::{emit_deallocation, put_initial};
 use f3_places::source::Place;
-use f3_program::declarations::{Base, Derived};
+use f3_program::declarations::Base;
 use f3_program::expression::Designator;
 use f3_program::statement::{Bounds, Request};
 use std::alloc::AllocError;
@@ -87,7 +88,7 @@ pub fn emit_allocations(
 fn emit_free(
     code: &mut Vec<Line>,
     place: Option<Place>,
-    types: &[Derived],
+    types: &Types<'_>,
     of: Base,
 ) -> Result<(), AllocError>
     ensures { OnOk result (Emitted code.old.items code.new.items (free_code (length types.now) place (w.Of_contents (object_work types.now (length types.now) of)))) }
@@ -104,7 +105,7 @@ fn emit_free(
 fn emit_request(
     code: &mut Vec<Line>,
     place: Option<Place>,
-    types: &[Derived],
+    types: &Types<'_>,
     request: &Request,
     others: usize,
 ) -> Result<(), AllocError>
@@ -120,7 +121,7 @@ fn emit_request(
 pub fn emit_deallocations(
     code: &mut Vec<Line>,
     place: Option<Place>,
-    types: &[Derived],
+    types: &Types<'_>,
     requests: &[Request],
 ) -> Result<(), AllocError>
     ensures { OnOk result (EmittedIn types.now code.old.items code.new.items (λ g. deallocate_code (length types.now) place (map (deallocation g) requests.now))) }

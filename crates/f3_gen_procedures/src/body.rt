@@ -12,7 +12,7 @@ use f3_code::instruction::Instruction;
 use f3_gen_statements::site::{Exits, Site};
 use f3_gen_statements::statement::emit_statement;
 use f3_gen_values::line::{Line, put};
-use f3_program::declarations::Derived;
+use f3_gen_work::types::Types;
 use f3_program::program::Procedure;
 use std::alloc::AllocError;
 
@@ -29,7 +29,7 @@ fn result_number(procedure: &Procedure) -> Option<usize>
 /// The end of a procedure: its variables end, and it goes back to where it was called, with its result (12.5.2.4).
 fn emit_last(
     code: &mut Vec<Line>,
-    types: &[Derived],
+    types: &Types<'_>,
     procedure: &Procedure,
 ) -> Result<(), AllocError>
     ensures { OnOk result (EmittedIn types.now code.old.items code.new.items (λ g. last_code (length types.now) (lowered_procedure g procedure.now))) }
@@ -44,7 +44,7 @@ fn emit_last(
 /// The statements of a procedure, and its END: a RETURN leads behind that (12.5.2.4).
 fn emit_statements(
     code: &mut Vec<Line>,
-    types: &[Derived],
+    types: &Types<'_>,
     procedure: &Procedure,
 ) -> Result<(), AllocError>
     ensures { OnOk result (EmittedIn types.now code.old.items code.new.items (λ g.
@@ -75,7 +75,7 @@ fn emit_statements(
 /// A procedure: what its dummies ask for, its statements, and its end (12.5.2).
 pub fn emit_procedure(
     code: &mut Vec<Line>,
-    types: &[Derived],
+    types: &Types<'_>,
     procedure: &Procedure,
 ) -> Result<(), AllocError>
     ensures { OnOk result (EmittedIn types.now code.old.items code.new.items (λ g. body_code (length types.now) (lowered_procedure g procedure.now))) }
@@ -89,7 +89,7 @@ pub fn emit_procedure(
 /// The main program, with its END (11.1).
 pub fn emit_main(
     code: &mut Vec<Line>,
-    types: &[Derived],
+    types: &Types<'_>,
     main: &Procedure,
 ) -> Result<(), AllocError>
     ensures { OnOk result (EmittedIn types.now code.old.items code.new.items (λ g. main_code (length types.now) (lowered_main g main.now))) }

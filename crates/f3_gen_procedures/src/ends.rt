@@ -10,14 +10,15 @@ ghost use Rattle.f3_gen_work.specs.EmittedIn.{EmittedIn};
 
 use f3_code::instruction::Instruction;
 use f3_gen_values::line::{Line, put};
+use f3_gen_work::types::Types;
 use f3_gen_work::work::{emit_discard, emit_end, emit_intent};
-use f3_program::declarations::{Declared, Derived, Kind};
+use f3_program::declarations::{Declared, Kind};
 use f3_program::expression::Name;
 use f3_program::program::Dummy;
 use std::alloc::AllocError;
 
 /// What the intent of a dummy asks for (12.4.1.7).
-fn emit_beginning(code: &mut Vec<Line>, types: &[Derived], dummy: &Dummy) -> Result<(), AllocError>
+fn emit_beginning(code: &mut Vec<Line>, types: &Types<'_>, dummy: &Dummy) -> Result<(), AllocError>
     ensures { OnOk result (EmittedIn types.now code.old.items code.new.items (λ g. begin_code (length types.now) (out_work g dummy.now.intent dummy.now.kind ∷ []))) }
 {
     let behind = code.len();
@@ -30,7 +31,7 @@ fn emit_beginning(code: &mut Vec<Line>, types: &[Derived], dummy: &Dummy) -> Res
 /// What the intents of dummies ask for, in their order (12.4.1.7).
 pub fn emit_beginnings(
     code: &mut Vec<Line>,
-    types: &[Derived],
+    types: &Types<'_>,
     dummies: &[Dummy],
 ) -> Result<(), AllocError>
     ensures { OnOk result (EmittedIn types.now code.old.items code.new.items (λ g.
@@ -47,7 +48,7 @@ pub fn emit_beginnings(
 /// A variable of a kind, by its number, ends (4.5.5.2, 6.3.3.1).
 fn emit_finish(
     code: &mut Vec<Line>,
-    types: &[Derived],
+    types: &Types<'_>,
     kind: Kind,
     number: usize,
 ) -> Result<(), AllocError>
@@ -61,7 +62,7 @@ fn emit_finish(
 /// Variables end in their order (4.5.5.2, 6.3.3.1).
 pub fn emit_finishes(
     code: &mut Vec<Line>,
-    types: &[Derived],
+    types: &Types<'_>,
     locals: &[Declared],
 ) -> Result<(), AllocError>
     ensures { OnOk result (EmittedIn types.now code.old.items code.new.items (λ g.

@@ -1,17 +1,19 @@
 -- Code in front of code, in one program.
-use Rattle.std.proofs.Common.{◌≡◌, ◌+◌, ◌++◌, List, length, reverse, refl, sym, ap, subst, ◌∙◌, append_assoc, arith}
+use Rattle.std.proofs.Common.{◌≡◌, ℕ, ◌+◌, ◌++◌, List, length, map, reverse, refl, sym, ap, subst, ◌∙◌, append_assoc, arith}
 use Rattle.std.proofs.lemmas.List.{reverse-append, length-append}
 use Rattle.f3_program.specs.declared.declarations.Derived.{Derived}
+use Rattle.f3_program.specs.declared.program.Procedure.{Procedure}
 use Rattle.f3_program.specs.declared.program.Program.{Program}
 use Rattle.f3_meaning_whole.specs.Act.{Setting}
 use Rattle.f3_meaning_whole.specs.Run.{setting_of}
-use Rattle.f3_code.specs.Lower.{lowered_main, routines}
+use Rattle.f3_code.specs.Lower.{lowered_main, lowered_procedure, routines}
 use Rattle.f3_code.specs.State as c
-use Rattle.f3_code.specs.Code.{main_code, routines_code}
+use Rattle.f3_code.specs.Code.{main_code, procedures_code, routines_code}
 use Rattle.f3_gen_values.specs.declared.line.Line.{Line}
 use Rattle.f3_gen_values.specs.Emitted.{Emitted, lines_in}
 use Rattle.f3_gen_work.specs.EmittedIn.{EmittedIn}
 use Rattle.f3_gen_work.proofs.Emitting.{counted_in}
+use Rattle.f3_gen_procedures.specs.Ends.{procedure_ends}
 use Rattle.f3_gen_program.specs.EmittedFor.{EmittedFor}
 
 pub in_program : (p : Program) (a b : List Line) (t : List Derived) (x : List Derived → Setting → List c.Line) → t ≡ p.types.items → EmittedIn t a b (x t)
@@ -36,3 +38,18 @@ routines_for p a b t e u = for_any p (subst (λ t. Emitted a b (routines_code (r
 pub main_for : (p : Program) (a b : List Line) (t : List Derived) → t ≡ p.types.items → EmittedIn t a b (λ g. main_code (length t) (lowered_main g p.main))
     → EmittedFor p a b (main_code (length p.types.items) (lowered_main (setting_of p) p.main))
 main_for p a b t e u = in_program p a b t (λ t g. main_code (length t) (lowered_main g p.main)) e u
+
+abbrev procedures_of : List Derived → List Procedure → Setting → List c.Line
+procedures_of t ps g = procedures_code (length t) (map (lowered_procedure g) ps)
+
+pub procedures_for : (p : Program) (a b : List Line) (t : List Derived) (ps : List Procedure) → t ≡ p.types.items → ps ≡ p.procedures.items
+    → EmittedIn t a b (λ g. procedures_code (length t) (map (lowered_procedure g) ps))
+    → EmittedFor p a b (procedures_code (length p.types.items) (map (lowered_procedure (setting_of p)) p.procedures.items))
+procedures_for p a b t ps e f u = in_program p a b t (λ t g. procedures_of t p.procedures.items g) e (subst (λ qs. EmittedIn t a b (λ g. procedures_of t qs g)) f u)
+
+pub ends_for : (p : Program) (t : List Derived) (ps : List Procedure) (first last : List ℕ) (n : ℕ) → t ≡ p.types.items → ps ≡ p.procedures.items
+    → ((g : Setting) → g.program.types.items ≡ t → last ≡ first ++ reverse (procedure_ends (length t) n (map (lowered_procedure g) ps)))
+    → last ≡ first ++ reverse (procedure_ends (length p.types.items) n (map (lowered_procedure (setting_of p)) p.procedures.items))
+ends_for p t ps first last n e f h =
+    subst (λ qs. last ≡ first ++ reverse (procedure_ends (length p.types.items) n (map (lowered_procedure (setting_of p)) qs))) f
+    (subst (λ ts. last ≡ first ++ reverse (procedure_ends (length ts) n (map (lowered_procedure (setting_of p)) ps))) e (h (setting_of p) (sym e)))

@@ -10,6 +10,7 @@ use crate::procedures::emit_procedures;
 use f3_gen_procedures::body::emit_main;
 use f3_gen_procedures::routines::emit_routines;
 use f3_gen_values::emission::Emission;
+use f3_gen_work::types::Types;
 use f3_program::program::Program;
 use std::alloc::{AllocError, Global};
 
@@ -22,9 +23,10 @@ pub fn emit_program(alloc: Global, program: &Program) -> Result<Emission, AllocE
     let mut lines = Vec::new(alloc);
     let mut procedure_ends = Vec::new(alloc);
     let mut routine_ends = Vec::new(alloc);
-    emit_procedures(&mut lines, &mut procedure_ends, program)?;
-    emit_routines(&mut lines, &mut routine_ends, &program.types)?;
-    emit_main(&mut lines, &program.types, &program.main)?;
+    let types = Types::of(alloc, &program.types)?;
+    emit_procedures(&mut lines, &mut procedure_ends, &types, &program.procedures)?;
+    emit_routines(&mut lines, &mut routine_ends, &types)?;
+    emit_main(&mut lines, &types, &program.main)?;
     let procedures = places(alloc, lines.len(), &procedure_ends)?;
     let routines = places(alloc, lines.len(), &routine_ends)?;
     lines.reverse();

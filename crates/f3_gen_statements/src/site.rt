@@ -1,7 +1,7 @@
 //! Where statements stand.
 
+use f3_gen_work::types::Types;
 use f3_places::source::Place;
-use f3_program::declarations::Derived;
 
 /// Where CYCLE, EXIT and RETURN lead: of each, how many lines there are from there to the end. And how many cells go at a
 /// RETURN.
@@ -17,7 +17,7 @@ pub struct Exits {
 /// activation's, and the ways out.
 #[derive(Clone, Copy)]
 pub struct Site<'a> {
-    pub types: &'a [Derived],
+    pub types: &'a Types<'a>,
     pub place: Option<Place>,
     pub exits: Exits,
 }

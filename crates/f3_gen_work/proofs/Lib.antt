@@ -1,3 +1,4 @@
+pub mod Destroying
 pub mod Emitting
 pub mod Finals
 pub mod Dropping

@@ -1,1 +1,2 @@
+pub mod Destroyed
 pub mod EmittedIn

@@ -2,4 +2,5 @@
 #![tactic(auto)]
 
 pub mod transfer;
+pub mod types;
 pub mod work;

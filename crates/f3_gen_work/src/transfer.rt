@@ -7,18 +7,19 @@ ghost use Rattle.f3_code.specs.Lower.{overwriting, filling, assigning, destroy_w
 ghost use Rattle.f3_code.specs.Code.{transfer_code};
 ghost use Rattle.f3_gen_work.specs.EmittedIn.{EmittedBy, EmittedIn};
 
+use crate::types::Types;
 use crate::work::{emit_deallocation, emit_destruction, put_initial};
 use f3_code::instruction::Instruction;
 use f3_gen_values::line::{Line, put};
 use f3_places::source::Place;
-use f3_program::declarations::{Derived, Kind};
+use f3_program::declarations::Kind;
 use std::alloc::AllocError;
 
 /// What was there is destroyed, then the value put there (7.4.1.3).
 fn emit_overwriting(
     code: &mut Vec<Line>,
     place: Option<Place>,
-    types: &[Derived],
+    types: &Types<'_>,
     kind: Kind,
 ) -> Result<(), AllocError>
     ensures { OnOk result (EmittedIn types.now code.old.items code.new.items (λ g. transfer_code (length types.now) place (overwriting g kind))) }
@@ -40,7 +41,7 @@ fn emit_filling(code: &mut Vec<Line>, place: Option<Place>, kind: Kind) -> Resul
 fn emit_replacing(
     code: &mut Vec<Line>,
     place: Option<Place>,
-    types: &[Derived],
+    types: &Types<'_>,
     kind: Kind,
 ) -> Result<(), AllocError>
     ensures { OnOk result (EmittedIn types.now code.old.items code.new.items
@@ -54,7 +55,7 @@ fn emit_replacing(
 fn emit_allocating(
     code: &mut Vec<Line>,
     place: Option<Place>,
-    types: &[Derived],
+    types: &Types<'_>,
     kind: Kind,
 ) -> Result<(), AllocError>
     ensures { OnOk result (EmittedIn types.now code.old.items code.new.items (λ g. transfer_code (length types.now) place
@@ -82,7 +83,7 @@ fn emit_allocating(
 pub fn emit_transfer(
     code: &mut Vec<Line>,
     place: Option<Place>,
-    types: &[Derived],
+    types: &Types<'_>,
     kind: Kind,
 ) -> Result<(), AllocError>
     ensures { OnOk result (EmittedIn types.now code.old.items code.new.items (λ g. transfer_code (length types.now) place (assigning g kind))) }

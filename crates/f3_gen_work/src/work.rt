@@ -1,6 +1,8 @@
 //! The code of work on objects: final subroutines, deallocation, and what INTENT(OUT) asks for.
 
-ghost use Rattle.std.specs.Prelude.{◌<◌, ◌∷◌, [], length, if◌then◌else◌, OnOk, slice_get};
+ghost use Rattle.std.specs.Prelude.{◌≡◌, ◌<◌, ◌∷◌, [], true, length, if◌then◌else◌, OnOk, slice_get, slice_index_or};
+ghost use Rattle.f3_meaning_whole.specs.Shape.{Whole, shapes_of};
+ghost use Rattle.f3_meaning_whole.specs.Destroy.{is_destroyed};
 ghost use Rattle.f3_code.specs.Work as w;
 ghost use Rattle.f3_code.specs.Lower.{final_work, finals_in, object_work, finish_work, routine_of, discard_work, out_work, initial};
 ghost use Rattle.f3_code.specs.State.{line, line_with};
@@ -8,10 +10,11 @@ ghost use Rattle.f3_code.specs.Code.{work_code};
 ghost use Rattle.f3_gen_values.specs.Emitted.{Emitted};
 ghost use Rattle.f3_gen_work.specs.EmittedIn.{EmittedBy, EmittedIn};
 
+use crate::types::Types;
 use f3_code::instruction::Instruction;
 use f3_gen_values::line::{Line, put};
 use f3_places::source::Place;
-use f3_program::declarations::{Base, Component, Derived, Final, Kind};
+use f3_program::declarations::{Base, Component, Final, Kind};
 use f3_program::program::Intent;
 use std::alloc::AllocError;
 
@@ -72,12 +75,12 @@ fn emit_finals(
 fn emit_finals_of(
     code: &mut Vec<Line>,
     place: Option<Place>,
-    types: &[Derived],
+    types: &Types<'_>,
     number: usize,
 ) -> Result<(), AllocError>
     ensures { OnOk result (Emitted code.old.items code.new.items (work_code 0 place (final_work (finals_in (slice_get types.now number))))) }
 {
-    match types.get(number) {
+    match types.items().get(number) {
         Some(of) => emit_finals(code, place, &of.finals),
         None => Ok(()),
     }
@@ -100,15 +103,16 @@ fn emit_elements(
     put(code, place, Instruction::WalkBegin)
 }
 
-/// An object of a derived type that has a routine is destroyed (4.5.5.1).
+/// An object of a derived type that has a routine, and in which something is finalized or deallocated, is destroyed (4.5.5.1).
 fn emit_destruction_of(
     code: &mut Vec<Line>,
     place: Option<Place>,
-    types: &[Derived],
+    types: &Types<'_>,
     count: usize,
     number: usize,
 ) -> Result<(), AllocError>
-    requires { number < count }
+    requires counted { number < count }
+    requires destroyed { is_destroyed types.now (slice_index_or (shapes_of types.now) number Whole) ≡ true }
     ensures { OnOk result (Emitted code.old.items code.new.items (work_code count place (object_work types.now count (Base.Derived number)))) }
 {
     put(code, place, Instruction::Clear)?;
@@ -122,7 +126,7 @@ fn emit_destruction_of(
 pub fn emit_destruction(
     code: &mut Vec<Line>,
     place: Option<Place>,
-    types: &[Derived],
+    types: &Types<'_>,
     count: usize,
     of: Base,
 ) -> Result<(), AllocError>
@@ -133,7 +137,7 @@ pub fn emit_destruction(
         Base::Long => Ok(()),
         Base::Logical => Ok(()),
         Base::Derived(number) => {
-            if number < count {
+            if number < count && types.is_destroyed(number) {
                 emit_destruction_of(code, place, types, count, number)
             } else {
                 Ok(())
@@ -146,7 +150,7 @@ pub fn emit_destruction(
 pub fn emit_deallocation(
     code: &mut Vec<Line>,
     place: Option<Place>,
-    types: &[Derived],
+    types: &Types<'_>,
     count: usize,
     of: Base,
 ) -> Result<(), AllocError>
@@ -162,7 +166,7 @@ pub fn emit_deallocation(
 pub fn emit_end(
     code: &mut Vec<Line>,
     place: Option<Place>,
-    types: &[Derived],
+    types: &Types<'_>,
     count: usize,
     kind: Kind,
 ) -> Result<(), AllocError>
@@ -181,7 +185,7 @@ pub fn emit_end(
 /// A component of an object ends (4.5.5.1).
 fn emit_component(
     code: &mut Vec<Line>,
-    types: &[Derived],
+    types: &Types<'_>,
     count: usize,
     component: &Component,
     number: usize,
@@ -197,7 +201,7 @@ fn emit_component(
 /// The routine of a type, by its components, where so many types stand before it (4.5.5.1).
 pub fn emit_routine(
     code: &mut Vec<Line>,
-    types: &[Derived],
+    types: &Types<'_>,
     count: usize,
     components: &[Component],
 ) -> Result<(), AllocError>
@@ -230,7 +234,7 @@ pub fn emit_discard(
 /// What the intent of a dummy asks for as a procedure begins (12.4.1.7).
 pub fn emit_intent(
     code: &mut Vec<Line>,
-    types: &[Derived],
+    types: &Types<'_>,
     intent: Intent,
     kind: Kind,
 ) -> Result<(), AllocError>
@@ -244,7 +248,7 @@ pub fn emit_intent(
 }
 
 /// A dummy with INTENT(OUT) ends, and one that is not allocatable takes its initial value (12.4.1.7).
-fn emit_out(code: &mut Vec<Line>, types: &[Derived], kind: Kind) -> Result<(), AllocError>
+fn emit_out(code: &mut Vec<Line>, types: &Types<'_>, kind: Kind) -> Result<(), AllocError>
     ensures { OnOk result (EmittedIn types.now code.old.items code.new.items (λ g. work_code (length types.now) None (out_work g Intent.Out kind))) }
 {
     emit_reset(code, kind)?;

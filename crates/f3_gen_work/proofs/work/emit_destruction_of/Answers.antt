@@ -6,4 +6,4 @@ pub returns : goal.returns
 returns c =
     then_ok _ _ c.put-3.result
     (emitted_then (emitted_then (emitted_then c.in_ok-put.ensures c.in_ok-put-2.ensures) c.in_ok-emit_elements.ensures) c.in_ok-emit_finals_of.ensures)
-    c.put-3.ensures (destroyed c.args.types.now c.args.count c.args.place c.args.number c.requires)
+    c.put-3.ensures (destroyed c.args.types.now c.args.count c.args.place c.args.number c.requires.counted c.requires.destroyed)
