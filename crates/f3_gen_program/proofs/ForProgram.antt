@@ -14,7 +14,7 @@ use Rattle.f3_gen_values.specs.Emitted.{Emitted, lines_in}
 use Rattle.f3_gen_work.specs.EmittedIn.{EmittedIn}
 use Rattle.f3_gen_work.proofs.Emitting.{counted_in}
 use Rattle.f3_gen_procedures.specs.Ends.{procedure_ends}
-use Rattle.f3_gen_program.specs.EmittedFor.{EmittedFor}
+use Rattle.f3_gen_program.proofs.EmittedFor.{EmittedFor}
 
 pub in_program : (p : Program) (a b : List Line) (t : List Derived) (x : List Derived → Setting → List c.Line) → t ≡ p.types.items → EmittedIn t a b (x t)
     → EmittedFor p a b (x p.types.items (setting_of p))

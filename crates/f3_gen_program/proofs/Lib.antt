@@ -1,3 +1,4 @@
+pub mod EmittedFor
 pub mod ForProgram
 pub mod Placed
 pub mod Whole

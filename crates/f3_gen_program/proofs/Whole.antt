@@ -12,7 +12,7 @@ use Rattle.f3_gen_values.specs.Emitted.{line_in, lines_in}
 use Rattle.f3_gen_procedures.specs.Ends.{procedure_ends, routine_ends}
 use Rattle.f3_gen_procedures.proofs.Newest.{length-routines_from}
 use Rattle.f3_gen_values.specs.declared.emission.Emission.{Emission}
-use Rattle.f3_gen_program.specs.EmittedFor.{EmittedFor}
+use Rattle.f3_gen_program.proofs.EmittedFor.{EmittedFor}
 use Rattle.f3_gen_values.specs.Emission.{code_in, entries_in}
 use Rattle.f3_gen_program.proofs.ForProgram.{for_then}
 use Rattle.f3_gen_program.proofs.Placed.{procedures_placed, routines_placed}

@@ -4,7 +4,7 @@ use f3_code::instruction::Instruction;
 use f3_gen_program::program::emit_program;
 use f3_gen_values::emission::Emission;
 use f3_places::source::Place;
-use f3_program::declarations::Constant;
+use f3_program::declarations::{Base, Component, Constant, Declared, Derived, Kind};
 use f3_program::expression::Expression;
 use f3_program::program::{Procedure, Program};
 use f3_program::statement::{Item, Statement};
@@ -97,6 +97,88 @@ fn endless(alloc: Global) -> Result<(usize, usize), AllocError> {
     let answer = turned(alloc, &program);
     drop(program);
     answer
+}
+
+/// What is declared with a type and nothing else.
+fn declared(alloc: Global, of: Base, is_allocatable: bool) -> Declared {
+    Declared {
+        kind: Kind {
+            of,
+            rank: 0,
+            is_allocatable,
+        },
+        dimensions: Vec::new(alloc),
+        initial: Vec::new(alloc),
+    }
+}
+
+/// A type with one component.
+fn holding(alloc: Global, declared: Declared) -> Result<Derived, AllocError> {
+    let mut components = Vec::new(alloc);
+    components.push(Component {
+        declared,
+        is_private: false,
+    })?;
+    Ok(Derived {
+        home: 0,
+        components,
+        finals: Vec::new(alloc),
+    })
+}
+
+/// A subroutine with one variable of a type.
+fn with_local(alloc: Global, of: Base) -> Result<Procedure, AllocError> {
+    let mut locals = Vec::new(alloc);
+    locals.push(declared(alloc, of, false))?;
+    Ok(Procedure {
+        unit: 0,
+        dummies: Vec::new(alloc),
+        locals,
+        result: None,
+        body: Statement::Return,
+        end: here(),
+    })
+}
+
+/// How often objects are lent to be destroyed, in the code of a program.
+fn lent(alloc: Global, program: &Program) -> Result<usize, AllocError> {
+    let emission = emit_program(alloc, program)?;
+    Ok(
+        emission
+            .lines
+            .iter()
+            .filter(|line| matches!(line.act, Instruction::Lend))
+            .count(),
+    )
+}
+
+/// The same of a program with a variable of a type that has a component of another, which has a number, allocatable or not.
+fn nested(alloc: Global, is_allocatable: bool) -> Result<usize, AllocError> {
+    let mut program = of(alloc, print(alloc, "")?);
+    let inner = holding(alloc, declared(alloc, Base::Integer, is_allocatable))?;
+    program.types.push(inner)?;
+    let outer = holding(alloc, declared(alloc, Base::Derived(0), false))?;
+    program.types.push(outer)?;
+    program
+        .procedures
+        .push(with_local(alloc, Base::Derived(1))?)?;
+    let answer = lent(alloc, &program);
+    drop(program);
+    answer
+}
+
+#[test]
+fn what_is_allocated_is_destroyed(rt: HostRuntime) -> Result<(), Fail> {
+    let count = nested(rt.alloc(), true)?;
+    assert_eq!(rt; count, 2);
+    Ok(())
+}
+
+#[test]
+fn nothing_else_is_destroyed(rt: HostRuntime) -> Result<(), Fail> {
+    let count = nested(rt.alloc(), false)?;
+    assert_eq!(rt; count, 0);
+    Ok(())
 }
 
 #[test]

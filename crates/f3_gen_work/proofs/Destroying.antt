@@ -10,7 +10,7 @@ use Rattle.f3_program.specs.declared.declarations.Component.{Component}
 use Rattle.f3_program.specs.declared.declarations.Derived.{Derived}
 use Rattle.f3_meaning_whole.specs.Shape.{Shape, Whole, Record, parts_in, shape_in, shapes_from, shapes_of}
 use Rattle.f3_meaning_whole.specs.Destroy.{are_destroyed, is_destroyed}
-use Rattle.f3_gen_work.specs.Destroyed.{destroyed_types, is_base_destroyed, is_component_destroyed}
+use Rattle.f3_gen_work.specs.Destroyed.{is_base_destroyed, is_component_destroyed}
 
 shapes_more : (ss : List Shape) (ts : List Derived) (x : Derived)
     → shapes_from ss (ts ++ x ∷ []) ≡ shapes_from ss ts ++ Record (length (shapes_from ss ts)) (parts_in (shapes_from ss ts) x.components.items) ∷ []
@@ -56,7 +56,3 @@ next_told xs i x ys zs lt at told made =
     = rw (found, components_told xs ss x.components.items) refl in
     made ∙ ap (λ v. v ++ (not (nat_eq (length x.finals.items) 0) || list_any (is_component_destroyed v) x.components.items) ∷ []) told
     ∙ ap (λ y. map (is_destroyed xs) ss ++ y ∷ []) (sym one) ∙ sym (map-append (is_destroyed xs) ss (s ∷ [])) ∙ ap (map (is_destroyed xs)) (sym more)
-
--- what is told of all types is told of the one of a number
-pub told_of : (types : List Derived) (t : ℕ) → slice_index_or (destroyed_types types) t false ≡ is_destroyed types (slice_index_or (shapes_of types) t Whole)
-told_of types t = told_at (is_destroyed types) (shapes_of types) t refl
