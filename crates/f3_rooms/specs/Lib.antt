@@ -1,5 +1,6 @@
 pub mod Held
 pub mod Forms
+pub mod Flat
 pub mod Values
 pub mod Rooms
 pub mod Places
