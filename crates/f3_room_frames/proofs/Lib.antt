@@ -12,4 +12,5 @@ pub mod LayoutLaws
 pub mod PartLaws
 pub mod Filling
 pub mod BareLaws
+pub mod Flats
 pub mod Entering
