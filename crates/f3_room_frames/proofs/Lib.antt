@@ -14,3 +14,4 @@ pub mod Filling
 pub mod BareLaws
 pub mod Flats
 pub mod Entering
+pub mod Flat
