@@ -17,7 +17,7 @@ ghost use Rattle.f3_room_frames.specs.Layouts.{IsLayout, HaveLayouts, AreLayouts
 ghost use Rattle.f3_room_frames.specs.LayoutProps.{layouts-prop, tables-prop, bare-prop, flat-prop, fits-prop};
 
 use crate::bare::{bare_types, have_bare_types, is_bare};
-use crate::flat::{flat_types, is_flat};
+use crate::flatness::{flat_types, is_flat};
 use crate::laying::{lay_out_procedure, lay_out_statics};
 use crate::layout::Layout;
 use f3_program::declarations::Base;

@@ -1,6 +1,6 @@
 use Rattle.std.proofs.Common.{arith}
 use Rattle.f3_room_frames.proofs.Flats.{next_parts, one_held, one_typed, all_parts}
-use Rattle.f3_room_frames.proofs.flat.are_flat.Goals as goal
+use Rattle.f3_room_frames.proofs.flatness.are_flat.Goals as goal
 
 pub returns-then-component : goal.returns-then-component
 returns-then-component c = λ ts told. one_held c.args.components.now c.loop-component.component-index c.component-item.result (omega arith) c.component-item.is ts c.if-component.true
