@@ -33,6 +33,8 @@ fn op_name(op: &Op) -> &'static str {
         Op::GetBound(..) => "bound",
         Op::Call(..) => "call",
         Op::Return(..) => "return",
+        Op::Release(..) => "release",
+        Op::ReleaseNothing(..) => "release nothing",
         _ => "other",
     }
 }
@@ -49,6 +51,7 @@ fn shown(alloc: Global, acts: &[Act]) -> Result<String, AllocError> {
         unary: Vec::new(alloc),
         binary: Vec::new(alloc),
         sites: Vec::new(alloc),
+        ends: Vec::new(alloc),
     };
     let ops = Ops::new(alloc, &code)?;
     let mut text = String::new(alloc);
@@ -130,6 +133,19 @@ fn what_an_allocatable_tells_is_read_alone(rt: HostRuntime) -> Result<(), Fail> 
     ];
     let text = shown(rt.alloc(), &acts)?;
     assert_eq!(rt; text.as_str(), "state\nbound\nget\n");
+    Ok(())
+}
+
+#[test]
+fn what_a_procedure_holds_is_released_alone(rt: HostRuntime) -> Result<(), Fail> {
+    let acts = [
+        Act::Add(0, 1, 2, 5),
+        Act::Release(0, 1, 6),
+        Act::SetBySmall(0, 2, 5),
+        Act::ReleaseNothing(2, 6),
+    ];
+    let text = shown(rt.alloc(), &acts)?;
+    assert_eq!(rt; text.as_str(), "add\nrelease\nother\nrelease nothing\n");
     Ok(())
 }
 

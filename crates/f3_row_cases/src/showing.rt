@@ -81,6 +81,8 @@ fn calling(alloc: Global, act: Act) -> Result<String, AllocError> {
         Act::Call(k, from, n) => line(alloc, "call", &[k as i64, from as i64], n),
         Act::Return(x, n) => line(alloc, "return", &[x as i64], n),
         Act::ReturnNothing(n) => line(alloc, "return nothing", &[], n),
+        Act::Release(x, k, n) => line(alloc, "release", &[x as i64, k as i64], n),
+        Act::ReleaseNothing(k, n) => line(alloc, "release nothing", &[k as i64], n),
         Act::PrintNumber(x, n) => line(alloc, "print number", &[x as i64], n),
         Act::PrintTruth(x, n) => line(alloc, "print truth", &[x as i64], n),
         Act::PrintByte(b, n) => line(alloc, "print byte", &[b as i64], n),
