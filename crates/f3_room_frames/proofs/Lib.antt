@@ -12,5 +12,6 @@ pub mod LayoutLaws
 pub mod PartLaws
 pub mod Filling
 pub mod BareLaws
+pub mod Flats
 pub mod Entering
 pub mod Flat

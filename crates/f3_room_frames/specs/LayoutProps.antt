@@ -14,6 +14,7 @@ use Rattle.f3_room_frames.specs.declared.layout.Variable.{Variable}
 use Rattle.f3_room_frames.specs.declared.layout.Layout.{Layout}
 use Rattle.f3_rooms.specs.Laws.{IsBare, AreBare}
 use Rattle.f3_room_frames.specs.Bare.{TellBare}
+use Rattle.f3_room_frames.specs.FlatTypes.{TellFlat}
 use Rattle.f3_room_frames.specs.Sound.{CanStand}
 use Rattle.f3_room_frames.specs.Layouts.{StandsFrom, AreLaidOut, IsLayout, HasLayout, HaveLayouts, AreLayouts, CanBeLaidOut}
 
@@ -78,3 +79,6 @@ bare-prop [] [] = hlevel props
 bare-prop [] (b ∷ bs) = hlevel props
 bare-prop (s ∷ ss) [] = hlevel props
 bare-prop (s ∷ ss) (b ∷ bs) = hlevel (props, tells-prop, bare-prop ss bs)
+
+pub flat-prop : (ss : List Shape) (bs : List Bool) → IsProp (TellFlat ss bs)
+flat-prop ss bs = hlevel props

@@ -9,3 +9,4 @@ pub mod Changes
 pub mod Layouts
 pub mod LayoutProps
 pub mod Bare
+pub mod FlatTypes

@@ -8,13 +8,16 @@ ghost use Rattle.f3_room_frames.specs.States.{types_of, variables_of};
 ghost use Rattle.f3_room_frames.specs.Sound.{CanStand};
 ghost use Rattle.std.specs.Bool.{MatchBool};
 ghost use Rattle.f3_program.specs.declared.declarations.Declared.{Declared};
+ghost use Rattle.f3_rooms.specs.Flat as whole;
 ghost use Rattle.f3_rooms.specs.Laws.{IsBare};
 ghost use Rattle.f3_room_frames.specs.Bare.{TellBare};
+ghost use Rattle.f3_room_frames.specs.FlatTypes.{TellFlat};
 ghost use Rattle.f3_room_frames.specs.Initial.{HaveBareTypes};
 ghost use Rattle.f3_room_frames.specs.Layouts.{IsLayout, HaveLayouts, AreLayouts, CanBeLaidOut};
-ghost use Rattle.f3_room_frames.specs.LayoutProps.{layouts-prop, tables-prop, bare-prop, fits-prop};
+ghost use Rattle.f3_room_frames.specs.LayoutProps.{layouts-prop, tables-prop, bare-prop, flat-prop, fits-prop};
 
 use crate::bare::{bare_types, have_bare_types, is_bare};
+use crate::flatness::{flat_types, is_flat};
 use crate::laying::{lay_out_procedure, lay_out_statics};
 use crate::layout::Layout;
 use f3_program::declarations::Base;
@@ -24,18 +27,21 @@ use f3_type_words::tabling::tables;
 use f3_type_words::words::base_words;
 use std::alloc::{AllocError, Global};
 
-/// The tables of the types of a program, whether none of their components is initialized, and where its variables stand: those that live for the whole run, the main program's, and each
-/// procedure's, which has no layout where its variables cannot stand in a block.
+/// The tables of the types of a program, whether none of their components is initialized, whether none is allocatable, and where its variables
+/// stand: those that live for the whole run, the main program's, and each procedure's, which has no layout where its variables cannot stand in
+/// a block.
 #[derive(Drop)]
 pub struct Layouts<'a> {
     pub program: &'a Program,
     pub tables: Vec<TypeTable>,
     pub bare: Vec<bool>,
+    pub flat: Vec<bool>,
     pub statics: Layout,
     pub main: Layout,
     pub procedures: Vec<Option<Layout>>,
     pub ghost typed: { AreTables (types_of program.now) tables.items } by { tables-prop _ _ },
     pub ghost told: { TellBare (types_of program.now) bare.items } by { bare-prop _ _ },
+    pub ghost level: { TellFlat (types_of program.now) flat.items } by { flat-prop _ _ },
     pub ghost fits: { CanBeLaidOut program.now } by { fits-prop _ },
     pub ghost laid: { AreLayouts program.now statics main procedures.items } by { layouts-prop _ _ _ _ },
 }
@@ -74,10 +80,12 @@ impl<'a> Layouts<'a> {
         };
         let procedures = lay_out_all(alloc, &tables, &program.procedures)?;
         let bare = bare_types(alloc, &program.types)?;
+        let flat = flat_types(alloc, &program.types)?;
         Ok(Some(Layouts {
             program,
             tables,
             bare,
+            flat,
             statics,
             main,
             procedures,
@@ -129,7 +137,14 @@ impl<'a> Layouts<'a> {
         is_bare(&self.bare, of)
     }
 
-    /// Whether that holds of the types of all variables of a layout.
+    /// Whether no component of a type is allocatable, at any depth (6.3.1).
+    pub fn is_flat(&self, of: Base) -> bool
+        ensures { result ≡ whole.is_flat (shape_in (types_of self.now.program.now) of) }
+    {
+        is_flat(&self.flat, of)
+    }
+
+    /// Whether no component is initialized of the types of all variables of a layout.
     pub fn have_bare_types(&self, layout: &Layout) -> bool
         ensures { (ds : List Declared) → IsLayout (types_of self.now.program.now) ds layout.now
             → MatchBool result (HaveBareTypes (types_of self.now.program.now) ds) (HaveBareTypes (types_of self.now.program.now) ds → ⊥) }

@@ -5,6 +5,7 @@
 pub mod bare;
 pub mod beginning;
 pub mod changes;
+pub mod flatness;
 pub mod laws;
 pub mod laying;
 pub mod layout;
