@@ -13,3 +13,4 @@ pub mod PartLaws
 pub mod Filling
 pub mod BareLaws
 pub mod Entering
+pub mod Flat

@@ -2,6 +2,7 @@
 
 ghost use Rattle.f3_rooms.specs.Laws.{PartsAreFound, PartsAreWithin, PartsAreReplaced, ScalarsArePut};
 ghost use Rattle.f3_rooms.specs.Laws.{ObjectsAreAllocated, ObjectsAreFreed, ObjectsMove, KeptBlocksKeep, ExtrasChangeNothing};
+ghost use Rattle.f3_rooms.specs.Flat.{FlatObjectsHoldNothing};
 ghost use Rattle.f3_rooms.specs.Laws.{LevelsBegin, LevelsEnd, ZerosAreBlank, BlankIsInitial};
 
 /// What stands at a part of a variable, found through its components, elements and what allocatables hold, is what its words are
@@ -57,4 +58,9 @@ pub fn levels_begin_and_end()
 pub fn zeros_are_initial()
     ensures zeros { ZerosAreBlank }
     ensures initial { BlankIsInitial }
+{}
+
+/// An object of a type of which no component is allocatable has no block beneath it, and neither has an array of such objects.
+pub fn flat_objects_hold_nothing()
+    ensures { FlatObjectsHoldNothing }
 {}
