@@ -14,3 +14,4 @@ pub mod Filling
 pub mod BareLaws
 pub mod Entering
 pub mod Flat
+pub mod Areas
