@@ -15,3 +15,4 @@ pub mod BareLaws
 pub mod Flats
 pub mod Entering
 pub mod Flat
+pub mod Areas
