@@ -17,7 +17,8 @@ none_in_each P bare (suc k) n b o end h = refl
 none_in_each P bare (suc k) n b o (next u hs) h =
     ap (λ bs. bs ++ blocks_in_all hs) (bare b o u h.0) ∙ none_in_each P bare k n b (o + n) hs h.1
 
-none_laid : (P : Fact) → ((b o : ℕ) (u : Held) → P b o u → blocks_in u ≡ []) → (rank : ℕ) (ss : List Span) (n b o : ℕ) (u : Held) → AreLaid rank ss n P b o u
+none_laid : (P : Fact) → ((b o : ℕ) (u : Held) → P b o u → blocks_in u ≡ []) → (rank : ℕ) (ss : List Span) (n b o : ℕ) (u : Held)
+    → AreLaid rank ss n P b o u
     → blocks_in u ≡ []
 none_laid P bare zero ss n b o u h = bare b o u h
 none_laid P bare (suc rank) ss n b o Empty h = refl
