@@ -52,10 +52,10 @@ use Rattle.f3_stretch_laws.proofs.Behind.{IsBefore, is_before}
 use Rattle.f3_stretch_laws.proofs.Ground.{Went, some_is, stretch_by}
 use Rattle.f3_stretch_laws.proofs.Landing.{Lands, lands_onward}
 use Rattle.f3_stretch_laws.proofs.Moving.{frame_of, standing_with}
+use Rattle.f3_stretch_laws.proofs.Names.{names_from}
 use Rattle.f3_stretch_laws.proofs.Prefixing.{HasTop, top_of}
+use Rattle.f3_stretch_laws.proofs.Setting.{begins_next, constant_single}
 use Rattle.f3_begin_laws.specs.Laws.{BeginsWith, DummiesBegin, begun}
-use Rattle.f3_begin_laws.proofs.Names.{names_from}
-use Rattle.f3_begin_laws.proofs.Setting.{begins_next}
 
 -- where a reference leads
 led_to : (b : Bool) (place at : ℕ × ℕ) → (if b then Some place else None) ≡ Some at → place ≡ at
@@ -188,7 +188,7 @@ module _ (p : Program) (code : Code) (c : RegisterCode) (q : Point) (line : ℕ)
         let to = after (store_of p blocks x) (line + 3) in
         let begins : Comes size (setting p) code 3 (at_line t line (s.Objects (object_of object ∷ rs) ∷ []))
         (after (store.put (store_of p m x) (path_of object) (constant_value first)) (line + 1 + 1 + 1)) =
-        begins_next t first line (object_of object) rs [] refl st value_is in
+        begins_next t (constant_value first) (constant_single first) line (object_of object) rs [] refl st value_is in
         subst (λ stack. Comes size (setting p) code 3 (at_line (standing_with p behind a a.selected stack (store_of p m x)) line []) to) (sym top.is)
         (subst (λ qs. Comes size (setting p) code 3 (at_line t line (s.Objects qs ∷ [])) to)
         (sym (names_from p statics q.procedure n frame behind a x work j within))

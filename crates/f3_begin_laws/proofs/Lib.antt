@@ -1,4 +1,2 @@
-pub mod Names
 pub mod Passing
-pub mod Setting
 pub mod Beginning

@@ -17,7 +17,7 @@ use Rattle.f3_stretch_laws.proofs.Moving.{standing_with}
 use Rattle.f3_stretch_laws.proofs.Prefixing.{prefix_then, top_of}
 use Rattle.f3_register_points.proofs.References.{nothing}
 use Rattle.f3_begin_laws.specs.Laws.{DummiesAreLaid, DummiesArePassed, passed}
-use Rattle.f3_begin_laws.proofs.Names.{names_from}
+use Rattle.f3_stretch_laws.proofs.Names.{names_from}
 
 pub dummies_are_laid : DummiesAreLaid
 dummies_are_laid p code q line entries selected k pre st =
