@@ -35,6 +35,10 @@ fn op_name(op: &Op) -> &'static str {
         Op::Return(..) => "return",
         Op::Release(..) => "release",
         Op::ReleaseNothing(..) => "release nothing",
+        Op::CopyBy(..) => "copy",
+        Op::ClearBy(..) => "clear",
+        Op::Allocate(..) => "allocate",
+        Op::Move(..) => "move",
         _ => "other",
     }
 }
@@ -146,6 +150,19 @@ fn what_a_procedure_holds_is_released_alone(rt: HostRuntime) -> Result<(), Fail>
     ];
     let text = shown(rt.alloc(), &acts)?;
     assert_eq!(rt; text.as_str(), "add\nrelease\nother\nrelease nothing\n");
+    Ok(())
+}
+
+#[test]
+fn whole_objects_and_what_is_held_change_alone(rt: HostRuntime) -> Result<(), Fail> {
+    let acts = [
+        Act::ClearBy(0, 12, 4),
+        Act::CopyBy(0, 2, 12, 9),
+        Act::Allocate(4, 0, 3, 5, 6, 7, 8),
+        Act::Move(0, 3, 2, 0, true, 8),
+    ];
+    let text = shown(rt.alloc(), &acts)?;
+    assert_eq!(rt; text.as_str(), "clear\ncopy\nallocate\nmove\n");
     Ok(())
 }
 

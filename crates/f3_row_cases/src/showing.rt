@@ -93,44 +93,65 @@ fn calling(alloc: Global, act: Act) -> Result<String, AllocError> {
     }
 }
 
-/// An act that changes what an allocatable holds, or one of those that call.
+/// An act that changes what an allocatable holds or the words of a whole object, or one of those that call.
 fn changing(alloc: Global, act: Act) -> Result<String, AllocError> {
     match act {
-        Act::AllocateOne(r, behind, width, n) => {
+        Act::AllocateOne(r, behind, width, counted, n) => {
             line(
                 alloc,
                 "allocate one",
-                &[r as i64, behind as i64, width as i64],
+                &[r as i64, behind as i64, width as i64, counted as i64],
                 n,
             )
         }
-        Act::Allocate(r, behind, x, y, width, n) => {
+        Act::Allocate(counted, r, behind, x, y, width, n) => {
             line(
                 alloc,
                 "allocate",
-                &[r as i64, behind as i64, x as i64, y as i64, width as i64],
+                &[
+                    r as i64,
+                    behind as i64,
+                    x as i64,
+                    y as i64,
+                    width as i64,
+                    counted as i64,
+                ],
                 n,
             )
         }
         Act::Deallocate(r, behind, n) => {
             line(alloc, "deallocate", &[r as i64, behind as i64], n)
         }
-        Act::MoveOne(r, behind, q, beyond, n) => {
+        Act::MoveOne(r, behind, q, beyond, frees, n) => {
             line(
                 alloc,
                 "move one",
-                &[r as i64, behind as i64, q as i64, beyond as i64],
+                &[
+                    r as i64,
+                    behind as i64,
+                    q as i64,
+                    beyond as i64,
+                    frees as i64,
+                ],
                 n,
             )
         }
-        Act::Move(r, behind, q, beyond, n) => {
+        Act::Move(r, behind, q, beyond, frees, n) => {
             line(
                 alloc,
                 "move",
-                &[r as i64, behind as i64, q as i64, beyond as i64],
+                &[
+                    r as i64,
+                    behind as i64,
+                    q as i64,
+                    beyond as i64,
+                    frees as i64,
+                ],
                 n,
             )
         }
+        Act::CopyBy(r, q, k, n) => { line(alloc, "copy by", &[r as i64, q as i64, k as i64], n) }
+        Act::ClearBy(r, k, n) => line(alloc, "clear by", &[r as i64, k as i64], n),
         _ => calling(alloc, act),
     }
 }
