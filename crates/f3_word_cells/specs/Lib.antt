@@ -1,0 +1,6 @@
+pub mod Areas
+pub mod Cells
+pub mod States
+pub mod Plain
+pub mod Scenes
+pub mod Does
