@@ -1,5 +1,8 @@
 //! States, and how a run ends.
 
+ghost use Rattle.std.specs.Prelude.{◌≡◌, ◌+◌, ◌<◌, ◌≤◌, ◌^◌, length, IsTrue, ◌↔◌};
+ghost use Rattle.f3_word_cells.specs.Moves.{Moved, PoppedOr, Pushed, WentAhead};
+
 use crate::cell::{Cell, Here, Object, Range};
 use crate::stack::Stack;
 use f3_heap::BlockId;
@@ -59,4 +62,60 @@ pub enum Stop {
     Refused,
     /// A growth of the host's memory was refused, in a heap that asks for more.
     Memory,
+}
+
+impl State {
+    /// The cell on top of the activation at work, which is taken, if there is one.
+    pub fn pop(&mut self) -> Option<Cell>
+        ensures { PoppedOr result self.old self.new }
+    {
+        if self.cells.items.len() <= self.base {
+            return None;
+        }
+        self.cells.pop()
+    }
+
+    /// One more cell on top.
+    pub fn push(&mut self, cell: Cell)
+        requires room { length self.old.cells.items.items < self.old.cells.room }
+        requires bottom { self.old.base ≤ length self.old.cells.items.items }
+        ensures { Pushed cell self.old.pc self.old self.new }
+    {
+        self.cells.push(cell);
+    }
+
+    /// One more cell on top, and the next line comes.
+    pub fn go_on_with(&mut self, cell: Cell)
+        requires pc { self.old.pc < 2 ^ 63 }
+        requires room { length self.old.cells.items.items < self.old.cells.room }
+        requires bottom { self.old.base ≤ length self.old.cells.items.items }
+        ensures { Pushed cell (self.old.pc + 1) self.old self.new }
+    {
+        self.cells.push(cell);
+        self.pc += 1;
+    }
+
+    /// The next line comes after this one.
+    pub fn advance(&mut self)
+        requires { self.old.pc < 2 ^ 63 }
+        ensures { Moved (self.old.pc + 1) self.old self.new }
+    {
+        self.pc += 1;
+    }
+
+    /// So far on from the next line, where there are so many lines.
+    ///
+    /// `Stop::Lost` where no line is there; the state stays.
+    pub fn ahead(&mut self, distance: usize, total: usize) -> Result<(), Stop>
+        requires { self.old.pc < 2 ^ 63 }
+        ensures { WentAhead distance total result self.old self.new }
+    {
+        let next = self.pc + 1;
+        if total.saturating_sub(next) > distance {
+            self.pc = next + distance;
+            Ok(())
+        } else {
+            Err(Stop::Lost)
+        }
+    }
 }
