@@ -33,9 +33,9 @@ PoppedOr None old new = (own old ≡ []) × (new ≡ old)
 PoppedOr (Some c) old new = Popped c old new
 
 -- a cell was put on top, and the line is this
-pub record Pushed (c : Cell) (pc : ℕ) (old new : State) : Type 0 where
+pub record Pushed (c : Cell) (to : ℕ) (old new : State) : Type 0 where
   pub same : IsSame old new
-  pub pc : new.pc ≡ pc
+  pub pc : new.pc ≡ to
   pub cells : own new ≡ c ∷ own old
   pub more : length new.cells.items.items ≡ length old.cells.items.items + 1
   pub blocks : (q : ℕ) → times q (cells_blocks new.cells.items.items) ≡ times q (cells_blocks old.cells.items.items) + times q (cell_blocks c)
