@@ -1,0 +1,262 @@
+-- At each line of a code there are few names.
+use Rattle.std.proofs.Common.{◌≡◌, ◌≤◌, ℕ, zero, suc, ◌+◌, ◌*◌, Bool, true, false, not, List, [], ◌∷◌, ◌++◌, length, drop, map, Option, Some, None, refl, sym, ap, ◌∙◌, subst, arith, if◌then◌else◌}
+use Rattle.std.specs.Prelude.{nat_eq, nat_lt, slice_index_or}
+use Rattle.f3_program.specs.declared.declarations.Kind.{Kind}
+use Rattle.f3_program.specs.declared.expression.Argument as a
+use Rattle.f3_program.specs.declared.expression.Designator as d
+use Rattle.f3_program.specs.declared.expression.Expression as e
+use Rattle.f3_program.specs.declared.expression.Selection as l
+use Rattle.f3_program.specs.declared.expression.Subscript as u
+use Rattle.f3_program.specs.declared.statement.Bounds.{Bounds}
+use Rattle.f3_program.specs.declared.statement.Item.{Item}
+use Rattle.f3_program.specs.declared.statement.Item.TheVariants as item
+use Rattle.f3_program.specs.declared.statement.Range.{Range}
+use Rattle.f3_program.specs.declared.program.Program.{Program}
+use Rattle.f3_meaning_whole.specs.Formed.{Given, of_kind, kinds_of}
+use Rattle.f3_code.specs.Work as w
+use Rattle.f3_code.specs.Core as c
+use Rattle.f3_cell_kinds.specs.Types.{Scope, Around, Told, CellType, Site, selecting, associating, arguments_on, choices_on, selectors_on}
+use Rattle.f3_cell_kinds.specs.Types as cell
+use Rattle.f3_cell_kinds.specs.Effect.{part_cell, held_kind, extents_on}
+use Rattle.f3_cell_kinds.specs.Values.{at, stacked, reached_if, component_at, is_triplet, triplets, value_at, object_at, argument_at, arguments_at, value_sites, bounds_sites, argument_sites, arguments_sites, locate_sites, select_sites, select_of_sites, chosen_sites, subscript_sites, work_sites}
+use Rattle.f3_cell_kinds.specs.Program.{variable_kind, in_routine, transfer_sites, free_sites, dimensions_sites, allocate_sites, deallocate_sites, status_sites, bytes_sites, items_sites, ranges_sites, selected_at, selectors_sites, discards_sites, leaving_sites, departing_sites, if_sites, case_sites, while_sites, up_sites, turns_sites, limits_sites, code_sites, each_sites, finish_sites, scope_of, returns_of, outward, last_sites, body_sites, main_sites, procedures_sites, routines_sites, code_of_sites, program_sites}
+
+-- the names of ASSOCIATEs among cells
+abbrev pub levels_in : List CellType → ℕ
+levels_in [] = 0
+levels_in (cell.Level ks ∷ xs) = length ks + levels_in xs
+levels_in (x ∷ xs) = levels_in xs
+
+-- so many names at most, where statements may name some; elsewhere no ASSOCIATE is open
+abbrev pub Few : ℕ → Around → ℕ → Type 0
+Few b (Told c) n = length c.names + n ≤ b
+Few b o n = n ≡ 0
+
+abbrev pub IsFew : ℕ → Site → Type 0
+IsFew b s = Few b s.scope (levels_in s.cells)
+
+abbrev pub EachFew : ℕ → List Site → Type 0
+EachFew b [] = Unit {0}
+EachFew b (h ∷ hs) = IsFew b h × EachFew b hs
+
+pub record AreFew (b : ℕ) (hs : List Site) : Type 0 where
+  pub by : EachFew b hs
+
+none : {b : ℕ} → AreFew b []
+none = record { by = tt }
+
+cons : {b : ℕ} {h : Site} {hs : List Site} → IsFew b h → AreFew b hs → AreFew b (h ∷ hs)
+cons k f = record { by = (k, f.by) }
+
+on_each : (b : ℕ) (hs ks : List Site) → EachFew b hs → EachFew b ks → EachFew b (hs ++ ks)
+on_each b [] ks h k = k
+on_each b (x ∷ hs) ks h k = (h.0, on_each b hs ks h.1 k)
+
+on : {b : ℕ} {hs ks : List Site} → AreFew b hs → AreFew b ks → AreFew b (hs ++ ks)
+on {b = b} {hs = hs} {ks = ks} e f = record { by = on_each b hs ks e.by f.by }
+
+-- ---- cells that are none of an ASSOCIATE
+
+arguments_levels : (gs : List Given) (h : List CellType) → levels_in (arguments_on gs h) ≡ levels_in h
+arguments_levels [] h = refl
+arguments_levels (g ∷ gs) h = arguments_levels gs (cell.Argument g ∷ h)
+
+choices_levels : (bs : List Bool) (h : List CellType) → levels_in (choices_on bs h) ≡ levels_in h
+choices_levels [] h = refl
+choices_levels (b ∷ bs) h = choices_levels bs (cell.Choice b ∷ h)
+
+selectors_levels : (ks : List Kind) (h : List CellType) → levels_in (selectors_on ks h) ≡ levels_in h
+selectors_levels [] h = refl
+selectors_levels (k ∷ ks) h = selectors_levels ks (cell.Selector k ∷ h)
+
+extents_levels : (n : ℕ) (h : List CellType) → levels_in (extents_on n h) ≡ levels_in h
+extents_levels zero h = refl
+extents_levels (suc n) h = extents_levels n (cell.Extent ∷ h)
+
+part_levels : (b : Bool) (rank : ℕ) (k : Kind) (h : List CellType) → levels_in ((if b then cell.Object k else cell.Each rank k) ∷ h) ≡ levels_in h
+part_levels true rank k h = refl
+part_levels false rank k h = refl
+
+fewer : (x : CellType) (h : List CellType) → levels_in h ≤ levels_in (x ∷ h)
+fewer (cell.Level ks) h = omega arith
+fewer x h = omega arith
+
+drop_levels : (n : ℕ) (h : List CellType) → levels_in (drop n h) ≤ levels_in h
+drop_levels zero h = omega arith
+drop_levels (suc n) [] = omega arith
+drop_levels (suc n) (x ∷ h) = omega (arith, drop_levels n h, fewer x h)
+
+module _ (p : Program) (b : ℕ) where
+  module _ (r : Kind) (s : Scope) where
+    -- few names above such cells
+    abbrev Above : List CellType → Type 0
+    Above h = length s.names + levels_in h ≤ b
+
+    limit_few : {hs : List Site} (t : Bool) (h : List CellType) (k : Kind) → Above h → AreFew b hs →
+        AreFew b (if t then hs ++ at r s (cell.Datum k ∷ h) ∷ [] else at r s h ∷ [])
+    limit_few true h k q e = on e (cons q none)
+    limit_few false h k q e = cons q none
+
+    mutual
+      value_few : (h : List CellType) (x : e.Expression) → Above h → AreFew b (value_sites p r s h x)
+      value_few h (e.Literal c) q = cons q none
+      value_few h (e.Variable' z x) q = on (locate_few h x q) (cons q none)
+      value_few h (e.Group' z x) q = on (value_few h x q) (cons q none)
+      value_few h (e.Unary' c t z x) q = on (value_few h x q) (cons q none)
+      value_few h (e.Binary' c t z x z' y) q = on (value_few h x q) (on (value_few (cell.Datum (value_at p r s x) ∷ h) y q) (cons q none))
+      value_few h (e.Array' k xs) q = on (arguments_few h xs q) (cons (omega (arith, q, arguments_levels (arguments_at p r s xs) h)) none)
+      value_few h (e.Structure' t k xs) q = on (arguments_few h xs q) (cons (omega (arith, q, arguments_levels (arguments_at p r s xs) h)) none)
+      value_few h (e.Call' f k xs) q = on (arguments_few h xs q) (cons (omega (arith, q, arguments_levels (arguments_at p r s xs) h)) (cons q none))
+      value_few h (e.Allocated' z x) q = on (locate_few h x q) (cons q none)
+      value_few h (e.Size' z x) q = on (bounds_few h x q) (cons q none)
+      value_few h (e.Bound' o z x z' y) q = on (bounds_few h x q) (on (value_few (cell.Bounds (argument_at p r s x).kind.rank ∷ h) y q) (cons q none))
+
+      bounds_few : (h : List CellType) (x : a.Argument) → Above h → AreFew b (bounds_sites p r s h x)
+      bounds_few h (a.Value' k z x) q = on (value_few h x q) (cons q none)
+      bounds_few h (a.Variable' k z x) q = on (locate_few h x q) (cons q none)
+
+      argument_few : (h : List CellType) (x : a.Argument) → Above h → AreFew b (argument_sites p r s h x)
+      argument_few h (a.Value' k z x) q = on (value_few h x q) (cons q none)
+      argument_few h (a.Variable' k z x) q = on (locate_few h x q) (cons q none)
+
+      arguments_few : {m : _} (h : List CellType) (xs : e.Row_of-Argument m) → Above h → AreFew b (arguments_sites p r s h xs)
+      arguments_few h e.end_of-Argument q = none
+      arguments_few h (e.more_of-Argument x rest) q = on (argument_few h x q) (arguments_few (cell.Argument (argument_at p r s x) ∷ h) rest q)
+
+      locate_few : (h : List CellType) (x : d.Designator) → Above h → AreFew b (locate_sites p r s h x)
+      locate_few h (d.Name x how) q = cons q (select_few h _ how q)
+      locate_few h (d.Component' z x n how) q = on (locate_few h x q) (select_of_few h _ n how q)
+
+      select_few : (h : List CellType) (k : Kind) (x : l.Selection) → Above h → AreFew b (select_sites p r s h k x)
+      select_few h k l.Whole q = none
+      select_few h k l.Contents q = cons q none
+      select_few h k (l.Elements' is_opened n xs) q =
+          on (chosen_few (cell.Object k ∷ h) xs q) (cons (omega (arith, q, choices_levels (triplets xs) (cell.Object k ∷ h))) none)
+
+      select_of_few : (h : List CellType) (k : Kind) (n : ℕ) (x : l.Selection) → Above h → AreFew b (select_of_sites p r s h k n x)
+      select_of_few h k n l.Whole q = cons q none
+      select_of_few h k n l.Contents q = cons q (cons q none)
+      select_of_few h k n (l.Elements' is_opened m xs) q =
+          let x = part_cell k (component_at p k n) in
+          let same = part_levels (nat_eq k.rank 0) k.rank (component_at p k n) (cell.Object k ∷ h) in
+          let q' : Above (x ∷ cell.Object k ∷ h) = omega (arith, q, same) in
+          cons q (on (chosen_few (x ∷ cell.Object k ∷ h) xs q') (cons (omega (arith, q', choices_levels (triplets xs) (x ∷ cell.Object k ∷ h))) none))
+
+      chosen_few : {m : _} (h : List CellType) (xs : l.Row_of-Subscript m) → Above h → AreFew b (chosen_sites p r s h xs)
+      chosen_few h l.end_of-Subscript q = none
+      chosen_few h (l.more_of-Subscript x rest) q = on (subscript_few h x q) (chosen_few (cell.Choice (is_triplet x) ∷ h) rest q)
+
+      subscript_few : (h : List CellType) (x : u.Subscript) → Above h → AreFew b (subscript_sites p r s h x)
+      subscript_few h (u.At' z x) q = on (value_few h x q) (cons q none)
+      subscript_few h (u.Range' has_lower z x has_upper z' y z'' v) q = on (limit_few has_lower h _ q (value_few h x q))
+          (on (limit_few has_upper (cell.Bound ∷ h) _ q (value_few (cell.Bound ∷ h) y q)) (on (value_few (cell.Bound ∷ cell.Bound ∷ h) v q) (cons q none)))
+
+  routine_few : (t : Bool) (h : Site) (k : Kind) → IsFew b h → AreFew b (if t then stacked (cell.Object k ∷ []) h ∷ [] else [])
+  routine_few true h k q = cons q none
+  routine_few false h k q = none
+
+  work_few : (m : ℕ) (h : Site) (k : Kind) (x : w.Work) → IsFew b h → AreFew b (work_sites p m h k x)
+  work_few m h k w.Rest q = none
+  work_few m h k (w.And x y) q = on (work_few m h k x q) (work_few m h k y q)
+  work_few m h k (w.Lending x) q = cons q (on (work_few m h k x q) (cons q none))
+  work_few m h k (w.Of_rank rank x y) q = cons q (on (work_few m (reached_if (nat_eq rank k.rank) h) k x q)
+      (cons q (work_few m (reached_if (not (nat_eq rank k.rank)) h) k y q)))
+  work_few m h k (w.Final f) q = cons q (cons q (cons q none))
+  work_few m h k (w.Routine t) q = routine_few (nat_lt t m) h k q
+  work_few m h k (w.Of_component n x) q = cons q (on (work_few m (stacked (cell.Object k ∷ []) h) (component_at p k n) x q) (cons q none))
+  work_few m h k (w.Of_elements x) q = cons q (cons q (on (work_few m (stacked (cell.Elements k.of ∷ cell.Object k ∷ []) h) (of_kind k.of 0) x q) (cons q (cons q none))))
+  work_few m h k (w.If_allocated x) q = cons q (work_few m h k x q)
+  work_few m h k (w.Of_contents x) q = cons q (on (work_few m (stacked (cell.Object k ∷ []) h) (held_kind k) x q) (cons q (cons q none)))
+  work_few m h k w.Clear q = cons q none
+  work_few m h k (w.Set v) q = cons q none
+  work_few m h k w.Discard q = cons q none
+
+  transfer_few : (m : ℕ) (h : Site) (k j : Kind) (x : c.Transfer) → IsFew b h → AreFew b (transfer_sites p m h k j x)
+  transfer_few m h k j (c.Conforming x) q = cons q (transfer_few m h k j x q)
+  transfer_few m h k j (c.By_state x y z) q = cons q (on (transfer_few m h k j x q) (cons q (on (transfer_few m (reached_if (nat_lt 0 j.rank) h) k j y q)
+      (cons q (transfer_few m h k j z q)))))
+  transfer_few m h k j (c.Of_rank rank x) q = cons q (transfer_few m (reached_if (nat_eq rank j.rank) h) k j x q)
+  transfer_few m h k j (c.Behind x y) q = on (work_few m (stacked (cell.Datum j ∷ []) h) k x q) (transfer_few m h k j y q)
+  transfer_few m h k j (c.New rank v x) q = cons q (transfer_few m h k j x q)
+  transfer_few m h k j (c.In_contents x) q = cons q (transfer_few m h (held_kind k) j x q)
+  transfer_few m h k j (c.Take of) q = cons q none
+  transfer_few m h k j (c.Fill of) q = cons q none
+
+  free_few : (m : ℕ) (h : Site) (k : Kind) (x : w.Work) → IsFew b h → AreFew b (free_sites p m h k x)
+  free_few m h k x q = cons q (on (work_few m h k x q) (cons q (cons q none)))
+
+  module _ (m : ℕ) (r : Kind) (s : Scope) where
+    abbrev Over : List CellType → Type 0
+    Over h = length s.names + levels_in h ≤ b
+
+    dimensions_few : (h : List CellType) (bs : List Bounds) → Over h → AreFew b (dimensions_sites p m r s h bs)
+    dimensions_few h [] q = none
+    dimensions_few h (y ∷ bs) q = on (value_few r s h y.lower q) (on (value_few r s (cell.Datum _ ∷ h) y.upper q) (cons q (dimensions_few (cell.Extent ∷ h) bs q)))
+
+    allocate_few : (h : List CellType) (xs : List c.Allocation) → Over h → AreFew b (allocate_sites p m r s h xs)
+    allocate_few h [] q = cons q none
+    allocate_few h (x ∷ xs) q = on (locate_few r s h x.object q) (on (dimensions_few (cell.Object (object_at p r s x.object) ∷ h) x.bounds q)
+        (cons (omega (arith, q, extents_levels (length x.bounds) (cell.Object (object_at p r s x.object) ∷ h))) (cons q (allocate_few h xs q))))
+
+    deallocate_few : (h : List CellType) (xs : List c.Deallocation) → Over h → AreFew b (deallocate_sites p m r s h xs)
+    deallocate_few h [] q = cons q none
+    deallocate_few h (x ∷ xs) q = on (locate_few r s h x.object q) (on (free_few m (at r s h) _ x.free q) (cons q (deallocate_few h xs q)))
+
+    status_few : (h : List CellType) (x : Option d.Designator) → Over h → AreFew b (status_sites p m r s h x)
+    status_few h None q = cons q none
+    status_few h (Some d) q = on (locate_few r s (cell.Status ∷ h) d q) (cons q none)
+
+    bytes_few : (h : List CellType) (bs : List ℕ) → Over h → AreFew b (bytes_sites p m r s h bs)
+    bytes_few h [] q = none
+    bytes_few h (y ∷ bs) q = cons q (bytes_few h bs q)
+
+    items_few : (h : List CellType) (xs : List Item) → Over h → AreFew b (items_sites p m r s h xs)
+    items_few h [] q = cons q none
+    items_few h (item.Value e ∷ xs) q = on (value_few r s h e q) (cons q (items_few h xs q))
+    items_few h (item.Text t ∷ xs) q = on (bytes_few h (32 ∷ t.items) q) (items_few h xs q)
+
+    ranges_few : (h : List CellType) (xs : List Range) → Over h → AreFew b (ranges_sites p m r s h xs)
+    ranges_few h [] q = none
+    ranges_few h (x ∷ xs) q = cons q (cons q (ranges_few h xs q))
+
+    selected_many : (xs : List c.Selector) → length (selected_at p m r s xs) ≡ length xs
+    selected_many [] = refl
+    selected_many (c.Bind d ∷ xs) = ap suc (selected_many xs)
+    selected_many (c.Hold of e x ∷ xs) = ap suc (selected_many xs)
+
+    selectors_few : (h : List CellType) (xs : List c.Selector) → Over h → AreFew b (selectors_sites p m r s h xs)
+    selectors_few h [] q = none
+    selectors_few h (c.Bind d ∷ xs) q = on (locate_few r s h d q) (cons q (selectors_few (cell.Selector _ ∷ h) xs q))
+    selectors_few h (c.Hold of e x ∷ xs) q = on (value_few r s h e q) (cons q (selectors_few (cell.Selector _ ∷ h) xs q))
+
+    discards_few : (h : List CellType) (ks : List Kind) (xs : List c.Selector) → Over h → AreFew b (discards_sites p m r s h ks xs)
+    discards_few h ks [] q = none
+    discards_few h [] (x ∷ xs) q = none
+    discards_few h (k ∷ ks) (c.Bind d ∷ xs) q = cons q (cons q (discards_few h ks xs q))
+    discards_few h (k ∷ ks) (c.Hold of e x ∷ xs) q = cons q (on (work_few m (at r s (cell.Objects ks ∷ h)) k x q) (cons q (discards_few h ks xs q)))
+
+    leaving_few : (h : List CellType) → Over h → AreFew b (leaving_sites p m r s h)
+    leaving_few h q = cons q (cons q (cons q (cons q none)))
+
+    departing_few : (h : List CellType) (cells : ℕ) → Over h → AreFew b (departing_sites p m r s h cells)
+    departing_few h cells q = cons q (cons q (cons (omega (arith, q, drop_levels cells h)) none))
+
+    turns_few : {x y : List Site} (h : List CellType) → Over h → AreFew b x → AreFew b y → AreFew b (turns_sites p m r s h x y)
+    turns_few h q x y = cons q (on x (on y (cons q (cons q none))))
+
+    limits_few : {t : List Site} (h : List CellType) (k : Kind) (from to by : e.Expression) → Over h → AreFew b t →
+        AreFew b (limits_sites p m r s h k from to by t)
+    limits_few h k from to by q t = on (value_few r s h from q) (cons q (on (value_few r s (cell.Datum k ∷ h) to q) (cons q
+        (on (value_few r s (cell.Datum k ∷ cell.Datum k ∷ h) by q) (cons q (cons q t))))))
+
+-- the names of all ASSOCIATEs of a statement
+abbrev pub opened : c.Core → ℕ
+opened (c.At place b x) = opened x
+opened (c.Then x y) = opened x + opened y
+opened (c.If e x y) = opened x + opened y
+opened (c.Select e x) = opened x
+opened (c.Case rs x y) = opened x + opened y
+opened (c.While e x) = opened x
+opened (c.Count d k from to by x) = opened x
+opened (c.Associate xs x) = length xs + opened x
+opened x = 0

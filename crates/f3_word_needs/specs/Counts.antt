@@ -1,0 +1,33 @@
+-- What there is in a state: names, and levels of values.
+use Rattle.std.specs.Prelude.{ℕ, ◌+◌, List, [], ◌∷◌, length}
+use Rattle.f3_code.specs.State.{Cell, Level, Frame, State}
+
+-- ---- names
+
+-- the names of an ASSOCIATE
+abbrev pub cell_names : Cell → ℕ
+cell_names (Level level rs) = length rs
+cell_names c = 0
+
+abbrev pub cells_names : List Cell → ℕ
+cells_names [] = 0
+cells_names (c ∷ cs) = cell_names c + cells_names cs
+
+abbrev pub frames_names : List Frame → ℕ
+frames_names [] = 0
+frames_names (f ∷ fs) = length f.here.names + cells_names f.stack + frames_names fs
+
+-- The names that statements of all activations may name, and once more those of each ASSOCIATE that is open.
+abbrev pub all_names : State → ℕ
+all_names t = length t.here.names + cells_names t.stack + frames_names t.frames
+
+-- ---- levels
+
+abbrev pub all_levels : State → ℕ
+all_levels t = length t.world.store.levels
+
+-- the levels of ASSOCIATEs, the newest first
+abbrev pub associated : List Cell → List ℕ
+associated [] = []
+associated (Level level rs ∷ cs) = level ∷ associated cs
+associated (c ∷ cs) = associated cs

@@ -1,0 +1,35 @@
+-- How many names a procedure has at most, known from its code.
+use Rattle.std.specs.Prelude.{ℕ, ◌+◌, ◌*◌, max, List, [], ◌∷◌, length}
+use Rattle.f3_code.specs.declared.instruction.Instruction.{Instruction}
+use Rattle.f3_code.specs.declared.instruction.Instruction.TheVariants as i
+use Rattle.f3_code.specs.Core as c
+use Rattle.f3_code.specs.State.{Line}
+use Rattle.f3_code.specs.Code.{body_code, main_code}
+
+-- the selectors of an ASSOCIATE
+abbrev pub selectors_of : Instruction → ℕ
+selectors_of (i.Associate k) = k
+selectors_of x = 0
+
+-- those of all ASSOCIATEs of a code
+abbrev pub selectors_in : List Line → ℕ
+selectors_in [] = 0
+selectors_in (l ∷ ls) = selectors_of l.act + selectors_in ls
+
+-- the dummies of a procedure, and twice the names of its ASSOCIATEs: these stand among those that statements may name, and on the stack
+abbrev pub names_need : ℕ → List Line → ℕ
+names_need dummies lines = dummies + 2 * selectors_in lines
+
+abbrev pub procedure_names : c.Program → c.Procedure → ℕ
+procedure_names p q = names_need (length q.dummies) (body_code (length p.routines) q)
+
+abbrev pub main_names : c.Program → ℕ
+main_names p = names_need (length p.main.dummies) (main_code (length p.routines) p.main)
+
+abbrev pub procedures_names : c.Program → List c.Procedure → ℕ
+procedures_names p [] = 0
+procedures_names p (q ∷ qs) = max (procedure_names p q) (procedures_names p qs)
+
+-- of the main program, or of the procedure that has most
+abbrev pub most_names : c.Program → ℕ
+most_names p = max (main_names p) (procedures_names p p.procedures)

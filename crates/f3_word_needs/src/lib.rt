@@ -1,0 +1,2 @@
+//! How much room the stacks of a machine over words want, known before a run.
+#![tactic(auto)]
