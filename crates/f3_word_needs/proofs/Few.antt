@@ -1,5 +1,7 @@
 -- At each line of a code there are few names.
-use Rattle.std.proofs.Common.{◌≡◌, ◌≤◌, ℕ, zero, suc, ◌+◌, ◌*◌, Bool, true, false, not, List, [], ◌∷◌, ◌++◌, length, drop, map, Option, Some, None, refl, sym, ap, ◌∙◌, subst, arith, if◌then◌else◌}
+use Rattle.std.proofs.Common.{◌≡◌, ◌≤◌, ℕ, zero, suc, ◌+◌, ◌*◌, Bool, true, false, not, List, [], ◌∷◌, ◌++◌, length, drop, map, Option, Some, None, refl, sym, ap, ◌∙◌, subst, arith, if◌then◌else◌, length-append}
+use Rattle.std.proofs.lemmas.List.{length-map}
+use Rattle.f3_places.specs.declared.source.Place.{Place}
 use Rattle.std.specs.Prelude.{nat_eq, nat_lt, slice_index_or}
 use Rattle.f3_program.specs.declared.declarations.Kind.{Kind}
 use Rattle.f3_program.specs.declared.expression.Argument as a
@@ -15,6 +17,13 @@ use Rattle.f3_program.specs.declared.program.Program.{Program}
 use Rattle.f3_meaning_whole.specs.Formed.{Given, of_kind, kinds_of}
 use Rattle.f3_code.specs.Work as w
 use Rattle.f3_code.specs.Core as c
+use Rattle.f3_code.specs.Code.{value_code, locate_code, ranges_code, selectors_code, discards_code, leaving_code, departing_code, up_code, turns_code, code_of, begin_code, last_code, body_code, main_code, Ways, farther, looped, counting, scoped, body_ways, main_ways}
+use Rattle.f3_code.specs.Lower.{lowered_program}
+use Rattle.f3_code.specs.State.{Line, line}
+use Rattle.f3_code.specs.declared.instruction.Instruction.TheVariants as i
+use Rattle.f3_program.specs.declared.program.Dummy.{Dummy}
+use Rattle.f3_cell_kinds.specs.Laws.{nowhere, site_at}
+use Rattle.f3_word_needs.specs.Names.{selectors_in, names_need, procedures_names, most_names}
 use Rattle.f3_cell_kinds.specs.Types.{Scope, Around, Told, CellType, Site, selecting, associating, arguments_on, choices_on, selectors_on}
 use Rattle.f3_cell_kinds.specs.Types as cell
 use Rattle.f3_cell_kinds.specs.Effect.{part_cell, held_kind, extents_on}
@@ -260,3 +269,214 @@ opened (c.While e x) = opened x
 opened (c.Count d k from to by x) = opened x
 opened (c.Associate xs x) = length xs + opened x
 opened x = 0
+
+module _ (p : Program) (b m : ℕ) (r : Kind) where
+  code_few : (s : Scope) (h : List CellType) (cells : ℕ) (x : c.Core) → length s.names + levels_in h + 2 * opened x ≤ b → AreFew b (code_sites p m r s h cells x)
+  code_few s h cells (c.At place true x) q = cons (omega (arith, q)) (code_few s h cells x q)
+  code_few s h cells (c.At place false x) q = code_few s h cells x q
+  code_few s h cells c.Skip q = none
+  code_few s h cells (c.Then x y) q = on (code_few s h cells x (omega (arith, q))) (code_few s h cells y (omega (arith, q)))
+  code_few s h cells (c.Assign d x e) q =
+      let o : length s.names + levels_in h ≤ b = omega (arith, q) in
+      on (value_few p b r s h e o) (on (locate_few p b r s (cell.Datum _ ∷ h) d o) (transfer_few p b m (at r s h) _ _ x o))
+  code_few s h cells (c.Call e) q =
+      let o : length s.names + levels_in h ≤ b = omega (arith, q) in on (value_few p b r s h e o) (cons o none)
+  code_few s h cells (c.Move true x d e) q =
+      let o : length s.names + levels_in h ≤ b = omega (arith, q) in
+      on (locate_few p b r s h d o) (on (locate_few p b r s (cell.Object _ ∷ h) e o) (cons o
+      (on (work_few p b m (at r s (cell.Object (object_at p r s d) ∷ h)) _ x o) (cons o none))))
+  code_few s h cells (c.Move false x d e) q =
+      let o : length s.names + levels_in h ≤ b = omega (arith, q) in
+      on (locate_few p b r s h d o) (on (locate_few p b r s (cell.Object _ ∷ h) e o) (cons o (cons o
+      (on (work_few p b m (at r s (cell.Object (object_at p r s e) ∷ h)) _ x o) (cons o none)))))
+  code_few s h cells (c.Allocate xs stat) q =
+      let o : length s.names + levels_in h ≤ b = omega (arith, q) in on (allocate_few p b m r s h xs o) (status_few p b m r s h stat o)
+  code_few s h cells (c.Deallocate xs stat) q =
+      let o : length s.names + levels_in h ≤ b = omega (arith, q) in on (deallocate_few p b m r s h xs o) (status_few p b m r s h stat o)
+  code_few s h cells (c.Print xs) q = items_few p b m r s h xs (omega (arith, q))
+  code_few s h cells (c.Stop number) q = cons (omega (arith, q)) none
+  code_few s h cells c.Return q =
+      let o : length s.names + levels_in h ≤ b = omega (arith, q) in cons o (cons o (cons (omega (arith, o, drop_levels cells h)) none))
+  code_few s h cells c.Cycle q = cons (omega (arith, q)) none
+  code_few s h cells c.Exit q = cons (omega (arith, q)) none
+  code_few s h cells (c.If e x y) q =
+      let o : length s.names + levels_in h ≤ b = omega (arith, q) in
+      on (value_few p b r s h e o) (cons o (on (code_few s h cells x (omega (arith, q))) (cons o (code_few s h cells y (omega (arith, q))))))
+  code_few s h cells (c.Select e x) q =
+      let o : length s.names + levels_in h ≤ b = omega (arith, q) in
+      let inner = selecting (value_at p r s e) s in
+      on (value_few p b r s h e o) (cons o (on (code_few inner (cell.Outside s ∷ h) 0 x q) (on (leaving_few p b m r inner (cell.Outside s ∷ h) o) (departing_few p b m r s h cells o))))
+  code_few s h cells (c.Case rs x y) q =
+      let o : length s.names + levels_in h ≤ b = omega (arith, q) in
+      on (ranges_few p b m r s h rs o) (cons o (on (code_few s h cells x (omega (arith, q))) (cons o (code_few s h cells y (omega (arith, q))))))
+  code_few s h cells (c.While e x) q =
+      let o : length s.names + levels_in h ≤ b = omega (arith, q) in
+      on (value_few p b r s h e o) (cons o (on (code_few s h cells x q) (cons o none)))
+  code_few s h cells (c.Count d k from to by x) q =
+      let o : length s.names + levels_in h ≤ b = omega (arith, q) in
+      let j = of_kind k.of 0 in
+      limits_few p b m r s h j from to by o (on (locate_few p b r s (cell.Datum j ∷ cell.Datum j ∷ cell.Datum j ∷ h) d o)
+      (cons o (turns_few p b m r s h o (code_few s (cell.Turns ∷ h) (suc cells) x q) (on (locate_few p b r s (cell.Turns ∷ h) d o) (cons o none)))))
+  code_few s h cells (c.Associate xs x) q =
+      let ks = selected_at p m r s xs in let inner = associating ks s in
+      let many = selected_many p b m r s xs in
+      let more = length-append s.names ks in
+      let o : length s.names + levels_in h ≤ b = omega (arith, q) in
+      let o' : length s.names + (length ks + levels_in h) ≤ b = omega (arith, q, many) in
+      let i : length (s.names ++ ks) + (length ks + levels_in h) + 2 * opened x ≤ b = omega (arith, q, many, more) in
+      let i' : length (s.names ++ ks) + (length ks + levels_in h) ≤ b = omega (arith, i) in
+      on (selectors_few p b m r s h xs o) (cons (omega (arith, o, selectors_levels ks h)) (on (code_few inner (cell.Outside s ∷ cell.Level ks ∷ h) 0 x i)
+      (on (leaving_few p b m r inner (cell.Outside s ∷ cell.Level ks ∷ h) i') (cons o' (on (discards_few p b m r s (cell.Going ∷ cell.Level ks ∷ h) ks xs o')
+      (cons o' (departing_few p b m r s h cells o)))))))
+
+module _ (p : Program) (b : ℕ) where
+  each_few : (m : ℕ) (h : Site) (ks : List Kind) (xs : List w.Work) → IsFew b h → AreFew b (each_sites p m h ks xs)
+  each_few m h ks [] q = none
+  each_few m h [] (x ∷ xs) q = none
+  each_few m h (k ∷ ks) (x ∷ xs) q = cons q (on (work_few p b m (stacked (cell.Objects ks ∷ []) h) k x q) (cons q (each_few m h ks xs q)))
+
+  finish_few : (m : ℕ) (h : Site) (n : ℕ) (xs : List w.Work) → IsFew b h → AreFew b (finish_sites p m h n xs)
+  finish_few m h n [] q = none
+  finish_few m h n (x ∷ xs) q = cons q (on (work_few p b m h (variable_kind h.scope n) x q) (cons q (finish_few m h (suc n) xs q)))
+
+  body_few : (m : ℕ) (q : c.Procedure) → length q.dummies + 2 * opened q.body ≤ b → AreFew b (body_sites p m q)
+  body_few m q le =
+      let r = returns_of p q in let s = scope_of p q in
+      let many : length s.names ≡ length q.dummies = length-map q.dummies (λ (x : Dummy). x.kind) in
+      let o : length s.names + 0 ≤ b = omega (arith, le, many) in
+      cons o (on (each_few m (at r s []) s.names q.begin o) (cons o (on (code_few p b m r s [] 0 q.body (omega (arith, le, many)))
+      (cons o (cons o (on (finish_few m (at r s []) 0 q.finish o) (cons o (cons o
+      (on (each_few m (outward p r (cell.Datum r ∷ [])) s.names q.discard refl) (cons refl none))))))))))
+
+  main_few : (m : ℕ) (q : c.Procedure) → length q.dummies + 2 * opened q.body ≤ b → AreFew b (main_sites p m q)
+  main_few m q le =
+      let r = returns_of p q in let s = scope_of p q in
+      let many : length s.names ≡ length q.dummies = length-map q.dummies (λ (x : Dummy). x.kind) in
+      let o : length s.names + 0 ≤ b = omega (arith, le, many) in
+      on (code_few p b m r s [] 0 q.body (omega (arith, le, many))) (cons o (cons o none))
+
+  abbrev AllLow : List c.Procedure → Type 0
+  AllLow [] = Unit {0}
+  AllLow (q ∷ qs) = (length q.dummies + 2 * opened q.body ≤ b) × AllLow qs
+
+  procedures_few : (m : ℕ) (qs : List c.Procedure) → AllLow qs → AreFew b (procedures_sites p m qs)
+  procedures_few m [] h = none
+  procedures_few m (q ∷ qs) h = on (body_few m q h.0) (procedures_few m qs h.1)
+
+  routines_few : (xs : List w.Work) → AreFew b (routines_sites p xs)
+  routines_few [] = none
+  routines_few (x ∷ xs) = on (work_few p b (length xs) (in_routine (length xs)) _ x refl) (cons refl (routines_few xs))
+
+  pub code_is_few : (x : c.Program) → length x.main.dummies + 2 * opened x.main.body ≤ b → AllLow x.procedures → AreFew b (code_of_sites p x)
+  code_is_few x main rest = on (main_few (length x.routines) x.main main) (on (routines_few x.routines) (procedures_few (length x.routines) x.procedures rest))
+
+-- ---- by the code
+
+selectors_append : (xs ys : List Line) → selectors_in (xs ++ ys) ≡ selectors_in xs + selectors_in ys
+selectors_append [] ys = omega arith
+selectors_append (x ∷ xs) ys = omega (arith, selectors_append xs ys)
+
+-- those in front, and those behind
+front : (xs ys : List Line) → selectors_in xs ≤ selectors_in (xs ++ ys)
+front xs ys = omega (arith, selectors_append xs ys)
+
+behind : (xs ys : List Line) → selectors_in ys ≤ selectors_in (xs ++ ys)
+behind xs ys = omega (arith, selectors_append xs ys)
+
+-- a line more
+later : (x : Line) (xs : List Line) → selectors_in xs ≤ selectors_in (x ∷ xs)
+later x xs = omega arith
+
+module _ (m : ℕ) where
+  pub opened_in : (o : Option Place) (x : c.Core) (ws : Ways) → opened x ≤ selectors_in (code_of m o x ws)
+  opened_in o (c.At place true x) ws = omega (arith, opened_in (Some place) x ws)
+  opened_in o (c.At place false x) ws = opened_in (Some place) x ws
+  opened_in o c.Skip ws = omega arith
+  opened_in o (c.Then x y) ws =
+      let a = code_of m o x (farther (length (code_of m o y ws)) ws) in let b = code_of m o y ws in
+      omega (arith, opened_in o x (farther (length b) ws), opened_in o y ws, selectors_append a b)
+  opened_in o (c.Assign d x e) ws = omega arith
+  opened_in o (c.Call e) ws = omega arith
+  opened_in o (c.Move is_first x d e) ws = omega arith
+  opened_in o (c.Allocate xs stat) ws = omega arith
+  opened_in o (c.Deallocate xs stat) ws = omega arith
+  opened_in o (c.Print xs) ws = omega arith
+  opened_in o (c.Stop number) ws = omega arith
+  opened_in o c.Return ws = omega arith
+  opened_in o c.Cycle ws = omega arith
+  opened_in o c.Exit ws = omega arith
+  opened_in o (c.If e x y) ws =
+      let cy = code_of m o y ws in
+      let cx = code_of m o x (farther (1 + length cy) ws) in
+      let rest = line o (i.GoOn (length cy)) ∷ cy in
+      omega (
+        arith,
+        opened_in o x (farther (1 + length cy) ws),
+        opened_in o y ws,
+        selectors_append cx rest,
+        behind (value_code o e) (line o (i.SkipIfFalse (length cx + 1)) ∷ (cx ++ rest)),
+      )
+  opened_in o (c.Select e x) ws =
+      let cx = code_of m o x scoped in let rest = leaving_code o ++ departing_code o ws in
+      omega (arith, opened_in o x scoped, front cx rest, behind (value_code o e) (line o i.Selecting ∷ (cx ++ rest)))
+  opened_in o (c.Case rs x y) ws =
+      let cy = code_of m o y ws in
+      let cx = code_of m o x (farther (1 + length cy) ws) in
+      let rest = line o (i.GoOn (length cy)) ∷ cy in
+      omega (
+        arith,
+        opened_in o x (farther (1 + length cy) ws),
+        opened_in o y ws,
+        selectors_append cx rest,
+        behind (ranges_code o rs) (line o (i.GoOn (length cx + 1)) ∷ (cx ++ rest)),
+      )
+  opened_in o (c.While e x) ws =
+      let cx = code_of m o x (looped ws) in
+      let back = line o (i.GoBack (length (value_code o e) + 1 + length cx)) ∷ [] in
+      omega (arith, opened_in o x (looped ws), front cx back, behind (value_code o e) (line o (i.SkipIfFalse (length cx + 1)) ∷ (cx ++ back)))
+  opened_in o (c.Count d k from to by x) ws =
+      let up = up_code o d k in
+      let cx = code_of m o x (counting (length up) ws) in
+      let turns = turns_code o cx up in
+      let begin = line o i.CountBegin ∷ turns in
+      let step = line o (i.Convert k.of) ∷ line o i.TestStep ∷ (locate_code o d ++ begin) in
+      let last = line o (i.Convert k.of) ∷ (value_code o by ++ step) in
+      omega (
+        arith,
+        opened_in o x (counting (length up) ws),
+        front cx (up ++ (line o (i.GoBack (1 + length cx + length up)) ∷ line o (i.Unwind 1) ∷ [])),
+        behind (locate_code o d) begin,
+        behind (value_code o by) step,
+        behind (value_code o to) last,
+        behind (value_code o from) (line o (i.Convert k.of) ∷ (value_code o to ++ last)),
+      )
+  opened_in o (c.Associate xs x) ws =
+      let cx = code_of m o x scoped in
+      let rest = leaving_code o ++ (line o i.Associated ∷ (discards_code m o xs ++ (line o i.EndAssociate ∷ departing_code o ws))) in
+      omega (arith, opened_in o x scoped, front cx rest, behind (selectors_code o xs) (line o (i.Associate (length xs)) ∷ (cx ++ rest)))
+
+  main_opened : (q : c.Procedure) → length q.dummies + 2 * opened q.body ≤ names_need (length q.dummies) (main_code m q)
+  main_opened q = omega (arith, opened_in None q.body main_ways, front (code_of m None q.body main_ways) (line (Some q.end) i.Begin ∷ line None i.Finish ∷ []))
+
+  body_opened : (q : c.Procedure) → length q.dummies + 2 * opened q.body ≤ names_need (length q.dummies) (body_code m q)
+  body_opened q =
+      let body = code_of m None q.body body_ways in
+      let last = line (Some q.end) i.Begin ∷ line (Some q.end) i.SetPlace ∷ last_code m q in
+      omega (arith, opened_in None q.body body_ways, front body last, behind (begin_code m q.begin) (line None i.Drop ∷ (body ++ last)))
+
+all_low : (p : Program) (b : ℕ) (x : c.Program) (qs : List c.Procedure) → procedures_names x qs ≤ b → AllLow p b qs
+all_low p b x [] le = tt
+all_low p b x (q ∷ qs) le = (omega (arith, le, body_opened (length x.routines) q), all_low p b x qs (omega (arith, le)))
+
+-- ---- by line
+
+each_at : (b : ℕ) (hs : List Site) (pc : ℕ) → EachFew b hs → IsFew b (slice_index_or hs pc nowhere)
+each_at b [] pc h = refl
+each_at b (x ∷ hs) zero h = h.0
+each_at b (x ∷ hs) (suc pc) h = each_at b hs pc h.1
+
+pub site_is_few : (p : Program) (pc : ℕ) → IsFew (most_names (lowered_program p)) (site_at p pc)
+site_is_few p pc =
+    let x = lowered_program p in
+    let b = most_names x in
+    each_at b (program_sites p) pc (code_is_few p b x (omega (arith, main_opened (length x.routines) x.main)) (all_low p b x x.procedures (omega arith))).by
