@@ -86,7 +86,7 @@ part_levels : (b : Bool) (rank : ℕ) (k : Kind) (h : List CellType) → levels_
 part_levels true rank k h = refl
 part_levels false rank k h = refl
 
-fewer : (x : CellType) (h : List CellType) → levels_in h ≤ levels_in (x ∷ h)
+pub fewer : (x : CellType) (h : List CellType) → levels_in h ≤ levels_in (x ∷ h)
 fewer (cell.Level ks) h = omega arith
 fewer x h = omega arith
 
