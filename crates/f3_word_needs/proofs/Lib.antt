@@ -1,2 +1,4 @@
 pub mod Few
 pub mod Naming
+pub mod Sized
+pub mod Shifting
