@@ -2,3 +2,5 @@ pub mod Few
 pub mod Naming
 pub mod Sized
 pub mod Shifting
+pub mod Levels
+pub mod Keeping

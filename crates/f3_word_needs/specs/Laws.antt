@@ -1,0 +1,42 @@
+-- The laws of how much room stacks want.
+use Rattle.std.specs.Prelude.{◌≡◌, ◌≤◌, ℕ, ◌+◌, ◌*◌, Bool, List, length, Some, slice_get}
+use Rattle.f3_program.specs.declared.program.Program.{Program}
+use Rattle.f3_code.specs.Lower.{lowered_program}
+use Rattle.f3_code.specs.State.{Line, State}
+use Rattle.f3_code.specs.Heap.{with_answers}
+use Rattle.f3_heights.specs.Room.{all_cells, greatest, state_after}
+use Rattle.f3_sizes.specs.declared.answer.Needs.{Needs}
+use Rattle.f3_sizes.specs.Needs.{AreNeverDeeper}
+use Rattle.f3_word_cells.specs.Scenes.{code_of}
+use Rattle.f3_word_cells.specs.Does.{stream, IsTold, GoesOn}
+use Rattle.f3_word_needs.specs.Counts.{all_levels, all_names}
+use Rattle.f3_word_needs.specs.Names.{most_names}
+use Rattle.f3_word_needs.specs.Room.{HasRoom}
+
+-- A program begins in a state with room, whatever the heap answers after it gave some answers.
+abbrev pub StartHasRoom : Type 0
+StartHasRoom = (p : Program) (t : State) (given : List Bool) →
+    ((rest : ℕ → Bool) → state_after 1000 (lowered_program p) (code_of p) (stream given rest) 0 ≡ Some (with_answers rest t)) → HasRoom p t
+
+-- From such a state each line leads to another, where both are states of which the kinds are told.
+abbrev pub LinesKeepRoom : Type 0
+LinesKeepRoom = (p : Program) (t u : State) (l : Line) (bytes : List ℕ) → IsTold p t → slice_get (code_of p).lines t.pc ≡ Some l →
+    GoesOn p l t u bytes → IsTold p u → HasRoom p t → HasRoom p u
+
+-- In such a state there are no more callers than there may be.
+abbrev pub CallersAreFew : Type 0
+CallersAreFew = (p : Program) (t : State) → HasRoom p t → length t.frames ≤ 1000
+
+-- All activations together have no more cells than what was answered for the main program, and the greatest answer for a procedure a
+-- thousand times.
+abbrev pub CellsAreFew : Type 0
+CellsAreFew = (p : Program) (n : Needs) (t : State) → AreNeverDeeper (lowered_program p) n → HasRoom p t →
+    all_cells t ≤ n.main + 1000 * greatest n.procedures.items
+
+-- They have no more names than if each had most.
+abbrev pub NamesAreFew : Type 0
+NamesAreFew = (p : Program) (t : State) → IsTold p t → HasRoom p t → all_names t ≤ 1001 * most_names (lowered_program p)
+
+-- There are two levels for each caller, one for the main program, and no more than one for each cell.
+abbrev pub LevelsAreFew : Type 0
+LevelsAreFew = (p : Program) (t : State) → HasRoom p t → all_levels t ≤ 2001 + all_cells t
