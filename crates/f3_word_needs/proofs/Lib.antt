@@ -4,3 +4,4 @@ pub mod Sized
 pub mod Shifting
 pub mod Levels
 pub mod Keeping
+pub mod Owners
