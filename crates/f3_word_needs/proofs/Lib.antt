@@ -5,3 +5,4 @@ pub mod Shifting
 pub mod Levels
 pub mod Keeping
 pub mod Owners
+pub mod Cells

@@ -27,15 +27,15 @@ use Rattle.f3_word_needs.proofs.Shifting.{Shift, line_shifts}
 
 -- ---- marks of lines: 0 of routines, 1 of the main program, and 2 more than its number of a procedure
 
-abbrev routine_marks : List w.Work → List ℕ
+abbrev pub routine_marks : List w.Work → List ℕ
 routine_marks [] = []
 routine_marks (x ∷ xs) = alike 0 (work_heights (length xs) 0 x ++ 1 ∷ []) ++ routine_marks xs
 
-abbrev procedure_marks : ℕ → ℕ → List c.Procedure → List ℕ
+abbrev pub procedure_marks : ℕ → ℕ → List c.Procedure → List ℕ
 procedure_marks m k [] = []
 procedure_marks m k (q ∷ qs) = alike k (body_heights m q) ++ procedure_marks m (suc k) qs
 
-abbrev marks : c.Program → List ℕ
+abbrev pub marks : c.Program → List ℕ
 marks p = alike 1 (main_heights (length p.routines) p.main) ++ (routine_marks p.routines ++ procedure_marks (length p.routines) 2 p.procedures)
 
 routine_many : (xs : List w.Work) → length (routine_marks xs) ≡ length (routines_code xs)
@@ -60,6 +60,7 @@ module _ (height mark : ℕ → ℕ) where
   IsKeptAt pc l = IsKept mark pc l.act
 
   record Stepped (at : ℕ) (p : Piece) (hs ms : List ℕ) : Type 0 where
+    begins : height at ≡ p.first
     kept : AllAt IsKeptAt at p.lines
     heights : HeightsAt height (at + length p.lines) hs
     marked : HeightsAt mark (at + length p.lines) ms
@@ -70,6 +71,7 @@ module _ (height mark : ℕ → ℕ) where
       let same' : at + length (alike k p.heights) ≡ at + length p.lines = omega (arith, as_many p, alike_length k p.heights) in
       let o = own height mark k at p.lines p.heights p.first p.is (heights_front height at p.heights hs h) (heights_front mark at (alike k p.heights) ms r) in
       record {
+        begins = o.0;
         kept = all_map at p.lines (λ n l y. y.kept) o.1;
         heights = subst (λ n. HeightsAt height n hs) same (heights_back height at p.heights hs h);
         marked = subst (λ n. HeightsAt mark n ms) same' (heights_back mark at (alike k p.heights) ms r);
@@ -104,12 +106,13 @@ module _ (height mark : ℕ → ℕ) where
       let z : suc k + f ≡ k + suc f = omega arith in
       entry_marked m (suc k) (at + length (body_code m q)) qs rest f e is ∙ z
 
-  record OfProgram (p : c.Program) : Type 0 where
-    kept : (pc : ℕ) (l : Line) → slice_get (program_code p).lines pc ≡ Some l → IsKept mark pc l.act
-    entries : (f : ℕ) (e : Entry) → slice_get (program_code p).procedures f ≡ Some e → mark e.at ≡ 2 + f
-    start : mark 0 ≡ 1
+  pub record OfProgram (p : c.Program) : Type 0 where
+    pub begins : height 0 ≡ 0
+    pub kept : (pc : ℕ) (l : Line) → slice_get (program_code p).lines pc ≡ Some l → IsKept mark pc l.act
+    pub entries : (f : ℕ) (e : Entry) → slice_get (program_code p).procedures f ≡ Some e → mark e.at ≡ 2 + f
+    pub start : mark 0 ≡ 1
 
-  of_program : (p : c.Program) → HeightsAt height 0 (program_heights p) → HeightsAt mark 0 (marks p) → OfProgram p
+  pub of_program : (p : c.Program) → HeightsAt height 0 (program_heights p) → HeightsAt mark 0 (marks p) → OfProgram p
   of_program p h r =
       let m = length p.routines in
       let main = main_piece p in
@@ -132,6 +135,7 @@ module _ (height mark : ℕ → ℕ) where
       let z : at + length rs ≡ length cm + length rs = omega arith in
       let some : 0 < length (main_heights m p.main) = omega (arith, main.some, as_many main) in
       record {
+        begins = s.begins;
         kept = λ pc l is. let e : 0 + pc ≡ pc = omega arith in subst (λ n. IsKept mark n l.act) e (all_of IsKeptAt (cm ++ (rs ++ qs)) 0 pc l all is);
         entries = λ f e is. entry_marked m 2 (length cm + length rs) p.procedures (subst (λ n. HeightsAt mark n (procedure_marks m 2 p.procedures)) z r2) f e is;
         start = first_mark (main_heights m p.main) some (heights_front mark 0 (alike 1 (main_heights m p.main)) (routine_marks p.routines ++ procedure_marks m 2 p.procedures) r);
@@ -236,9 +240,9 @@ procedure_in m k at (q ∷ qs) j =
     (procedure_in m (suc k) (at + length (body_code m q)) qs (j - length (alike k (body_heights m q))))
 
 -- a line with a mark is one of the main program, or of the procedure of a number
-record Whose (p : c.Program) (pc : ℕ) : Type 0 where
-  main : slice_index (marks p) pc ≡ 1 → IsLineOf p None pc
-  procedure : 2 ≤ slice_index (marks p) pc → (f : ℕ) × IsLineOf p (Some f) pc
+pub record Whose (p : c.Program) (pc : ℕ) : Type 0 where
+  pub main : slice_index (marks p) pc ≡ 1 → IsLineOf p None pc
+  pub procedure : 2 ≤ slice_index (marks p) pc → (f : ℕ) × IsLineOf p (Some f) pc
 
 module _ (p : c.Program) (pc : ℕ) where
   abbrev m : ℕ
@@ -287,21 +291,21 @@ module _ (p : c.Program) (pc : ℕ) where
       record { main = λ e. omega (arith, h.0, main_many); procedure = λ e. absurd (omega (arith, h.1, is, e)) }
   by_place (inr h) = behind_main h.0 h.1 (index_append Routines Procedures (pc - length Main))
 
-  whose : Whose p pc
+  pub whose : Whose p pc
   whose = by_place (index_append Main (Routines ++ Procedures) pc)
 
 -- ---- activations
 
 module _ (height mark : ℕ → ℕ) where
   -- an activation of a mark has so many cells at a line of a mark, and so beneath the ways back of routines
-  abbrev Chain : ℕ → ℕ → ℕ → List Cell → Type 0
+  abbrev pub Chain : ℕ → ℕ → ℕ → List Cell → Type 0
   Chain need at zero [] = at ≡ need
   Chain need at (suc h) [] = ⊥
   Chain need at zero (To back place ∷ below) = (h : ℕ) × (height back ≡ suc h) × Chain need (mark back) h below
   Chain need at zero (c ∷ below) = ⊥
   Chain need at (suc h) (c ∷ below) = Chain need at h below
 
-  abbrev plan : Plan
+  abbrev pub plan : Plan
   plan = record { height = height; mark = mark; under = λ need at st. Chain need at 0 st }
 
   chain_above : (need at h : ℕ) (st : List Cell) → Chain need at h st → Above plan need at h st
@@ -309,7 +313,7 @@ module _ (height mark : ℕ → ℕ) where
   chain_above need at (suc h) [] s = s
   chain_above need at (suc h) (x ∷ st) s = chain_above need at h st s
 
-  above_chain : (need at h : ℕ) (st : List Cell) → Above plan need at h st → Chain need at h st
+  pub above_chain : (need at h : ℕ) (st : List Cell) → Above plan need at h st → Chain need at h st
   above_chain need at zero st s = s
   above_chain need at (suc h) [] s = s
   above_chain need at (suc h) (x ∷ st) s = above_chain need at h st s
@@ -324,7 +328,7 @@ module _ (height mark : ℕ → ℕ) where
     enters_at pc t pcs b.1,
   )
 
-  sound : (code : Code) → AreHeights height code → ((pc : ℕ) (l : Line) → slice_get code.lines pc ≡ Some l → IsKept mark pc l.act) → Sound plan code
+  pub sound : (code : Code) → AreHeights height code → ((pc : ℕ) (l : Line) → slice_get code.lines pc ≡ Some l → IsKept mark pc l.act) → Sound plan code
   sound code h kept = record {
     rules = rules;
     lines = h.lines;
@@ -333,7 +337,7 @@ module _ (height mark : ℕ → ℕ) where
     procedures = h.procedures;
   }
 
-  chain_home : (need pc h : ℕ) (st : List Cell) → Chain need (mark pc) h st → mark (home height pc h st) ≡ need
+  pub chain_home : (need pc h : ℕ) (st : List Cell) → Chain need (mark pc) h st → mark (home height pc h st) ≡ need
   chain_home need pc zero [] s = s
   chain_home need pc (suc h) [] s = absurd s
   chain_home need pc zero (To back place ∷ below) s =
