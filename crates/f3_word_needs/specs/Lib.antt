@@ -2,3 +2,4 @@ pub mod Counts
 pub mod Names
 pub mod Room
 pub mod Laws
+pub mod Needs

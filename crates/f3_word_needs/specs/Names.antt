@@ -1,10 +1,13 @@
 -- How many names a procedure has at most, known from its code.
-use Rattle.std.specs.Prelude.{ℕ, ◌+◌, ◌*◌, max, List, [], ◌∷◌, length}
+use Rattle.std.specs.Prelude.{ℕ, ◌+◌, ◌*◌, max, List, [], ◌∷◌, length, slice_range}
+use Rattle.f3_program.specs.declared.program.Procedure.{Procedure}
 use Rattle.f3_code.specs.declared.instruction.Instruction.{Instruction}
 use Rattle.f3_code.specs.declared.instruction.Instruction.TheVariants as i
 use Rattle.f3_code.specs.Core as c
 use Rattle.f3_code.specs.State.{Line}
 use Rattle.f3_code.specs.Code.{body_code, main_code}
+use Rattle.f3_gen_values.specs.declared.line.Line as emitted
+use Rattle.f3_sizes.specs.Parts.{first_of}
 
 -- the selectors of an ASSOCIATE
 abbrev pub selectors_of : Instruction → ℕ
@@ -33,3 +36,16 @@ procedures_names p (q ∷ qs) = max (procedure_names p q) (procedures_names p qs
 -- of the main program, or of the procedure that has most
 abbrev pub most_names : c.Program → ℕ
 most_names p = max (main_names p) (procedures_names p p.procedures)
+
+-- ---- the same of lines as they were emitted
+
+abbrev pub selectors_among : List emitted.Line → ℕ
+selectors_among [] = 0
+selectors_among (l ∷ ls) = selectors_of l.act + selectors_among ls
+
+-- of procedures that begin at these lines, up to a line: of the one that has most
+abbrev pub names_among : List emitted.Line → List ℕ → ℕ → List Procedure → ℕ
+names_among lines [] end qs = 0
+names_among lines (start ∷ starts) end [] = 0
+names_among lines (start ∷ starts) end (q ∷ qs) =
+    max (length q.dummies.items + 2 * selectors_among (slice_range lines start (first_of starts end))) (names_among lines starts end qs)
