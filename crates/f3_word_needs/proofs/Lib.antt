@@ -6,3 +6,4 @@ pub mod Levels
 pub mod Keeping
 pub mod Owners
 pub mod Cells
+pub mod Rows

@@ -58,3 +58,68 @@ fn greatest_of(numbers: &[usize]) -> usize
     }
     most
 }
+
+/// The first of lines, or the one behind them.
+fn first_line(starts: &[usize], end: usize) -> usize
+    ensures { result ≡ first_of starts.now end }
+{
+    if starts.is_empty() { end } else { starts[0] }
+}
+
+/// How many names a procedure has, whose code stands from the line of a number up to the next, as far as 64 bits tell.
+fn names_at(procedure: &Procedure, lines: &[Line], starts: &[usize], at: usize) -> usize
+    requires there { at < length starts.now }
+    requires parts { AreParts lines.now starts.now (length lines.now) 0 }
+    ensures { result ≡ min (length procedure.now.dummies.items + 2 * selectors_among (part_lines lines.now starts.now (length lines.now) at)) (2 ^ 64 - 1) }
+{
+    let behind = first_line(&starts[at + 1..], lines.len());
+    names(procedure.dummies.len(), &lines[starts[at]..behind])
+}
+
+/// How many names the procedure has that has most, where their codes begin at these lines, as far as 64 bits tell.
+fn procedures_names(procedures: &[Procedure], lines: &[Line], starts: &[usize]) -> usize
+    requires same { length starts.now ≡ length procedures.now }
+    requires parts { AreParts lines.now starts.now (length lines.now) 0 }
+    ensures { result ≡ min (names_among lines.now starts.now (length lines.now) procedures.now) (2 ^ 64 - 1) }
+{
+    let mut most = 0;
+    for at in 0..starts.len() {
+        most = most.max(names_at(&procedures[at], lines, starts, at));
+    }
+    most
+}
+
+/// How many names the main program has, or the procedure that has most, as far as 64 bits tell.
+fn names_of(program: &Program, emission: &Emission) -> usize
+    requires { code_in program.now emission.now ≡ program_code (lowered_program program.now) }
+    ensures { result ≡ min (most_names (lowered_program program.now)) (2 ^ 64 - 1) }
+{
+    let starts = &emission.procedures[..program.procedures.len()];
+    let behind_routines = first_line(starts, emission.lines.len());
+    let behind_main = first_line(&emission.routines, behind_routines);
+    let main = names(program.main.dummies.len(), &emission.lines[..behind_main]);
+    main.max(procedures_names(&program.procedures, &emission.lines, starts))
+}
+
+/// How many cells, names and levels of values there are at most in each state of each run: none where 2 to the 48 cells or names may
+/// be there.
+///
+/// The needs of activations are those that `f3_sizes::needs::needs` told of the same program.
+pub fn stack_needs(program: &Program, emission: &Emission, needs: &Needs) -> Option<StackNeeds>
+    requires code { code_in program.now emission.now ≡ program_code (lowered_program program.now) }
+    requires deep { AreNeverDeeper (lowered_program program.now) needs.now }
+    ensures told { MatchOption result (AreTooMany program.now needs.now) (λ x. AreTold program.now needs.now x) }
+    ensures enough { IfSome result (λ x. AreEnough program.now x) }
+{
+    let deepest = greatest_of(&needs.procedures);
+    let cells = deepest.saturating_mul(1000).saturating_add(needs.main);
+    let names = names_of(program, emission).saturating_mul(1001);
+    if cells >= MOST || names >= MOST {
+        return None;
+    }
+    Some(StackNeeds {
+        cells,
+        names,
+        levels: cells + 2001,
+    })
+}
