@@ -1,5 +1,5 @@
 -- All activations together have few cells.
-use Rattle.std.proofs.Common.{◌≡◌, ◌≤◌, ◌<◌, ℕ, zero, suc, ◌+◌, ◌-◌, ◌*◌, Bool, false, List, [], ◌∷◌, length, Option, None, Some, refl, sym, ap, ◌∙◌, subst, arith}
+use Rattle.std.proofs.Common.{◌≡◌, ◌≤◌, ℕ, zero, suc, ◌+◌, ◌-◌, ◌*◌, Bool, false, List, [], ◌∷◌, length, Option, None, Some, refl, sym, ap, ◌∙◌, subst, arith}
 use Rattle.std.specs.Prelude.{slice_get, slice_index}
 use Rattle.std.proofs.Math.Nat.{mul-le-mul_right}
 use Rattle.f3_meaning_whole.specs.Act.{Setting, claim, enter}
@@ -21,12 +21,10 @@ use Rattle.f3_heights.proofs.Regions.{greatest_first}
 use Rattle.f3_heights.proofs.Keeping.{Above, FramesIn, FitsIn, as_many}
 use Rattle.f3_heights.proofs.Stepping.{step_keeps}
 use Rattle.f3_sizes.specs.declared.answer.Needs.{Needs}
-use Rattle.f3_sizes.specs.Needs.{answer_for, IsLineOf, IsWithinAnswer, height_in, CallersWithinAnswers, AreNeverDeeper}
-use Rattle.f3_program.specs.declared.program.Program.{Program}
+use Rattle.f3_sizes.specs.Needs.{IsWithinAnswer, CallersWithinAnswers, AreNeverDeeper}
 use Rattle.f3_word_cells.specs.Does.{stream}
-use Rattle.f3_word_needs.specs.Room.{HasRoom}
 use Rattle.f3_word_needs.specs.Laws.{CellsAreFew}
-use Rattle.f3_word_needs.proofs.Owners.{marks, OfProgram, of_program, Whose, whose, plan, sound, above_chain, chain_home}
+use Rattle.f3_word_needs.proofs.Owners.{marks, OfProgram, of_program, whose, plan, sound, above_chain, chain_home}
 use Rattle.f3_word_needs.proofs.Shifting as shifting
 use Rattle.f3_word_needs.proofs.Shifting.{Shift, line_shifts}
 use Rattle.f3_word_needs.proofs.Keeping.{callers_are_few}

@@ -1,5 +1,5 @@
 -- At each line of a code there are few names.
-use Rattle.std.proofs.Common.{◌≡◌, ◌≤◌, ℕ, zero, suc, ◌+◌, ◌*◌, Bool, true, false, not, List, [], ◌∷◌, ◌++◌, length, drop, map, Option, Some, None, refl, sym, ap, ◌∙◌, subst, arith, if◌then◌else◌, length-append}
+use Rattle.std.proofs.Common.{◌≡◌, ◌≤◌, ℕ, zero, suc, ◌+◌, ◌*◌, Bool, true, false, not, List, [], ◌∷◌, ◌++◌, length, drop, Option, Some, None, refl, ap, arith, if◌then◌else◌, length-append}
 use Rattle.std.proofs.lemmas.List.{length-map}
 use Rattle.f3_places.specs.declared.source.Place.{Place}
 use Rattle.std.specs.Prelude.{nat_eq, nat_lt, slice_index_or}
@@ -14,7 +14,7 @@ use Rattle.f3_program.specs.declared.statement.Item.{Item}
 use Rattle.f3_program.specs.declared.statement.Item.TheVariants as item
 use Rattle.f3_program.specs.declared.statement.Range.{Range}
 use Rattle.f3_program.specs.declared.program.Program.{Program}
-use Rattle.f3_meaning_whole.specs.Formed.{Given, of_kind, kinds_of}
+use Rattle.f3_meaning_whole.specs.Formed.{Given, of_kind}
 use Rattle.f3_code.specs.Work as w
 use Rattle.f3_code.specs.Core as c
 use Rattle.f3_code.specs.Code.{value_code, locate_code, ranges_code, selectors_code, discards_code, leaving_code, departing_code, up_code, turns_code, code_of, begin_code, last_code, body_code, main_code, Ways, farther, looped, counting, scoped, body_ways, main_ways}
@@ -28,7 +28,7 @@ use Rattle.f3_cell_kinds.specs.Types.{Scope, Around, Told, CellType, Site, selec
 use Rattle.f3_cell_kinds.specs.Types as cell
 use Rattle.f3_cell_kinds.specs.Effect.{part_cell, held_kind, extents_on}
 use Rattle.f3_cell_kinds.specs.Values.{at, stacked, reached_if, component_at, is_triplet, triplets, value_at, object_at, argument_at, arguments_at, value_sites, bounds_sites, argument_sites, arguments_sites, locate_sites, select_sites, select_of_sites, chosen_sites, subscript_sites, work_sites}
-use Rattle.f3_cell_kinds.specs.Program.{variable_kind, in_routine, transfer_sites, free_sites, dimensions_sites, allocate_sites, deallocate_sites, status_sites, bytes_sites, items_sites, ranges_sites, selected_at, selectors_sites, discards_sites, leaving_sites, departing_sites, if_sites, case_sites, while_sites, up_sites, turns_sites, limits_sites, code_sites, each_sites, finish_sites, scope_of, returns_of, outward, last_sites, body_sites, main_sites, procedures_sites, routines_sites, code_of_sites, program_sites}
+use Rattle.f3_cell_kinds.specs.Program.{variable_kind, in_routine, transfer_sites, free_sites, dimensions_sites, allocate_sites, deallocate_sites, status_sites, bytes_sites, items_sites, ranges_sites, selected_at, selectors_sites, discards_sites, leaving_sites, departing_sites, turns_sites, limits_sites, code_sites, each_sites, finish_sites, scope_of, returns_of, outward, body_sites, main_sites, procedures_sites, routines_sites, code_of_sites, program_sites}
 
 -- the names of ASSOCIATEs among cells
 abbrev pub levels_in : List CellType → ℕ

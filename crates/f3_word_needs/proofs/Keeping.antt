@@ -1,5 +1,5 @@
 -- Lines lead from states with room to such.
-use Rattle.std.proofs.Common.{◌≡◌, ℕ, zero, suc, ◌+◌, ◌-◌, ◌*◌, ◌≤◌, Bool, true, false, List, [], ◌∷◌, ◌++◌, length, take, map, Option, Some, None, refl, sym, ap, ◌∙◌, subst, arith, length-append}
+use Rattle.std.proofs.Common.{◌≡◌, ℕ, zero, suc, ◌+◌, ◌≤◌, Bool, false, List, [], ◌∷◌, ◌++◌, length, take, map, Some, refl, sym, ap, ◌∙◌, subst, arith, length-append}
 use Rattle.std.specs.Prelude.{slice_get}
 use Rattle.std.proofs.Math.Nat.{mul-le-mul_right}
 use Rattle.std.proofs.Math.Path.{fun_ext}
@@ -9,7 +9,7 @@ use Rattle.f3_program.specs.declared.program.Procedure.{Procedure}
 use Rattle.f3_program.specs.declared.program.Program.{Program}
 use Rattle.f3_meaning_whole.specs.Store.{Store}
 use Rattle.f3_meaning_whole.specs.Reference.{Reference}
-use Rattle.f3_meaning_whole.specs.Ran.{Event, World, End, Gives, Fails, Stops, Beyond, ◌>>=◌}
+use Rattle.f3_meaning_whole.specs.Ran.{Event, End, Gives, Fails, Stops, Beyond, ◌>>=◌}
 use Rattle.f3_meaning_whole.specs.Act.{Setting, claim, enter}
 use Rattle.f3_code.specs.Core as c
 use Rattle.f3_code.specs.CoreRun.{core_setting, core_here, core_world}
@@ -26,7 +26,6 @@ use Rattle.f3_code.specs.Heap.{with_answers}
 use Rattle.f3_heights.specs.Room.{state_next, state_run, state_after}
 use Rattle.f3_heights.proofs.Running.{runs_are_bounded}
 use Rattle.f3_cells.specs.States.{setting}
-use Rattle.f3_sorts.specs.Effect as sort
 use Rattle.f3_cell_kinds.specs.Types.{Scope, Around, Told, CellType, Site, sort_of_type, associating}
 use Rattle.f3_cell_kinds.specs.Types as cell
 use Rattle.f3_cell_kinds.specs.Holds.{Is, Stand, Fits}
@@ -39,10 +38,10 @@ use Rattle.f3_store_kinds.proofs.After.{IsAfter, After, calm_then}
 use Rattle.f3_store_kinds.proofs.Still.{claim_still}
 use Rattle.f3_store_kinds.proofs.Running.{code_is_clean}
 use Rattle.f3_word_cells.specs.Scenes.{code_of}
-use Rattle.f3_word_cells.specs.Does.{stream, IsTold, GoesOn}
+use Rattle.f3_word_cells.specs.Does.{stream, GoesOn}
 use Rattle.f3_word_needs.specs.Counts.{associated, all_levels}
 use Rattle.f3_word_needs.specs.Names.{most_names}
-use Rattle.f3_word_needs.specs.Room.{IsOfRun, FramesNamed, HasRoom}
+use Rattle.f3_word_needs.specs.Room.{IsOfRun, FramesNamed}
 use Rattle.f3_word_needs.specs.Laws.{StartHasRoom, LinesKeepRoom, LevelsAreFew, NamesAreFew, CallersAreFew}
 use Rattle.f3_word_needs.proofs.Few.{site_is_few}
 use Rattle.f3_word_needs.proofs.Naming.{names_few, told_few}

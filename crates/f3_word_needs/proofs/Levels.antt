@@ -1,5 +1,5 @@
 -- Levels above one another.
-use Rattle.std.proofs.Common.{◌≡◌, ℕ, zero, suc, ◌+◌, ◌*◌, ◌≤◌, List, [], ◌∷◌, length, refl, sym, ap, ◌∙◌, subst, arith}
+use Rattle.std.proofs.Common.{◌≡◌, ℕ, ◌+◌, ◌*◌, ◌≤◌, List, [], ◌∷◌, length, sym, subst, arith}
 use Rattle.f3_code.specs.State.{Cell, Level, Frame, State}
 use Rattle.f3_heights.specs.Room.{frames_cells, all_cells}
 use Rattle.f3_word_needs.specs.Counts.{associated, all_levels}

@@ -7,3 +7,4 @@ pub mod Keeping
 pub mod Owners
 pub mod Cells
 pub mod Rows
+pub mod Emitted

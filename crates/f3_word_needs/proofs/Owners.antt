@@ -1,29 +1,23 @@
 -- At whose lines activations are.
-use Rattle.std.proofs.Common.{◌≡◌, ◌≤◌, ◌<◌, ◌⊎◌, inl, inr, ℕ, zero, suc, ◌+◌, ◌-◌, ◌*◌, List, [], ◌∷◌, ◌++◌, length, Option, None, Some, refl, sym, ap, ◌∙◌, subst, arith, append_assoc, length-append}
+use Rattle.std.proofs.Common.{◌≡◌, ◌≤◌, ◌<◌, ◌⊎◌, inl, inr, ℕ, zero, suc, ◌+◌, ◌-◌, List, [], ◌∷◌, ◌++◌, length, None, Some, refl, sym, ap, ◌∙◌, subst, arith, length-append}
 use Rattle.std.specs.Prelude.{slice_get, slice_index}
-use Rattle.f3_meaning_whole.specs.Act.{Setting}
-use Rattle.f3_meaning_whole.specs.Ran.{Event}
 use Rattle.f3_code.specs.Work as w
 use Rattle.f3_code.specs.Core as c
 use Rattle.f3_code.specs.declared.instruction.Instruction.TheVariants as i
-use Rattle.f3_code.specs.State.{Line, line, Entry, Code, Cell, To, Frame, State, Goes}
-use Rattle.f3_code.specs.Machine.{step, does_line}
+use Rattle.f3_code.specs.State.{Line, line, Entry, Code, Cell, To}
 use Rattle.f3_code.specs.Code.{work_code, body_code, main_code, procedures_code, entries, routines_code, program_code}
-use Rattle.f3_heights.specs.Effect.{on}
-use Rattle.f3_heights.specs.Heights.{Leads, IsAt, RoutinesBegin, AreHeights}
-use Rattle.f3_heights.specs.Needs.{IsKept, Kept}
+use Rattle.f3_heights.specs.Heights.{RoutinesBegin, AreHeights}
+use Rattle.f3_heights.specs.Needs.{IsKept}
 use Rattle.f3_heights.specs.Program.{work_heights, body_heights, main_heights, routines_heights, procedures_heights, program_heights}
-use Rattle.f3_heights.specs.Room.{alike, home, Change, Stays, Begins, Ends}
+use Rattle.f3_heights.specs.Room.{alike, home}
 use Rattle.f3_heights.proofs.Parts.{HeightsAt, heights_front, heights_back}
-use Rattle.f3_heights.proofs.OfProgram.{heights_all, code_has_heights, routines_same}
-use Rattle.f3_heights.proofs.Regions.{AllAt, all_on, all_of, all_map, Own, own}
-use Rattle.f3_heights.proofs.Keeping.{Plan, Above, FramesIn, FitsIn, Rules, as_many as frames_many}
-use Rattle.f3_heights.proofs.Stepping.{RoutinesEnter, Sound, step_keeps}
+use Rattle.f3_heights.proofs.OfProgram.{routines_same}
+use Rattle.f3_heights.proofs.Regions.{AllAt, all_on, all_of, all_map, own}
+use Rattle.f3_heights.proofs.Keeping.{Plan, Above, Rules}
+use Rattle.f3_heights.proofs.Stepping.{RoutinesEnter, Sound}
 use Rattle.f3_sizes.specs.Needs.{IsLineOf}
 use Rattle.f3_sizes.proofs.Pieces.{Piece, lines_of, heights_of, as_many, main_piece, routine_piece, procedure_piece, routine_pieces, procedure_pieces, routine_lines, routine_heights, procedure_lines, procedure_heights}
 use Rattle.f3_sizes.proofs.Tiles.{alike_length}
-use Rattle.f3_word_needs.proofs.Shifting as shifting
-use Rattle.f3_word_needs.proofs.Shifting.{Shift, line_shifts}
 
 -- ---- marks of lines: 0 of routines, 1 of the main program, and 2 more than its number of a procedure
 

@@ -1,26 +1,26 @@
 -- How each instruction changes callers, names and levels.
-use Rattle.std.proofs.Common.{◌≡◌, ℕ, zero, suc, ◌+◌, ◌-◌, ◌≤◌, ℤ, pos, Bool, true, false, List, [], ◌∷◌, ◌++◌, length, take, drop, Option, Some, None, refl, sym, ap, ◌∙◌, subst, arith, if◌then◌else◌}
-use Rattle.std.specs.Prelude.{◌+ℤ◌, nat_eq, nat_lt, slice_get, slice_index_or, unwrap_or}
+use Rattle.std.proofs.Common.{◌≡◌, ℕ, zero, suc, ◌+◌, ◌≤◌, ℤ, pos, Bool, true, false, List, [], ◌∷◌, length, take, drop, Option, Some, None, refl, sym, ap, ◌∙◌, subst, arith, if◌then◌else◌}
+use Rattle.std.specs.Prelude.{nat_eq, nat_lt, slice_get, slice_index_or}
 use Rattle.f3_places.specs.declared.source.Place.{Place}
 use Rattle.f3_program.specs.declared.declarations.Base.TheVariants as base
-use Rattle.f3_meaning_whole.specs.Value.{Span, Value, Number, Truth, Composite, Array, Unallocated, Allocated, joined, number_of, truth_of, is_allocated, count, conforms, spans_of}
+use Rattle.f3_meaning_whole.specs.Value.{Span, Value, Number, Truth, Composite, Array, Unallocated, Allocated, joined, number_of, truth_of, is_allocated, conforms, spans_of}
 use Rattle.f3_meaning_whole.specs.Store.{Store, Path, get}
 use Rattle.f3_meaning_whole.specs.Reference.{Selected, Language, Reference, spans, is_pinned}
 use Rattle.f3_meaning_whole.specs.declared.run_error.RunError.{RunError}
 use Rattle.f3_meaning_whole.specs.declared.run_error.RunError.TheVariants.{NotAllocated, ShapesDiffer}
-use Rattle.f3_meaning_whole.specs.Ran.{Event, World, End, Gives, Fails, Stops, Beyond, Ran, ◌>>=◌, gives, looks, prints_bytes}
-use Rattle.f3_meaning_whole.specs.Arithmetic.{apply, change_of, converted}
+use Rattle.f3_meaning_whole.specs.Ran.{Event, World, End, Gives, Fails, Stops, Beyond, Ran, ◌>>=◌, gives, looks}
+use Rattle.f3_meaning_whole.specs.Arithmetic.{apply, change_of}
 use Rattle.f3_meaning_whole.specs.Shape.{Whole}
-use Rattle.f3_meaning_whole.specs.Act.{Setting, Here, Passed, set, clear, begins, enter, leave, claim, claim_for, named, component, component_of, contents, read, picks_in_each, structure, components_of, given, passed_at, Chosen}
-use Rattle.f3_meaning_whole.specs.Eval.{result, spans_of_component, asked, built, by_reach}
-use Rattle.f3_meaning_whole.specs.Exec.{Flow, Onward, Cycled, Left, Returned, unless_zero, print_value, vacant, held, held_by, status_number, take_over, Association}
-use Rattle.f3_code.specs.Exec.{allocate, is_held, result_at}
+use Rattle.f3_meaning_whole.specs.Act.{Setting, Here, Passed, enter, leave, components_of, given, passed_at, Chosen}
+use Rattle.f3_meaning_whole.specs.Eval.{result, built}
+use Rattle.f3_meaning_whole.specs.Exec.{Flow, Onward, Cycled, Left, Returned, vacant, held, held_by, status_number, Association}
+use Rattle.f3_code.specs.Exec.{is_held}
 use Rattle.f3_code.specs.declared.instruction.Instruction.{Instruction}
 use Rattle.f3_code.specs.declared.instruction.Instruction.TheVariants as i
 use Rattle.f3_code.specs.declared.instruction.Way.{Way}
 use Rattle.f3_code.specs.State as state
 use Rattle.f3_code.specs.State.{Line, placed, Entry, Code, Cell, Datum, Object, Argument, Choice, Bound, Bounds, Extent, Status, Turns, Elements, Objects, To, Selector, Level, Outside, Going, Frame, State, Next, Goes}
-use Rattle.f3_code.specs.Machine.{act, does_line, step, ends_so, performs, on_datum, on_object, on_bound, on_bounds, on_status, on_turns, on_elements, on_objects, on_to, on_level, on_outside, on_going, on_any, on_some, on_many, begun, selects, opens, checked, tested, no_calls, called_at, returned, outward, passed_in, routine_at, departs, branches, next_turn_at, next_element, next_object, next_argument, skips_failed, argument_of, choice_of, extent_of, selector_of}
+use Rattle.f3_code.specs.Machine.{act, ends_so, performs, on_datum, on_object, on_bound, on_bounds, on_status, on_turns, on_elements, on_objects, on_to, on_level, on_outside, on_going, on_any, on_some, on_many, begun, called_at, returned, outward, passed_in, routine_at, departs, branches, next_turn_at, next_element, next_object, next_argument, skips_failed, argument_of, choice_of, extent_of, selector_of}
 use Rattle.f3_cell_kinds.proofs.Calm.{looks_calm}
 use Rattle.f3_store_kinds.proofs.After.{IsAfter, After, gives_after, bind_after, calm_then}
 use Rattle.f3_store_kinds.proofs.Still.{Still, looks_still, then_still, claim_still, converted_still, apply_still, change_still, claim_for_still, built_still, read_still, result_still, asked_still, structure_still, unless_still, checked_still, tested_still, begins_still, prints_still, print_still}

@@ -1,22 +1,20 @@
 -- Parts of runs that leave as many levels as there were.
-use Rattle.std.proofs.Common.{◌≡◌, ℕ, zero, suc, ◌+◌, ◌≤◌, Bool, true, false, List, [], ◌∷◌, ◌++◌, length, take, map, Option, Some, None, refl, sym, ap, ◌∙◌, subst, arith, if◌then◌else◌, length-append, ◌||◌}
-use Rattle.std.specs.Prelude.{slice_set, nat_lt, nat_eq}
+use Rattle.std.proofs.Common.{◌≡◌, ℕ, zero, suc, ◌+◌, ◌≤◌, Bool, true, false, List, [], ◌∷◌, ◌++◌, length, take, map, None, refl, ap, ◌∙◌, subst, arith, if◌then◌else◌, length-append, ◌||◌}
+use Rattle.std.specs.Prelude.{slice_set, nat_lt}
 use Rattle.f3_program.specs.declared.expression.Name.{Name}
 use Rattle.f3_program.specs.declared.expression.Name.TheVariants as n
 use Rattle.f3_meaning_whole.specs.Value.{Span, Value, Number, Truth, Composite, Array, Unallocated, Allocated, count, spread, cleared, is_allocated}
 use Rattle.f3_meaning_whole.specs.Store.{Store, Root, Static, Local, Path, with_root, get, put, put_all}
 use Rattle.f3_meaning_whole.specs.Reference.{Maker, Reach, One, Many, Reference, paths, is_pinned}
 use Rattle.f3_meaning_whole.specs.declared.run_error.RunError.TheVariants.{InUse}
-use Rattle.f3_meaning_whole.specs.Ran.{Ran, End, Gives, Fails, Stops, Beyond, ◌>>=◌, looks, gives}
+use Rattle.f3_meaning_whole.specs.Ran.{Ran, End, Gives, Fails, Stops, Beyond}
 use Rattle.f3_meaning_whole.specs.Eval.{by_reach}
-use Rattle.f3_meaning_whole.specs.Act.{Setting, Here, Chosen, Calls, set, clear, enter, leave, claim, named, component, contents_by, contents, opened, picks, picks_in_each, places}
+use Rattle.f3_meaning_whole.specs.Act.{Setting, Here, Chosen, set, clear, enter, leave, named, component, contents_by, contents, opened, picks, picks_in_each, places}
 use Rattle.f3_meaning_whole.specs.Exec.{take_over, too_many, vacant}
-use Rattle.f3_meaning_whole.specs.Act.{Passed}
 use Rattle.f3_code.specs.Exec.{allocate}
-use Rattle.f3_code.specs.Machine.{selects, opens, begun, no_calls}
-use Rattle.f3_cell_kinds.proofs.Calm.{Calm}
+use Rattle.f3_code.specs.Machine.{selects, opens, no_calls}
 use Rattle.f3_store_kinds.proofs.After.{IsAfter, After, gives_after, fails_after, does_after, bind_after, calm_after, calm_then, if_after}
-use Rattle.f3_store_kinds.proofs.Still.{Still, gives_still, fails_still, looks_still, then_still, claim_still, request_still}
+use Rattle.f3_store_kinds.proofs.Still.{Still, gives_still, fails_still, looks_still, then_still, request_still}
 
 abbrev pub many : Store → ℕ
 many store = length store.levels

@@ -1,13 +1,14 @@
 -- How many names a procedure has at most, known from its code.
-use Rattle.std.specs.Prelude.{ℕ, ◌+◌, ◌*◌, max, List, [], ◌∷◌, length, slice_range}
+use Rattle.std.specs.Prelude.{ℕ, ◌+◌, ◌*◌, max, List, [], ◌∷◌, length, take, slice_range}
 use Rattle.f3_program.specs.declared.program.Procedure.{Procedure}
+use Rattle.f3_program.specs.declared.program.Program.{Program}
 use Rattle.f3_code.specs.declared.instruction.Instruction.{Instruction}
 use Rattle.f3_code.specs.declared.instruction.Instruction.TheVariants as i
 use Rattle.f3_code.specs.Core as c
 use Rattle.f3_code.specs.State.{Line}
 use Rattle.f3_code.specs.Code.{body_code, main_code}
 use Rattle.f3_gen_values.specs.declared.line.Line as emitted
-use Rattle.f3_sizes.specs.Parts.{first_of}
+use Rattle.f3_sizes.specs.Parts.{first_of, behind_main}
 
 -- the selectors of an ASSOCIATE
 abbrev pub selectors_of : Instruction → ℕ
@@ -49,3 +50,8 @@ names_among lines [] end qs = 0
 names_among lines (start ∷ starts) end [] = 0
 names_among lines (start ∷ starts) end (q ∷ qs) =
     max (length q.dummies.items + 2 * selectors_among (slice_range lines start (first_of starts end))) (names_among lines starts end qs)
+
+-- of the main program, whose code comes first and which has no dummies, or of the procedure that has most
+abbrev pub names_told : List emitted.Line → List ℕ → List ℕ → Program → ℕ
+names_told lines routines starts p = max (2 * selectors_among (take (behind_main lines routines starts) lines))
+    (names_among lines starts (length lines) p.procedures.items)

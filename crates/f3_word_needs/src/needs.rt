@@ -7,8 +7,8 @@ ghost use Rattle.f3_gen_values.specs.Emission.{code_in};
 ghost use Rattle.f3_heights.specs.Room.{greatest};
 ghost use Rattle.f3_program.specs.declared.program.Procedure.{Procedure};
 ghost use Rattle.f3_sizes.specs.Needs.{AreNeverDeeper};
-ghost use Rattle.f3_sizes.specs.Parts.{AreParts, first_of, part_lines};
-ghost use Rattle.f3_word_needs.specs.Names.{most_names, names_among, selectors_among};
+ghost use Rattle.f3_sizes.specs.Parts.{AreCodeParts, AreParts, IsPartAt, first_of, part_lines};
+ghost use Rattle.f3_word_needs.specs.Names.{most_names, names_among, names_told, selectors_among};
 ghost use Rattle.f3_word_needs.specs.Needs.{AreEnough, AreTold, AreTooMany};
 
 use f3_code::instruction::Instruction;
@@ -69,7 +69,7 @@ fn first_line(starts: &[usize], end: usize) -> usize
 /// How many names a procedure has, whose code stands from the line of a number up to the next, as far as 64 bits tell.
 fn names_at(procedure: &Procedure, lines: &[Line], starts: &[usize], at: usize) -> usize
     requires there { at < length starts.now }
-    requires parts { AreParts lines.now starts.now (length lines.now) 0 }
+    requires part { IsPartAt lines.now starts.now (length lines.now) 0 at }
     ensures { result ≡ min (length procedure.now.dummies.items + 2 * selectors_among (part_lines lines.now starts.now (length lines.now) at)) (2 ^ 64 - 1) }
 {
     let behind = first_line(&starts[at + 1..], lines.len());
@@ -89,16 +89,26 @@ fn procedures_names(procedures: &[Procedure], lines: &[Line], starts: &[usize]) 
     most
 }
 
-/// How many names the main program has, or the procedure that has most, as far as 64 bits tell.
+/// How many names the main program has, or the procedure that has most, by the lines of the code, and by those with which routines and
+/// procedures begin, as far as 64 bits tell.
+fn told(program: &Program, lines: &[Line], routines: &[usize], starts: &[usize]) -> usize
+    requires parts { AreCodeParts lines.now routines.now starts.now }
+    requires same { length starts.now ≡ length program.now.procedures.items }
+    ensures { result ≡ min (names_told lines.now routines.now starts.now program.now) (2 ^ 64 - 1) }
+{
+    let behind_routines = first_line(starts, lines.len());
+    let behind_main = first_line(routines, behind_routines);
+    let main = names(0, &lines[..behind_main]);
+    main.max(procedures_names(&program.procedures, lines, starts))
+}
+
+/// The same of the code that was emitted for a program.
 fn names_of(program: &Program, emission: &Emission) -> usize
     requires { code_in program.now emission.now ≡ program_code (lowered_program program.now) }
     ensures { result ≡ min (most_names (lowered_program program.now)) (2 ^ 64 - 1) }
 {
     let starts = &emission.procedures[..program.procedures.len()];
-    let behind_routines = first_line(starts, emission.lines.len());
-    let behind_main = first_line(&emission.routines, behind_routines);
-    let main = names(program.main.dummies.len(), &emission.lines[..behind_main]);
-    main.max(procedures_names(&program.procedures, &emission.lines, starts))
+    told(program, &emission.lines, &emission.routines, starts)
 }
 
 /// How many cells, names and levels of values there are at most in each state of each run: none where 2 to the 48 cells or names may
