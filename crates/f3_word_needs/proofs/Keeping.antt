@@ -40,11 +40,11 @@ use Rattle.f3_store_kinds.proofs.Running.{code_is_clean}
 use Rattle.f3_word_cells.specs.Scenes.{code_of}
 use Rattle.f3_word_cells.specs.Does.{stream, GoesOn}
 use Rattle.f3_word_needs.specs.Counts.{associated, all_levels}
-use Rattle.f3_word_needs.specs.Names.{most_names}
+use Rattle.f3_word_needs.specs.Names.{most_names, most_selectors}
 use Rattle.f3_word_needs.specs.Room.{IsOfRun, FramesNamed}
-use Rattle.f3_word_needs.specs.Laws.{StartHasRoom, LinesKeepRoom, LevelsAreFew, NamesAreFew, CallersAreFew}
-use Rattle.f3_word_needs.proofs.Few.{site_is_few}
-use Rattle.f3_word_needs.proofs.Naming.{names_few, told_few}
+use Rattle.f3_word_needs.specs.Laws.{StartHasRoom, LinesKeepRoom, LevelsAreFew, NamesAreFew, SelectorsAreFew, CallersAreFew}
+use Rattle.f3_word_needs.proofs.Few.{site_is_few, site_has_few}
+use Rattle.f3_word_needs.proofs.Naming.{names_few, told_few, open_few}
 use Rattle.f3_word_needs.proofs.Levels.{Levels, levels_as, levels_fewer, beneath, levels_few}
 use Rattle.f3_word_needs.proofs.Sized.{many, enter_sized}
 use Rattle.f3_word_needs.proofs.Shifting.{IsSmooth, Shift, Stays, Leaving, Looking, Opening, Closing, Calling, Returning, line_shifts}
@@ -269,6 +269,14 @@ names_are_few p t told room =
     let b = most_names (lowered_program p) in
     let few = callers_are_few p t room in
     let n = names_few p.types.items (site_at p) b (site_is_few p) t room.names room.callers told.fits in
+    let le : 1 + length t.frames ≤ 1001 = omega arith in
+    omega (arith, n, mul-le-mul_right b le)
+
+pub selectors_are_few : SelectorsAreFew
+selectors_are_few p t told room =
+    let b = most_selectors (lowered_program p) in
+    let few = callers_are_few p t room in
+    let n = open_few p.types.items (site_at p) b (site_has_few p) t told.fits in
     let le : 1 + length t.frames ≤ 1001 = omega arith in
     omega (arith, n, mul-le-mul_right b le)
 

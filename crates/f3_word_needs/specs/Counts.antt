@@ -21,6 +21,14 @@ frames_names (f ∷ fs) = length f.here.names + cells_names f.stack + frames_nam
 abbrev pub all_names : State → ℕ
 all_names t = length t.here.names + cells_names t.stack + frames_names t.frames
 
+-- The names of all ASSOCIATEs that are open.
+abbrev pub frames_selectors : List Frame → ℕ
+frames_selectors [] = 0
+frames_selectors (f ∷ fs) = cells_names f.stack + frames_selectors fs
+
+abbrev pub all_selectors : State → ℕ
+all_selectors t = cells_names t.stack + frames_selectors t.frames
+
 -- ---- levels
 
 abbrev pub all_levels : State → ℕ

@@ -9,8 +9,8 @@ use Rattle.f3_sizes.specs.declared.answer.Needs.{Needs}
 use Rattle.f3_sizes.specs.Needs.{AreNeverDeeper}
 use Rattle.f3_word_cells.specs.Scenes.{code_of}
 use Rattle.f3_word_cells.specs.Does.{stream, IsTold, GoesOn}
-use Rattle.f3_word_needs.specs.Counts.{all_levels, all_names}
-use Rattle.f3_word_needs.specs.Names.{most_names}
+use Rattle.f3_word_needs.specs.Counts.{all_levels, all_names, all_selectors}
+use Rattle.f3_word_needs.specs.Names.{most_names, most_selectors}
 use Rattle.f3_word_needs.specs.Room.{HasRoom}
 
 -- A program begins in a state with room, whatever the heap answers after it gave some answers.
@@ -36,6 +36,10 @@ CellsAreFew = (p : Program) (n : Needs) (t : State) → AreNeverDeeper (lowered_
 -- They have no more names than if each had most.
 abbrev pub NamesAreFew : Type 0
 NamesAreFew = (p : Program) (t : State) → IsTold p t → HasRoom p t → all_names t ≤ 1001 * most_names (lowered_program p)
+
+-- And the ASSOCIATEs that are open have no more names than if each activation had most of those.
+abbrev pub SelectorsAreFew : Type 0
+SelectorsAreFew = (p : Program) (t : State) → IsTold p t → HasRoom p t → all_selectors t ≤ 1001 * most_selectors (lowered_program p)
 
 -- There are two levels for each caller, one for the main program, and no more than one for each cell.
 abbrev pub LevelsAreFew : Type 0

@@ -38,6 +38,19 @@ procedures_names p (q ∷ qs) = max (procedure_names p q) (procedures_names p qs
 abbrev pub most_names : c.Program → ℕ
 most_names p = max (main_names p) (procedures_names p p.procedures)
 
+-- ---- what is kept: the dummies of each procedure that was called, and the names of each ASSOCIATE that is open
+
+abbrev pub procedures_selectors : c.Program → List c.Procedure → ℕ
+procedures_selectors p [] = 0
+procedures_selectors p (q ∷ qs) = max (selectors_in (body_code (length p.routines) q)) (procedures_selectors p qs)
+
+abbrev pub most_selectors : c.Program → ℕ
+most_selectors p = max (selectors_in (main_code (length p.routines) p.main)) (procedures_selectors p p.procedures)
+
+abbrev pub most_dummies : List c.Procedure → ℕ
+most_dummies [] = 0
+most_dummies (q ∷ qs) = max (length q.dummies) (most_dummies qs)
+
 -- ---- the same of lines as they were emitted
 
 abbrev pub selectors_among : List emitted.Line → ℕ
