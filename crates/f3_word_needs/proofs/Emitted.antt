@@ -19,7 +19,7 @@ use Rattle.f3_gen_values.specs.Emission.{entries_in, code_in}
 use Rattle.f3_sizes.specs.Parts.{first_of, behind_routines, behind_main}
 use Rattle.f3_sizes.proofs.Pieces.{lines_of, starts_of, procedure_piece, routine_pieces, procedure_pieces, routine_lines, procedure_lines, routine_starts, procedure_starts}
 use Rattle.f3_sizes.proofs.Families.{take_front, first_start}
-use Rattle.f3_word_needs.specs.Names.{selectors_in, selectors_among, procedures_names, names_among, most_names, names_told}
+use Rattle.f3_word_needs.specs.Names.{selectors_in, selectors_among, procedures_names, procedures_selectors, names_among, parts_selectors, most_names, most_selectors, most_dummies, dummies_among, names_told, selectors_told}
 
 selectors_same : (g : Setting) (ls : List Line) → selectors_among ls ≡ selectors_in (lines_in g ls)
 selectors_same g [] = refl
@@ -61,6 +61,27 @@ module _ (p : c.Program) (g : Setting) (ls : List Line) where
       let more = names_are (pre ++ one.lines) qs (at + length one.lines) end e' here' n in
       ap (λ k. max (length q.dummies.items + 2 * k) (names_among ls (starts_of (at + length one.lines) rest) end qs)) same
       ∙ ap (λ k. max (length q.dummies.items + 2 * selectors_in (body_code m y)) k) more
+
+  selectors_are : (pre : List code.Line) (qs : List x.Procedure) (at end : ℕ) → lines_in g ls ≡ pre ++ lines_of (procedure_pieces m (lowered qs)) → at ≡ length pre →
+      end ≡ at + length (lines_of (procedure_pieces m (lowered qs))) →
+      parts_selectors ls (starts_of at (procedure_pieces m (lowered qs))) end ≡ procedures_selectors p (lowered qs)
+  selectors_are pre [] at end e here there = refl
+  selectors_are pre (q ∷ qs) at end e here there =
+      let y = lowered_procedure g q in
+      let one = procedure_piece m y in
+      let rest = procedure_pieces m (lowered qs) in
+      let n : end ≡ at + length one.lines + length (lines_of rest) = there ∙ omega (arith, length-append one.lines (lines_of rest)) in
+      let next = first_of (starts_of (at + length one.lines) rest) end in
+      let s = piece_there g ls pre one.lines (lines_of rest) at next e here (first_start (at + length one.lines) rest end n) in
+      let same : selectors_among (slice_range ls at next) ≡ selectors_in (body_code m y) = selectors_same g (slice_range ls at next) ∙ ap selectors_in s in
+      let e' = e ∙ sym (append_assoc pre one.lines (lines_of rest)) in
+      let here' : at + length one.lines ≡ length (pre ++ one.lines) = omega (arith, here, length-append pre one.lines) in
+      let more = selectors_are (pre ++ one.lines) qs (at + length one.lines) end e' here' n in
+      ap (λ k. max k (parts_selectors ls (starts_of (at + length one.lines) rest) end)) same ∙ ap (λ k. max (selectors_in (body_code m y)) k) more
+
+dummies_are : (g : Setting) (qs : List x.Procedure) → dummies_among qs ≡ most_dummies (map (lowered_procedure g) qs)
+dummies_are g [] = refl
+dummies_are g (q ∷ qs) = ap (λ k. max (length q.dummies.items) k) (dummies_are g qs)
 
 -- ---- a program
 
@@ -152,7 +173,20 @@ module _ (P : Program) (E : Emission) (is : code_in P E ≡ program_code (lowere
       ap (λ k. max (2 * k) (names_among ls ks (length ls) P.procedures.items)) main_same
       ∙ ap (λ k. max (2 * selectors_in cm) k) procedures_same ∙ ap (λ k. max k (procedures_names p p.procedures)) z
 
+  pub told_selectors : selectors_told ls E.routines.items ks ≡ most_selectors p
+  told_selectors =
+      ap (λ k. max k (parts_selectors ls ks (length ls))) main_same
+      ∙ ap (λ ss. max (selectors_in cm) (parts_selectors ls ss (length ls))) (sym procedures_start)
+      ∙ ap (λ k. max (selectors_in cm) k)
+      (selectors_are p g ls (cm ++ cr) P.procedures.items (length cm + length cr) (length ls) procedure_place (sym (length-append cm cr)) procedure_end)
+
+pub told_dummies : (P : Program) → dummies_among P.procedures.items ≡ most_dummies (lowered_program P).procedures
+told_dummies P = dummies_are (setting_of P) P.procedures.items
+
 -- ---- what is told of other names for the same
 
 pub names_moved : (P : Program) (a a' : List Line) (b b' k k' : List ℕ) → a ≡ a' → b ≡ b' → k ≡ k' → names_told a b k P ≡ names_told a' b' k' P
 names_moved P a a' b b' k k' d e f = ap (λ x. names_told x b k P) d ∙ ap (λ x. names_told a' x k P) e ∙ ap (λ x. names_told a' b' x P) f
+
+pub selectors_moved : (a a' : List Line) (b b' k k' : List ℕ) → a ≡ a' → b ≡ b' → k ≡ k' → selectors_told a b k ≡ selectors_told a' b' k'
+selectors_moved a a' b b' k k' d e f = ap (λ x. selectors_told x b k) d ∙ ap (λ x. selectors_told a' x k) e ∙ ap (λ x. selectors_told a' b' x) f

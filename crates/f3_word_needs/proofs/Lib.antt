@@ -8,3 +8,4 @@ pub mod Owners
 pub mod Cells
 pub mod Rows
 pub mod Emitted
+pub mod Memory

@@ -1,6 +1,8 @@
 -- What there is in a state: names, and levels of values.
 use Rattle.std.specs.Prelude.{ℕ, ◌+◌, List, [], ◌∷◌, length}
 use Rattle.f3_code.specs.State.{Cell, Level, Frame, State}
+use Rattle.f3_word_cells.specs.declared.cell.Cell as word
+use Rattle.f3_word_cells.specs.declared.cell.Cell.TheVariants as c
 
 -- ---- names
 
@@ -39,3 +41,11 @@ abbrev pub associated : List Cell → List ℕ
 associated [] = []
 associated (Level level rs ∷ cs) = level ∷ associated cs
 associated (c ∷ cs) = associated cs
+
+-- ---- in memory
+
+-- the names of ASSOCIATEs among cells
+abbrev pub kept_names : List word.Cell → ℕ
+kept_names [] = 0
+kept_names (c.Level level range ∷ cs) = range.count + kept_names cs
+kept_names (c ∷ cs) = kept_names cs

@@ -7,9 +7,13 @@ use Rattle.f3_code.specs.Heap.{with_answers}
 use Rattle.f3_heights.specs.Room.{all_cells, greatest, state_after}
 use Rattle.f3_sizes.specs.declared.answer.Needs.{Needs}
 use Rattle.f3_sizes.specs.Needs.{AreNeverDeeper}
+use Rattle.f3_live_blocks.specs.Blocks.{Live}
+use Rattle.f3_rooms.specs.Rooms.{Rooms}
+use Rattle.f3_word_cells.specs.declared.state.State as word
 use Rattle.f3_word_cells.specs.Scenes.{code_of}
+use Rattle.f3_word_cells.specs.States.{Stands}
 use Rattle.f3_word_cells.specs.Does.{stream, IsTold, GoesOn}
-use Rattle.f3_word_needs.specs.Counts.{all_levels, all_names, all_selectors}
+use Rattle.f3_word_needs.specs.Counts.{all_levels, all_names, all_selectors, kept_names}
 use Rattle.f3_word_needs.specs.Names.{most_names, most_selectors}
 use Rattle.f3_word_needs.specs.Room.{HasRoom}
 
@@ -44,3 +48,10 @@ SelectorsAreFew = (p : Program) (t : State) → IsTold p t → HasRoom p t → a
 -- There are two levels for each caller, one for the main program, and no more than one for each cell.
 abbrev pub LevelsAreFew : Type 0
 LevelsAreFew = (p : Program) (t : State) → HasRoom p t → all_levels t ≤ 2001 + all_cells t
+
+-- Where blocks and a state in memory stand for a state, there are as many cells, callers and levels in memory, and as many names that its
+-- cells keep for ASSOCIATEs.
+abbrev pub MemoryIsAsLarge : Type 0
+MemoryIsAsLarge = (p : Program) (live : Live) (w : word.State) (x : Rooms) (t : State) → Stands p live w x t →
+    (length w.cells.items.items ≡ all_cells t) × (length w.callers.items.items ≡ length t.frames) × (length w.levels.items.items ≡ all_levels t)
+    × (kept_names w.cells.items.items ≡ all_selectors t)

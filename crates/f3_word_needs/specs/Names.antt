@@ -68,3 +68,14 @@ names_among lines (start ∷ starts) end (q ∷ qs) =
 abbrev pub names_told : List emitted.Line → List ℕ → List ℕ → Program → ℕ
 names_told lines routines starts p = max (2 * selectors_among (take (behind_main lines routines starts) lines))
     (names_among lines starts (length lines) p.procedures.items)
+
+abbrev pub parts_selectors : List emitted.Line → List ℕ → ℕ → ℕ
+parts_selectors lines [] end = 0
+parts_selectors lines (start ∷ starts) end = max (selectors_among (slice_range lines start (first_of starts end))) (parts_selectors lines starts end)
+
+abbrev pub selectors_told : List emitted.Line → List ℕ → List ℕ → ℕ
+selectors_told lines routines starts = max (selectors_among (take (behind_main lines routines starts) lines)) (parts_selectors lines starts (length lines))
+
+abbrev pub dummies_among : List Procedure → ℕ
+dummies_among [] = 0
+dummies_among (q ∷ qs) = max (length q.dummies.items) (dummies_among qs)

@@ -1,6 +1,6 @@
 //! Laws of how much room stacks want.
 
-ghost use Rattle.f3_word_needs.specs.Laws.{CallersAreFew, CellsAreFew, LevelsAreFew, LinesKeepRoom, NamesAreFew, StartHasRoom};
+ghost use Rattle.f3_word_needs.specs.Laws.{CallersAreFew, CellsAreFew, LevelsAreFew, LinesKeepRoom, MemoryIsAsLarge, NamesAreFew, SelectorsAreFew, StartHasRoom};
 
 /// A program begins in a state with room (own rule).
 pub fn start_has_room()
@@ -28,7 +28,17 @@ pub fn names_are_few()
     ensures { NamesAreFew }
 {}
 
+/// ASSOCIATEs that are open have no more names than if each activation had the most that a procedure has of these (8.1.4).
+pub fn selectors_are_few()
+    ensures { SelectorsAreFew }
+{}
+
 /// There are at most two levels of values for each caller, one for the main program, and one for each cell (own rule).
 pub fn levels_are_few()
     ensures { LevelsAreFew }
+{}
+
+/// What stands in memory for a state has as many cells, callers and levels, and keeps as many names of ASSOCIATEs (own rule).
+pub fn memory_is_as_large()
+    ensures { MemoryIsAsLarge }
 {}

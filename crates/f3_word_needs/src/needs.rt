@@ -8,7 +8,7 @@ ghost use Rattle.f3_heights.specs.Room.{greatest};
 ghost use Rattle.f3_program.specs.declared.program.Procedure.{Procedure};
 ghost use Rattle.f3_sizes.specs.Needs.{AreNeverDeeper};
 ghost use Rattle.f3_sizes.specs.Parts.{AreCodeParts, AreParts, IsPartAt, first_of, part_lines};
-ghost use Rattle.f3_word_needs.specs.Names.{most_names, names_among, names_told, selectors_among};
+ghost use Rattle.f3_word_needs.specs.Names.{dummies_among, most_dummies, most_names, most_selectors, names_among, names_told, parts_selectors, selectors_among, selectors_told};
 ghost use Rattle.f3_word_needs.specs.Needs.{AreEnough, AreTold, AreTooMany};
 
 use f3_code::instruction::Instruction;
@@ -17,11 +17,16 @@ use f3_gen_values::line::Line;
 use f3_program::program::{Procedure, Program};
 use f3_sizes::answer::Needs;
 
-/// How many cells, names and levels of values there are at most in each state of each run.
+/// How many there are at most in each state of each run.
 #[derive(Clone, Copy, PartialEq, Eq, Debug)]
 pub struct StackNeeds {
+    /// Cells of all activations.
     pub cells: usize,
+    /// Names that statements of all activations may name, and once more those of ASSOCIATEs that are open.
     pub names: usize,
+    /// Dummies of the procedures that were called, and names of ASSOCIATEs that are open.
+    pub kept: usize,
+    /// Levels of values.
     pub levels: usize,
 }
 
@@ -39,13 +44,6 @@ fn selectors(lines: &[Line]) -> usize
         }
     }
     count
-}
-
-/// How many names so many dummies, and twice the selectors of lines, are (8.1.4, 12.5.2.1), as far as 64 bits tell.
-fn names(dummies: usize, lines: &[Line]) -> usize
-    ensures { result ≡ min (dummies + 2 * selectors_among lines.now) (2 ^ 64 - 1) }
-{
-    selectors(lines).saturating_mul(2).saturating_add(dummies)
 }
 
 /// The greatest of some numbers.
@@ -66,17 +64,19 @@ fn first_line(starts: &[usize], end: usize) -> usize
     if starts.is_empty() { end } else { starts[0] }
 }
 
-/// How many names a procedure has, whose code stands from the line of a number up to the next, as far as 64 bits tell.
-fn names_at(procedure: &Procedure, lines: &[Line], starts: &[usize], at: usize) -> usize
+/// How many selectors the ASSOCIATEs of a procedure have, whose code stands from the line of a number up to the next, as far as 64 bits
+/// tell.
+fn selectors_at(lines: &[Line], starts: &[usize], at: usize) -> usize
     requires there { at < length starts.now }
     requires part { IsPartAt lines.now starts.now (length lines.now) 0 at }
-    ensures { result ≡ min (length procedure.now.dummies.items + 2 * selectors_among (part_lines lines.now starts.now (length lines.now) at)) (2 ^ 64 - 1) }
+    ensures { result ≡ min (selectors_among (part_lines lines.now starts.now (length lines.now) at)) (2 ^ 64 - 1) }
 {
     let behind = first_line(&starts[at + 1..], lines.len());
-    names(procedure.dummies.len(), &lines[starts[at]..behind])
+    selectors(&lines[starts[at]..behind])
 }
 
-/// How many names the procedure has that has most, where their codes begin at these lines, as far as 64 bits tell.
+/// How many names the procedure has that has most, where their codes begin at these lines: its dummies, and its selectors twice (8.1.4,
+/// 12.5.2.1), as far as 64 bits tell.
 fn procedures_names(procedures: &[Procedure], lines: &[Line], starts: &[usize]) -> usize
     requires same { length starts.now ≡ length procedures.now }
     requires parts { AreParts lines.now starts.now (length lines.now) 0 }
@@ -84,28 +84,69 @@ fn procedures_names(procedures: &[Procedure], lines: &[Line], starts: &[usize]) 
 {
     let mut most = 0;
     for at in 0..starts.len() {
-        most = most.max(names_at(&procedures[at], lines, starts, at));
+        let twice = selectors_at(lines, starts, at).saturating_mul(2);
+        most = most.max(twice.saturating_add(procedures[at].dummies.len()));
     }
     most
 }
 
-/// How many names the main program has, or the procedure that has most, by the lines of the code, and by those with which routines and
-/// procedures begin, as far as 64 bits tell.
-fn told(program: &Program, lines: &[Line], routines: &[usize], starts: &[usize]) -> usize
+/// How many selectors the procedure has that has most, as far as 64 bits tell.
+fn procedures_selectors(lines: &[Line], starts: &[usize]) -> usize
+    requires { AreParts lines.now starts.now (length lines.now) 0 }
+    ensures { result ≡ min (parts_selectors lines.now starts.now (length lines.now)) (2 ^ 64 - 1) }
+{
+    let mut most = 0;
+    for at in 0..starts.len() {
+        most = most.max(selectors_at(lines, starts, at));
+    }
+    most
+}
+
+/// How many dummies the procedure has that has most.
+fn dummies(procedures: &[Procedure]) -> usize
+    ensures { result ≡ dummies_among procedures.now }
+{
+    let mut most = 0;
+    for procedure in procedures {
+        most = most.max(procedure.dummies.len());
+    }
+    most
+}
+
+/// What is told of names, as far as 64 bits tell: how many the main program has, or the procedure that has most; how many selectors the one
+/// that has most of these; and how many dummies the procedure that has most.
+#[derive(Clone, Copy)]
+struct Names {
+    all: usize,
+    selectors: usize,
+    dummies: usize,
+}
+
+/// The names of a program, by the lines of its code, and by those with which routines and procedures begin.
+fn told(program: &Program, lines: &[Line], routines: &[usize], starts: &[usize]) -> Names
     requires parts { AreCodeParts lines.now routines.now starts.now }
     requires same { length starts.now ≡ length program.now.procedures.items }
-    ensures { result ≡ min (names_told lines.now routines.now starts.now program.now) (2 ^ 64 - 1) }
+    ensures all { result.all ≡ min (names_told lines.now routines.now starts.now program.now) (2 ^ 64 - 1) }
+    ensures selectors { result.selectors ≡ min (selectors_told lines.now routines.now starts.now) (2 ^ 64 - 1) }
+    ensures dummies { result.dummies ≡ dummies_among program.now.procedures.items }
 {
     let behind_routines = first_line(starts, lines.len());
     let behind_main = first_line(routines, behind_routines);
-    let main = names(0, &lines[..behind_main]);
-    main.max(procedures_names(&program.procedures, lines, starts))
+    let of_main = selectors(&lines[..behind_main]);
+    let of_procedures = procedures_names(&program.procedures, lines, starts);
+    Names {
+        all: of_main.saturating_mul(2).max(of_procedures),
+        selectors: of_main.max(procedures_selectors(lines, starts)),
+        dummies: dummies(&program.procedures),
+    }
 }
 
-/// The same of the code that was emitted for a program.
-fn names_of(program: &Program, emission: &Emission) -> usize
+/// The names of a program, by the code that was emitted for it.
+fn names_of(program: &Program, emission: &Emission) -> Names
     requires { code_in program.now emission.now ≡ program_code (lowered_program program.now) }
-    ensures { result ≡ min (most_names (lowered_program program.now)) (2 ^ 64 - 1) }
+    ensures all { result.all ≡ min (most_names (lowered_program program.now)) (2 ^ 64 - 1) }
+    ensures selectors { result.selectors ≡ min (most_selectors (lowered_program program.now)) (2 ^ 64 - 1) }
+    ensures dummies { result.dummies ≡ most_dummies (lowered_program program.now).procedures }
 {
     let starts = &emission.procedures[..program.procedures.len()];
     told(program, &emission.lines, &emission.routines, starts)
@@ -123,13 +164,17 @@ pub fn stack_needs(program: &Program, emission: &Emission, needs: &Needs) -> Opt
 {
     let deepest = greatest_of(&needs.procedures);
     let cells = deepest.saturating_mul(1000).saturating_add(needs.main);
-    let names = names_of(program, emission).saturating_mul(1001);
-    if cells >= MOST || names >= MOST {
+    let found = names_of(program, emission);
+    let names = found.all.saturating_mul(1001);
+    let open = found.selectors.saturating_mul(1001);
+    let kept = found.dummies.saturating_mul(1000).saturating_add(open);
+    if cells >= MOST || names >= MOST || kept >= MOST {
         return None;
     }
     Some(StackNeeds {
         cells,
         names,
+        kept,
         levels: cells + 2001,
     })
 }
