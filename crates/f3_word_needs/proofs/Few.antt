@@ -23,7 +23,7 @@ use Rattle.f3_code.specs.State.{Line, line}
 use Rattle.f3_code.specs.declared.instruction.Instruction.TheVariants as i
 use Rattle.f3_program.specs.declared.program.Dummy.{Dummy}
 use Rattle.f3_cell_kinds.specs.Laws.{nowhere, site_at}
-use Rattle.f3_word_needs.specs.Names.{selectors_in, names_need, procedures_names, most_names, procedures_selectors, most_selectors}
+use Rattle.f3_word_needs.specs.Names.{selectors_in, procedures_names, most_names, procedures_selectors, most_selectors}
 use Rattle.f3_cell_kinds.specs.Types.{Scope, Around, Told, CellType, Site, selecting, associating, arguments_on, choices_on, selectors_on}
 use Rattle.f3_cell_kinds.specs.Types as cell
 use Rattle.f3_cell_kinds.specs.Effect.{part_cell, held_kind, extents_on}

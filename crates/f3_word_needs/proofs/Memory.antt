@@ -1,21 +1,21 @@
 -- What stands in memory is as large as the state.
-use Rattle.std.proofs.Common.{◌≡◌, ◌≤◌, ℕ, zero, suc, ◌+◌, List, [], ◌∷◌, ◌++◌, length, take, drop, map, reverse, refl, sym, ap, ◌∙◌, subst, arith, append_assoc, append-nil, length-append}
+use Rattle.std.proofs.Common.{◌≡◌, ℕ, zero, suc, ◌+◌, List, [], ◌∷◌, ◌++◌, length, take, drop, reverse, refl, sym, ap, ◌∙◌, arith, length-append}
+use Rattle.std.proofs.lemmas.Grind.{reverse_onto}
 use Rattle.std.proofs.lemmas.List.{length-map, length-reverse}
 use Rattle.f3_program.specs.declared.program.Program.{Program}
 use Rattle.f3_live_blocks.specs.Blocks.{Live}
 use Rattle.f3_meaning_whole.specs.Store.{Store}
 use Rattle.f3_rooms.specs.Rooms.{Rooms, Slot, level_values}
 use Rattle.f3_code.specs.State as s
-use Rattle.f3_heights.specs.Room.{all_cells, frames_cells}
+use Rattle.f3_heights.specs.Room.{frames_cells}
 use Rattle.f3_word_cells.specs.declared.cell.Cell.{Cell}
 use Rattle.f3_word_cells.specs.declared.cell.Cell.TheVariants as c
 use Rattle.f3_word_cells.specs.declared.state.Name.{Name}
 use Rattle.f3_word_cells.specs.declared.state.Caller.{Caller}
-use Rattle.f3_word_cells.specs.declared.state.State as word
 use Rattle.f3_word_cells.specs.Areas.{types_of}
 use Rattle.f3_word_cells.specs.Cells.{IsCell, AreCells, names_under}
-use Rattle.f3_word_cells.specs.States.{AreCallers, Stands, own, beneath, level_rooms, starts_of}
-use Rattle.f3_word_needs.specs.Counts.{cells_names, cell_names, frames_selectors, all_selectors, all_levels, kept_names}
+use Rattle.f3_word_cells.specs.States.{AreCallers, own, beneath, level_rooms, starts_of}
+use Rattle.f3_word_needs.specs.Counts.{cells_names, cell_names, frames_selectors, kept_names}
 use Rattle.f3_word_needs.specs.Laws.{MemoryIsAsLarge}
 
 -- ---- names that cells keep
@@ -31,7 +31,7 @@ kept_alone x a = omega arith
 
 kept_back : (a : List Cell) → kept_names (reverse a) ≡ kept_names a
 kept_back [] = refl
-kept_back (x ∷ a) = ap kept_names (reverse-cons x a) ∙ kept_on (reverse a) (x ∷ []) ∙ omega (arith, kept_back a, kept_alone x a)
+kept_back (x ∷ a) = ap kept_names (reverse_onto a x []) ∙ kept_on (reverse a) (x ∷ []) ∙ omega (arith, kept_back a, kept_alone x a)
 
 -- ---- both parts of a row
 
@@ -55,13 +55,13 @@ module _ (p : Program) (x : Rooms) (live : Live) where
   cell_kept ns a (s.Level k rs) is = absurd is
   cell_kept ns a b is = refl
 
-  cells_many : (ns : List Name) (as : List Cell) (bs : List s.Cell) → AreCells p x live ns as bs → (length as ≡ length bs) × (kept_names as ≡ cells_names bs)
+  cells_many : (ns : List Name) (zs : List Cell) (bs : List s.Cell) → AreCells p x live ns zs bs → (length zs ≡ length bs) × (kept_names zs ≡ cells_names bs)
   cells_many ns [] [] are = (refl, refl)
   cells_many ns [] (b ∷ bs) are = absurd are
-  cells_many ns (a ∷ as) [] are = absurd are
-  cells_many ns (a ∷ as) (b ∷ bs) are =
-      let rest = cells_many (names_under a ns) as bs are.1 in
-      (ap suc rest.0, omega (arith, kept_alone a as, cell_kept ns a b are.0, rest.1))
+  cells_many ns (a ∷ zs) [] are = absurd are
+  cells_many ns (a ∷ zs) (b ∷ bs) are =
+      let rest = cells_many (names_under a ns) zs bs are.1 in
+      (ap suc rest.0, omega (arith, kept_alone a zs, cell_kept ns a b are.0, rest.1))
 
   callers_many : (ns : List Name) (cells : List Cell) (fs : List Caller) (gs : List s.Frame) → AreCallers p live x ns cells fs gs →
       (length cells ≡ frames_cells gs) × (length fs ≡ length gs) × (kept_names cells ≡ frames_selectors gs)
