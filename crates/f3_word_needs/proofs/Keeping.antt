@@ -12,6 +12,7 @@ use Rattle.f3_meaning_whole.specs.Reference.{Reference}
 use Rattle.f3_meaning_whole.specs.Ran.{Event, End, Gives, Fails, Stops, Beyond, ◌>>=◌}
 use Rattle.f3_meaning_whole.specs.Act.{Setting, claim, enter}
 use Rattle.f3_code.specs.Core as c
+use Rattle.f3_code.specs.Code.{body_code, entries}
 use Rattle.f3_code.specs.CoreRun.{core_setting, core_here, core_world}
 use Rattle.f3_code.specs.Lower.{lowered_program}
 use Rattle.f3_code.specs.declared.instruction.Instruction.{Instruction}
@@ -40,9 +41,9 @@ use Rattle.f3_store_kinds.proofs.Running.{code_is_clean}
 use Rattle.f3_word_cells.specs.Scenes.{code_of}
 use Rattle.f3_word_cells.specs.Does.{stream, GoesOn}
 use Rattle.f3_word_needs.specs.Counts.{associated, all_levels}
-use Rattle.f3_word_needs.specs.Names.{most_names, most_selectors}
+use Rattle.f3_word_needs.specs.Names.{most_dummies, most_names, most_selectors}
 use Rattle.f3_word_needs.specs.Room.{IsOfRun, FramesNamed}
-use Rattle.f3_word_needs.specs.Laws.{StartHasRoom, LinesKeepRoom, LevelsAreFew, NamesAreFew, SelectorsAreFew, CallersAreFew}
+use Rattle.f3_word_needs.specs.Laws.{StartHasRoom, LinesKeepRoom, LevelsAreFew, NamesAreFew, SelectorsAreFew, DummiesAreFew, CallersAreFew}
 use Rattle.f3_word_needs.proofs.Few.{site_is_few, site_has_few}
 use Rattle.f3_word_needs.proofs.Naming.{names_few, told_few, open_few}
 use Rattle.f3_word_needs.proofs.Levels.{Levels, levels_as, levels_fewer, beneath, levels_few}
@@ -279,6 +280,17 @@ selectors_are_few p t told room =
     let n = open_few p.types.items (site_at p) b (site_has_few p) t told.fits in
     let le : 1 + length t.frames ≤ 1001 = omega arith in
     omega (arith, n, mul-le-mul_right b le)
+
+entry_few : (m at : ℕ) (qs : List c.Procedure) (f : ℕ) (e : Entry) → slice_get (entries m at qs) f ≡ Some e → length e.dummies ≤ most_dummies qs
+entry_few m at [] f e is = cc
+entry_few m at (q ∷ qs) zero e is =
+    let same : record { at = at; unit = q.unit; dummies = q.dummies; variables = q.variables; initial = q.initial } ≡ e = cc in
+    let first : length q.dummies ≤ most_dummies (q ∷ qs) = omega arith in
+    subst (λ (y : Entry). length y.dummies ≤ most_dummies (q ∷ qs)) same first
+entry_few m at (q ∷ qs) (suc f) e is = omega (arith, entry_few m (at + length (body_code m q)) qs f e is)
+
+pub dummies_are_few : DummiesAreFew
+dummies_are_few p f e is = entry_few _ _ (lowered_program p).procedures f e is
 
 pub levels_are_few : LevelsAreFew
 levels_are_few p t room = omega (arith, levels_few t room.levels, callers_are_few p t room)

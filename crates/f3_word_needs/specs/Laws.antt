@@ -2,7 +2,7 @@
 use Rattle.std.specs.Prelude.{◌≡◌, ◌≤◌, ℕ, ◌+◌, ◌*◌, Bool, List, length, Some, slice_get}
 use Rattle.f3_program.specs.declared.program.Program.{Program}
 use Rattle.f3_code.specs.Lower.{lowered_program}
-use Rattle.f3_code.specs.State.{Line, State}
+use Rattle.f3_code.specs.State.{Entry, Line, State}
 use Rattle.f3_code.specs.Heap.{with_answers}
 use Rattle.f3_heights.specs.Room.{all_cells, greatest, state_after}
 use Rattle.f3_sizes.specs.declared.answer.Needs.{Needs}
@@ -14,7 +14,7 @@ use Rattle.f3_word_cells.specs.Scenes.{code_of}
 use Rattle.f3_word_cells.specs.States.{Stands}
 use Rattle.f3_word_cells.specs.Does.{stream, IsTold, GoesOn}
 use Rattle.f3_word_needs.specs.Counts.{all_levels, all_names, all_selectors, kept_names}
-use Rattle.f3_word_needs.specs.Names.{most_names, most_selectors}
+use Rattle.f3_word_needs.specs.Names.{most_dummies, most_names, most_selectors}
 use Rattle.f3_word_needs.specs.Room.{HasRoom}
 
 -- A program begins in a state with room, whatever the heap answers after it gave some answers.
@@ -44,6 +44,10 @@ NamesAreFew = (p : Program) (t : State) → IsTold p t → HasRoom p t → all_n
 -- And the ASSOCIATEs that are open have no more names than if each activation had most of those.
 abbrev pub SelectorsAreFew : Type 0
 SelectorsAreFew = (p : Program) (t : State) → IsTold p t → HasRoom p t → all_selectors t ≤ 1001 * most_selectors (lowered_program p)
+
+-- No procedure has more dummies than the one that has most.
+abbrev pub DummiesAreFew : Type 0
+DummiesAreFew = (p : Program) (f : ℕ) (e : Entry) → slice_get (code_of p).procedures f ≡ Some e → length e.dummies ≤ most_dummies (lowered_program p).procedures
 
 -- There are two levels for each caller, one for the main program, and no more than one for each cell.
 abbrev pub LevelsAreFew : Type 0

@@ -1,6 +1,6 @@
 //! Laws of how much room stacks want.
 
-ghost use Rattle.f3_word_needs.specs.Laws.{CallersAreFew, CellsAreFew, LevelsAreFew, LinesKeepRoom, MemoryIsAsLarge, NamesAreFew, SelectorsAreFew, StartHasRoom};
+ghost use Rattle.f3_word_needs.specs.Laws.{CallersAreFew, CellsAreFew, DummiesAreFew, LevelsAreFew, LinesKeepRoom, MemoryIsAsLarge, NamesAreFew, SelectorsAreFew, StartHasRoom};
 
 /// A program begins in a state with room (own rule).
 pub fn start_has_room()
@@ -31,6 +31,11 @@ pub fn names_are_few()
 /// ASSOCIATEs that are open have no more names than if each activation had the most that a procedure has of these (8.1.4).
 pub fn selectors_are_few()
     ensures { SelectorsAreFew }
+{}
+
+/// No procedure has more dummies than are told (ISO/IEC 1539-1:2004, 12.5.2.1).
+pub fn dummies_are_few()
+    ensures { DummiesAreFew }
 {}
 
 /// There are at most two levels of values for each caller, one for the main program, and one for each cell (own rule).
