@@ -19,11 +19,14 @@ use Rattle.f3_gen_values.specs.Emission.{entries_in, code_in}
 use Rattle.f3_sizes.specs.Parts.{first_of, behind_routines, behind_main}
 use Rattle.f3_sizes.proofs.Pieces.{lines_of, starts_of, procedure_piece, routine_pieces, procedure_pieces, routine_lines, procedure_lines, routine_starts, procedure_starts}
 use Rattle.f3_sizes.proofs.Families.{take_front, first_start}
-use Rattle.f3_word_needs.specs.Names.{selectors_in, selectors_among, procedures_names, procedures_selectors, names_among, parts_selectors, most_names, most_selectors, most_dummies, dummies_among, names_told, selectors_told}
+use Rattle.f3_word_needs.specs.Names.{after_line, deepest, deepest_among, open_in, open_among, procedures_names, procedures_open, names_among, parts_open, most_names, most_open, most_dummies, dummies_among, names_told, open_told}
 
-selectors_same : (g : Setting) (ls : List Line) → selectors_among ls ≡ selectors_in (lines_in g ls)
-selectors_same g [] = refl
-selectors_same g (l ∷ ls) = omega (arith, selectors_same g ls)
+deepest_same : (g : Setting) (n : ℕ) (ls : List Line) → deepest_among n ls ≡ deepest n (lines_in g ls)
+deepest_same g n [] = refl
+deepest_same g n (l ∷ ls) = ap (λ k. max n k) (deepest_same g (after_line n l.act) ls)
+
+open_same : (g : Setting) (ls : List Line) → open_among ls ≡ open_in (lines_in g ls)
+open_same g ls = deepest_same g 0 ls
 
 -- a piece of code between others
 piece_there : (g : Setting) (ls : List Line) (pre piece rest : List code.Line) (at end : ℕ) → lines_in g ls ≡ pre ++ (piece ++ rest) → at ≡ length pre →
@@ -55,29 +58,29 @@ module _ (p : c.Program) (g : Setting) (ls : List Line) where
       let n : end ≡ at + length one.lines + length (lines_of rest) = there ∙ omega (arith, length-append one.lines (lines_of rest)) in
       let next = first_of (starts_of (at + length one.lines) rest) end in
       let s = piece_there g ls pre one.lines (lines_of rest) at next e here (first_start (at + length one.lines) rest end n) in
-      let same : selectors_among (slice_range ls at next) ≡ selectors_in (body_code m y) = selectors_same g (slice_range ls at next) ∙ ap selectors_in s in
+      let same : open_among (slice_range ls at next) ≡ open_in (body_code m y) = open_same g (slice_range ls at next) ∙ ap open_in s in
       let e' = e ∙ sym (append_assoc pre one.lines (lines_of rest)) in
       let here' : at + length one.lines ≡ length (pre ++ one.lines) = omega (arith, here, length-append pre one.lines) in
       let more = names_are (pre ++ one.lines) qs (at + length one.lines) end e' here' n in
       ap (λ k. max (length q.dummies.items + 2 * k) (names_among ls (starts_of (at + length one.lines) rest) end qs)) same
-      ∙ ap (λ k. max (length q.dummies.items + 2 * selectors_in (body_code m y)) k) more
+      ∙ ap (λ k. max (length q.dummies.items + 2 * open_in (body_code m y)) k) more
 
-  selectors_are : (pre : List code.Line) (qs : List x.Procedure) (at end : ℕ) → lines_in g ls ≡ pre ++ lines_of (procedure_pieces m (lowered qs)) → at ≡ length pre →
+  open_are : (pre : List code.Line) (qs : List x.Procedure) (at end : ℕ) → lines_in g ls ≡ pre ++ lines_of (procedure_pieces m (lowered qs)) → at ≡ length pre →
       end ≡ at + length (lines_of (procedure_pieces m (lowered qs))) →
-      parts_selectors ls (starts_of at (procedure_pieces m (lowered qs))) end ≡ procedures_selectors p (lowered qs)
-  selectors_are pre [] at end e here there = refl
-  selectors_are pre (q ∷ qs) at end e here there =
+      parts_open ls (starts_of at (procedure_pieces m (lowered qs))) end ≡ procedures_open p (lowered qs)
+  open_are pre [] at end e here there = refl
+  open_are pre (q ∷ qs) at end e here there =
       let y = lowered_procedure g q in
       let one = procedure_piece m y in
       let rest = procedure_pieces m (lowered qs) in
       let n : end ≡ at + length one.lines + length (lines_of rest) = there ∙ omega (arith, length-append one.lines (lines_of rest)) in
       let next = first_of (starts_of (at + length one.lines) rest) end in
       let s = piece_there g ls pre one.lines (lines_of rest) at next e here (first_start (at + length one.lines) rest end n) in
-      let same : selectors_among (slice_range ls at next) ≡ selectors_in (body_code m y) = selectors_same g (slice_range ls at next) ∙ ap selectors_in s in
+      let same : open_among (slice_range ls at next) ≡ open_in (body_code m y) = open_same g (slice_range ls at next) ∙ ap open_in s in
       let e' = e ∙ sym (append_assoc pre one.lines (lines_of rest)) in
       let here' : at + length one.lines ≡ length (pre ++ one.lines) = omega (arith, here, length-append pre one.lines) in
-      let more = selectors_are (pre ++ one.lines) qs (at + length one.lines) end e' here' n in
-      ap (λ k. max k (parts_selectors ls (starts_of (at + length one.lines) rest) end)) same ∙ ap (λ k. max (selectors_in (body_code m y)) k) more
+      let more = open_are (pre ++ one.lines) qs (at + length one.lines) end e' here' n in
+      ap (λ k. max k (parts_open ls (starts_of (at + length one.lines) rest) end)) same ∙ ap (λ k. max (open_in (body_code m y)) k) more
 
 dummies_are : (g : Setting) (qs : List x.Procedure) → dummies_among qs ≡ most_dummies (map (lowered_procedure g) qs)
 dummies_are g [] = refl
@@ -157,8 +160,8 @@ module _ (P : Program) (E : Emission) (is : code_in P E ≡ program_code (lowere
   main_lines : lines_in g (take (behind_main ls E.routines.items ks) ls) ≡ cm
   main_lines = ap (λ k. lines_in g (take k ls)) behind_m ∙ sym (take-map (line_in g) (length cm) ls) ∙ ap (λ xs. take (length cm) xs) lines_are ∙ take_front cm (cr ++ cp)
 
-  main_same : selectors_among (take (behind_main ls E.routines.items ks) ls) ≡ selectors_in cm
-  main_same = selectors_same g (take (behind_main ls E.routines.items ks) ls) ∙ ap selectors_in main_lines
+  main_same : open_among (take (behind_main ls E.routines.items ks) ls) ≡ open_in cm
+  main_same = open_same g (take (behind_main ls E.routines.items ks) ls) ∙ ap open_in main_lines
 
   procedure_place : lines_in g ls ≡ (cm ++ cr) ++ lines_of (procedure_pieces n p.procedures)
   procedure_place = lines_are ∙ sym (append_assoc cm cr cp) ∙ ap (λ xs. (cm ++ cr) ++ xs) (sym (procedure_lines n p.procedures))
@@ -169,16 +172,16 @@ module _ (P : Program) (E : Emission) (is : code_in P E ≡ program_code (lowere
 
   pub told_names : names_told ls E.routines.items ks P ≡ most_names p
   told_names =
-      let z : 2 * selectors_in cm ≡ 0 + 2 * selectors_in cm = omega arith in
+      let z : 2 * open_in cm ≡ 0 + 2 * open_in cm = omega arith in
       ap (λ k. max (2 * k) (names_among ls ks (length ls) P.procedures.items)) main_same
-      ∙ ap (λ k. max (2 * selectors_in cm) k) procedures_same ∙ ap (λ k. max k (procedures_names p p.procedures)) z
+      ∙ ap (λ k. max (2 * open_in cm) k) procedures_same ∙ ap (λ k. max k (procedures_names p p.procedures)) z
 
-  pub told_selectors : selectors_told ls E.routines.items ks ≡ most_selectors p
-  told_selectors =
-      ap (λ k. max k (parts_selectors ls ks (length ls))) main_same
-      ∙ ap (λ ss. max (selectors_in cm) (parts_selectors ls ss (length ls))) (sym procedures_start)
-      ∙ ap (λ k. max (selectors_in cm) k)
-      (selectors_are p g ls (cm ++ cr) P.procedures.items (length cm + length cr) (length ls) procedure_place (sym (length-append cm cr)) procedure_end)
+  pub told_open : open_told ls E.routines.items ks ≡ most_open p
+  told_open =
+      ap (λ k. max k (parts_open ls ks (length ls))) main_same
+      ∙ ap (λ ss. max (open_in cm) (parts_open ls ss (length ls))) (sym procedures_start)
+      ∙ ap (λ k. max (open_in cm) k)
+      (open_are p g ls (cm ++ cr) P.procedures.items (length cm + length cr) (length ls) procedure_place (sym (length-append cm cr)) procedure_end)
 
 pub told_dummies : (P : Program) → dummies_among P.procedures.items ≡ most_dummies (lowered_program P).procedures
 told_dummies P = dummies_are (setting_of P) P.procedures.items
@@ -188,5 +191,5 @@ told_dummies P = dummies_are (setting_of P) P.procedures.items
 pub names_moved : (P : Program) (a a' : List Line) (b b' k k' : List ℕ) → a ≡ a' → b ≡ b' → k ≡ k' → names_told a b k P ≡ names_told a' b' k' P
 names_moved P a a' b b' k k' d e f = ap (λ x. names_told x b k P) d ∙ ap (λ x. names_told a' x k P) e ∙ ap (λ x. names_told a' b' x P) f
 
-pub selectors_moved : (a a' : List Line) (b b' k k' : List ℕ) → a ≡ a' → b ≡ b' → k ≡ k' → selectors_told a b k ≡ selectors_told a' b' k'
-selectors_moved a a' b b' k k' d e f = ap (λ x. selectors_told x b k) d ∙ ap (λ x. selectors_told a' x k) e ∙ ap (λ x. selectors_told a' b' x) f
+pub open_moved : (a a' : List Line) (b b' k k' : List ℕ) → a ≡ a' → b ≡ b' → k ≡ k' → open_told a b k ≡ open_told a' b' k'
+open_moved a a' b b' k k' d e f = ap (λ x. open_told x b k) d ∙ ap (λ x. open_told a' x k) e ∙ ap (λ x. open_told a' b' x) f

@@ -1,7 +1,7 @@
 -- At each line of a code there are few names.
-use Rattle.std.proofs.Common.{◌≡◌, ◌≤◌, ℕ, zero, suc, ◌+◌, ◌*◌, Bool, true, false, not, List, [], ◌∷◌, ◌++◌, length, drop, Option, Some, None, refl, sym, ap, arith, if◌then◌else◌, length-append}
+use Rattle.std.proofs.Common.{◌≡◌, ◌≤◌, ℕ, zero, suc, ◌+◌, ◌*◌, max, Bool, true, false, not, List, [], ◌∷◌, ◌++◌, length, drop, Option, Some, None, refl, sym, ap, arith, if◌then◌else◌, length-append}
+use Rattle.std.proofs.Math.Nat.{mul-le-mul_left}
 use Rattle.std.proofs.lemmas.List.{length-map}
-use Rattle.f3_places.specs.declared.source.Place.{Place}
 use Rattle.std.specs.Prelude.{nat_eq, nat_lt, slice_index_or}
 use Rattle.f3_program.specs.declared.declarations.Kind.{Kind}
 use Rattle.f3_program.specs.declared.expression.Argument as a
@@ -17,13 +17,14 @@ use Rattle.f3_program.specs.declared.program.Program.{Program}
 use Rattle.f3_meaning_whole.specs.Formed.{Given, of_kind, kinds_of}
 use Rattle.f3_code.specs.Work as w
 use Rattle.f3_code.specs.Core as c
-use Rattle.f3_code.specs.Code.{value_code, locate_code, ranges_code, selectors_code, discards_code, leaving_code, departing_code, up_code, turns_code, code_of, begin_code, last_code, body_code, main_code, Ways, farther, looped, counting, scoped, body_ways, main_ways}
+use Rattle.f3_code.specs.Code.{code_of, begin_code, last_code, body_code, main_code, body_ways, main_ways}
 use Rattle.f3_code.specs.Lower.{lowered_program}
-use Rattle.f3_code.specs.State.{Line, line}
+use Rattle.f3_code.specs.State.{line}
 use Rattle.f3_code.specs.declared.instruction.Instruction.TheVariants as i
 use Rattle.f3_program.specs.declared.program.Dummy.{Dummy}
 use Rattle.f3_cell_kinds.specs.Laws.{nowhere, site_at}
-use Rattle.f3_word_needs.specs.Names.{selectors_in, procedures_names, most_names, procedures_selectors, most_selectors}
+use Rattle.f3_word_needs.proofs.Depths.{opened, left, front, behind, statement_deep}
+use Rattle.f3_word_needs.specs.Names.{open_in, procedures_names, most_names, procedures_open, most_open}
 use Rattle.f3_cell_kinds.specs.Types.{Scope, Around, Told, CellType, Site, selecting, associating, arguments_on, choices_on, selectors_on}
 use Rattle.f3_cell_kinds.specs.Types as cell
 use Rattle.f3_cell_kinds.specs.Effect.{part_cell, held_kind, extents_on}
@@ -258,29 +259,24 @@ module _ (p : Program) (weigh : List Kind → ℕ) (b : ℕ) where
     limits_few h k from to by q t = on (value_few r s h from q) (cons q (on (value_few r s (cell.Datum k ∷ h) to q) (cons q
         (on (value_few r s (cell.Datum k ∷ cell.Datum k ∷ h) by q) (cons q (cons q t))))))
 
--- the names of all ASSOCIATEs of a statement
-abbrev pub opened : c.Core → ℕ
-opened (c.At place b x) = opened x
-opened (c.Then x y) = opened x + opened y
-opened (c.If e x y) = opened x + opened y
-opened (c.Select e x) = opened x
-opened (c.Case rs x y) = opened x + opened y
-opened (c.While e x) = opened x
-opened (c.Count d k from to by x) = opened x
-opened (c.Associate xs x) = length xs + opened x
-opened x = 0
-
 -- how names count, and how often a name of an ASSOCIATE does in all
 pub record Rule (weigh : List Kind → ℕ) (k : ℕ) : Type 0 where
   pub grow : (xs ys : List Kind) → weigh (xs ++ ys) + length ys ≤ weigh xs + k * length ys
   pub some : (n : ℕ) → n ≤ k * n
+
+both : (k a b : ℕ) → (k * a ≤ k * max a b) × (k * b ≤ k * max a b)
+both k a b =
+    let x : a ≤ max a b = omega arith in
+    let y : b ≤ max a b = omega arith in
+    (mul-le-mul_left k x, mul-le-mul_left k y)
 
 module _ (p : Program) (weigh : List Kind → ℕ) (k : ℕ) (rule : Rule weigh k) (b m : ℕ) (r : Kind) where
   code_few : (s : Scope) (h : List CellType) (cells : ℕ) (x : c.Core) → weigh s.names + levels_in h + k * opened x ≤ b → AreFew weigh b (code_sites p m r s h cells x)
   code_few s h cells (c.At place true x) q = cons (omega (arith, q)) (code_few s h cells x q)
   code_few s h cells (c.At place false x) q = code_few s h cells x q
   code_few s h cells c.Skip q = none
-  code_few s h cells (c.Then x y) q = on (code_few s h cells x (omega (arith, q))) (code_few s h cells y (omega (arith, q)))
+  code_few s h cells (c.Then x y) q =
+      let t = both k (opened x) (opened y) in on (code_few s h cells x (omega (arith, q, t.0))) (code_few s h cells y (omega (arith, q, t.1)))
   code_few s h cells (c.Assign d x e) q =
       let o : weigh s.names + levels_in h ≤ b = omega (arith, q) in
       on (value_few p weigh b r s h e o) (on (locate_few p weigh b r s (cell.Datum _ ∷ h) d o) (transfer_few p weigh b m (at r s h) _ _ x o))
@@ -305,15 +301,17 @@ module _ (p : Program) (weigh : List Kind → ℕ) (k : ℕ) (rule : Rule weigh 
   code_few s h cells c.Cycle q = cons (omega (arith, q)) none
   code_few s h cells c.Exit q = cons (omega (arith, q)) none
   code_few s h cells (c.If e x y) q =
+      let t = both k (opened x) (opened y) in
       let o : weigh s.names + levels_in h ≤ b = omega (arith, q) in
-      on (value_few p weigh b r s h e o) (cons o (on (code_few s h cells x (omega (arith, q))) (cons o (code_few s h cells y (omega (arith, q))))))
+      on (value_few p weigh b r s h e o) (cons o (on (code_few s h cells x (omega (arith, q, t.0))) (cons o (code_few s h cells y (omega (arith, q, t.1))))))
   code_few s h cells (c.Select e x) q =
       let o : weigh s.names + levels_in h ≤ b = omega (arith, q) in
       let inner = selecting (value_at p r s e) s in
       on (value_few p weigh b r s h e o) (cons o (on (code_few inner (cell.Outside s ∷ h) 0 x q) (on (leaving_few p weigh b m r inner (cell.Outside s ∷ h) o) (departing_few p weigh b m r s h cells o))))
   code_few s h cells (c.Case rs x y) q =
+      let t = both k (opened x) (opened y) in
       let o : weigh s.names + levels_in h ≤ b = omega (arith, q) in
-      on (ranges_few p weigh b m r s h rs o) (cons o (on (code_few s h cells x (omega (arith, q))) (cons o (code_few s h cells y (omega (arith, q))))))
+      on (ranges_few p weigh b m r s h rs o) (cons o (on (code_few s h cells x (omega (arith, q, t.0))) (cons o (code_few s h cells y (omega (arith, q, t.1))))))
   code_few s h cells (c.While e x) q =
       let o : weigh s.names + levels_in h ≤ b = omega (arith, q) in
       on (value_few p weigh b r s h e o) (cons o (on (code_few s h cells x q) (cons o none)))
@@ -382,97 +380,21 @@ module _ (p : Program) (weigh : List Kind → ℕ) (b : ℕ) where
 
 -- ---- by the code
 
-selectors_append : (xs ys : List Line) → selectors_in (xs ++ ys) ≡ selectors_in xs + selectors_in ys
-selectors_append [] ys = omega arith
-selectors_append (x ∷ xs) ys = omega (arith, selectors_append xs ys)
-
--- those in front, and those behind
-front : (xs ys : List Line) → selectors_in xs ≤ selectors_in (xs ++ ys)
-front xs ys = omega (arith, selectors_append xs ys)
-
-behind : (xs ys : List Line) → selectors_in ys ≤ selectors_in (xs ++ ys)
-behind xs ys = omega (arith, selectors_append xs ys)
-
--- a line more
-later : (x : Line) (xs : List Line) → selectors_in xs ≤ selectors_in (x ∷ xs)
-later x xs = omega arith
-
 module _ (m : ℕ) where
-  pub opened_in : (o : Option Place) (x : c.Core) (ws : Ways) → opened x ≤ selectors_in (code_of m o x ws)
-  opened_in o (c.At place true x) ws = omega (arith, opened_in (Some place) x ws)
-  opened_in o (c.At place false x) ws = opened_in (Some place) x ws
-  opened_in o c.Skip ws = omega arith
-  opened_in o (c.Then x y) ws =
-      let a = code_of m o x (farther (length (code_of m o y ws)) ws) in let b = code_of m o y ws in
-      omega (arith, opened_in o x (farther (length b) ws), opened_in o y ws, selectors_append a b)
-  opened_in o (c.Assign d x e) ws = omega arith
-  opened_in o (c.Call e) ws = omega arith
-  opened_in o (c.Move is_first x d e) ws = omega arith
-  opened_in o (c.Allocate xs stat) ws = omega arith
-  opened_in o (c.Deallocate xs stat) ws = omega arith
-  opened_in o (c.Print xs) ws = omega arith
-  opened_in o (c.Stop number) ws = omega arith
-  opened_in o c.Return ws = omega arith
-  opened_in o c.Cycle ws = omega arith
-  opened_in o c.Exit ws = omega arith
-  opened_in o (c.If e x y) ws =
-      let cy = code_of m o y ws in
-      let cx = code_of m o x (farther (1 + length cy) ws) in
-      let rest = line o (i.GoOn (length cy)) ∷ cy in
-      omega (
-        arith,
-        opened_in o x (farther (1 + length cy) ws),
-        opened_in o y ws,
-        selectors_append cx rest,
-        behind (value_code o e) (line o (i.SkipIfFalse (length cx + 1)) ∷ (cx ++ rest)),
-      )
-  opened_in o (c.Select e x) ws =
-      let cx = code_of m o x scoped in let rest = leaving_code o ++ departing_code o ws in
-      omega (arith, opened_in o x scoped, front cx rest, behind (value_code o e) (line o i.Selecting ∷ (cx ++ rest)))
-  opened_in o (c.Case rs x y) ws =
-      let cy = code_of m o y ws in
-      let cx = code_of m o x (farther (1 + length cy) ws) in
-      let rest = line o (i.GoOn (length cy)) ∷ cy in
-      omega (
-        arith,
-        opened_in o x (farther (1 + length cy) ws),
-        opened_in o y ws,
-        selectors_append cx rest,
-        behind (ranges_code o rs) (line o (i.GoOn (length cx + 1)) ∷ (cx ++ rest)),
-      )
-  opened_in o (c.While e x) ws =
-      let cx = code_of m o x (looped ws) in
-      let back = line o (i.GoBack (length (value_code o e) + 1 + length cx)) ∷ [] in
-      omega (arith, opened_in o x (looped ws), front cx back, behind (value_code o e) (line o (i.SkipIfFalse (length cx + 1)) ∷ (cx ++ back)))
-  opened_in o (c.Count d k from to by x) ws =
-      let up = up_code o d k in
-      let cx = code_of m o x (counting (length up) ws) in
-      let turns = turns_code o cx up in
-      let begin = line o i.CountBegin ∷ turns in
-      let step = line o (i.Convert k.of) ∷ line o i.TestStep ∷ (locate_code o d ++ begin) in
-      let last = line o (i.Convert k.of) ∷ (value_code o by ++ step) in
-      omega (
-        arith,
-        opened_in o x (counting (length up) ws),
-        front cx (up ++ (line o (i.GoBack (1 + length cx + length up)) ∷ line o (i.Unwind 1) ∷ [])),
-        behind (locate_code o d) begin,
-        behind (value_code o by) step,
-        behind (value_code o to) last,
-        behind (value_code o from) (line o (i.Convert k.of) ∷ (value_code o to ++ last)),
-      )
-  opened_in o (c.Associate xs x) ws =
-      let cx = code_of m o x scoped in
-      let rest = leaving_code o ++ (line o i.Associated ∷ (discards_code m o xs ++ (line o i.EndAssociate ∷ departing_code o ws))) in
-      omega (arith, opened_in o x scoped, front cx rest, behind (selectors_code o xs) (line o (i.Associate (length xs)) ∷ (cx ++ rest)))
+  main_opened : (q : c.Procedure) → opened q.body ≤ open_in (main_code m q)
+  main_opened q =
+      let body = code_of m None q.body main_ways in
+      let d = (statement_deep m None q.body main_ways).deep 0 in
+      omega (arith, d, front 0 body (line (Some q.end) i.Begin ∷ line None i.Finish ∷ []))
 
-  main_opened : (q : c.Procedure) → opened q.body ≤ selectors_in (main_code m q)
-  main_opened q = omega (arith, opened_in None q.body main_ways, front (code_of m None q.body main_ways) (line (Some q.end) i.Begin ∷ line None i.Finish ∷ []))
-
-  body_opened : (q : c.Procedure) → opened q.body ≤ selectors_in (body_code m q)
+  body_opened : (q : c.Procedure) → opened q.body ≤ open_in (body_code m q)
   body_opened q =
       let body = code_of m None q.body body_ways in
       let last = line (Some q.end) i.Begin ∷ line (Some q.end) i.SetPlace ∷ last_code m q in
-      omega (arith, opened_in None q.body body_ways, front body last, behind (begin_code m q.begin) (line None i.Drop ∷ (body ++ last)))
+      let begin = begin_code m q.begin in
+      let n = left 0 begin in
+      let d = (statement_deep m None q.body body_ways).deep n in
+      omega (arith, d, front n body last, behind 0 begin (line None i.Drop ∷ (body ++ last)))
 
 -- ---- names, and once more those of ASSOCIATEs
 
@@ -496,7 +418,7 @@ no_name ks = 0
 once : Rule no_name 1
 once = record { grow = λ xs ys. omega arith; some = λ n. omega arith }
 
-all_few : (p : Program) (b : ℕ) (x : c.Program) (qs : List c.Procedure) → procedures_selectors x qs ≤ b → AllLow p no_name b 1 once qs
+all_few : (p : Program) (b : ℕ) (x : c.Program) (qs : List c.Procedure) → procedures_open x qs ≤ b → AllLow p no_name b 1 once qs
 all_few p b x [] le = tt
 all_few p b x (q ∷ qs) le = (omega (arith, le, body_opened (length x.routines) q), all_few p b x qs (omega (arith, le)))
 
@@ -518,8 +440,8 @@ module _ (p : Program) where
       each_at each_name b (program_sites p) pc
       (code_is_few p each_name b 2 twice whole (omega (arith, many, main_opened (length whole.routines) whole.main)) (all_low p b whole whole.procedures (omega arith))).by
 
-  pub site_has_few : (pc : ℕ) → IsFew no_name (most_selectors whole) (site_at p pc)
+  pub site_has_few : (pc : ℕ) → IsFew no_name (most_open whole) (site_at p pc)
   site_has_few pc =
-      let b = most_selectors whole in
+      let b = most_open whole in
       each_at no_name b (program_sites p) pc
       (code_is_few p no_name b 1 once whole (omega (arith, main_opened (length whole.routines) whole.main)) (all_few p b whole whole.procedures (omega arith))).by

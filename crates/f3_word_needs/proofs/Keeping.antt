@@ -41,7 +41,7 @@ use Rattle.f3_store_kinds.proofs.Running.{code_is_clean}
 use Rattle.f3_word_cells.specs.Scenes.{code_of}
 use Rattle.f3_word_cells.specs.Does.{stream, GoesOn}
 use Rattle.f3_word_needs.specs.Counts.{associated, all_levels}
-use Rattle.f3_word_needs.specs.Names.{most_dummies, most_names, most_selectors}
+use Rattle.f3_word_needs.specs.Names.{most_dummies, most_names, most_open}
 use Rattle.f3_word_needs.specs.Room.{IsOfRun, FramesNamed}
 use Rattle.f3_word_needs.specs.Laws.{StartHasRoom, LinesKeepRoom, LevelsAreFew, NamesAreFew, SelectorsAreFew, DummiesAreFew, CallersAreFew}
 use Rattle.f3_word_needs.proofs.Few.{site_is_few, site_has_few}
@@ -275,7 +275,7 @@ names_are_few p t told room =
 
 pub selectors_are_few : SelectorsAreFew
 selectors_are_few p t told room =
-    let b = most_selectors (lowered_program p) in
+    let b = most_open (lowered_program p) in
     let few = callers_are_few p t room in
     let n = open_few p.types.items (site_at p) b (site_has_few p) t told.fits in
     let le : 1 + length t.frames ≤ 1001 = omega arith in

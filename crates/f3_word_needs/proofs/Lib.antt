@@ -1,3 +1,4 @@
+pub mod Depths
 pub mod Few
 pub mod Naming
 pub mod Sized

@@ -14,7 +14,7 @@ use Rattle.f3_word_cells.specs.Scenes.{code_of}
 use Rattle.f3_word_cells.specs.States.{Stands}
 use Rattle.f3_word_cells.specs.Does.{stream, IsTold, GoesOn}
 use Rattle.f3_word_needs.specs.Counts.{all_levels, all_names, all_selectors, kept_names}
-use Rattle.f3_word_needs.specs.Names.{most_dummies, most_names, most_selectors}
+use Rattle.f3_word_needs.specs.Names.{most_dummies, most_names, most_open}
 use Rattle.f3_word_needs.specs.Room.{HasRoom}
 
 -- A program begins in a state with room, whatever the heap answers after it gave some answers.
@@ -43,7 +43,7 @@ NamesAreFew = (p : Program) (t : State) → IsTold p t → HasRoom p t → all_n
 
 -- And the ASSOCIATEs that are open have no more names than if each activation had most of those.
 abbrev pub SelectorsAreFew : Type 0
-SelectorsAreFew = (p : Program) (t : State) → IsTold p t → HasRoom p t → all_selectors t ≤ 1001 * most_selectors (lowered_program p)
+SelectorsAreFew = (p : Program) (t : State) → IsTold p t → HasRoom p t → all_selectors t ≤ 1001 * most_open (lowered_program p)
 
 -- No procedure has more dummies than the one that has most.
 abbrev pub DummiesAreFew : Type 0

@@ -8,7 +8,7 @@ use Rattle.f3_sizes.specs.declared.answer.Needs.{Needs}
 use Rattle.f3_word_cells.specs.Does.{IsTold}
 use Rattle.f3_word_needs.specs.declared.needs.StackNeeds.{StackNeeds}
 use Rattle.f3_word_needs.specs.Counts.{all_levels, all_names, all_selectors}
-use Rattle.f3_word_needs.specs.Names.{most_dummies, most_names, most_selectors}
+use Rattle.f3_word_needs.specs.Names.{most_dummies, most_names, most_open}
 use Rattle.f3_word_needs.specs.Room.{HasRoom}
 
 -- those of the main program, and the greatest of a procedure for each caller
@@ -21,7 +21,7 @@ names_room p = 1001 * most_names (lowered_program p)
 
 -- the most dummies for each caller, and the most names of ASSOCIATEs for each activation
 abbrev pub kept_room : Program → ℕ
-kept_room p = 1000 * most_dummies (lowered_program p).procedures + 1001 * most_selectors (lowered_program p)
+kept_room p = 1000 * most_dummies (lowered_program p).procedures + 1001 * most_open (lowered_program p)
 
 -- no more than this can be told
 abbrev pub AreTooMany : Program → Needs → Type 0
