@@ -1,11 +1,10 @@
 //! How much room stacks want.
 
-ghost use Rattle.std.specs.Prelude.{◌≡◌, ◌<◌, ◌≤◌, ◌+◌, ◌-◌, ◌*◌, ◌^◌, IfSome, MatchOption, Some, length, max, min, slice_get};
+ghost use Rattle.std.specs.Prelude.{◌≡◌, ◌<◌, ◌≤◌, ◌-◌, ◌^◌, IfSome, MatchOption, length, min};
 ghost use Rattle.f3_code.specs.Code.{program_code};
 ghost use Rattle.f3_code.specs.Lower.{lowered_program};
 ghost use Rattle.f3_gen_values.specs.Emission.{code_in};
 ghost use Rattle.f3_heights.specs.Room.{greatest};
-ghost use Rattle.f3_program.specs.declared.program.Procedure.{Procedure};
 ghost use Rattle.f3_sizes.specs.Needs.{AreNeverDeeper};
 ghost use Rattle.f3_sizes.specs.Parts.{AreCodeParts, AreParts, IsPartAt, first_of, part_lines};
 ghost use Rattle.f3_word_needs.specs.Names.{after_line, dummies_among, most_dummies, most_names, most_open, names_among, names_told, open_among, open_told, parts_open};
