@@ -1,0 +1,4 @@
+//! What a machine over words makes before the first instruction of a program without allocatables.
+#![tactic(auto)]
+
+pub mod plain;
