@@ -1,4 +1,5 @@
 //! What a machine over words makes before the first instruction of a program without allocatables.
 #![tactic(auto)]
 
+pub mod frames;
 pub mod plain;

@@ -58,7 +58,9 @@ fn procedures_are_plain(procedures: &[Procedure]) -> bool
 fn types_are_plain(types: &[Derived]) -> bool
     ensures { (result ≡ true) ↔ All (λ (x : t.Derived). All (λ (y : c.Component). y.declared.kind.is_allocatable ≡ false) x.components.items) types.now }
 {
-    types.iter().all(|one| components_are_plain(&one.components))
+    types
+        .iter()
+        .all(|one| components_are_plain(&one.components))
 }
 
 /// Whether a program has no allocatables: no variable is one, and no component of any type (5.1.2.2, 4.5.3).
