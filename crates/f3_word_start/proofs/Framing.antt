@@ -1,7 +1,7 @@
 -- Variables that stand in blocks one after another.
 use Rattle.std.proofs.Common.{◌≡◌, ℕ, zero, suc, ◌+◌, ◌<◌, ◌≤◌, ◌^◌, Bool, true, false, List, [], ◌∷◌, ◌++◌, length, map, take, get_or, refl, sym, ap, subst, ◌∙◌, arith}
-use Rattle.std.specs.Prelude.{◌↔◌, Option, None, Some, All, Any, slice_get}
-use Rattle.std.proofs.lemmas.List.{map-append, take-map, take_all, take_more, append-nil}
+use Rattle.std.specs.Prelude.{◌↔◌, Option, None, Some, All, slice_get}
+use Rattle.std.proofs.lemmas.List.{map-append, take-map, take_all, take_more}
 use Rattle.std.proofs.lemmas.List.Elements.{All-get_or, All-nil, All-cons}
 use Rattle.f3_program.specs.declared.declarations.Declared.{Declared}
 use Rattle.f3_program.specs.declared.program.Procedure.{Procedure}
@@ -13,7 +13,6 @@ use Rattle.f3_rooms.specs.Forms.{words_for, room, total}
 use Rattle.f3_room_places.specs.Starts.{starts_from}
 use Rattle.f3_room_levels.specs.Initial.{AllCanBegin}
 use Rattle.f3_type_words.specs.Most.{most_words}
-use Rattle.f3_type_words.specs.declared.table.TypeTable.{TypeTable}
 use Rattle.f3_type_words.specs.Tables.{AreTables}
 use Rattle.f3_program.specs.declared.declarations.Derived.{Derived}
 use Rattle.f3_program.specs.declared.program.Program.{Program}
@@ -23,7 +22,7 @@ use Rattle.f3_word_cells.specs.Areas.{types_of}
 use Rattle.f3_word_cells.specs.States.{statics_of}
 use Rattle.f3_word_cells.specs.Scenes.{IsFrame}
 use Rattle.f3_word_start.specs.declared.frames.Frames.{Frames}
-use Rattle.f3_word_start.specs.Frames.{CanStand, Added, HasFrame, HaveFrames, CanBeFramed, AreFrames}
+use Rattle.f3_word_start.specs.Frames.{CanStand, Added, HaveFrames, CanBeFramed, AreFrames}
 
 module _ (ts : List Shape) where
   total_more : (ds : List Declared) (d : Declared) → total ts (ds ++ d ∷ []) ≡ total ts ds + room ts d

@@ -3,7 +3,7 @@ use Rattle.std.proofs.Common.{◌≡◌, ℕ, zero, suc, ◌<◌, Bool, true, fa
 use Rattle.std.specs.Prelude.{not, ◌&&◌, ◌↔◌, Some, slice_get, All}
 use Rattle.std.proofs.lemmas.Bool.{and_from, and_parts}
 use Rattle.std.proofs.lemmas.List.Elements.{All-nil, All-cons, All-head, All-tail, All-map, All-push, All-get_or}
-use Rattle.std.proofs.lemmas.List.{get_or_past, get_or_default}
+use Rattle.std.proofs.lemmas.List.{get_or_default}
 use Rattle.f3_program.specs.declared.declarations.Base.{Base}
 use Rattle.f3_program.specs.declared.declarations.Base.TheVariants as base
 use Rattle.f3_program.specs.declared.declarations.Component.{Component}
@@ -15,10 +15,8 @@ use Rattle.f3_program.specs.declared.program.Static as static
 use Rattle.f3_meaning_whole.specs.Exec.{declared_in}
 use Rattle.f3_meaning_whole.specs.Shape.{Shape, Whole, Record, shape_in, parts_in, shapes_from, shapes_of}
 use Rattle.f3_rooms.specs.Flat.{is_flat, are_flat}
-use Rattle.f3_type_words.proofs.TableLaws.{shape_next, shape_stands, shapes_number}
+use Rattle.f3_type_words.proofs.TableLaws.{shape_stands, shapes_number}
 use Rattle.f3_word_cells.specs.Plain.{ArePlain, IsPlain}
-use Rattle.f3_word_cells.specs.Areas.{types_of}
-use Rattle.f3_word_cells.specs.States.{statics_of}
 
 -- ---- types
 

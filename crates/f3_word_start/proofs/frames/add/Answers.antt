@@ -1,4 +1,4 @@
-use Rattle.std.proofs.Common.{◌≡◌, ◌+◌, ◌≤◌, ◌<◌, ◌^◌, refl, arith}
+use Rattle.std.proofs.Common.{◌≡◌, ◌≤◌, ◌^◌, arith}
 use Rattle.f3_rooms.specs.Forms.{room}
 use Rattle.f3_room_places.specs.Places.{shapes}
 use Rattle.f3_word_start.proofs.Framing.{added, no_room, not_begin}

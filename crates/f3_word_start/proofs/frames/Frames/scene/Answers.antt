@@ -1,4 +1,4 @@
-use Rattle.std.proofs.Common.{List, ap, sym, subst, ◌∙◌, length}
+use Rattle.std.proofs.Common.{List, sym, subst}
 use Rattle.f3_program.specs.declared.declarations.Derived.{Derived}
 use Rattle.f3_meaning_whole.specs.Shape.{shapes_of}
 use Rattle.f3_type_words.specs.Tables.{AreTables}
