@@ -196,10 +196,11 @@ module _ (p : Program) (m : Live) (x : Rooms) (sound : IsSound (types_of p) m x)
   cells_there_in Rest y rooms ns h here (t ∷ ts) [] [] are = tt
   cells_there_in Rest y rooms ns h here (t ∷ ts) [] (e ∷ es) are = absurd are
   cells_there_in Rest y rooms ns h here (t ∷ ts) (z ∷ zs) [] are = tt
-  cells_there_in Rest y rooms ns h here (t ∷ ts) (z ∷ zs) (e ∷ es) are =
-      (cell_there y rooms ns t z e are.0,
-      cells_there_in Rest (rooms_under z y) (rooms_through (rooms_under z y) y x (rooms_beneath z y) rooms) (names_under z ns) (here_under z h)
-      (here_beneath z e here) ts zs es are.2)
+  cells_there_in Rest y rooms ns h here (t ∷ ts) (z ∷ zs) (e ∷ es) are = (
+    cell_there y rooms ns t z e are.0,
+    cells_there_in Rest (rooms_under z y) (rooms_through (rooms_under z y) y x (rooms_beneath z y) rooms) (names_under z ns) (here_under z h)
+        (here_beneath z e here) ts zs es are.2,
+  )
 
   pub cells_there : (Rest : Rooms → List Name → Type 0) (ns : List Name) (h : Here) (here : act.Here) (ts : List CellType) (zs : List Cell) (es : List s.Cell)
       → AreCells p m Rest x ns h here zs es → CellsThere store ts es
