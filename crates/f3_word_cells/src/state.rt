@@ -3,7 +3,7 @@
 ghost use Rattle.std.specs.Prelude.{◌≡◌, ◌+◌, ◌<◌, ◌≤◌, ◌^◌, length, IsTrue, ◌↔◌};
 ghost use Rattle.f3_word_cells.specs.Moves.{Moved, PoppedOr, Pushed, WentAhead};
 
-use crate::cell::{Area, Cell, Here, Object, Range};
+use crate::cell::{Cell, Here, Object, Range};
 use crate::stack::Stack;
 use f3_heap::BlockId;
 use f3_meaning_whole::run_error::RunError;
@@ -17,9 +17,8 @@ pub struct Name {
 }
 
 /// What a procedure goes back to: the line and the activation of its caller, where the cells of that begin, the place where it was called,
-/// the level of the values that are held for it, its dummies, and the words that are kept for its value, where that is of array or derived
-/// type and not yet there.
-#[derive(Drop, Debug)]
+/// the level of the values that are held for it, and its dummies.
+#[derive(Clone, Copy, Debug)]
 pub struct Caller {
     pub pc: usize,
     pub here: Here,
@@ -27,7 +26,6 @@ pub struct Caller {
     pub place: Place,
     pub level: usize,
     pub dummies: Range,
-    pub value: Option<Area>,
 }
 
 /// A state: the number of the next line, from 0 on; the cells of all activations, the one on top at the end, and where those of the one at
