@@ -16,7 +16,16 @@ use Rattle.f3_meaning_whole.specs.Exec.{declared_in}
 use Rattle.f3_meaning_whole.specs.Shape.{Shape, Whole, Record, shape_in, parts_in, shapes_from, shapes_of}
 use Rattle.f3_rooms.specs.Flat.{is_flat, are_flat}
 use Rattle.f3_type_words.proofs.TableLaws.{shape_stands, shapes_number}
-use Rattle.f3_word_cells.specs.Plain.{ArePlain, IsPlain}
+use Rattle.f3_meaning_whole.specs.Run.{setting_of}
+use Rattle.f3_code.specs.State as c
+use Rattle.f3_cell_kinds.specs.Effect.{declared_kind}
+use Rattle.f3_gen_values.specs.declared.emission.Emission.{Emission}
+use Rattle.f3_gen_values.specs.declared.line.Line.{Line}
+use Rattle.f3_gen_values.specs.Emitted.{line_in}
+use Rattle.f3_gen_values.specs.Emission.{code_in}
+use Rattle.f3_word_cells.specs.Plain.{ArePlain, IsPlain, is_plain_act, is_plain_scalar}
+use Rattle.f3_word_cells.specs.Scenes.{code_of}
+use Rattle.f3_word_start.specs.Inner.Declared.{IsDeclaredPlain}
 
 -- ---- types
 
@@ -87,16 +96,16 @@ IsPlainStatic y = y.declared.kind.is_allocatable ≡ false
 abbrev pub IsPlainProcedure : Procedure → Type 0
 IsPlainProcedure q = ArePlain (declared_in q)
 
-at_each : (P : Procedure → Type 0) (qs : List Procedure) → All P qs → (f : ℕ) (q : Procedure) → slice_get qs f ≡ Some q → P q
+at_each : {X : Type 0} (P : X → Type 0) (qs : List X) → All P qs → (f : ℕ) (q : X) → slice_get qs f ≡ Some q → P q
 at_each P [] h f q e = absurd (cc)
 at_each P (r ∷ qs) h zero q e = let same : r ≡ q = cc in subst P same (All-head P r qs h)
 at_each P (r ∷ qs) h (suc f) q e = at_each P qs (All-tail P r qs h) f q e
 
-of_each : (P : Procedure → Type 0) (qs : List Procedure) → ((f : ℕ) (q : Procedure) → slice_get qs f ≡ Some q → P q) → All P qs
+of_each : {X : Type 0} (P : X → Type 0) (qs : List X) → ((f : ℕ) (q : X) → slice_get qs f ≡ Some q → P q) → All P qs
 of_each P [] h = All-nil P
 of_each P (r ∷ qs) h = All-cons P r qs (h 0 r refl) (of_each P qs (λ f q e. h (suc f) q e))
 
--- ---- programs
+-- ---- tests
 
 abbrev pub Tells : {X : Type 0} → (X → Type 0) → List X → Bool → Type 0
 Tells P xs b = (b ≡ true) ↔ All P xs
@@ -107,28 +116,72 @@ no h = (λ e. absurd (cc), λ q. absurd (h q))
 failed : {P : Type 0} (b : Bool) → (b ≡ true) ↔ P → b ≡ false → P → ⊥
 failed b test e p = let f : b ≡ true = test.1 p in absurd (cc)
 
+-- what is declared
 module _ (p : Program) where
-  pub types_not : (b : Bool) (ts : List Derived) → ts ≡ p.types.items → Tells HasPlain ts b → b ≡ false → (false ≡ true) ↔ IsPlain p
+  pub types_not : (b : Bool) (ts : List Derived) → ts ≡ p.types.items → Tells HasPlain ts b → b ≡ false → (false ≡ true) ↔ IsDeclaredPlain p
   types_not b ts same told not = no (λ plain. failed b told not (subst (All HasPlain) (sym same) (types_plain p.types.items plain.types)))
 
-  pub statics_not : (b : Bool) (ys : List static.Static) → ys ≡ p.statics.items → Tells IsPlainStatic ys b → b ≡ false → (false ≡ true) ↔ IsPlain p
+  pub statics_not : (b : Bool) (ys : List static.Static) → ys ≡ p.statics.items → Tells IsPlainStatic ys b → b ≡ false → (false ≡ true) ↔ IsDeclaredPlain p
   statics_not b ys same told not =
       let f : static.Static → Declared = λ (y : static.Static). y.declared in
       no (λ plain. failed b told not (subst (All IsPlainStatic) (sym same) (unmapped (λ (d : Declared). d.kind.is_allocatable ≡ false) f p.statics.items plain.statics)))
 
-  pub main_not : (b : Bool) → (b ≡ true) ↔ IsPlainProcedure p.main → b ≡ false → (false ≡ true) ↔ IsPlain p
-  main_not b told not = no (λ plain. failed b told not plain.main)
-
   pub all_plain : (b c d e : Bool) (ts : List Derived) (ys : List static.Static) (qs : List Procedure) → ts ≡ p.types.items → ys ≡ p.statics.items → qs ≡ p.procedures.items
       → Tells HasPlain ts b → Tells IsPlainStatic ys c → (d ≡ true) ↔ IsPlainProcedure p.main → Tells IsPlainProcedure qs e
-      → b ≡ true → c ≡ true → d ≡ true → (e ≡ true) ↔ IsPlain p
+      → b ≡ true → c ≡ true → d ≡ true → (e ≡ true) ↔ IsDeclaredPlain p
   all_plain b c d e ts ys qs types statics procedures types_told statics_told main_told told is_b is_c is_d = (
     λ is. record {
       types = types_flat [] p.types.items (All-nil (λ r. is_flat r ≡ true)) (subst (All HasPlain) types (types_told.0 is_b));
       statics = All-map (λ (x : Declared). x.kind.is_allocatable ≡ false) (λ (y : static.Static). y.declared) p.statics.items
           (subst (All IsPlainStatic) statics (statics_told.0 is_c));
       main = main_told.0 is_d;
-      procedures = at_each IsPlainProcedure p.procedures.items (subst (All IsPlainProcedure) procedures (told.0 is));
+      procedures = subst (All IsPlainProcedure) procedures (told.0 is);
     },
-    λ plain. told.1 (subst (All IsPlainProcedure) (sym procedures) (of_each IsPlainProcedure p.procedures.items plain.procedures)),
+    λ plain. told.1 (subst (All IsPlainProcedure) (sym procedures) plain.procedures),
   )
+
+-- ---- programs
+
+abbrev pub GivesScalar : Procedure → Type 0
+GivesScalar q = is_plain_scalar (declared_kind q.result) ≡ true
+
+abbrev pub IsPlainLine : Line → Type 0
+IsPlainLine l = is_plain_act l.act ≡ true
+
+abbrev IsPlainCode : c.Line → Type 0
+IsPlainCode l = is_plain_act l.act ≡ true
+
+module _ (p : Program) where
+  pub declared_not : (b : Bool) → (b ≡ true) ↔ IsDeclaredPlain p → b ≡ false → (false ≡ true) ↔ IsPlain p
+  declared_not b told not = no (λ plain. failed b told not (record {
+    types = plain.types;
+    statics = plain.statics;
+    main = plain.main;
+    procedures = of_each IsPlainProcedure p.procedures.items plain.procedures;
+  }))
+
+  pub results_not : (b : Bool) (qs : List Procedure) → qs ≡ p.procedures.items → Tells GivesScalar qs b → b ≡ false → (false ≡ true) ↔ IsPlain p
+  results_not b qs same told not = no (λ plain. failed b told not (subst (All GivesScalar) (sym same) (of_each GivesScalar p.procedures.items plain.results)))
+
+  module _ (e : Emission) (code : code_in p e ≡ code_of p) (b : Bool) (ls : List Line) (same : ls ≡ e.lines.items) (told : Tells IsPlainLine ls b) where
+    all_lines : b ≡ true → All IsPlainCode (code_of p).lines
+    all_lines is = subst (λ (z : c.Code). All IsPlainCode z.lines) code
+        (All-map IsPlainCode (line_in (setting_of p)) e.lines.items (subst (All IsPlainLine) same (told.0 is)))
+
+    these_lines : IsPlain p → All IsPlainLine ls
+    these_lines plain = subst (All IsPlainLine) (sym same) (unmapped IsPlainCode (line_in (setting_of p)) e.lines.items
+        (subst (λ (z : c.Code). All IsPlainCode z.lines) (sym code) (of_each IsPlainCode (code_of p).lines plain.lines)))
+
+    pub is_plain_so : (d r : Bool) (qs : List Procedure) → qs ≡ p.procedures.items → (d ≡ true) ↔ IsDeclaredPlain p → Tells GivesScalar qs r → d ≡ true → r ≡ true
+        → (b ≡ true) ↔ IsPlain p
+    is_plain_so d r qs procedures declared_told results_told is_d is_r = (
+      λ is. record {
+        types = (declared_told.0 is_d).types;
+        statics = (declared_told.0 is_d).statics;
+        main = (declared_told.0 is_d).main;
+        procedures = at_each IsPlainProcedure p.procedures.items (declared_told.0 is_d).procedures;
+        results = at_each GivesScalar p.procedures.items (subst (All GivesScalar) procedures (results_told.0 is_r));
+        lines = at_each IsPlainCode (code_of p).lines (all_lines is);
+      },
+      λ plain. told.1 (these_lines plain),
+    )

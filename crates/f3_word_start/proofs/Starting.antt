@@ -41,7 +41,9 @@ use Rattle.f3_word_cells.specs.Areas.{types_of}
 use Rattle.f3_word_cells.specs.Cells.{IsHere, AreCells}
 use Rattle.f3_word_cells.specs.Does.{stream}
 use Rattle.f3_word_cells.specs.Scenes.{code_of}
-use Rattle.f3_word_cells.specs.States.{Stands, AreCallers, beneath, own, loose_blocks, cells_blocks, callers_blocks, statics_of}
+use Rattle.f3_word_cells.specs.States.{Stands, AreCallers, AreKnown, beneath, own, loose_blocks, cells_blocks, statics_of}
+use Rattle.f3_cell_kinds.specs.Types.{CellType}
+use Rattle.f3_cell_kinds.specs.Laws.{site_at}
 use Rattle.f3_word_start.specs.Begins.{Begins, IsRefused, first, first_state, first_events, further}
 use Rattle.f3_word_start.specs.Inner.Stacks.{IsFirst}
 use Rattle.f3_word_start.specs.Inner.Taken.{AreTaken}
@@ -105,6 +107,10 @@ behind_one q c bs some = by (nat_eq q c)
 
 dead : (m : Live) (q : ℕ) → find m q ≡ None → IsLive m q → ⊥
 dead m q none live = cc
+
+none_known : (p : Program) (xs : List CellType) → AreKnown p xs []
+none_known p [] = tt
+none_known p (x ∷ xs) = tt
 
 declared_begin : (p : Program) (ys : List static.Static) → map (initial_value (setting_of p)) (map (λ (y : static.Static). y.declared) ys)
     ≡ map (λ (y : static.Static). initial_value (setting_of p) y.declared) ys
@@ -182,7 +188,7 @@ module _ (p : Program) (mid k : Live) (us vs : List Declared) (x y a b : ℕ) (s
     names = w.names.items.items
 
     loose_none : loose_blocks w ≡ []
-    loose_none = ap (λ (cs : List Cell). cells_blocks cs ++ callers_blocks w.callers.items.items) f.cells ∙ ap (λ (fs : List Caller). callers_blocks fs) f.callers
+    loose_none = ap (λ (cs : List Cell). cells_blocks cs) f.cells
 
     same_times : (q : ℕ) → times q (blocks_of rooms ++ loose_blocks w) ≡ times q (a ∷ b ∷ [])
     same_times q = ap (λ bs. times q (blocks_of rooms ++ bs)) loose_none
@@ -211,22 +217,30 @@ module _ (p : Program) (mid k : Live) (us vs : List Declared) (x y a b : ℕ) (s
           declared = refl;
         }))
 
+    abbrev Callers : Rooms → List Name → Type 0
+    Callers = AreCallers p k (beneath w) (reverse w.callers.items.items) []
+
+    no_callers : Callers rooms names
+    no_callers = subst (λ (cs : List Cell). AreCallers p k cs (reverse w.callers.items.items) [] rooms names) (sym beneath_none)
+        (subst (λ (fs : List Caller). AreCallers p k [] fs [] rooms names) (sym callers_none) refl)
+
     stands : (answers : ℕ → Bool) → Stands p k w rooms (first_state p answers)
     stands answers = record {
       sound = sound;
       store = sym store;
       statics = sym f.statics;
       declared = refl;
+      bare = refl;
+      all_bare = ((refl, tt), tt);
       blocks = f.blocks;
       levels = f.levels;
       pc = sym f.pc;
-      here = first_here;
       bottom = let e = f.base in omega arith;
-      stack = subst (λ (cs : List Cell). AreCells p rooms k names cs []) (sym own_none) tt;
-      callers = subst (λ (cs : List Cell). AreCallers p k rooms names cs (reverse w.callers.items.items) []) (sym beneath_none)
-          (subst (λ (fs : List Caller). AreCallers p k rooms names [] fs []) (sym callers_none) refl);
+      known = subst (AreKnown p (site_at p 0).cells) (sym own_none) (none_known p (site_at p 0).cells);
+      stack = subst (λ (cs : List Cell). AreCells p k Callers rooms names w.here (core_here (lowered_program p)) cs []) (sym own_none) (first_here, no_callers);
       once = λ q. let e = same_times q in let once = sound.apart q in omega arith;
       all = λ q live. let e = same_times q in let some = all_counted q live in omega arith;
+      live = λ q some. let e = ap (times q) loose_none in absurd (omega arith);
       unpinned = all_unpinned;
     }
 
