@@ -1,8 +1,9 @@
 //! How the variables of a program stand in blocks.
 
-ghost use Rattle.std.specs.Prelude.{◌≡◌, ◌<◌, ◌^◌, [], IfOk, MatchOption, All, map};
+ghost use Rattle.std.specs.Prelude.{◌≡◌, ◌<◌, ◌^◌, List, [], IfOk, MatchOption, All, map};
 ghost use Rattle.f3_program.specs.declared.program.Procedure as q;
 ghost use Rattle.f3_program.specs.declared.program.Static as y;
+ghost use Rattle.f3_meaning_whole.specs.Shape.{Shape};
 ghost use Rattle.f3_meaning_whole.specs.Exec.{declared_in};
 ghost use Rattle.f3_gen_values.specs.Emission.{code_in};
 ghost use Rattle.f3_room_places.specs.Places.{HasTables, shapes};
@@ -35,8 +36,8 @@ pub struct Frames {
 }
 
 /// Of no variables.
-fn empty(alloc: Global, types: Types<'_>) -> Frame
-    ensures { IsFrame (shapes types.entry) [] result }
+fn empty(alloc: Global) -> Frame
+    ensures { (ts : List Shape) → IsFrame ts [] result }
 {
     Frame {
         starts: Vec::new(alloc),
@@ -72,7 +73,7 @@ fn frame_of(
     requires tables { HasTables types }
     ensures { IfOk result (HasFrame (shapes types.entry) declared.now) }
 {
-    let mut frame = empty(alloc, types);
+    let mut frame = empty(alloc);
     for one in declared {
         if !add(&mut frame, types, one)? {
             return Ok(None);
@@ -90,7 +91,7 @@ fn frame_of_statics(
     requires tables { HasTables types }
     ensures { IfOk result (HasFrame (shapes types.entry) (map (λ (x : y.Static). x.declared) statics.now)) }
 {
-    let mut frame = empty(alloc, types);
+    let mut frame = empty(alloc);
     for one in statics {
         if !add(&mut frame, types, &one.declared)? {
             return Ok(None);

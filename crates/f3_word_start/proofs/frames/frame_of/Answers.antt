@@ -9,3 +9,6 @@ returns-then-not-branch c =
     let i = c.loop-one.one-index in
     one_not (shapes c.args.types) c.loop-one.frame c.one-item.result ds i (next_declared ds i c.one-item.result (omega arith) c.one-item.is) c.add.new.frame
     c.in_ok-add.field-0 c.in_ok-add.ensures c.loop-one.invariant c.if-not-branch.true
+
+pub loop-one-init : goal.loop-one-init
+loop-one-init c = c.empty-frame.ensures (shapes c.args.types)

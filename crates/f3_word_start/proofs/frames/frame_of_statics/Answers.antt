@@ -16,3 +16,6 @@ loop-one-preserved c =
     let i = c.loop-one.one-index in
     one_more (shapes c.args.types) c.loop-one.frame c.one-item.result.declared (map declared_of ys) i (next_static ys i c.one-item.result (omega arith) c.one-item.is) c.add.new.frame
     c.in_ok-add.field-0 c.in_ok-add.ensures c.loop-one.invariant c.if-not-branch.false
+
+pub loop-one-init : goal.loop-one-init
+loop-one-init c = c.empty-frame.ensures (shapes c.args.types)
