@@ -1,0 +1,4 @@
+pub mod Operands
+pub mod Doing
+pub mod Giving
+pub mod Texts

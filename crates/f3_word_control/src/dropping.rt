@@ -1,0 +1,79 @@
+//! Cells that go.
+
+ghost use Rattle.std.specs.Prelude.{◌≡◌, ◌<◌, ◌≤◌, ◌^◌, length};
+ghost use Rattle.f3_code.specs.declared.instruction.Instruction.TheVariants.{Drop, Unwind};
+ghost use Rattle.f3_word_cells.specs.States.{cell_blocks, datum_blocks};
+ghost use Rattle.f3_word_cells.specs.Does.{Keeps};
+ghost use Rattle.f3_word_control.specs.Doing.{DoesWith, IsAtSome};
+ghost use Rattle.f3_word_control.specs.Giving.{AreFree, without, Unwinds, IsDeep};
+
+use f3_heap::Blocks;
+use f3_word_cells::cell::{Association, Cell, Datum, Passed};
+use f3_word_cells::state::{State, Stop};
+
+/// A value goes: its block, if it has one, is given back.
+pub fn give_back<B: Blocks>(heap: &mut B, datum: Datum)
+    requires { AreFree (B.blocks heap.old) (datum_blocks datum) }
+    ensures { B.blocks heap.new ≡ without (B.blocks heap.old) (datum_blocks datum) }
+{
+    if let Datum::Block(area) = datum {
+        let _given = heap.give(area.elements.block);
+    }
+}
+
+/// A cell goes: the block of its value, if it has one, is given back.
+pub fn let_go<B: Blocks>(heap: &mut B, cell: Cell)
+    requires { AreFree (B.blocks heap.old) (cell_blocks cell) }
+    ensures { B.blocks heap.new ≡ without (B.blocks heap.old) (cell_blocks cell) }
+{
+    match cell {
+        Cell::Datum(datum)
+        | Cell::Argument(Passed::Given(_, datum))
+        | Cell::Selector(Association::Holds(_, datum)) => give_back(heap, datum),
+        _ => {}
+    }
+}
+
+/// What is on top goes.
+#[inline(never)]
+pub fn drop_top<B: Blocks>(heap: &mut B, state: &mut State) -> Result<(), Stop>
+    requires pc { state.old.pc < 2 ^ 63 }
+    requires at { IsAtSome Drop (B.blocks heap.old) state.old }
+    ensures does { DoesWith Drop result (B.blocks heap.old) (B.blocks heap.new) state.old state.new }
+    ensures keeps { Keeps state.old state.new }
+{
+    let Some(cell) = state.pop() else {
+        return Err(Stop::Lost);
+    };
+    let_go(heap, cell);
+    state.advance();
+    Ok(())
+}
+
+/// So many cells on top go.
+pub fn drop_cells<B: Blocks>(heap: &mut B, state: &mut State, count: usize)
+    requires { IsDeep count (B.blocks heap.old) state.old }
+    ensures unwinds { Unwinds count (B.blocks heap.old) (B.blocks heap.new) state.old state.new }
+    ensures pc { state.new.pc ≡ state.old.pc }
+    ensures keeps { Keeps state.old state.new }
+{
+    for _ in 0..count {
+        let Some(cell) = state.pop() else {
+            return;
+        };
+        let_go(heap, cell);
+    }
+}
+
+/// So many cells go.
+#[inline(never)]
+pub fn unwind<B: Blocks>(heap: &mut B, state: &mut State, count: usize) -> Result<(), Stop>
+    requires pc { state.old.pc < 2 ^ 63 }
+    requires at { IsAtSome (Unwind count) (B.blocks heap.old) state.old }
+    ensures does { DoesWith (Unwind count) result (B.blocks heap.old) (B.blocks heap.new) state.old state.new }
+    ensures keeps { Keeps state.old state.new }
+{
+    drop_cells(heap, state, count);
+    state.advance();
+    Ok(())
+}
