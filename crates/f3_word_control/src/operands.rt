@@ -4,7 +4,9 @@ ghost use Rattle.f3_word_cells.specs.declared.cell.Cell.TheVariants as c;
 ghost use Rattle.f3_word_cells.specs.Does.{Keeps};
 ghost use Rattle.f3_word_control.specs.Operands.{Took, scalar_cell, turns_cell};
 
+use arrayvec::ArrayVec;
 use f3_cells::cell::Flow;
+use f3_desc::descriptor::Dim;
 use f3_program::declarations::Constant;
 use f3_word_cells::cell::{Cell, Datum, Here};
 use f3_word_cells::state::State;
@@ -60,6 +62,28 @@ pub fn pop_going(state: &mut State) -> Option<Flow>
 {
     match state.pop() {
         Some(Cell::Going(flow)) => Some(flow),
+        _ => None,
+    }
+}
+
+/// A bound of a triplet on top, which is taken, if one is there.
+pub fn pop_bound(state: &mut State) -> Option<Option<i64>>
+    ensures taken { Took c.Bound result state.old state.new }
+    ensures keeps { Keeps state.old state.new }
+{
+    match state.pop() {
+        Some(Cell::Bound(bound)) => Some(bound),
+        _ => None,
+    }
+}
+
+/// The bounds of an array on top, which are taken, if they are there.
+pub fn pop_bounds(state: &mut State) -> Option<ArrayVec<Dim, 7>>
+    ensures taken { Took c.Bounds result state.old state.new }
+    ensures keeps { Keeps state.old state.new }
+{
+    match state.pop() {
+        Some(Cell::Bounds(dims)) => Some(dims),
         _ => None,
     }
 }
