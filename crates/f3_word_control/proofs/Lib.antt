@@ -1,0 +1,4 @@
+pub mod Moving
+pub mod Lines
+pub mod Tops
+pub mod Does

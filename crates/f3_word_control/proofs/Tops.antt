@@ -1,0 +1,184 @@
+-- Which cells stand on top at a line, and what is taken there.
+use Rattle.std.proofs.Common.{◌≡◌, ◌∙◌, ℕ, ℤ, ◌+◌, Bool, true, false, List, [], ◌∷◌, ◌++◌, refl, sym, subst, ap}
+use Rattle.std.specs.Prelude.{Option, Some, None, ◌||◌}
+use Rattle.f3_program.specs.declared.declarations.Base.TheVariants as base
+use Rattle.f3_program.specs.declared.declarations.Constant.{Constant}
+use Rattle.f3_program.specs.declared.declarations.Kind.{Kind}
+use Rattle.f3_program.specs.declared.program.Program.{Program}
+use Rattle.f3_live_blocks.specs.Blocks.{Live}
+use Rattle.f3_meaning_whole.specs.Value.{Value, Span}
+use Rattle.f3_meaning_whole.specs.Arithmetic.{constant_value}
+use Rattle.f3_meaning_whole.specs.Act as m
+use Rattle.f3_meaning_whole.specs.Exec as exec
+use Rattle.f3_meaning_whole.specs.Formed.{is_number, is_scalar}
+use Rattle.f3_meaning_whole.specs.Permitted.{same_type}
+use Rattle.f3_arithmetic.specs.Turns.{turns_of}
+use Rattle.f3_code.specs.State as s
+use Rattle.f3_cells.specs.declared.cell.Flow.{Flow}
+use Rattle.f3_cells.specs.Cells.{flow_of}
+use Rattle.f3_cell_kinds.specs.Types.{Scope, CellType}
+use Rattle.f3_cell_kinds.specs.Types as cell
+use Rattle.f3_cell_kinds.specs.Holds.{IsOf, Is}
+use Rattle.f3_cell_kinds.specs.Laws.{site_at}
+use Rattle.f3_rooms.specs.Rooms.{Rooms}
+use Rattle.f3_desc.specs.declared.descriptor.Dim.{Dim}
+use Rattle.f3_word_cells.specs.declared.cell.Cell.{Cell}
+use Rattle.f3_word_cells.specs.declared.cell.Cell.TheVariants as c
+use Rattle.f3_word_cells.specs.declared.cell.Datum.{Datum}
+use Rattle.f3_word_cells.specs.declared.cell.Here.{Here}
+use Rattle.f3_word_cells.specs.declared.state.Name.{Name}
+use Rattle.f3_word_cells.specs.declared.state.State.{State}
+use Rattle.f3_word_cells.specs.Areas.{IsDatum, spans_of}
+use Rattle.f3_word_cells.specs.Cells.{IsHere, IsCell, AreCells}
+use Rattle.f3_word_cells.specs.States.{Stands, own, cell_blocks, datum_blocks}
+use Rattle.f3_word_cells.specs.Moves.{Popped}
+use Rattle.f3_word_cells.specs.Does.{IsTold}
+use Rattle.f3_word_cells.proofs.OnTop.{one_on_top, of_datum, of_turns, of_outside, of_going}
+use Rattle.f3_word_cells.proofs.Scalars.{scalar_datum}
+use Rattle.f3_word_control.specs.Operands.{scalar_cell, turns_cell}
+use Rattle.f3_word_control.proofs.Moving.{Beside, Taken, taken, with_stack}
+
+module _ (p : Program) (live : Live) (x : Rooms) where
+  -- ---- which cell is one of the machine over values
+
+  module _ (ns : List Name) where
+    pub datum_cell : (a : Cell) (v : Value) → IsCell p x live ns a (s.Datum v) → (d : Datum) × (a ≡ c.Datum d) × IsDatum p live d v
+    datum_cell (c.Datum d) v h = (d, refl, h)
+    datum_cell a v h = absurd h
+
+    pub turns_cell_is : (a : Cell) (k : ℕ) (z : ℤ) → IsCell p x live ns a (s.Turns k z) → (y : Option ℕ × ℤ) × (a ≡ turns_cell y)
+    turns_cell_is (c.Turns turns step) k z h = ((turns, step), refl)
+    turns_cell_is a k z h = absurd h
+
+    pub outside_cell : (a : Cell) (here : m.Here) → IsCell p x live ns a (s.Outside here) → (h : Here) × (a ≡ c.Outside h)
+    outside_cell (c.Outside h) here is = (h, refl)
+    outside_cell a here is = absurd is
+
+    pub going_cell : (a : Cell) (flow : exec.Flow) → IsCell p x live ns a (s.Going flow) → (f : Flow) × (a ≡ c.Going f)
+    going_cell (c.Going f) flow is = (f, refl)
+    going_cell a flow is = absurd is
+
+    -- the cell in memory of the one on top
+    pub top_in : (cs : List Cell) (bs : List s.Cell) (b : s.Cell) (below : List s.Cell) → bs ≡ b ∷ below → AreCells p x live ns cs bs
+        → (a : Cell) × (rest : List Cell) × (cs ≡ a ∷ rest) × IsCell p x live ns a b
+    top_in [] [] b below e h = cc
+    top_in [] (b' ∷ bs) b below e h = absurd h
+    top_in (a ∷ cs) [] b below e h = absurd h
+    top_in (a ∷ cs) (b' ∷ bs) b below e h =
+        let same : b' ≡ b = cc in (a, cs, refl, subst (λ (y : s.Cell). IsCell p x live ns a y) same h.0)
+
+  -- ---- what stands on top at a line
+
+  module _ (t : s.State) (w : State) (told : IsTold p t) (stands : Stands p live w x t) where
+    top_of : (y : CellType) (rest : List CellType) → (site_at p t.pc).cells ≡ y ∷ rest
+        → (a : Cell) × (cs : List Cell) × (b : s.Cell) × (own w ≡ a ∷ cs) × IsCell p x live w.names.items.items a b × Is p.types.items y b
+    top_of y rest e =
+        let top = one_on_top p t y rest told e in
+        let there = top_in w.names.items.items (own w) t.stack top.cell top.below top.split stands.stack in
+        (there.0, there.1, top.cell, there.2, there.3, top.is)
+
+    pub datum_on : (k : Kind) (rest : List CellType) → (site_at p t.pc).cells ≡ cell.Datum k ∷ rest
+        → (d : Datum) × (cs : List Cell) × (v : Value) × (own w ≡ c.Datum d ∷ cs) × IsDatum p live d v × IsOf p.types.items k v
+    datum_on k rest e =
+        let top = top_of (cell.Datum k) rest e in
+        let v = of_datum p.types.items k top.2 top.5 in
+        let d = datum_cell w.names.items.items top.0 v.0 (subst (λ (y : s.Cell). IsCell p x live w.names.items.items top.0 y) v.1 top.4) in
+        (d.0, top.1, v.0, top.3 ∙ ap (λ a. a ∷ top.1) d.1, d.2, v.2)
+
+    pub scalar_on : (k : Kind) (rest : List CellType) → (site_at p t.pc).cells ≡ cell.Datum k ∷ rest → is_scalar k ≡ true
+        → (is_number k.of || same_type k.of base.Logical) ≡ true → (y : Constant) × (cs : List Cell) × (own w ≡ scalar_cell y ∷ cs)
+    scalar_on k rest e one plain =
+        let top = datum_on k rest e in
+        let y = scalar_datum p live k top.0 top.2 one plain top.5 top.4 in
+        (y.0, top.1, top.3 ∙ ap (λ d. c.Datum d ∷ top.1) y.1)
+
+    pub turns_on : (rest : List CellType) → (site_at p t.pc).cells ≡ cell.Turns ∷ rest → (y : Option ℕ × ℤ) × (cs : List Cell) × (own w ≡ turns_cell y ∷ cs)
+    turns_on rest e =
+        let top = top_of cell.Turns rest e in
+        let v = of_turns p.types.items top.2 top.5 in
+        let d = turns_cell_is w.names.items.items top.0 v.0 v.1 (subst (λ (y : s.Cell). IsCell p x live w.names.items.items top.0 y) v.2 top.4) in
+        (d.0, top.1, top.3 ∙ ap (λ a. a ∷ top.1) d.1)
+
+    pub outside_on : (o : Scope) (rest : List CellType) → (site_at p t.pc).cells ≡ cell.Outside o ∷ rest → (h : Here) × (cs : List Cell) × (own w ≡ c.Outside h ∷ cs)
+    outside_on o rest e =
+        let top = top_of (cell.Outside o) rest e in
+        let v = of_outside p.types.items o top.2 top.5 in
+        let d = outside_cell w.names.items.items top.0 v.0 (subst (λ (y : s.Cell). IsCell p x live w.names.items.items top.0 y) v.1 top.4) in
+        (d.0, top.1, top.3 ∙ ap (λ a. a ∷ top.1) d.1)
+
+    pub going_on : (rest : List CellType) → (site_at p t.pc).cells ≡ cell.Going ∷ rest → (f : Flow) × (cs : List Cell) × (own w ≡ c.Going f ∷ cs)
+    going_on rest e =
+        let top = top_of cell.Going rest e in
+        let v = of_going p.types.items top.2 top.5 in
+        let d = going_cell w.names.items.items top.0 v.0 (subst (λ (y : s.Cell). IsCell p x live w.names.items.items top.0 y) v.1 top.4) in
+        (d.0, top.1, top.3 ∙ ap (λ a. a ∷ top.1) d.1)
+
+  -- ---- what is taken
+
+  pub record TakenDatum (w : State) (t : s.State) (d : Datum) (aside : List ℕ) : Type 0 where
+    pub value : Value
+    pub below : List s.Cell
+    pub split : t.stack ≡ s.Datum value ∷ below
+    pub is : IsDatum p live d value
+    pub stands : Beside p live aside w x (with_stack t.pc below t)
+
+  of_datum_cell : (ns : List Name) (d : Datum) (b : s.Cell) → IsCell p x live ns (c.Datum d) b → (v : Value) × (b ≡ s.Datum v) × IsDatum p live d v
+  of_datum_cell ns d (s.Datum v) h = (v, refl, h)
+  of_datum_cell ns d b h = absurd h
+
+  pub datum_taken : {old new : State} {t : s.State} {aside : List ℕ} (d : Datum) → Popped (c.Datum d) old new → Beside p live aside old x t
+      → TakenDatum new t d (datum_blocks d ++ aside)
+  datum_taken {old = old} {new = new} {t = t} {aside = aside} d popped h =
+      let top = taken p live x {aside = aside} (c.Datum d) (λ ns. refl) popped h in
+      let v = of_datum_cell new.names.items.items d top.cell top.is in
+      record { value = v.0; below = top.below; split = top.split ∙ ap (λ b. b ∷ top.below) v.1; is = v.2; stands = top.stands }
+
+  -- a scalar, and other cells without values in blocks
+  pub record TakenSo (w : State) (t : s.State) (b : s.Cell) (aside : List ℕ) : Type 0 where
+    pub below : List s.Cell
+    pub split : t.stack ≡ b ∷ below
+    pub stands : Beside p live aside w x (with_stack t.pc below t)
+
+  pub scalar_taken : {old new : State} {t : s.State} {aside : List ℕ} (y : Constant) → Popped (scalar_cell y) old new → Beside p live aside old x t
+      → TakenSo new t (s.Datum (constant_value y)) aside
+  scalar_taken {old = old} {new = new} {t = t} {aside = aside} y popped h =
+      let top = datum_taken {aside = aside} _ popped h in
+      record { below = top.below; split = top.split ∙ ap (λ v. s.Datum v ∷ top.below) top.is; stands = top.stands }
+
+  of_turns_cell : (ns : List Name) (y : Option ℕ × ℤ) (b : s.Cell) → IsCell p x live ns (turns_cell y) b → b ≡ s.Turns (turns_of y.0) y.1
+  of_turns_cell ns y (s.Turns k z) h = cc
+  of_turns_cell ns y b h = absurd h
+
+  pub turns_taken : {old new : State} {t : s.State} {aside : List ℕ} (y : Option ℕ × ℤ) → Popped (turns_cell y) old new → Beside p live aside old x t
+      → TakenSo new t (s.Turns (turns_of y.0) y.1) aside
+  turns_taken {old = old} {new = new} {t = t} {aside = aside} y popped h =
+      let top = taken p live x {aside = aside} (turns_cell y) (λ ns. refl) popped h in
+      record { below = top.below; split = top.split ∙ ap (λ b. b ∷ top.below) (of_turns_cell new.names.items.items y top.cell top.is); stands = top.stands }
+
+  of_going_cell : (ns : List Name) (f : Flow) (b : s.Cell) → IsCell p x live ns (c.Going f) b → b ≡ s.Going (flow_of f)
+  of_going_cell ns f (s.Going g) h = ap s.Going h
+  of_going_cell ns f b h = absurd h
+
+  pub going_taken : {old new : State} {t : s.State} {aside : List ℕ} (f : Flow) → Popped (c.Going f) old new → Beside p live aside old x t
+      → TakenSo new t (s.Going (flow_of f)) aside
+  going_taken {old = old} {new = new} {t = t} {aside = aside} f popped h =
+      let top = taken p live x {aside = aside} (c.Going f) (λ ns. refl) popped h in
+      record { below = top.below; split = top.split ∙ ap (λ b. b ∷ top.below) (of_going_cell new.names.items.items f top.cell top.is); stands = top.stands }
+
+  pub record TakenOutside (w : State) (t : s.State) (h : Here) (aside : List ℕ) : Type 0 where
+    pub here : m.Here
+    pub below : List s.Cell
+    pub split : t.stack ≡ s.Outside here ∷ below
+    pub is : IsHere p x w.names.items.items h here
+    pub stands : Beside p live aside w x (with_stack t.pc below t)
+
+  of_outside_cell : (ns : List Name) (h : Here) (b : s.Cell) → IsCell p x live ns (c.Outside h) b → (here : m.Here) × (b ≡ s.Outside here) × IsHere p x ns h here
+  of_outside_cell ns h (s.Outside here) is = (here, refl, is)
+  of_outside_cell ns h b is = absurd is
+
+  pub outside_taken : {old new : State} {t : s.State} {aside : List ℕ} (h : Here) → Popped (c.Outside h) old new → Beside p live aside old x t
+      → TakenOutside new t h aside
+  outside_taken {old = old} {new = new} {t = t} {aside = aside} h popped is =
+      let top = taken p live x {aside = aside} (c.Outside h) (λ ns. refl) popped is in
+      let v = of_outside_cell new.names.items.items h top.cell top.is in
+      record { here = v.0; below = top.below; split = top.split ∙ ap (λ b. b ∷ top.below) v.1; is = v.2; stands = top.stands }
