@@ -20,12 +20,8 @@ use Rattle.f3_code.specs.State.{Line, placed, Next, Goes, Stays, Failed, Stopped
 use Rattle.f3_code.specs.State as s
 use Rattle.f3_code.specs.Machine.{flow_of}
 use Rattle.f3_code.specs.Heap.{with_answers}
-use Rattle.f3_word_control.proofs.Moving.{with_stack}
+use Rattle.f3_word_control.proofs.Moving.{with_stack, with_here}
 use Rattle.f3_word_control.proofs.Lines.{does}
-
--- elsewhere, in another state of an activation
-abbrev pub with_here : ℕ → List s.Cell → m.Here → s.State → s.State
-with_here pc stack here t = record { pc = pc; stack = stack; here = here; frames = t.frames; world = t.world }
 
 -- nothing is lent any more but this
 abbrev pub lending_less : m.Here → m.Here
@@ -72,6 +68,21 @@ module _ (p : Program) (l : Line) (t : s.State) (rest : ℕ → Bool) where
   unfolding gives
   step_stays v below e f = rw (e, f) refl
 
+  pub went_on : (d : ℕ) → Leads (i.GoOn d) [] (far d t.stack)
+  went_on d = refl
+
+  pub went_back : (d : ℕ) → Leads (i.GoBack d) [] (with_stack (t.pc - d) t.stack t)
+  went_back d = refl
+
+  pub discarded : Leads i.Discard [] (next t.stack)
+  discarded = refl
+
+  pub stopped : (n : Option ℕ) → does p l t (i.Stop n) rest ≡ Stays [] (Stopped n)
+  stopped n = refl
+
+  pub finished : does p l t i.Finish rest ≡ Stays [] Done
+  finished = refl
+
   -- places
   pub begun : Leads i.Begin (Began (record { store = t.world.store; lent = t.here.lent }) ∷ []) (next t.stack)
   unfolding ran.does
@@ -111,6 +122,9 @@ module _ (p : Program) (l : Line) (t : s.State) (rest : ℕ → Bool) where
   pub turns_on : (d k n : ℕ) (step : ℤ) (below : List s.Cell) → t.stack ≡ s.Turns k step ∷ below → k ≡ suc n
       → Leads (i.CountNext d) [] (next (s.Turns n step ∷ below))
   turns_on d k n step below e f = rw (e, f) refl
+
+  pub met : (r : Range) (b : Bool) → meets r t.here.selected ≡ b → Leads (i.Meets r) [] (next (s.Datum (Truth b) ∷ t.stack))
+  met r b e = rw e refl
 
   -- cells
   pub dropped : (b : s.Cell) (below : List s.Cell) → t.stack ≡ b ∷ below → Leads i.Drop [] (next below)

@@ -2,3 +2,4 @@ pub mod Moving
 pub mod Lines
 pub mod Tops
 pub mod Does
+pub mod Zeros

@@ -5,6 +5,8 @@ use Rattle.std.proofs.lemmas.Option.{slice_get_past}
 use Rattle.f3_program.specs.declared.program.Program.{Program}
 use Rattle.f3_live_blocks.specs.Blocks.{Live}
 use Rattle.f3_meaning_whole.specs.Act as m
+use Rattle.f3_meaning_whole.specs.Ran.{Event}
+use Rattle.f3_meaning_whole.specs.Run.{output}
 use Rattle.f3_code.specs.declared.instruction.Instruction.{Instruction}
 use Rattle.f3_code.specs.State.{Line, placed, Next, Goes, Stays, Halt}
 use Rattle.f3_code.specs.State as s
@@ -36,6 +38,10 @@ module _ (p : Program) (l : Line) (t : s.State) where
     printed = refl;
     goes = λ rest. rw e (h rest);
   }
+
+  -- the machine stops
+  pub stops : {x : Instruction} {halt : Halt} → l.act ≡ x → ((rest : ℕ → Bool) → does x rest ≡ Stays [] halt) → StopsSo p l t halt []
+  stops e h = record { out = []; given = []; printed = refl; stops = λ rest. rw e (h rest) }
 
   module _ (live : Live) (x : Rooms) where
     -- the line goes on, and memory stands for what follows
@@ -78,3 +84,14 @@ module _ (p : Program) (l : Line) (t : s.State) where
     goes_with {new = new} u c b e h plain pushed is cell =
         follows {u = with_stack (u.pc + 1) (b ∷ u.stack) u} e h
         (subst (λ n. Beside p live [] new x (with_stack (n + 1) (b ∷ u.stack) u)) (sym is.pc) (put p live x c b plain pushed is cell))
+
+    -- the next line, where this happens
+    pub advances_with : {i : Instruction} {old new : State} (u : s.State) (out : List Event) → output out ≡ [] → l.act ≡ i
+        → ((rest : ℕ → Bool) → does i rest ≡ Goes out (with_answers rest (with_stack (u.pc + 1) u.stack u)))
+        → Moved (old.pc + 1) old new → Beside p live [] old x u → Becomes p l t (Ok tt) live new
+    advances_with {new = new} u out none e h went is = record {
+      next = with_stack (u.pc + 1) u.stack u;
+      rooms = x;
+      goes = record { out = out; given = []; printed = none; goes = λ rest. rw e (h rest) };
+      stands = stands p live x (subst (λ n. Beside p live [] new x (with_stack (n + 1) u.stack u)) (sym is.pc) (moved p live x went is));
+    }

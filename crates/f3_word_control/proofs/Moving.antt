@@ -5,7 +5,9 @@ use Rattle.f3_program.specs.declared.declarations.Constant.{Constant}
 use Rattle.f3_program.specs.declared.program.Program.{Program}
 use Rattle.f3_live_blocks.specs.Blocks.{Live, IsLive, pins_of}
 use Rattle.f3_meaning_whole.specs.Arithmetic.{constant_value}
+use Rattle.f3_places.specs.declared.source.Place.{Place}
 use Rattle.f3_meaning_whole.specs.Act as m
+use Rattle.f3_meaning_whole.specs.Reference.{Reference}
 use Rattle.f3_code.specs.State as s
 use Rattle.f3_rooms.specs.Held.{times}
 use Rattle.f3_rooms.specs.Rooms.{Rooms, blocks_of, store_of}
@@ -45,6 +47,10 @@ pub record Beside (p : Program) (live : Live) (aside : List ℕ) (w : State) (x 
 -- the state with other cells, at another line
 abbrev pub with_stack : ℕ → List s.Cell → s.State → s.State
 with_stack pc stack t = record { pc = pc; stack = stack; here = t.here; frames = t.frames; world = t.world }
+
+-- elsewhere, in another state of an activation
+abbrev pub with_here : ℕ → List s.Cell → m.Here → s.State → s.State
+with_here pc stack here t = record { pc = pc; stack = stack; here = here; frames = t.frames; world = t.world }
 
 module _ (p : Program) (live : Live) (x : Rooms) where
   pub beside : {w : State} {t : s.State} → Stands p live w x t → Beside p live [] w x t
@@ -147,3 +153,39 @@ module _ (p : Program) (live : Live) (x : Rooms) where
         sound = h.sound; store = h.store; statics = h.statics; declared = h.declared; blocks = h.blocks; levels = h.levels; pc = refl;
         here = h.here; bottom = h.bottom; stack = h.stack; callers = h.callers; once = h.once; all = h.all; unpinned = h.unpinned;
       })
+
+  -- another activation, or another place in it
+  pub elsewhere : {w : State} {t : s.State} {aside : List ℕ} (h : Here) (here : m.Here) → IsHere p x w.names.items.items h here → Beside p live aside w x t
+      → Beside p live aside (record w { here = h }) x (with_here t.pc t.stack here t)
+  elsewhere h here is b = record {
+    sound = b.sound; store = b.store; statics = b.statics; declared = b.declared; blocks = b.blocks; levels = b.levels; pc = b.pc;
+    here = is; bottom = b.bottom; stack = b.stack; callers = b.callers; once = b.once; all = b.all; unpinned = b.unpinned;
+  }
+
+  -- what memory knows nothing of
+  pub known_so : {w : State} {t : s.State} {aside : List ℕ} (here : m.Here) → IsHere p x w.names.items.items w.here here → Beside p live aside w x t
+      → Beside p live aside w x (with_here t.pc t.stack here t)
+  known_so here is b = record {
+    sound = b.sound; store = b.store; statics = b.statics; declared = b.declared; blocks = b.blocks; levels = b.levels; pc = b.pc;
+    here = is; bottom = b.bottom; stack = b.stack; callers = b.callers; once = b.once; all = b.all; unpinned = b.unpinned;
+  }
+
+  -- a cell that is no level comes on top, and the line stays
+  pub put_here : {old new : State} {t : s.State} {aside : List ℕ} (c : Cell) (b : s.Cell) → ((ns : List Name) → names_under c ns ≡ ns) → Pushed c old.pc old new
+      → Beside p live (cell_blocks c ++ aside) old x t → IsCell p x live old.names.items.items c b → Beside p live aside new x (with_stack t.pc (b ∷ t.stack) t)
+  put_here {new = new} {t = t} {aside = aside} c b plain pushed h is =
+      subst (λ pc. Beside p live aside new x (with_stack pc (b ∷ t.stack) t)) (sym h.pc) (put {aside = aside} c b plain pushed h is)
+
+module _ (p : Program) (x : Rooms) (ns : List Name) (h : Here) (here : m.Here) (is : IsHere p x ns h here) where
+  -- the same at another place, and where other objects are lent
+  pub at_place : (place place' : Place) → place' ≡ place → IsHere p x ns (record h { place = place }) (m.at place' here)
+  at_place place place' e = record {
+    place = e; unit = is.unit; level = is.level; variables = is.variables; names = is.names; selected = is.selected; room = is.room;
+    stands = is.stands; declared = is.declared;
+  }
+
+  pub lending_so : (lent : List Reference) → IsHere p x ns h (record here { lent = lent })
+  lending_so lent = record {
+    place = is.place; unit = is.unit; level = is.level; variables = is.variables; names = is.names; selected = is.selected; room = is.room;
+    stands = is.stands; declared = is.declared;
+  }

@@ -1,19 +1,27 @@
 -- Which cells stand on top at a line, and what is taken there.
 use Rattle.std.proofs.Common.{◌≡◌, ◌∙◌, ℕ, ℤ, ◌+◌, Bool, true, false, List, [], ◌∷◌, ◌++◌, refl, sym, subst, ap}
-use Rattle.std.specs.Prelude.{Option, Some, None, ◌||◌}
+use Rattle.std.specs.Prelude.{Option, Some, None, ◌||◌, pos, unwrap_or}
+use Rattle.f3_program.specs.declared.declarations.Constant.TheVariants as constant
+use Rattle.f3_program.specs.declared.statement.Range.{Range}
+use Rattle.f3_program.specs.declared.statement.Range.TheVariants as range
 use Rattle.f3_program.specs.declared.declarations.Base.TheVariants as base
 use Rattle.f3_program.specs.declared.declarations.Constant.{Constant}
 use Rattle.f3_program.specs.declared.declarations.Kind.{Kind}
 use Rattle.f3_program.specs.declared.program.Program.{Program}
 use Rattle.f3_live_blocks.specs.Blocks.{Live}
 use Rattle.f3_meaning_whole.specs.Value.{Value, Span}
-use Rattle.f3_meaning_whole.specs.Arithmetic.{constant_value}
+use Rattle.f3_meaning_whole.specs.Arithmetic.{constant_value, meets}
 use Rattle.f3_meaning_whole.specs.Act as m
 use Rattle.f3_meaning_whole.specs.Exec as exec
-use Rattle.f3_meaning_whole.specs.Formed.{is_number, is_scalar}
+use Rattle.f3_meaning_whole.specs.Formed.{is_number, is_scalar, is_whole_number}
 use Rattle.f3_meaning_whole.specs.Permitted.{same_type}
 use Rattle.f3_arithmetic.specs.Turns.{turns_of}
 use Rattle.f3_code.specs.State as s
+use Rattle.f3_code.specs.State.{Line}
+use Rattle.f3_code.specs.declared.instruction.Instruction.TheVariants as i
+use Rattle.f3_code.specs.declared.instruction.Way.{Way}
+use Rattle.f3_cell_kinds.specs.Kinds.{Goes}
+use Rattle.f3_cell_kinds.proofs.Standing.{in_is}
 use Rattle.f3_cells.specs.declared.cell.Flow.{Flow}
 use Rattle.f3_cells.specs.Cells.{flow_of}
 use Rattle.f3_cell_kinds.specs.Types.{Scope, CellType}
@@ -29,14 +37,23 @@ use Rattle.f3_word_cells.specs.declared.cell.Here.{Here}
 use Rattle.f3_word_cells.specs.declared.state.Name.{Name}
 use Rattle.f3_word_cells.specs.declared.state.State.{State}
 use Rattle.f3_word_cells.specs.Areas.{IsDatum, spans_of}
-use Rattle.f3_word_cells.specs.Cells.{IsHere, IsCell, AreCells}
+use Rattle.f3_word_cells.specs.Cells.{IsHere, IsCell, AreCells, selected_of}
 use Rattle.f3_word_cells.specs.States.{Stands, own, cell_blocks, datum_blocks}
 use Rattle.f3_word_cells.specs.Moves.{Popped}
 use Rattle.f3_word_cells.specs.Does.{IsTold}
 use Rattle.f3_word_cells.proofs.OnTop.{one_on_top, of_datum, of_turns, of_outside, of_going}
-use Rattle.f3_word_cells.proofs.Scalars.{scalar_datum}
+use Rattle.f3_word_cells.proofs.Scalars.{scalar_datum, whole_scalar, whole_number}
 use Rattle.f3_word_control.specs.Operands.{scalar_cell, turns_cell}
 use Rattle.f3_word_control.proofs.Moving.{Beside, Taken, taken, with_stack}
+
+-- the value of the SELECT CASE around is in a range, where there is none as 0 is
+pub selected_meets : (r : Range) (o : Option Constant) → meets r (selected_of o) ≡ meets r (constant_value (unwrap_or o (constant.Number (pos 0))))
+selected_meets r (Some y) = refl
+selected_meets (range.One (constant.Number z)) None = refl
+selected_meets (range.One (constant.Truth b)) None = refl
+selected_meets (range.From z) None = refl
+selected_meets (range.To z) None = refl
+selected_meets (range.Between y z) None = refl
 
 module _ (p : Program) (live : Live) (x : Rooms) where
   -- ---- which cell is one of the machine over values
@@ -92,6 +109,10 @@ module _ (p : Program) (live : Live) (x : Rooms) where
         let y = scalar_datum p live k top.0 top.2 one plain top.5 top.4 in
         (y.0, top.1, top.3 ∙ ap (λ d. c.Datum d ∷ top.1) y.1)
 
+    pub whole_on : (k : Kind) (rest : List CellType) → (site_at p t.pc).cells ≡ cell.Datum k ∷ rest → is_whole_number k ≡ true
+        → (y : Constant) × (cs : List Cell) × (own w ≡ scalar_cell y ∷ cs)
+    whole_on k rest e whole = scalar_on k rest e (whole_scalar k whole) (ap (λ b. b || same_type k.of base.Logical) (whole_number k whole))
+
     pub turns_on : (rest : List CellType) → (site_at p t.pc).cells ≡ cell.Turns ∷ rest → (y : Option ℕ × ℤ) × (cs : List Cell) × (own w ≡ turns_cell y ∷ cs)
     turns_on rest e =
         let top = top_of cell.Turns rest e in
@@ -105,6 +126,9 @@ module _ (p : Program) (live : Live) (x : Rooms) where
         let v = of_outside p.types.items o top.2 top.5 in
         let d = outside_cell w.names.items.items top.0 v.0 (subst (λ (y : s.Cell). IsCell p x live w.names.items.items top.0 y) v.1 top.4) in
         (d.0, top.1, top.3 ∙ ap (λ a. a ∷ top.1) d.1)
+
+    pub left_on : (l : Line) (by : Way) (d : ℕ) → Goes p (site_at p) t.pc l (i.Leave by d) → (h : Here) × (cs : List Cell) × (own w ≡ c.Outside h ∷ cs)
+    left_on l by d b = let at = in_is (site_at p t.pc).scope _ b in outside_on at.2.0 at.2.1.rest at.2.1.before
 
     pub going_on : (rest : List CellType) → (site_at p t.pc).cells ≡ cell.Going ∷ rest → (f : Flow) × (cs : List Cell) × (own w ≡ c.Going f ∷ cs)
     going_on rest e =

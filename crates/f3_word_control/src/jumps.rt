@@ -1,6 +1,8 @@
 //! Where the next line is.
 
 ghost use Rattle.std.specs.Prelude.{◌≡◌, ◌<◌, ◌≤◌, ◌^◌, length};
+ghost use Rattle.f3_meaning_whole.specs.Value.{number_of};
+ghost use Rattle.f3_meaning_whole.specs.Arithmetic.{constant_value, is_zero};
 ghost use Rattle.f3_code.specs.declared.instruction.Instruction.TheVariants.{GoOn, GoBack, SkipIfFalse, SkipIfTrue, TestStep, Swap};
 ghost use Rattle.f3_word_cells.specs.Does.{Does, Keeps};
 ghost use Rattle.f3_word_control.specs.Doing.{DoesAmong};
@@ -8,6 +10,7 @@ ghost use Rattle.f3_word_control.specs.Doing.{DoesAmong};
 use crate::operands::pop_scalar;
 use f3_arithmetic::operators::{number_of, truth_of};
 use f3_meaning_whole::run_error::RunError;
+use f3_program::declarations::Constant;
 use f3_word_cells::cell::{Cell, Datum};
 use f3_word_cells::state::{State, Stop};
 
@@ -67,6 +70,13 @@ pub fn skip_if_true(state: &mut State, distance: usize, total: usize) -> Result<
     }
 }
 
+/// Whether a scalar is the number 0, or none.
+fn is_zero(scalar: Constant) -> bool
+    ensures { result ≡ is_zero (number_of (constant_value scalar)) }
+{
+    number_of(scalar) == 0
+}
+
 /// An error where a step is zero (own rule for ISO/IEC 1539-1:2004, 8.1.6.4.1).
 #[inline(never)]
 pub fn test_step(state: &mut State) -> Result<(), Stop>
@@ -79,7 +89,7 @@ pub fn test_step(state: &mut State) -> Result<(), Stop>
     let Some(step) = pop_scalar(state) else {
         return Err(Stop::Lost);
     };
-    if number_of(step) == 0 {
+    if is_zero(step) {
         return Err(Stop::Failed(RunError::StepIsZero));
     }
     state.go_on_with(Cell::Datum(Datum::Scalar(step)));
