@@ -42,6 +42,7 @@ pub record Beside (p : Program) (live : Live) (aside : List ℕ) (w : State) (x 
   pub callers : AreCallers p live x w.names.items.items (beneath w) (reverse w.callers.items.items) t.frames
   pub once : (q : ℕ) → times q aside + counted q x w ≤ 1
   pub all : (q : ℕ) → IsLive live q → 0 < times q aside + counted q x w
+  pub loose : (q : ℕ) → 0 < times q aside + times q (loose_blocks w) → IsLive live q
   pub unpinned : (q : ℕ) → pins_of live q ≡ 0
 
 -- the state with other cells, at another line
@@ -59,6 +60,7 @@ module _ (p : Program) (live : Live) (x : Rooms) where
     here = h.here; bottom = h.bottom; stack = h.stack; callers = h.callers; unpinned = h.unpinned;
     once = λ q. let e = h.once q in omega (arith, e);
     all = λ q l. let e = h.all q l in omega (arith, e);
+    loose = λ q l. h.live q (let e : 0 < times q [] + times q (loose_blocks w) = l in omega (arith, e));
   }
 
   pub stands : {w : State} {t : s.State} → Beside p live [] w x t → Stands p live w x t
@@ -67,6 +69,7 @@ module _ (p : Program) (live : Live) (x : Rooms) where
     here = h.here; bottom = h.bottom; stack = h.stack; callers = h.callers; unpinned = h.unpinned;
     once = λ q. let e : times q [] + counted q x w ≤ 1 = h.once q in omega (arith, e);
     all = λ q l. let e : 0 < times q [] + counted q x w = h.all q l in omega (arith, e);
+    live = λ q l. h.loose q (omega (arith, l));
   }
 
   -- another line and other cells of the activation at work
@@ -79,6 +82,9 @@ module _ (p : Program) (live : Live) (x : Rooms) where
       let d = times_append q (cells_blocks new.cells.items.items) (callers_blocks new.callers.items.items) in
       let f : times q (callers_blocks new.callers.items.items) ≡ times q (callers_blocks old.callers.items.items) = ap (λ y. times q (callers_blocks y.items.items)) e in
       omega (arith, a, b, c, d, f, h)
+
+  loosely : (q : ℕ) (w : State) → times q (loose_blocks w) ≡ times q (cells_blocks w.cells.items.items) + times q (callers_blocks w.callers.items.items)
+  loosely q w = times_append q (cells_blocks w.cells.items.items) (callers_blocks w.callers.items.items)
 
   pub restacked : {old new : State} {t : s.State} {before after : List ℕ} (stack : List s.Cell) → IsSame old new → Beside p live before old x t
       → AreCells p x live old.names.items.items (own new) stack
@@ -101,6 +107,9 @@ module _ (p : Program) (live : Live) (x : Rooms) where
         callers = rw (same.names, same.beneath, same.callers) h.callers;
         once = λ q. let e = many q in let f = h.once q in omega (arith, e, f);
         all = λ q l. let e = many q in let f = h.all q l in omega (arith, e, f);
+        loose = λ q l. h.loose q (let e = counts q in let f = loosely q old in let g = loosely q new in
+            let k : times q (callers_blocks new.callers.items.items) ≡ times q (callers_blocks old.callers.items.items) = ap (λ y. times q (callers_blocks y.items.items)) same.callers in
+            omega (arith, l, e, f, g, k));
         unpinned = h.unpinned;
       }
 
@@ -151,7 +160,7 @@ module _ (p : Program) (live : Live) (x : Rooms) where
   moved {old = old} {new = new} {t = t} {aside = aside} {to = to} m h =
       subst (λ w. Beside p live aside w x (with_stack to t.stack t)) (sym m.is) (record {
         sound = h.sound; store = h.store; statics = h.statics; declared = h.declared; blocks = h.blocks; levels = h.levels; pc = refl;
-        here = h.here; bottom = h.bottom; stack = h.stack; callers = h.callers; once = h.once; all = h.all; unpinned = h.unpinned;
+        here = h.here; bottom = h.bottom; stack = h.stack; callers = h.callers; once = h.once; all = h.all; loose = h.loose; unpinned = h.unpinned;
       })
 
   -- another activation, or another place in it
@@ -159,7 +168,7 @@ module _ (p : Program) (live : Live) (x : Rooms) where
       → Beside p live aside (record w { here = h }) x (with_here t.pc t.stack here t)
   elsewhere h here is b = record {
     sound = b.sound; store = b.store; statics = b.statics; declared = b.declared; blocks = b.blocks; levels = b.levels; pc = b.pc;
-    here = is; bottom = b.bottom; stack = b.stack; callers = b.callers; once = b.once; all = b.all; unpinned = b.unpinned;
+    here = is; bottom = b.bottom; stack = b.stack; callers = b.callers; once = b.once; all = b.all; loose = b.loose; unpinned = b.unpinned;
   }
 
   -- what memory knows nothing of
@@ -167,7 +176,7 @@ module _ (p : Program) (live : Live) (x : Rooms) where
       → Beside p live aside w x (with_here t.pc t.stack here t)
   known_so here is b = record {
     sound = b.sound; store = b.store; statics = b.statics; declared = b.declared; blocks = b.blocks; levels = b.levels; pc = b.pc;
-    here = is; bottom = b.bottom; stack = b.stack; callers = b.callers; once = b.once; all = b.all; unpinned = b.unpinned;
+    here = is; bottom = b.bottom; stack = b.stack; callers = b.callers; once = b.once; all = b.all; loose = b.loose; unpinned = b.unpinned;
   }
 
   -- a cell that is no level comes on top, and the line stays

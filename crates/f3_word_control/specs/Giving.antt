@@ -1,4 +1,4 @@
--- Blocks of values that are given back.
+-- Cells that go.
 use Rattle.std.specs.Prelude.{⊤, ◌≡◌, ◌≤◌, ℕ, List, [], ◌∷◌, length, drop}
 use Rattle.std.specs.FinMap.{remove}
 use Rattle.f3_program.specs.declared.program.Program.{Program}
@@ -7,16 +7,6 @@ use Rattle.f3_code.specs.State as s
 use Rattle.f3_rooms.specs.Rooms.{Rooms}
 use Rattle.f3_word_cells.specs.declared.state.State.{State}
 use Rattle.f3_word_cells.specs.States.{Stands}
-
--- blocks without some of them
-abbrev pub without : Live → List ℕ → Live
-without m [] = m
-without m (b ∷ bs) = without (remove m b) bs
-
--- these are live and not pinned, one after another
-abbrev pub AreFree : Live → List ℕ → Type 0
-AreFree m [] = ⊤
-AreFree m (b ∷ bs) = IsLive m b × (pins_of m b ≡ 0) × AreFree (remove m b) bs
 
 -- the state without so many cells
 abbrev pub unwound : ℕ → s.State → s.State

@@ -2,37 +2,13 @@
 
 ghost use Rattle.std.specs.Prelude.{◌≡◌, ◌<◌, ◌≤◌, ◌^◌, length};
 ghost use Rattle.f3_code.specs.declared.instruction.Instruction.TheVariants.{Drop, Unwind};
-ghost use Rattle.f3_word_cells.specs.States.{cell_blocks, datum_blocks};
 ghost use Rattle.f3_word_cells.specs.Does.{Keeps};
 ghost use Rattle.f3_word_control.specs.Doing.{DoesWith, IsAtSome};
-ghost use Rattle.f3_word_control.specs.Giving.{AreFree, without, Unwinds, IsDeep};
+ghost use Rattle.f3_word_control.specs.Giving.{Unwinds, IsDeep};
 
 use f3_heap::Blocks;
-use f3_word_cells::cell::{Association, Cell, Datum, Passed};
+use f3_word_cells::giving::let_go;
 use f3_word_cells::state::{State, Stop};
-
-/// A value goes: its block, if it has one, is given back.
-pub fn give_back<B: Blocks>(heap: &mut B, datum: Datum)
-    requires { AreFree (B.blocks heap.old) (datum_blocks datum) }
-    ensures { B.blocks heap.new ≡ without (B.blocks heap.old) (datum_blocks datum) }
-{
-    if let Datum::Block(area) = datum {
-        let _given = heap.give(area.elements.block);
-    }
-}
-
-/// A cell goes: the block of its value, if it has one, is given back.
-pub fn let_go<B: Blocks>(heap: &mut B, cell: Cell)
-    requires { AreFree (B.blocks heap.old) (cell_blocks cell) }
-    ensures { B.blocks heap.new ≡ without (B.blocks heap.old) (cell_blocks cell) }
-{
-    match cell {
-        Cell::Datum(datum)
-        | Cell::Argument(Passed::Given(_, datum))
-        | Cell::Selector(Association::Holds(_, datum)) => give_back(heap, datum),
-        _ => {}
-    }
-}
 
 /// What is on top goes.
 #[inline(never)]

@@ -9,13 +9,13 @@ ghost use Rattle.f3_word_cells.specs.Does.{Keeps};
 ghost use Rattle.f3_word_control.specs.Doing.{DoesPrint, IsAtSome};
 ghost use Rattle.f3_word_control.specs.Texts.{scalar_in, text_in};
 
-use crate::dropping::give_back;
 use crate::operands::pop_datum;
 use f3_heap::{BlockId, Blocks};
 use f3_output::output::{Output, Refused};
 use f3_printing::scalar::print_scalar;
 use f3_program::declarations::{Base, Constant};
 use f3_word_cells::cell::{Area, Datum};
+use f3_word_cells::giving::let_go_datum;
 use f3_word_cells::state::{State, Stop};
 use std::io::Write;
 
@@ -84,7 +84,7 @@ pub fn print_value<B: Blocks, W: Write>(
     if written.is_err() {
         return Err(Stop::Refused);
     }
-    give_back(heap, datum);
+    let_go_datum(heap, datum);
     state.advance();
     Ok(())
 }
