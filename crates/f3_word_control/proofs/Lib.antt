@@ -3,4 +3,3 @@ pub mod Lines
 pub mod Tops
 pub mod Does
 pub mod Zeros
-pub mod Giving

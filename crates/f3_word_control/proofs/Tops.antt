@@ -1,4 +1,4 @@
--- Which cells stand on top at a line, and what is taken there.
+-- Which cells stand on top at a line.
 use Rattle.std.proofs.Common.{◌≡◌, ◌∙◌, ℕ, ℤ, ◌+◌, Bool, true, false, List, [], ◌∷◌, ◌++◌, refl, sym, subst, ap}
 use Rattle.std.specs.Prelude.{Option, Some, None, ◌||◌, pos, unwrap_or}
 use Rattle.f3_program.specs.declared.declarations.Constant.TheVariants as constant
@@ -37,14 +37,13 @@ use Rattle.f3_word_cells.specs.declared.cell.Here.{Here}
 use Rattle.f3_word_cells.specs.declared.state.Name.{Name}
 use Rattle.f3_word_cells.specs.declared.state.State.{State}
 use Rattle.f3_word_cells.specs.Areas.{IsDatum, spans_of}
-use Rattle.f3_word_cells.specs.Cells.{IsHere, IsCell, AreCells, selected_of}
-use Rattle.f3_word_cells.specs.States.{Stands, own, cell_blocks, datum_blocks}
-use Rattle.f3_word_cells.specs.Moves.{Popped}
+use Rattle.f3_word_cells.specs.Cells.{IsCell, AreCells, selected_of}
+use Rattle.f3_word_cells.specs.States.{Stands, own}
 use Rattle.f3_word_cells.specs.Does.{IsTold}
 use Rattle.f3_word_cells.proofs.OnTop.{one_on_top, of_datum, of_turns, of_outside, of_going}
 use Rattle.f3_word_cells.proofs.Scalars.{scalar_datum, whole_scalar, whole_number}
 use Rattle.f3_word_control.specs.Operands.{scalar_cell, turns_cell}
-use Rattle.f3_word_control.proofs.Moving.{Beside, Taken, taken, with_stack}
+use Rattle.f3_word_cells.proofs.Moving.{Beneath}
 
 -- the value of the SELECT CASE around is in a range, where there is none as 0 is
 pub selected_meets : (r : Range) (o : Option Constant) → meets r (selected_of o) ≡ meets r (constant_value (unwrap_or o (constant.Number (pos 0))))
@@ -75,14 +74,14 @@ module _ (p : Program) (live : Live) (x : Rooms) where
     going_cell (c.Going f) flow is = (f, refl)
     going_cell a flow is = absurd is
 
-    -- the cell in memory of the one on top
-    pub top_in : (cs : List Cell) (bs : List s.Cell) (b : s.Cell) (below : List s.Cell) → bs ≡ b ∷ below → AreCells p x live ns cs bs
-        → (a : Cell) × (rest : List Cell) × (cs ≡ a ∷ rest) × IsCell p x live ns a b
-    top_in [] [] b below e h = cc
-    top_in [] (b' ∷ bs) b below e h = absurd h
-    top_in (a ∷ cs) [] b below e h = absurd h
-    top_in (a ∷ cs) (b' ∷ bs) b below e h =
-        let same : b' ≡ b = cc in (a, cs, refl, subst (λ (y : s.Cell). IsCell p x live ns a y) same h.0)
+  -- the cell in memory of the one on top
+  pub top_in : (Rest : Rooms → List Name → Type 0) (ns : List Name) (h : Here) (here : m.Here) (cs : List Cell) (bs : List s.Cell) (b : s.Cell) (below : List s.Cell)
+      → bs ≡ b ∷ below → AreCells p live Rest x ns h here cs bs → (a : Cell) × (rest : List Cell) × (cs ≡ a ∷ rest) × IsCell p x live ns a b
+  top_in Rest ns h here [] [] b below e is = cc
+  top_in Rest ns h here [] (b' ∷ bs) b below e is = absurd is
+  top_in Rest ns h here (a ∷ cs) [] b below e is = absurd is
+  top_in Rest ns h here (a ∷ cs) (b' ∷ bs) b below e is =
+      let same : b' ≡ b = cc in (a, cs, refl, subst (λ (y : s.Cell). IsCell p x live ns a y) same is.0)
 
   -- ---- what stands on top at a line
 
@@ -91,7 +90,7 @@ module _ (p : Program) (live : Live) (x : Rooms) where
         → (a : Cell) × (cs : List Cell) × (b : s.Cell) × (own w ≡ a ∷ cs) × IsCell p x live w.names.items.items a b × Is p.types.items y b
     top_of y rest e =
         let top = one_on_top p t y rest told e in
-        let there = top_in w.names.items.items (own w) t.stack top.cell top.below top.split stands.stack in
+        let there = top_in (Beneath p live w t.frames) w.names.items.items w.here t.here (own w) t.stack top.cell top.below top.split stands.stack in
         (there.0, there.1, top.cell, there.2, there.3, top.is)
 
     pub datum_on : (k : Kind) (rest : List CellType) → (site_at p t.pc).cells ≡ cell.Datum k ∷ rest
@@ -136,73 +135,3 @@ module _ (p : Program) (live : Live) (x : Rooms) where
         let v = of_going p.types.items top.2 top.5 in
         let d = going_cell w.names.items.items top.0 v.0 (subst (λ (y : s.Cell). IsCell p x live w.names.items.items top.0 y) v.1 top.4) in
         (d.0, top.1, top.3 ∙ ap (λ a. a ∷ top.1) d.1)
-
-  -- ---- what is taken
-
-  pub record TakenDatum (w : State) (t : s.State) (d : Datum) (aside : List ℕ) : Type 0 where
-    pub value : Value
-    pub below : List s.Cell
-    pub split : t.stack ≡ s.Datum value ∷ below
-    pub is : IsDatum p live d value
-    pub stands : Beside p live aside w x (with_stack t.pc below t)
-
-  of_datum_cell : (ns : List Name) (d : Datum) (b : s.Cell) → IsCell p x live ns (c.Datum d) b → (v : Value) × (b ≡ s.Datum v) × IsDatum p live d v
-  of_datum_cell ns d (s.Datum v) h = (v, refl, h)
-  of_datum_cell ns d b h = absurd h
-
-  pub datum_taken : {old new : State} {t : s.State} {aside : List ℕ} (d : Datum) → Popped (c.Datum d) old new → Beside p live aside old x t
-      → TakenDatum new t d (datum_blocks d ++ aside)
-  datum_taken {old = old} {new = new} {t = t} {aside = aside} d popped h =
-      let top = taken p live x {aside = aside} (c.Datum d) (λ ns. refl) popped h in
-      let v = of_datum_cell new.names.items.items d top.cell top.is in
-      record { value = v.0; below = top.below; split = top.split ∙ ap (λ b. b ∷ top.below) v.1; is = v.2; stands = top.stands }
-
-  -- a scalar, and other cells without values in blocks
-  pub record TakenSo (w : State) (t : s.State) (b : s.Cell) (aside : List ℕ) : Type 0 where
-    pub below : List s.Cell
-    pub split : t.stack ≡ b ∷ below
-    pub stands : Beside p live aside w x (with_stack t.pc below t)
-
-  pub scalar_taken : {old new : State} {t : s.State} {aside : List ℕ} (y : Constant) → Popped (scalar_cell y) old new → Beside p live aside old x t
-      → TakenSo new t (s.Datum (constant_value y)) aside
-  scalar_taken {old = old} {new = new} {t = t} {aside = aside} y popped h =
-      let top = datum_taken {aside = aside} _ popped h in
-      record { below = top.below; split = top.split ∙ ap (λ v. s.Datum v ∷ top.below) top.is; stands = top.stands }
-
-  of_turns_cell : (ns : List Name) (y : Option ℕ × ℤ) (b : s.Cell) → IsCell p x live ns (turns_cell y) b → b ≡ s.Turns (turns_of y.0) y.1
-  of_turns_cell ns y (s.Turns k z) h = cc
-  of_turns_cell ns y b h = absurd h
-
-  pub turns_taken : {old new : State} {t : s.State} {aside : List ℕ} (y : Option ℕ × ℤ) → Popped (turns_cell y) old new → Beside p live aside old x t
-      → TakenSo new t (s.Turns (turns_of y.0) y.1) aside
-  turns_taken {old = old} {new = new} {t = t} {aside = aside} y popped h =
-      let top = taken p live x {aside = aside} (turns_cell y) (λ ns. refl) popped h in
-      record { below = top.below; split = top.split ∙ ap (λ b. b ∷ top.below) (of_turns_cell new.names.items.items y top.cell top.is); stands = top.stands }
-
-  of_going_cell : (ns : List Name) (f : Flow) (b : s.Cell) → IsCell p x live ns (c.Going f) b → b ≡ s.Going (flow_of f)
-  of_going_cell ns f (s.Going g) h = ap s.Going h
-  of_going_cell ns f b h = absurd h
-
-  pub going_taken : {old new : State} {t : s.State} {aside : List ℕ} (f : Flow) → Popped (c.Going f) old new → Beside p live aside old x t
-      → TakenSo new t (s.Going (flow_of f)) aside
-  going_taken {old = old} {new = new} {t = t} {aside = aside} f popped h =
-      let top = taken p live x {aside = aside} (c.Going f) (λ ns. refl) popped h in
-      record { below = top.below; split = top.split ∙ ap (λ b. b ∷ top.below) (of_going_cell new.names.items.items f top.cell top.is); stands = top.stands }
-
-  pub record TakenOutside (w : State) (t : s.State) (h : Here) (aside : List ℕ) : Type 0 where
-    pub here : m.Here
-    pub below : List s.Cell
-    pub split : t.stack ≡ s.Outside here ∷ below
-    pub is : IsHere p x w.names.items.items h here
-    pub stands : Beside p live aside w x (with_stack t.pc below t)
-
-  of_outside_cell : (ns : List Name) (h : Here) (b : s.Cell) → IsCell p x live ns (c.Outside h) b → (here : m.Here) × (b ≡ s.Outside here) × IsHere p x ns h here
-  of_outside_cell ns h (s.Outside here) is = (here, refl, is)
-  of_outside_cell ns h b is = absurd is
-
-  pub outside_taken : {old new : State} {t : s.State} {aside : List ℕ} (h : Here) → Popped (c.Outside h) old new → Beside p live aside old x t
-      → TakenOutside new t h aside
-  outside_taken {old = old} {new = new} {t = t} {aside = aside} h popped is =
-      let top = taken p live x {aside = aside} (c.Outside h) (λ ns. refl) popped is in
-      let v = of_outside_cell new.names.items.items h top.cell top.is in
-      record { here = v.0; below = top.below; split = top.split ∙ ap (λ b. b ∷ top.below) v.1; is = v.2; stands = top.stands }
