@@ -20,11 +20,7 @@ use Rattle.f3_code.specs.State.{Line, placed, Next, Goes, Stays, Failed, Stopped
 use Rattle.f3_code.specs.State as s
 use Rattle.f3_code.specs.Machine.{flow_of}
 use Rattle.f3_code.specs.Heap.{with_answers}
-use Rattle.f3_word_control.proofs.Lines.{does, with_stack}
-
--- elsewhere, in another state of an activation
-abbrev pub with_here : ℕ → List s.Cell → m.Here → s.State → s.State
-with_here pc stack here t = record { pc = pc; stack = stack; here = here; frames = t.frames; world = t.world }
+use Rattle.f3_word_control.proofs.Lines.{does, with_stack, with_here}
 
 -- nothing is lent any more but this
 abbrev pub lending_less : m.Here → m.Here

@@ -3,3 +3,4 @@ pub mod Lines
 pub mod Tops
 pub mod Does
 pub mod Zeros
+pub mod Leaving

@@ -3,6 +3,9 @@ use Rattle.std.proofs.Common.{◌≡◌, ◌∙◌, ℕ, ◌+◌, List, [], ◌�
 use Rattle.std.specs.Prelude.{⊤, Ok, Err, Result, Bool}
 use Rattle.f3_program.specs.declared.program.Program.{Program}
 use Rattle.f3_live_blocks.specs.Blocks.{Live}
+use Rattle.f3_places.specs.declared.source.Place.{Place}
+use Rattle.f3_meaning_whole.specs.Act as meaning
+use Rattle.f3_meaning_whole.specs.Reference.{Reference}
 use Rattle.f3_meaning_whole.specs.Ran.{Event}
 use Rattle.f3_meaning_whole.specs.Run.{output}
 use Rattle.f3_code.specs.declared.instruction.Instruction.{Instruction}
@@ -15,18 +18,24 @@ use Rattle.f3_cell_kinds.specs.Types.{CellType}
 use Rattle.f3_cell_kinds.specs.Laws.{site_at}
 use Rattle.f3_rooms.specs.Rooms.{Rooms}
 use Rattle.f3_word_cells.specs.declared.cell.Cell.{Cell}
+use Rattle.f3_word_cells.specs.declared.cell.Here.{Here}
+use Rattle.f3_word_cells.specs.declared.state.Name.{Name}
 use Rattle.f3_word_cells.specs.declared.state.State.{State}
-use Rattle.f3_word_cells.specs.Cells.{IsCell}
+use Rattle.f3_word_cells.specs.Cells.{IsCell, IsHere}
 use Rattle.f3_word_cells.specs.States.{IsKnown, Stands, cell_blocks}
 use Rattle.f3_word_cells.specs.Scenes.{code_of}
 use Rattle.f3_word_cells.specs.Moves.{Moved, Pushed}
 use Rattle.f3_word_cells.specs.Does.{stream, GoesOn, StopsSo, Follows, Becomes}
 use Rattle.f3_word_cells.proofs.Flat.{IsFlat}
-use Rattle.f3_word_cells.proofs.Amid.{Amid, amid_last, amid_moved, amid_pushed}
+use Rattle.f3_word_cells.proofs.Amid.{Amid, amid_last, amid_last_in, amid_moved, amid_pushed}
 
 -- the state with other cells, at another line
 abbrev pub with_stack : ℕ → List s.Cell → s.State → s.State
 with_stack pc stack t = record { pc = pc; stack = stack; here = t.here; frames = t.frames; world = t.world }
+
+-- elsewhere, in another state of an activation
+abbrev pub with_here : ℕ → List s.Cell → meaning.Here → s.State → s.State
+with_here pc stack here t = record { pc = pc; stack = stack; here = here; frames = t.frames; world = t.world }
 
 module _ (p : Program) (l : Line) (t : s.State) where
   -- what an instruction does, whose line this is
@@ -78,3 +87,33 @@ module _ (p : Program) (l : Line) (t : s.State) where
           (amid_pushed p t n old mid new x k ks b stack t.world.store [] a (mid.pc + 1) amid pushed flat is known) kinds
           (ap (λ i. i + 1) (st.pc ∙ sym line) ∙ sym pushed.pc);
     }
+
+    -- the next line, elsewhere in the same activation
+    pub advances_in : {mid new : State} {ks : List CellType} (stack : List s.Cell) (f : Here → Here) (here : meaning.Here)
+        → GoesOn p l t (with_here (t.pc + 1) stack here t) [] → Amid p t n old mid x ks stack t.world.store [] → mid.pc ≡ old.pc
+        → (site_at p (t.pc + 1)).cells ≡ ks → ((y : Rooms) (ns : List Name) → IsHere p y ns old.here t.here → IsHere p y ns (f old.here) here)
+        → new ≡ record mid { pc = mid.pc + 1; here = f mid.here } → Becomes p l t (Ok tt) n new
+    advances_in {mid = mid} {new = new} {ks = ks} stack f here goes amid line kinds there e =
+        let same : new ≡ record mid { pc = t.pc + 1; here = f old.here } =
+            e ∙ ap (λ k. record mid { pc = k + 1; here = f mid.here }) (line ∙ sym st.pc) ∙ ap (λ h. record mid { pc = t.pc + 1; here = f h }) amid.here in
+        record {
+          next = with_here (t.pc + 1) stack here t;
+          rooms = x;
+          goes = goes;
+          stands = subst (λ w. Stands p n w x (with_here (t.pc + 1) stack here t)) (sym same)
+              (amid_last_in p t m n old mid x ks (t.pc + 1) stack here t.world st amid kinds (f old.here) there);
+        }
+
+module _ (p : Program) (x : Rooms) (ns : List Name) (h : Here) (here : meaning.Here) (is : IsHere p x ns h here) where
+  -- the same at another place, and where other objects are lent
+  pub at_place : (place place' : Place) → place' ≡ place → IsHere p x ns (record h { place = place }) (meaning.at place' here)
+  at_place place place' e = record {
+    place = e; unit = is.unit; level = is.level; variables = is.variables; names = is.names; selected = is.selected; room = is.room;
+    stands = is.stands; declared = is.declared;
+  }
+
+  pub lending_so : (lent : List Reference) → IsHere p x ns h (record here { lent = lent })
+  lending_so lent = record {
+    place = is.place; unit = is.unit; level = is.level; variables = is.variables; names = is.names; selected = is.selected; room = is.room;
+    stands = is.stands; declared = is.declared;
+  }

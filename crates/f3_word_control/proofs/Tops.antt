@@ -20,11 +20,12 @@ use Rattle.f3_code.specs.State as s
 use Rattle.f3_code.specs.State.{Line}
 use Rattle.f3_code.specs.declared.instruction.Instruction.TheVariants as i
 use Rattle.f3_code.specs.declared.instruction.Way.{Way}
+use Rattle.f3_cell_kinds.specs.Effect.{truth}
 use Rattle.f3_cell_kinds.specs.Kinds.{Goes}
 use Rattle.f3_cell_kinds.proofs.Standing.{in_is}
 use Rattle.f3_cells.specs.declared.cell.Flow.{Flow}
 use Rattle.f3_cells.specs.Cells.{flow_of}
-use Rattle.f3_cell_kinds.specs.Types.{Scope, CellType}
+use Rattle.f3_cell_kinds.specs.Types.{Scope, CellType, Site}
 use Rattle.f3_cell_kinds.specs.Types as cell
 use Rattle.f3_cell_kinds.specs.Holds.{IsOf, Is}
 use Rattle.f3_cell_kinds.specs.Laws.{site_at}
@@ -125,6 +126,18 @@ module _ (p : Program) (live : Live) (x : Rooms) where
         let v = of_outside p.types.items o top.2 top.5 in
         let d = outside_cell w.names.items.items top.0 v.0 (subst (λ (y : s.Cell). IsCell p x live w.names.items.items top.0 y) v.1 top.4) in
         (d.0, top.1, top.3 ∙ ap (λ a. a ∷ top.1) d.1)
+
+    pub met_at : (l : Line) (r : Range) → Goes p (site_at p) t.pc l (i.Meets r)
+        → (rest : List CellType) × ((site_at p t.pc).cells ≡ rest) × ((site_at p (t.pc + 1)).cells ≡ cell.Datum truth ∷ rest)
+    met_at l r b =
+        let at = in_is (site_at p t.pc).scope _ b in
+        let lead = at.2.3 in (lead.rest, lead.before, ap (λ (z : Site). z.cells) lead.next)
+
+    pub left_at : (l : Line) (by : Way) (d : ℕ) → Goes p (site_at p) t.pc l (i.Leave by d)
+        → (o : Scope) × (rest : List CellType) × ((site_at p t.pc).cells ≡ cell.Outside o ∷ rest) × ((site_at p (t.pc + 1 + d)).cells ≡ cell.Going ∷ rest)
+    left_at l by d b =
+        let at = in_is (site_at p t.pc).scope _ b in
+        let lead = at.2.1 in (at.2.0, lead.rest, lead.before, ap (λ (z : Site). z.cells) lead.far.0)
 
     pub left_on : (l : Line) (by : Way) (d : ℕ) → Goes p (site_at p) t.pc l (i.Leave by d) → (h : Here) × (cs : List Cell) × (own w ≡ c.Outside h ∷ cs)
     left_on l by d b = let at = in_is (site_at p t.pc).scope _ b in outside_on at.2.0 at.2.1.rest at.2.1.before
