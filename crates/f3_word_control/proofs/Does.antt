@@ -131,3 +131,6 @@ module _ (p : Program) (l : Line) (t : s.State) (rest : ℕ → Bool) where
 
   pub swapped : (a b : s.Cell) (below : List s.Cell) → t.stack ≡ a ∷ b ∷ below → Leads i.Swap [] (next (b ∷ a ∷ below))
   swapped a b below e = rw e refl
+
+  pub unwound : (k : ℕ) → Leads (i.Unwind k) [] (next (drop k t.stack))
+  unwound k = refl

@@ -1,5 +1,5 @@
 -- Cells are taken from the top.
-use Rattle.std.proofs.Common.{◌≡◌, ◌∙◌, ℕ, ℤ, List, [], ◌∷◌, ◌++◌, refl, sym, subst, ap}
+use Rattle.std.proofs.Common.{◌≡◌, ◌∙◌, arith, ℕ, ◌+◌, ℤ, List, [], ◌∷◌, ◌++◌, refl, sym, subst, ap}
 use Rattle.std.specs.Prelude.{Option}
 use Rattle.f3_program.specs.declared.declarations.Constant.{Constant}
 use Rattle.f3_program.specs.declared.program.Program.{Program}
@@ -13,6 +13,7 @@ use Rattle.f3_code.specs.State as s
 use Rattle.f3_cells.specs.declared.cell.Flow.{Flow}
 use Rattle.f3_cells.specs.Cells.{flow_of}
 use Rattle.f3_cell_kinds.specs.Types.{CellType}
+use Rattle.f3_rooms.specs.Held.{times}
 use Rattle.f3_rooms.specs.Rooms.{Rooms}
 use Rattle.f3_word_cells.specs.declared.cell.Cell.{Cell}
 use Rattle.f3_word_cells.specs.declared.cell.Cell.TheVariants as c
@@ -122,3 +123,19 @@ module _ (p : Program) (t : s.State) (n : Live) (old : State) (x : Rooms) where
   going_taken {hand = hand} f popped amid =
       let top = taken {hand = hand} (c.Going f) (flat_going f) popped amid in
       record { below = top.below; split = top.split ∙ ap (λ b. b ∷ top.below) (of_going f top.cell top.is); amid = top.amid }
+
+-- the same blocks in hand, in another order
+pub in_order : (p : Program) (t : s.State) (n : Live) (old now : State) (x : Rooms) (ks : List CellType) (stack : List s.Cell) (store : Store) (hand others : List ℕ)
+    → ((q : ℕ) → times q others ≡ times q hand) → Amid p t n old now x ks stack store hand → Amid p t n old now x ks stack store others
+in_order p t n old now x ks stack store hand others e amid = record {
+  same = amid.same;
+  here = amid.here;
+  sound = amid.sound;
+  is = amid.is;
+  known = amid.known;
+  cells = amid.cells;
+  once = λ q. let f = e q in let one = amid.once q in omega (arith, f, one);
+  all = λ q alive. let f = e q in let some = amid.all q alive in omega (arith, f, some);
+  live = λ q some. amid.live q (let f = e q in omega (arith, f, some));
+  unpinned = amid.unpinned;
+}

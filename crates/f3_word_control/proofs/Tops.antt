@@ -1,6 +1,6 @@
 -- Which cells stand on top at a line.
 use Rattle.std.proofs.Common.{◌≡◌, ◌∙◌, ℕ, ℤ, ◌+◌, Bool, true, false, List, [], ◌∷◌, ◌++◌, refl, sym, subst, ap}
-use Rattle.std.specs.Prelude.{Option, Some, None, ◌||◌, pos, unwrap_or}
+use Rattle.std.specs.Prelude.{map, slice_get, Option, Some, None, ◌||◌, pos, unwrap_or}
 use Rattle.f3_program.specs.declared.declarations.Constant.TheVariants as constant
 use Rattle.f3_program.specs.declared.statement.Range.{Range}
 use Rattle.f3_program.specs.declared.statement.Range.TheVariants as range
@@ -18,6 +18,7 @@ use Rattle.f3_meaning_whole.specs.Permitted.{same_type}
 use Rattle.f3_arithmetic.specs.Turns.{turns_of}
 use Rattle.f3_code.specs.State as s
 use Rattle.f3_code.specs.State.{Line}
+use Rattle.f3_code.specs.declared.instruction.Instruction.{Instruction}
 use Rattle.f3_code.specs.declared.instruction.Instruction.TheVariants as i
 use Rattle.f3_code.specs.declared.instruction.Way.{Way}
 use Rattle.f3_cell_kinds.specs.Effect.{truth}
@@ -25,10 +26,11 @@ use Rattle.f3_cell_kinds.specs.Kinds.{Goes}
 use Rattle.f3_cell_kinds.proofs.Standing.{in_is}
 use Rattle.f3_cells.specs.declared.cell.Flow.{Flow}
 use Rattle.f3_cells.specs.Cells.{flow_of}
-use Rattle.f3_cell_kinds.specs.Types.{Scope, CellType, Site}
+use Rattle.f3_cell_kinds.specs.Types.{Scope, CellType, Site, sort_of_type}
 use Rattle.f3_cell_kinds.specs.Types as cell
 use Rattle.f3_cell_kinds.specs.Holds.{IsOf, Is}
 use Rattle.f3_cell_kinds.specs.Laws.{site_at}
+use Rattle.f3_store_kinds.specs.Clean.{IsClean}
 use Rattle.f3_rooms.specs.Rooms.{Rooms}
 use Rattle.f3_desc.specs.declared.descriptor.Dim.{Dim}
 use Rattle.f3_word_cells.specs.declared.cell.Cell.{Cell}
@@ -44,6 +46,8 @@ use Rattle.f3_word_cells.specs.Does.{IsTold}
 use Rattle.f3_word_cells.proofs.OnTop.{one_on_top, of_datum, of_turns, of_outside, of_going}
 use Rattle.f3_word_cells.proofs.Scalars.{scalar_datum, whole_scalar, whole_number}
 use Rattle.f3_word_control.specs.Operands.{scalar_cell, turns_cell}
+use Rattle.f3_word_cells.specs.Scenes.{code_of}
+use Rattle.f3_word_cells.proofs.Flat.{IsFlat, plain_is_flat}
 use Rattle.f3_word_cells.proofs.Moving.{Beneath}
 
 -- the value of the SELECT CASE around is in a range, where there is none as 0 is
@@ -148,3 +152,24 @@ module _ (p : Program) (live : Live) (x : Rooms) where
         let v = of_going p.types.items top.2 top.5 in
         let d = going_cell w.names.items.items top.0 v.0 (subst (λ (y : s.Cell). IsCell p x live w.names.items.items top.0 y) v.1 top.4) in
         (d.0, top.1, top.3 ∙ ap (λ a. a ∷ top.1) d.1)
+
+    -- ---- what goes from the stack by itself
+
+    clean_at : (l : Line) (y : Instruction) (ks : List CellType) → slice_get (code_of p).lines t.pc ≡ Some l → l.act ≡ y → (site_at p t.pc).cells ≡ ks
+        → IsClean y (map sort_of_type ks)
+    clean_at l y ks there is kinds =
+        subst (λ hs. IsClean y (map sort_of_type hs)) kinds
+        (subst (λ a. IsClean a (map sort_of_type (site_at p t.pc).cells)) is (told.clean t.pc l there))
+
+    pub drop_flat : (l : Line) (y : CellType) (rest : List CellType) (b : s.Cell) → slice_get (code_of p).lines t.pc ≡ Some l → l.act ≡ i.Drop
+        → (site_at p t.pc).cells ≡ y ∷ rest → Is p.types.items y b → IsFlat b
+    drop_flat l y rest b there is kinds h = plain_is_flat p.types.items y b (clean_at l i.Drop (y ∷ rest) there is kinds).0 h
+
+    pub swap_flat : (l : Line) (y z : CellType) (rest : List CellType) (a b : s.Cell) → slice_get (code_of p).lines t.pc ≡ Some l → l.act ≡ i.Swap
+        → (site_at p t.pc).cells ≡ y ∷ z ∷ rest → Is p.types.items y a → Is p.types.items z b → IsFlat a × IsFlat b
+    swap_flat l y z rest a b there is kinds h g =
+        let clean = clean_at l i.Swap (y ∷ z ∷ rest) there is kinds in
+        (plain_is_flat p.types.items y a clean.0 h, plain_is_flat p.types.items z b clean.1.0 g)
+
+    pub no_top : (y : CellType) (rest : List CellType) → (site_at p t.pc).cells ≡ y ∷ rest → own w ≡ [] → ⊥
+    no_top y rest e none = let top = top_of y rest e in let f : own w ≡ top.0 ∷ top.1 = top.3 in cc

@@ -1,4 +1,3 @@
 pub mod Operands
 pub mod Doing
-pub mod Giving
 pub mod Texts

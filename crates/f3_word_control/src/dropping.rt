@@ -1,10 +1,9 @@
 //! Cells that go.
 
-ghost use Rattle.std.specs.Prelude.{◌≡◌, ◌<◌, ◌≤◌, ◌^◌, length};
+ghost use Rattle.std.specs.Prelude.{◌<◌, ◌^◌};
 ghost use Rattle.f3_code.specs.declared.instruction.Instruction.TheVariants.{Drop, Unwind};
 ghost use Rattle.f3_word_cells.specs.Does.{Keeps};
 ghost use Rattle.f3_word_control.specs.Doing.{DoesWith, IsAtSome};
-ghost use Rattle.f3_word_control.specs.Giving.{Unwinds, IsDeep};
 
 use f3_heap::Blocks;
 use f3_word_cells::giving::let_go;
@@ -26,21 +25,6 @@ pub fn drop_top<B: Blocks>(heap: &mut B, state: &mut State) -> Result<(), Stop>
     Ok(())
 }
 
-/// So many cells on top go.
-pub fn drop_cells<B: Blocks>(heap: &mut B, state: &mut State, count: usize)
-    requires { IsDeep count (B.blocks heap.old) state.old }
-    ensures unwinds { Unwinds count (B.blocks heap.old) (B.blocks heap.new) state.old state.new }
-    ensures pc { state.new.pc ≡ state.old.pc }
-    ensures keeps { Keeps state.old state.new }
-{
-    for _ in 0..count {
-        let Some(cell) = state.pop() else {
-            return;
-        };
-        let_go(heap, cell);
-    }
-}
-
 /// So many cells go.
 #[inline(never)]
 pub fn unwind<B: Blocks>(heap: &mut B, state: &mut State, count: usize) -> Result<(), Stop>
@@ -49,7 +33,12 @@ pub fn unwind<B: Blocks>(heap: &mut B, state: &mut State, count: usize) -> Resul
     ensures does { DoesWith (Unwind count) result (B.blocks heap.old) (B.blocks heap.new) state.old state.new }
     ensures keeps { Keeps state.old state.new }
 {
-    drop_cells(heap, state, count);
+    for _ in 0..count {
+        let Some(cell) = state.pop() else {
+            return Err(Stop::Lost);
+        };
+        let_go(heap, cell);
+    }
     state.advance();
     Ok(())
 }
