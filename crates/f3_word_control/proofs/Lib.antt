@@ -4,3 +4,4 @@ pub mod Tops
 pub mod Does
 pub mod Zeros
 pub mod Leaving
+pub mod Unwinding
