@@ -9,7 +9,7 @@ use Rattle.f3_meaning_whole.specs.Arithmetic.{is_zero, meets}
 use Rattle.f3_meaning_whole.specs.Act as m
 use Rattle.f3_meaning_whole.specs.Act.{at, lending}
 use Rattle.f3_meaning_whole.specs.Exec as exec
-use Rattle.f3_meaning_whole.specs.Ran.{fails, gives, Event, Began}
+use Rattle.f3_meaning_whole.specs.Ran.{fails, gives, Event, Began, Printed, prints_bytes}
 use Rattle.f3_meaning_whole.specs.Ran as ran
 use Rattle.f3_meaning_whole.specs.Reference.{Reference}
 use Rattle.f3_meaning_whole.specs.declared.run_error.RunError.TheVariants.{StepIsZero}
@@ -134,3 +134,8 @@ module _ (p : Program) (l : Line) (t : s.State) (rest : ℕ → Bool) where
 
   pub unwound : (k : ℕ) → Leads (i.Unwind k) [] (next (drop k t.stack))
   unwound k = refl
+
+  -- what is printed
+  pub byte_printed : (b : ℕ) → Leads (i.PrintByte b) (Printed b ∷ []) (next t.stack)
+  unfolding prints_bytes ran.does
+  byte_printed b = refl
