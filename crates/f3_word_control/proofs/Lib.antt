@@ -5,3 +5,4 @@ pub mod Does
 pub mod Zeros
 pub mod Leaving
 pub mod Unwinding
+pub mod Texts
