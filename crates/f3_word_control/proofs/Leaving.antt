@@ -75,7 +75,7 @@ module _ (p : Program) (l : Line) (t : s.State) (m : Live) (old : State) (x : Ro
       let here : new.here ≡ h = ap (λ (w : State). w.here) e ∙ pushed.same.here in
       let mine : own new ≡ c.Going f ∷ own mid = ap (λ (w : State). own w) e ∙ pushed.cells in
       let known : AreKnown p (cell.Going ∷ rest) (c.Going f ∷ own mid) =
-          (tt, (subst (λ (cs : List Cell). AreKnown p (cell.Outside o ∷ rest) cs) popped.cells (subst (λ (ks : List CellType). AreKnown p ks (own old)) kinds st.known)).1) in
+      (tt, (subst (λ (cs : List Cell). AreKnown p (cell.Outside o ∷ rest) cs) popped.cells (subst (λ (ks : List CellType). AreKnown p ks (own old)) kinds st.known)).1) in
       record {
         next = with_here (t.pc + 1 + d) (s.Going g ∷ below) outer t;
         rooms = x;
@@ -85,8 +85,8 @@ module _ (p : Program) (l : Line) (t : s.State) (m : Live) (old : State) (x : Ro
             (rw (far, mine) known)
             (rw (here, mine) (flow, tt, cells))
             (λ q. let a = popped.blocks q in let b = pushed.blocks q in
-                let k : times q (cells_blocks new.cells.items.items) ≡ times q (cells_blocks then.cells.items.items) = ap (λ (w : State). times q (cells_blocks w.cells.items.items)) e in
-                omega (arith, a, b, k));
+            let k : times q (cells_blocks new.cells.items.items) ≡ times q (cells_blocks then.cells.items.items) = ap (λ (w : State). times q (cells_blocks w.cells.items.items)) e in
+            omega (arith, a, b, k));
       }
   left_ahead {then = then} new h f g o rest d total (Err stop.Lost) outer below kinds far popped pushed flow cells size went goes =
       let at : then.pc ≡ t.pc = pushed.pc ∙ popped.pc ∙ sym st.pc in

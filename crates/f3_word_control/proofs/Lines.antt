@@ -95,7 +95,7 @@ module _ (p : Program) (l : Line) (t : s.State) where
         → new ≡ record mid { pc = mid.pc + 1; here = f mid.here } → Becomes p l t (Ok tt) n new
     advances_in {mid = mid} {new = new} {ks = ks} stack f here goes amid line kinds there e =
         let same : new ≡ record mid { pc = t.pc + 1; here = f old.here } =
-            e ∙ ap (λ k. record mid { pc = k + 1; here = f mid.here }) (line ∙ sym st.pc) ∙ ap (λ h. record mid { pc = t.pc + 1; here = f h }) amid.here in
+        e ∙ ap (λ k. record mid { pc = k + 1; here = f mid.here }) (line ∙ sym st.pc) ∙ ap (λ h. record mid { pc = t.pc + 1; here = f h }) amid.here in
         record {
           next = with_here (t.pc + 1) stack here t;
           rooms = x;
@@ -108,12 +108,26 @@ module _ (p : Program) (x : Rooms) (ns : List Name) (h : Here) (here : meaning.H
   -- the same at another place, and where other objects are lent
   pub at_place : (place place' : Place) → place' ≡ place → IsHere p x ns (record h { place = place }) (meaning.at place' here)
   at_place place place' e = record {
-    place = e; unit = is.unit; level = is.level; variables = is.variables; names = is.names; selected = is.selected; room = is.room;
-    stands = is.stands; declared = is.declared;
+    place = e;
+    unit = is.unit;
+    level = is.level;
+    variables = is.variables;
+    names = is.names;
+    selected = is.selected;
+    room = is.room;
+    stands = is.stands;
+    declared = is.declared;
   }
 
   pub lending_so : (lent : List Reference) → IsHere p x ns h (record here { lent = lent })
   lending_so lent = record {
-    place = is.place; unit = is.unit; level = is.level; variables = is.variables; names = is.names; selected = is.selected; room = is.room;
-    stands = is.stands; declared = is.declared;
+    place = is.place;
+    unit = is.unit;
+    level = is.level;
+    variables = is.variables;
+    names = is.names;
+    selected = is.selected;
+    room = is.room;
+    stands = is.stands;
+    declared = is.declared;
   }

@@ -13,6 +13,8 @@ use Rattle.f3_code.specs.State as s
 use Rattle.f3_cells.specs.declared.cell.Flow.{Flow}
 use Rattle.f3_cells.specs.Cells.{flow_of}
 use Rattle.f3_cell_kinds.specs.Types.{CellType}
+use Rattle.arrayvec.specs.ArrayVec.{ArrayVec}
+use Rattle.f3_desc.specs.declared.descriptor.Dim.{Dim}
 use Rattle.f3_rooms.specs.Held.{times}
 use Rattle.f3_rooms.specs.Rooms.{Rooms}
 use Rattle.f3_word_cells.specs.declared.cell.Cell.{Cell}
@@ -21,7 +23,7 @@ use Rattle.f3_word_cells.specs.declared.cell.Datum.{Datum}
 use Rattle.f3_word_cells.specs.declared.cell.Here.{Here}
 use Rattle.f3_word_cells.specs.declared.state.Name.{Name}
 use Rattle.f3_word_cells.specs.declared.state.State.{State}
-use Rattle.f3_word_cells.specs.Areas.{IsDatum}
+use Rattle.f3_word_cells.specs.Areas.{IsDatum, spans_of}
 use Rattle.f3_word_cells.specs.Cells.{IsCell, AreCells}
 use Rattle.f3_word_cells.specs.States.{IsKnown, cell_blocks, datum_blocks, own}
 use Rattle.f3_word_cells.specs.Moves.{Popped}
@@ -53,7 +55,7 @@ module _ (p : Program) (t : s.State) (n : Live) (old : State) (x : Rooms) where
       let Rest : Rooms → List Name → Type 0 = Beneath p n old t.frames in
       let names = old.names.items.items in
       let top = first_cell p n Rest x names old.here t.here a (own now) stack
-          (subst (λ (cs : List Cell). AreCells p n Rest x names old.here t.here cs stack) popped.cells amid.cells) in
+      (subst (λ (cs : List Cell). AreCells p n Rest x names old.here t.here cs stack) popped.cells amid.cells) in
       let then : Amid p t n old mid x (k ∷ ks) (top.0 ∷ top.1) store hand = subst (λ (bs : List s.Cell). Amid p t n old mid x (k ∷ ks) bs store hand) top.2 amid in
       let after = amid_popped p t n old mid now x k ks top.0 top.1 store hand a then popped (flat top.0 top.3) in
       record { cell = top.0; below = top.1; split = top.2; is = top.3; known = after.1; amid = after.2 }
@@ -123,6 +125,34 @@ module _ (p : Program) (t : s.State) (n : Live) (old : State) (x : Rooms) where
   going_taken {hand = hand} f popped amid =
       let top = taken {hand = hand} (c.Going f) (flat_going f) popped amid in
       record { below = top.below; split = top.split ∙ ap (λ b. b ∷ top.below) (of_going f top.cell top.is); amid = top.amid }
+
+  of_bound : (z : Option ℤ) (b : s.Cell) → IsCell p x n old.names.items.items (c.Bound z) b → b ≡ s.Bound z
+  of_bound z (s.Bound y) h = ap s.Bound h
+  of_bound z b h = absurd h
+
+  flat_bound : (z : Option ℤ) (b : s.Cell) → IsCell p x n old.names.items.items (c.Bound z) b → IsFlat b
+  flat_bound z (s.Bound y) h = tt
+  flat_bound z b h = absurd h
+
+  pub bound_taken : {mid now : State} {k : CellType} {ks : List CellType} {stack : List s.Cell} {store : Store} {hand : List ℕ} (z : Option ℤ)
+      → Popped (c.Bound z) mid now → Amid p t n old mid x (k ∷ ks) stack store hand → TakenSo now stack store hand ks (s.Bound z)
+  bound_taken {hand = hand} z popped amid =
+      let top = taken {hand = hand} (c.Bound z) (flat_bound z) popped amid in
+      record { below = top.below; split = top.split ∙ ap (λ b. b ∷ top.below) (of_bound z top.cell top.is); amid = top.amid }
+
+  of_bounds : (ds : ArrayVec Dim) (b : s.Cell) → IsCell p x n old.names.items.items (c.Bounds ds) b → b ≡ s.Bounds (spans_of ds.items)
+  of_bounds ds (s.Bounds ss) h = ap s.Bounds h
+  of_bounds ds b h = absurd h
+
+  flat_bounds : (ds : ArrayVec Dim) (b : s.Cell) → IsCell p x n old.names.items.items (c.Bounds ds) b → IsFlat b
+  flat_bounds ds (s.Bounds ss) h = tt
+  flat_bounds ds b h = absurd h
+
+  pub bounds_taken : {mid now : State} {k : CellType} {ks : List CellType} {stack : List s.Cell} {store : Store} {hand : List ℕ} (ds : ArrayVec Dim)
+      → Popped (c.Bounds ds) mid now → Amid p t n old mid x (k ∷ ks) stack store hand → TakenSo now stack store hand ks (s.Bounds (spans_of ds.items))
+  bounds_taken {hand = hand} ds popped amid =
+      let top = taken {hand = hand} (c.Bounds ds) (flat_bounds ds) popped amid in
+      record { below = top.below; split = top.split ∙ ap (λ b. b ∷ top.below) (of_bounds ds top.cell top.is); amid = top.amid }
 
 -- the same blocks in hand, in another order
 pub in_order : (p : Program) (t : s.State) (n : Live) (old now : State) (x : Rooms) (ks : List CellType) (stack : List s.Cell) (store : Store) (hand others : List ℕ)

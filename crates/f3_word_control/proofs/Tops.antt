@@ -1,6 +1,6 @@
 -- Which cells stand on top at a line.
 use Rattle.std.proofs.Common.{◌≡◌, ◌∙◌, ℕ, ℤ, ◌+◌, Bool, true, false, List, [], ◌∷◌, ◌++◌, refl, sym, subst, ap}
-use Rattle.std.specs.Prelude.{map, slice_get, Option, Some, None, ◌||◌, pos, unwrap_or}
+use Rattle.std.specs.Prelude.{drop, map, slice_get, Option, Some, None, ◌||◌, pos, unwrap_or}
 use Rattle.f3_program.specs.declared.declarations.Constant.TheVariants as constant
 use Rattle.f3_program.specs.declared.statement.Range.{Range}
 use Rattle.f3_program.specs.declared.statement.Range.TheVariants as range
@@ -12,6 +12,7 @@ use Rattle.f3_live_blocks.specs.Blocks.{Live}
 use Rattle.f3_meaning_whole.specs.Value.{Value, Span}
 use Rattle.f3_meaning_whole.specs.Arithmetic.{constant_value, meets}
 use Rattle.f3_meaning_whole.specs.Act as m
+use Rattle.f3_meaning_whole.specs.Store.{Store}
 use Rattle.f3_meaning_whole.specs.Exec as exec
 use Rattle.f3_meaning_whole.specs.Formed.{is_number, is_scalar, is_whole_number}
 use Rattle.f3_meaning_whole.specs.Permitted.{same_type}
@@ -32,6 +33,7 @@ use Rattle.f3_cell_kinds.specs.Holds.{IsOf, Is}
 use Rattle.f3_cell_kinds.specs.Laws.{site_at}
 use Rattle.f3_store_kinds.specs.Clean.{IsClean}
 use Rattle.f3_rooms.specs.Rooms.{Rooms}
+use Rattle.arrayvec.specs.ArrayVec.{ArrayVec}
 use Rattle.f3_desc.specs.declared.descriptor.Dim.{Dim}
 use Rattle.f3_word_cells.specs.declared.cell.Cell.{Cell}
 use Rattle.f3_word_cells.specs.declared.cell.Cell.TheVariants as c
@@ -43,12 +45,13 @@ use Rattle.f3_word_cells.specs.Areas.{IsDatum, spans_of}
 use Rattle.f3_word_cells.specs.Cells.{IsCell, AreCells, selected_of}
 use Rattle.f3_word_cells.specs.States.{Stands, own}
 use Rattle.f3_word_cells.specs.Does.{IsTold}
-use Rattle.f3_word_cells.proofs.OnTop.{one_on_top, of_datum, of_turns, of_outside, of_going}
+use Rattle.f3_word_cells.proofs.OnTop.{one_on_top, of_datum, of_turns, of_outside, of_going, of_bound, of_bounds}
 use Rattle.f3_word_cells.proofs.Scalars.{scalar_datum, whole_scalar, whole_number}
 use Rattle.f3_word_control.specs.Operands.{scalar_cell, turns_cell}
 use Rattle.f3_word_cells.specs.Scenes.{code_of}
 use Rattle.f3_word_cells.proofs.Flat.{IsFlat, plain_is_flat}
 use Rattle.f3_word_cells.proofs.Moving.{Beneath}
+use Rattle.f3_word_cells.proofs.Amid.{Amid}
 
 -- the value of the SELECT CASE around is in a range, where there is none as 0 is
 pub selected_meets : (r : Range) (o : Option Constant) → meets r (selected_of o) ≡ meets r (constant_value (unwrap_or o (constant.Number (pos 0))))
@@ -74,6 +77,14 @@ module _ (p : Program) (live : Live) (x : Rooms) where
     pub outside_cell : (a : Cell) (here : m.Here) → IsCell p x live ns a (s.Outside here) → (h : Here) × (a ≡ c.Outside h)
     outside_cell (c.Outside h) here is = (h, refl)
     outside_cell a here is = absurd is
+
+    pub bound_cell : (a : Cell) (z : Option ℤ) → IsCell p x live ns a (s.Bound z) → (y : Option ℤ) × (a ≡ c.Bound y)
+    bound_cell (c.Bound y) z is = (y, refl)
+    bound_cell a z is = absurd is
+
+    pub bounds_cell : (a : Cell) (ss : List Span) → IsCell p x live ns a (s.Bounds ss) → (ds : ArrayVec Dim) × (a ≡ c.Bounds ds)
+    bounds_cell (c.Bounds ds) ss is = (ds, refl)
+    bounds_cell a ss is = absurd is
 
     pub going_cell : (a : Cell) (flow : exec.Flow) → IsCell p x live ns a (s.Going flow) → (f : Flow) × (a ≡ c.Going f)
     going_cell (c.Going f) flow is = (f, refl)
@@ -173,3 +184,40 @@ module _ (p : Program) (live : Live) (x : Rooms) where
 
     pub no_top : (y : CellType) (rest : List CellType) → (site_at p t.pc).cells ≡ y ∷ rest → own w ≡ [] → ⊥
     no_top y rest e none = let top = top_of y rest e in let f : own w ≡ top.0 ∷ top.1 = top.3 in cc
+
+  -- ---- what stands there amid an instruction
+
+  module _ (t : s.State) (old mid : State) (ks : List CellType) (stack : List s.Cell) (store : Store) (hand : List ℕ) (amid : Amid p t live old mid x ks stack store hand)
+      (b : s.Cell) (below : List s.Cell) (split : stack ≡ b ∷ below) where
+    under : (a : Cell) × (cs : List Cell) × (own mid ≡ a ∷ cs) × IsCell p x live old.names.items.items a b
+    under = top_in (Beneath p live old t.frames) old.names.items.items old.here t.here (own mid) stack b below split amid.cells
+
+    pub datum_under : (k : Kind) → Is p.types.items (cell.Datum k) b
+        → (d : Datum) × (cs : List Cell) × (v : Value) × (own mid ≡ c.Datum d ∷ cs) × IsDatum p live d v × IsOf p.types.items k v
+    datum_under k is =
+        let v = of_datum p.types.items k b is in
+        let d = datum_cell old.names.items.items under.0 v.0 (subst (λ (y : s.Cell). IsCell p x live old.names.items.items under.0 y) v.1 under.3) in
+        (d.0, under.1, v.0, under.2 ∙ ap (λ a. a ∷ under.1) d.1, d.2, v.2)
+
+    pub scalar_under : (k : Kind) → Is p.types.items (cell.Datum k) b → is_scalar k ≡ true → (is_number k.of || same_type k.of base.Logical) ≡ true
+        → (y : Constant) × (cs : List Cell) × (own mid ≡ scalar_cell y ∷ cs)
+    scalar_under k is one plain =
+        let top = datum_under k is in
+        let y = scalar_datum p live k top.0 top.2 one plain top.5 top.4 in
+        (y.0, top.1, top.3 ∙ ap (λ d. c.Datum d ∷ top.1) y.1)
+
+    pub bound_under : Is p.types.items cell.Bound b → (z : Option ℤ) × (cs : List Cell) × (own mid ≡ c.Bound z ∷ cs)
+    bound_under is =
+        let v = of_bound p.types.items b is in
+        let d = bound_cell old.names.items.items under.0 v.0 (subst (λ (y : s.Cell). IsCell p x live old.names.items.items under.0 y) v.1 under.3) in
+        (d.0, under.1, under.2 ∙ ap (λ a. a ∷ under.1) d.1)
+
+    pub bounds_under : (rank : ℕ) → Is p.types.items (cell.Bounds rank) b → (ds : ArrayVec Dim) × (cs : List Cell) × (own mid ≡ c.Bounds ds ∷ cs)
+    bounds_under rank is =
+        let v = of_bounds p.types.items rank b is in
+        let d = bounds_cell old.names.items.items under.0 v.0 (subst (λ (y : s.Cell). IsCell p x live old.names.items.items under.0 y) v.1 under.3) in
+        (d.0, under.1, under.2 ∙ ap (λ a. a ∷ under.1) d.1)
+
+-- cells that are the same have the same beneath
+pub below_is : {stack below rest : List s.Cell} {a b : s.Cell} → stack ≡ a ∷ below → stack ≡ b ∷ rest → below ≡ rest
+below_is e f = ap (λ (bs : List s.Cell). drop 1 bs) (sym e ∙ f)

@@ -66,9 +66,9 @@ module _ (p : Program) (t : s.State) (l : Line) (count : ℕ) (told : IsTold p t
       let lead = line_kinds p t l _ told there is in
       let top = cells_taken p t lead.0 lead.2.rest told lead.2.before in
       let clean : IsClean (i.Unwind count) (map sort_of_type (site_at p t.pc).cells) =
-          subst (λ a. IsClean a (map sort_of_type (site_at p t.pc).cells)) is (told.clean t.pc l there) in
+      subst (λ a. IsClean a (map sort_of_type (site_at p t.pc).cells)) is (told.clean t.pc l there) in
       let next = next_of p.types.items k count lead.0 lead.2.rest top.tops top.below top.are lead.1
-          (subst (λ ks. ArePlain count (map sort_of_type ks)) lead.2.before clean) less in
+      (subst (λ ks. ArePlain count (map sort_of_type ks)) lead.2.before clean) less in
       subst (λ bs. Next k (site_at p t.pc).cells bs) (sym top.split) (subst (λ ks. Next k ks (top.tops ++ top.below)) (sym lead.2.before) next)
 
   -- the kinds that are left

@@ -26,7 +26,7 @@ returns-clause-does g c = λ p t l x told there is st.
     let top = one_on_top p t lead.0 lead.1.rest told lead.1.before in
     let flat = drop_flat p m x t old told st l lead.0 lead.1.rest top.cell there is lead.1.before top.is in
     let amid = amid_popped p t m old old _ x lead.0 lead.1.rest top.cell top.below t.world.store [] cell (amid_first p t m old x _ _ st lead.1.before top.split)
-        c.in-Some.ensures flat in
+    c.in-Some.ensures flat in
     let gone = amid_without p t m old _ x lead.1.rest top.below t.world.store (cell_blocks cell) [] amid.2 in
     subst (λ n. Becomes p l t (Ok tt) n c.advance.new.self) (sym c.let_go.ensures)
     (advances p l t m (without (cell_blocks cell) m) old x st top.below (goes p l t is (λ rest. dropped p l t rest _ _ top.split)) gone c.in-Some.ensures.pc

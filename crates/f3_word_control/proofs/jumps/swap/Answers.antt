@@ -22,8 +22,8 @@ returns-clause-does c = λ p m t l x told there is st.
     let one = amid_popped p t m old old _ x lead.0 _ top.cell _ t.world.store [] a (amid_first p t m old x _ _ st by.before top.split) c.in-Some.ensures flat.0 in
     let two = amid_popped p t m old _ _ x lead.1 by.rest top.next top.below t.world.store (cell_blocks a ++ []) b one.2 c.in-Some-pop.ensures flat.1 in
     let turned = in_order p t m old _ x by.rest top.below t.world.store _ (cell_blocks a ++ (cell_blocks b ++ []))
-        (λ q. let e = times_append q (cell_blocks a) (cell_blocks b ++ []) in let f = times_append q (cell_blocks b) (cell_blocks a ++ []) in
-        let h = times_append q (cell_blocks a) [] in let k = times_append q (cell_blocks b) [] in omega (arith, e, f, h, k)) two.2 in
+    (λ q. let e = times_append q (cell_blocks a) (cell_blocks b ++ []) in let f = times_append q (cell_blocks b) (cell_blocks a ++ []) in
+    let h = times_append q (cell_blocks a) [] in let k = times_append q (cell_blocks b) [] in omega (arith, e, f, h, k)) two.2 in
     let again = amid_pushed p t m old _ _ x lead.0 by.rest top.cell top.below t.world.store (cell_blocks b ++ []) a _ turned c.push.ensures flat.0 one.0 one.1 in
     goes_with p l t m m old x st _ b top.next (goes p l t is (λ rest. swapped p l t rest _ _ _ top.split)) again
     (c.push.ensures.pc ∙ c.in-Some-pop.ensures.pc ∙ c.in-Some.ensures.pc) (ap (λ (z : Site). z.cells) by.next) c.go_on_with.ensures flat.1 two.0 two.1
