@@ -1,6 +1,6 @@
 -- What instructions do where such cells stand on top.
-use Rattle.std.proofs.Common.{◌≡◌, ℕ, ℤ, ◌+◌, Bool, true, false, List, [], ◌∷◌, pos, refl}
-use Rattle.std.specs.Prelude.{Option, Some, None}
+use Rattle.std.proofs.Common.{◌≡◌, ◌∙◌, ap, ℕ, ℤ, ◌+◌, Bool, true, false, List, [], ◌∷◌, pos, refl}
+use Rattle.std.specs.Prelude.{⊤, Option, Some, None}
 use Rattle.f3_program.specs.declared.declarations.Base.{Base}
 use Rattle.f3_program.specs.declared.declarations.Base.TheVariants as base
 use Rattle.f3_program.specs.declared.declarations.Constant.{Constant}
@@ -17,7 +17,14 @@ use Rattle.f3_code.specs.declared.instruction.Instruction.TheVariants as i
 use Rattle.f3_code.specs.State.{Line, placed, Goes}
 use Rattle.f3_code.specs.State as s
 use Rattle.f3_code.specs.Heap.{with_answers}
-use Rattle.f3_word_control.proofs.Lines.{does, with_stack}
+use Rattle.f3_code.specs.Machine.{performs}
+use Rattle.f3_meaning_whole.specs.Act.{Here, Given, claim_for, needs_storage}
+use Rattle.f3_meaning_whole.specs.Exec.{Holds}
+use Rattle.f3_meaning_whole.specs.Store.{Store}
+use Rattle.f3_meaning_whole.specs.Ran.{Ran, World}
+use Rattle.f3_word_cells.specs.Does.{GoesOn, stream}
+use Rattle.f3_word_cells.proofs.Lines.{answering, claim_for_block, claim_for_scalar, claim_granted, performs_gives}
+use Rattle.f3_word_control.proofs.Lines.{does, goes_so, with_stack}
 use Rattle.f3_word_values.proofs.Ending.{Computes}
 
 module _ (p : Program) (l : Line) (t : s.State) where
@@ -66,3 +73,25 @@ module _ (p : Program) (l : Line) (t : s.State) where
     pub triplet_so : (v : Value) (upper lower : Option ℤ) (below : List s.Cell) → t.stack ≡ s.Datum v ∷ s.Bound upper ∷ s.Bound lower ∷ below
         → LeadsOn i.Triplet (s.Choice (Range lower upper (number_of v)) ∷ below)
     triplet_so v upper lower below e = rw e refl
+
+  abbrev pub GoesTo : Instruction → List s.Cell → Type 0
+  GoesTo x stack = l.act ≡ x → GoesOn p l t (with_stack (t.pc + 1) stack t) []
+
+  -- where storage is claimed for the value
+  module _ (v : Value) (below : List s.Cell) (split : t.stack ≡ s.Datum v ∷ below) where
+    abbrev pub claimed : Bool → List Bool
+    claimed true = false ∷ []
+    claimed false = []
+
+    claims : (b : Bool) (here : Here) (store : Store) (rest : ℕ → Bool) (f : ⊤ → World → s.State) → needs_storage v ≡ b
+        → performs (claim_for v here) (answering store (stream (claimed b) rest)) f ≡ Goes [] (f tt (answering store rest))
+    claims true here store rest f e =
+        ap (λ (r : Ran ⊤). performs r (answering store (stream (false ∷ []) rest)) f) (claim_for_block v here e) ∙ claim_granted here store [] rest f
+    claims false here store rest f e =
+        ap (λ (r : Ran ⊤). performs r (answering store (stream [] rest)) f) (claim_for_scalar v here e) ∙ performs_gives tt (answering store (stream [] rest)) f
+
+    pub passed_so : (k : ℕ) → GoesTo (i.PassValue k) (s.Argument (Given k v) ∷ below)
+    passed_so k is = goes_so p l t [] (claimed (needs_storage v)) is refl (λ rest. rw split (claims (needs_storage v) (placed l.place t.here) t.world.store rest _ refl))
+
+    pub selected_so : (of : Base) → GoesTo (i.SelectValue of) (s.Selector (Holds of v) ∷ below)
+    selected_so of is = goes_so p l t [] (claimed (needs_storage v)) is refl (λ rest. rw split (claims (needs_storage v) (placed l.place t.here) t.world.store rest _ refl))

@@ -39,17 +39,17 @@ module _ (p : Program) (l : Line) (t : s.State) where
   abbrev pub Computes : Instruction → Ran Value → List s.Cell → Type 0
   Computes x ran below = (rest : ℕ → Bool) → does p l t x rest ≡ performs ran (with_answers rest t).world (with_value rest below)
 
-  pub finished : (m n : Live) (old : State) (x : Rooms) (st : Stands p m old x t) {i : Instruction} {mid new : State} {k : Kind} {ks : List CellType} (below : List s.Cell)
+  pub finished : (m n : Live) (old : State) (x : Rooms) (st : Stands p m old x t) {i : Instruction} {mid : State} (new : State) {k : Kind} {ks : List CellType} (below : List s.Cell)
       (given : Result Constant RunError) (r : Result ⊤ Stop) (ran : Ran Value) → l.act ≡ i → scalar_ran given (placed l.place t.here).place ≡ ran
       → Computes i ran below → Amid p t n old mid x ks below t.world.store [] → mid.pc ≡ old.pc → (site_at p (t.pc + 1)).cells ≡ cell.Datum k ∷ ks
       → Finishes given r mid new → Becomes p l t r n new
-  finished m n old x st below (Ok y) (Ok done) ran is e h amid line kinds ends =
+  finished m n old x st new below (Ok y) (Ok done) ran is e h amid line kinds ends =
       goes_with p l t m n old x st below (scalar_cell y) (s.Datum (constant_value y))
       (goes p l t is (λ rest. h rest ∙ ap (λ (z : Ran Value). performs z (with_answers rest t).world (with_value rest below)) (sym e)
       ∙ performs_gives (constant_value y) (with_answers rest t).world (with_value rest below))) amid line kinds ends tt refl tt
-  finished m n old x st below (Err error) (Err (stop.Failed f)) ran is e h amid line kinds ends =
+  finished m n old x st new below (Err error) (Err (stop.Failed f)) ran is e h amid line kinds ends =
       rw ends (stops p l t is (λ rest. h rest ∙ ap (λ (z : Ran Value). performs z (with_answers rest t).world (with_value rest below)) (sym e)
       ∙ performs_fails error (placed l.place t.here).place (with_answers rest t).world (with_value rest below)))
-  finished m n old x st below (Ok y) (Err f) ran is e h amid line kinds ends = absurd ends
-  finished m n old x st below (Err error) (Ok done) ran is e h amid line kinds ends = absurd ends
-  finished m n old x st below (Err error) (Err f) ran is e h amid line kinds ends = absurd ends
+  finished m n old x st new below (Ok y) (Err f) ran is e h amid line kinds ends = absurd ends
+  finished m n old x st new below (Err error) (Ok done) ran is e h amid line kinds ends = absurd ends
+  finished m n old x st new below (Err error) (Err f) ran is e h amid line kinds ends = absurd ends

@@ -2,18 +2,38 @@
 
 ghost use Rattle.std.specs.Prelude.{◌≡◌, ◌<◌, ◌≤◌, ◌^◌, length};
 ghost use Rattle.f3_code.specs.declared.instruction.Instruction.TheVariants.{BoundsOfValue, Size, Bound};
+ghost use Rattle.f3_rooms.specs.Laws.{without};
+ghost use Rattle.f3_word_cells.specs.Free.{AreFree};
+ghost use Rattle.f3_word_cells.specs.States.{datum_blocks};
 ghost use Rattle.f3_word_cells.specs.Does.{Does, Keeps};
 ghost use Rattle.f3_word_control.specs.Doing.{DoesWith, IsAtSome};
+ghost use Rattle.f3_word_values.specs.Ends.{dims_of};
 
 use crate::bounds::{asked, size_of};
 use crate::finish::finish;
 use arrayvec::ArrayVec;
 use f3_arithmetic::operators::number_of;
+use f3_desc::descriptor::Dim;
 use f3_heap::Blocks;
 use f3_program::expression::Query;
 use f3_word_cells::cell::{Cell, Datum};
 use f3_word_cells::state::{State, Stop};
 use f3_word_control::operands::{pop_bounds, pop_datum, pop_scalar};
+
+/// The bounds of a value, whose block, if it has one, is given back.
+fn bounds_taken<B: Blocks>(heap: &mut B, datum: Datum) -> ArrayVec<Dim, 7>
+    requires { AreFree (B.blocks heap.old) (datum_blocks datum) }
+    ensures bounds { result.items ≡ dims_of datum }
+    ensures given { B.blocks heap.new ≡ without (datum_blocks datum) (B.blocks heap.old) }
+{
+    match datum {
+        Datum::Scalar(_) => ArrayVec::new(),
+        Datum::Block(area) => {
+            let _given = heap.give(area.elements.block);
+            area.elements.dims
+        }
+    }
+}
 
 /// The bounds of a value, which goes (ISO/IEC 1539-1:2004, 13.7.60, 13.7.121).
 #[inline(never)]
@@ -28,13 +48,8 @@ pub fn bounds_of_value<B: Blocks>(heap: &mut B, state: &mut State) -> Result<(),
     let Some(datum) = pop_datum(state) else {
         return Err(Stop::Lost);
     };
-    match datum {
-        Datum::Scalar(_) => state.go_on_with(Cell::Bounds(ArrayVec::new())),
-        Datum::Block(area) => {
-            let _given = heap.give(area.elements.block);
-            state.go_on_with(Cell::Bounds(area.elements.dims));
-        }
-    }
+    let dims = bounds_taken(heap, datum);
+    state.go_on_with(Cell::Bounds(dims));
     Ok(())
 }
 
