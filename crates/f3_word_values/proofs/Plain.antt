@@ -1,5 +1,6 @@
 -- Values with lower bounds of 1.
 use Rattle.std.proofs.Common.{◌≡◌, ◌≢◌, inl, inr, false, ℕ, zero, suc, ◌+◌, ◌*◌, add-one, ◌<◌, ◌≤◌, pos, List, [], ◌∷◌, ◌++◌, length, map, take, drop, refl, sym, ap, ◌∙◌, arith, get_or}
+use Rattle.std.proofs.lemmas.List.{take-append-le, length-map, take_all}
 use Rattle.std.specs.Prelude.{◌⊎◌, slice_set, ℤ, ◌*ℤ◌}
 use Rattle.f3_program.specs.declared.program.Program.{Program}
 use Rattle.f3_live_blocks.specs.Blocks.{Live}
@@ -49,12 +50,10 @@ changed_all g [] (suc i) h = refl
 changed_all g (x ∷ xs) zero h = absurd (omega arith)
 changed_all g (x ∷ xs) (suc i) h = ap (λ us. g x ∷ us) (changed_all g xs i (omega arith))
 
-
 pub changed_at : (g : Dim → Dim) (xs ys : List Dim) (i : ℕ) (d y : Dim) → ys ≡ changed g i xs → i < length xs → y ≡ g (get_or ys i d) →
     slice_set ys i y ≡ changed g (i + 1) xs
 changed_at g xs ys i d y e h f = rw (e, add-one) (changed_next g xs i (get_or (changed g i xs) i d) y h (get_or-same (changed g i xs) i d
     (changed_length g xs i h)) (f ∙ ap (λ us. g (get_or us i d)) e))
-
 
 -- ---- values
 
@@ -96,14 +95,16 @@ plain_block : (p : Program) (m : Live) (a : Area) (ds : List Dim) (b : Area) →
     → b.elements.dims.items ≡ map from_one ds → a.elements.dims.items ≡ ds → IsBlock p m a → IsBlock p m b × (value_in p m b ≡ plain (value_in p m a))
 plain_block p m a ds b of block offset new old h =
     let large : (map from_one a.elements.dims.items ≢ []) ⊎ (is_scalar_shape (shape_for p a.of) ≡ false) = larger a.elements.dims.items h.large in
-    let new' : b.elements.dims.items ≡ map from_one a.elements.dims.items = new ∙ ap (map from_one) (sym old) in
-    (record {
-      offset = offset ∙ h.offset;
-      large = rw (new', of) large;
-      contiguous = rw (new', of) (same_strides _ a.elements.dims.items h.contiguous);
-      live = rw block h.live;
-      words = rw (new', of, block) (h.words ∙ ap (λ k. k * words_for (shape_for p a.of)) (sym (same_size a.elements.dims.items)));
-    }, rw (new', of, block) (plain_laid m (shape_for p a.of) a.elements.dims.items (words_for (shape_for p a.of)) a.elements.block 0 Empty))
+    let new' : b.elements.dims.items ≡ map from_one a.elements.dims.items = new ∙ ap (map from_one) (sym old) in (
+      record {
+        offset = offset ∙ h.offset;
+        large = rw (new', of) large;
+        contiguous = rw (new', of) (same_strides _ a.elements.dims.items h.contiguous);
+        live = rw block h.live;
+        words = rw (new', of, block) (h.words ∙ ap (λ k. k * words_for (shape_for p a.of)) (sym (same_size a.elements.dims.items)));
+      },
+      rw (new', of, block) (plain_laid m (shape_for p a.of) a.elements.dims.items (words_for (shape_for p a.of)) a.elements.block 0 Empty),
+    )
   where
     larger : {B : Type 0} (ds : List Dim) → (ds ≢ []) ⊎ B → (map from_one ds ≢ []) ⊎ B
     larger [] (inl some) = inl some
@@ -136,3 +137,13 @@ laid_spans m s (d ∷ ds) n b o h = refl
 pub datum_spans : (p : Program) (m : Live) (d : Datum) (v' : Value) → IsDatum p m d v' → v.spans_of v' ≡ spans_of (dims_of d)
 datum_spans p m (datum.Scalar c) v' is = ap v.spans_of is ∙ scalar_spans c
 datum_spans p m (datum.Block a) v' is = ap v.spans_of is.1 ∙ laid_spans m (shape_for p a.of) a.elements.dims.items _ a.elements.block 0 Empty
+
+-- as many in place of others
+filled : {X : Type 0} (xs ys : List X) → length ys ≡ length xs → take (length xs) (ys ++ drop (length ys) xs) ≡ ys
+filled xs ys e =
+    take-append-le (length xs) ys (drop (length ys) xs) (omega (arith, e)) ∙ take_all (length xs) ys (omega (arith, e))
+
+pub refilled : (xs ys zs : List Dim) → zs ≡ map from_one ys → ys ≡ xs → take (length xs) (zs ++ drop (length zs) xs) ≡ map from_one xs
+refilled xs ys zs e f =
+    let g : zs ≡ map from_one xs = e ∙ ap (map from_one) f in
+    filled xs zs (ap length g ∙ length-map xs from_one) ∙ g

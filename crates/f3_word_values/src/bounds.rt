@@ -4,6 +4,7 @@ ghost use Rattle.std.specs.Prelude.{◌≡◌, ◌≤◌, ◌^◌, ℕ, MatchOpt
 ghost use Rattle.f3_places.specs.declared.source.Place.{Place};
 ghost use Rattle.f3_program.specs.declared.program.Program.{Program};
 ghost use Rattle.f3_program.specs.declared.declarations.Base.TheVariants.{Integer};
+ghost use Rattle.f3_program.specs.declared.declarations.Kind.{Kind};
 ghost use Rattle.f3_live_blocks.specs.Blocks.{Live};
 ghost use Rattle.f3_meaning_whole.specs.Value as m;
 ghost use Rattle.f3_meaning_whole.specs.Act.{Here};
@@ -11,7 +12,7 @@ ghost use Rattle.f3_meaning_whole.specs.Arithmetic.{converted};
 ghost use Rattle.f3_meaning_whole.specs.Eval.{ask, asked};
 ghost use Rattle.f3_arithmetic.specs.Scalars.{scalar_ran};
 ghost use Rattle.f3_word_cells.specs.Areas.{span_of, spans_of, IsDatum};
-ghost use Rattle.f3_word_cells.specs.States.{datum_blocks};
+ghost use Rattle.f3_word_cells.specs.States.{datum_blocks, IsLaid};
 ghost use Rattle.f3_word_values.specs.Ends.{from_one};
 
 use crate::operations::converted;
@@ -101,6 +102,7 @@ fn begin_at_one(dims: &mut [Dim])
 /// The value of an expression that is no variable: its bounds are from 1 on.
 pub(crate) fn plain(datum: Datum) -> Datum
     ensures value { (p : Program) (live : Live) (v : m.Value) → IsDatum p live datum v → IsDatum p live result (m.plain v) }
+    ensures kind { (p : Program) (k : Kind) → IsLaid p k datum → IsLaid p k result }
     ensures blocks { datum_blocks result ≡ datum_blocks datum }
 {
     match datum {

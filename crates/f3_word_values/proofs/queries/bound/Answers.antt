@@ -37,7 +37,7 @@ returns-clause-does c = λ p m t l x told there is st.
     let top = scalar_taken p t m _ x _ c.in-Some.ensures.taken (amid_first p t m _ x _ t.stack st lead.3.before refl) in
     let next = bounds_taken p t m _ x _ c.in-Some-pop_bounds.ensures.taken top.amid in
     finished p l t m m _ x st _ next.below _ _ _ is
-    ((rw (← c.as_slice.ensures) (c.asked.ensures (placed l.place t.here)))
+    ((rw (← c.as_slice.ensures.value) (c.asked.ensures (placed l.place t.here)))
     ∙ ap (λ z. asked c.args.query (spans_of c.in-Some-pop_bounds.dims.items) z (placed l.place t.here)) (to_z-of_z w64 _ fits ∙ c.number_of.ensures))
     (bound_does p l t _ _ _ _ (top.split ∙ ap (λ bs. s.Datum (constant_value c.in-Some.dimension) ∷ bs) next.split))
     next.amid (c.in-Some-pop_bounds.ensures.taken.pc ∙ c.in-Some.ensures.taken.pc) (ap (λ (z : Site). z.cells) lead.3.next) c.finish.ensures.finishes

@@ -1,4 +1,4 @@
-use Rattle.std.proofs.Common.{refl, ap}
+use Rattle.std.proofs.Common.{refl, ap, sym}
 use Rattle.f3_cell_kinds.specs.Types.{Site}
 use Rattle.f3_word_cells.proofs.OnTop.{line_kinds}
 use Rattle.f3_word_cells.proofs.Amid.{amid_first}
@@ -18,5 +18,5 @@ pub returns-clause-does : goal.returns-clause-does
 returns-clause-does c = λ p m t l x told there is st.
     let lead = line_kinds p t l _ told there is in
     let top = datum_taken p t m _ x _ c.in-Some.ensures.taken (amid_first p t m _ x _ t.stack st lead.1.before refl) in
-    goes_with p l t m m _ x st top.below _ _ (goes p l t is (λ rest. plain_so p l t rest _ _ top.split)) (rw (sym c.plain.ensures.blocks) top.amid) c.in-Some.ensures.taken.pc
-    (ap (λ (z : Site). z.cells) lead.1.next) c.go_on_with.ensures tt (c.plain.ensures.value p m _ top.is) tt
+    goes_with p l t m m _ x st top.below _ _ (goes p l t is (λ rest. plain_so p l t rest _ _ top.split)) (rw (c.plain.ensures.blocks) top.amid) c.in-Some.ensures.taken.pc
+    (ap (λ (z : Site). z.cells) lead.1.next) c.go_on_with.ensures tt (c.plain.ensures.value p m _ top.is) (c.plain.ensures.kind p lead.0 top.known)
