@@ -1,5 +1,5 @@
 -- What instructions do where such cells stand on top.
-use Rattle.std.proofs.Common.{◌≡◌, ℕ, zero, suc, ℤ, ◌+◌, ◌-◌, Bool, true, false, List, [], ◌∷◌, ◌++◌, drop, length, refl}
+use Rattle.std.proofs.Common.{◌≡◌, ℕ, zero, suc, ℤ, ◌+◌, ◌-◌, Bool, true, false, List, [], ◌∷◌, ◌++◌, drop, length, map, refl}
 use Rattle.std.specs.Prelude.{Option, Some, None, unwrap_or}
 use Rattle.f3_places.specs.declared.source.Place.{Place}
 use Rattle.f3_program.specs.declared.program.Program.{Program}
@@ -20,6 +20,9 @@ use Rattle.f3_code.specs.State.{Line, placed, Next, Goes, Stays, Failed, Stopped
 use Rattle.f3_code.specs.State as s
 use Rattle.f3_code.specs.Machine.{flow_of}
 use Rattle.f3_code.specs.Heap.{with_answers}
+use Rattle.f3_code.specs.Machine.{on}
+use Rattle.f3_shaping.specs.Results.{value_text}
+use Rattle.f3_word_control.proofs.Shown.{prints_so}
 use Rattle.f3_word_control.proofs.Lines.{does, with_stack, with_here}
 
 -- nothing is lent any more but this
@@ -139,3 +142,6 @@ module _ (p : Program) (l : Line) (t : s.State) (rest : ℕ → Bool) where
   pub byte_printed : (b : ℕ) → Leads (i.PrintByte b) (Printed b ∷ []) (next t.stack)
   unfolding prints_bytes ran.does
   byte_printed b = refl
+
+  pub value_printed : (v : Value) (below : List s.Cell) → t.stack ≡ s.Datum v ∷ below → Leads i.PrintValue (map Printed (value_text v)) (next below)
+  value_printed v below e = rw e (prints_so v (with_answers rest t).world (λ done. on (with_answers rest t) below))

@@ -6,3 +6,4 @@ pub mod Zeros
 pub mod Leaving
 pub mod Unwinding
 pub mod Texts
+pub mod Shown

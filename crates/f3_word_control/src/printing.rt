@@ -4,15 +4,20 @@ ghost use Rattle.std.specs.Prelude.{◌≡◌, ◌<◌, ◌^◌, OnOk, OnErr, fl
 ghost use Rattle.f3_live_blocks.specs.Blocks.{Live, IsLive, words_of};
 ghost use Rattle.f3_output.specs.Output.{state_of, Wrote, Faulted};
 ghost use Rattle.f3_meaning_whole.specs.Arithmetic.{constant_value};
-ghost use Rattle.f3_code.specs.declared.instruction.Instruction.TheVariants.{PrintByte};
+ghost use Rattle.f3_code.specs.declared.instruction.Instruction.TheVariants.{PrintByte, PrintValue};
+ghost use Rattle.f3_word_cells.specs.Free.{AreFree};
+ghost use Rattle.f3_word_cells.specs.States.{datum_blocks};
 ghost use Rattle.f3_word_cells.specs.Does.{Keeps};
-ghost use Rattle.f3_word_control.specs.Doing.{DoesPrint};
-ghost use Rattle.f3_word_control.specs.Texts.{scalar_in, text_in};
+ghost use Rattle.f3_word_control.specs.Doing.{DoesPrint, IsAtSome};
+ghost use Rattle.f3_word_control.specs.Texts.{datum_text, scalar_in, text_in};
 
+use crate::operands::pop_datum;
 use f3_heap::{BlockId, Blocks};
 use f3_output::output::{Output, Refused};
 use f3_printing::scalar::print_scalar;
 use f3_program::declarations::{Base, Constant};
+use f3_word_cells::cell::Datum;
+use f3_word_cells::giving::let_go_datum;
 use f3_word_cells::state::{State, Stop};
 use std::io::Write;
 
@@ -52,6 +57,47 @@ pub fn print_byte<W: Write>(state: &mut State, byte: u8, output: &mut Output<W>)
 {
     match output.write(&[byte]) {
         Ok(()) => {
+            state.advance();
+            Ok(())
+        }
+        Err(_) => Err(Stop::Refused),
+    }
+}
+
+/// Writes a value: a scalar, or the words of a block as scalars, each behind a blank.
+fn print_datum<B: Blocks, W: Write>(
+    heap: &B,
+    datum: &Datum,
+    output: &mut Output<W>,
+) -> Result<(), Refused>
+    requires { AreFree (B.blocks heap.now) (datum_blocks datum.now) }
+    ensures all { OnOk result (Wrote (state_of W.contents output.old) (state_of W.contents output.new) (datum_text (B.blocks heap.now) datum.now)) }
+    ensures front { OnErr result (Faulted (state_of W.contents output.old) (state_of W.contents output.new) (datum_text (B.blocks heap.now) datum.now)) }
+{
+    match datum {
+        Datum::Scalar(scalar) => print_scalar(output, *scalar),
+        Datum::Block(area) => print_words(heap, area.elements.block, area.of, output),
+    }
+}
+
+/// A value is printed, of an array each element (9.5).
+#[inline(never)]
+pub fn print_value<B: Blocks, W: Write>(
+    heap: &mut B,
+    state: &mut State,
+    output: &mut Output<W>,
+) -> Result<(), Stop>
+    requires pc { state.old.pc < 2 ^ 63 }
+    requires at { IsAtSome PrintValue (B.blocks heap.old) state.old }
+    ensures does { DoesPrint PrintValue result (B.blocks heap.old) (B.blocks heap.new) state.old state.new (state_of W.contents output.old) (state_of W.contents output.new) }
+    ensures keeps { Keeps state.old state.new }
+{
+    let Some(datum) = pop_datum(state) else {
+        return Err(Stop::Lost);
+    };
+    match print_datum(heap, &datum, output) {
+        Ok(()) => {
+            let_go_datum(heap, datum);
             state.advance();
             Ok(())
         }
