@@ -1,6 +1,6 @@
 -- What instructions do where such cells stand on top.
-use Rattle.std.proofs.Common.{◌≡◌, ℕ, zero, suc, ℤ, ◌+◌, ◌-◌, Bool, true, false, List, [], ◌∷◌, ◌++◌, drop, length, map, refl}
-use Rattle.std.specs.Prelude.{Option, Some, None, unwrap_or}
+use Rattle.std.proofs.Common.{◌≡◌, ℕ, suc, ℤ, ◌+◌, ◌-◌, Bool, true, false, List, [], ◌∷◌, drop, map, refl}
+use Rattle.std.specs.Prelude.{Option}
 use Rattle.f3_places.specs.declared.source.Place.{Place}
 use Rattle.f3_program.specs.declared.program.Program.{Program}
 use Rattle.f3_program.specs.declared.statement.Range.{Range}

@@ -1,6 +1,6 @@
 -- What becomes of an instruction.
 use Rattle.std.proofs.Common.{◌≡◌, ◌∙◌, ℕ, ◌+◌, List, [], ◌∷◌, ◌++◌, refl, sym, subst, ap}
-use Rattle.std.specs.Prelude.{⊤, Ok, Err, Result, Bool}
+use Rattle.std.specs.Prelude.{Ok, Bool}
 use Rattle.f3_program.specs.declared.program.Program.{Program}
 use Rattle.f3_live_blocks.specs.Blocks.{Live}
 use Rattle.f3_places.specs.declared.source.Place.{Place}

@@ -1,5 +1,5 @@
 -- Values that are printed.
-use Rattle.std.proofs.Common.{◌≡◌, ◌≢◌, ◌∙◌, inl, inr, ℕ, zero, suc, ◌+◌, ◌*◌, ◌<◌, ◌≤◌, ℤ, pos, Bool, true, false, List, [], ◌∷◌, ◌++◌, length, map, take, drop, get_or, refl, sym, ap, subst, arith}
+use Rattle.std.proofs.Common.{◌≡◌, ◌≢◌, ◌∙◌, inl, inr, ℕ, zero, suc, ◌+◌, ◌*◌, ◌<◌, ◌≤◌, pos, true, false, List, [], ◌∷◌, ◌++◌, length, map, take, drop, get_or, refl, sym, ap, arith}
 use Rattle.std.specs.Prelude.{⊤, ◌⊎◌, ◌||◌, flat_map, slice_index_or}
 use Rattle.std.proofs.Math.Seq.{drop-cons}
 use Rattle.std.proofs.lemmas.Bool.{cases_lt}
@@ -12,9 +12,9 @@ use Rattle.f3_program.specs.declared.declarations.Derived.{Derived}
 use Rattle.f3_program.specs.declared.declarations.Kind.{Kind}
 use Rattle.f3_program.specs.declared.program.Program.{Program}
 use Rattle.f3_live_blocks.specs.Blocks.{Live, words_of}
-use Rattle.f3_meaning_whole.specs.Value.{Value, count, listed, joined}
+use Rattle.f3_meaning_whole.specs.Value.{Value, count}
 use Rattle.f3_meaning_whole.specs.Store.{Store}
-use Rattle.f3_meaning_whole.specs.Ran.{Event, Printed, Ran, World, replayed, prints_bytes, does}
+use Rattle.f3_meaning_whole.specs.Ran.{Printed, Ran, World, replayed, prints_bytes, does}
 use Rattle.f3_meaning_whole.specs.Run.{output}
 use Rattle.f3_meaning_whole.specs.Shape.{Shape, Whole, Logical, Record}
 use Rattle.f3_meaning_whole.specs.Arithmetic.{constant_value}
@@ -26,7 +26,7 @@ use Rattle.f3_code.specs.State as s
 use Rattle.f3_code.specs.Machine.{performs}
 use Rattle.f3_desc.specs.declared.descriptor.Dim.{Dim}
 use Rattle.f3_desc.specs.Laws.{size_of}
-use Rattle.f3_rooms.specs.Held.{Held, Row, Empty, end, first, others, parts_of}
+use Rattle.f3_rooms.specs.Held.{Held, Row, Empty, end, first, others}
 use Rattle.f3_rooms.specs.Forms.{words_for}
 use Rattle.f3_rooms.specs.Values.{elements, laid, object, word}
 use Rattle.f3_rooms.specs.Places.{is_scalar_shape}
@@ -34,10 +34,9 @@ use Rattle.f3_room_places.proofs.Trees.{past_types, tree_is}
 use Rattle.f3_shaping.specs.Results.{value_text}
 use Rattle.f3_shaping.proofs.Prints.{prints_text}
 use Rattle.f3_shaping.proofs.Spreads.{listed_joined}
-use Rattle.f3_word_cells.specs.declared.cell.Area.{Area}
 use Rattle.f3_word_cells.specs.declared.cell.Datum.{Datum}
 use Rattle.f3_word_cells.specs.declared.cell.Datum.TheVariants as datum
-use Rattle.f3_word_cells.specs.Areas.{IsBlock, IsDatum, shape_for, spans_of, value_in}
+use Rattle.f3_word_cells.specs.Areas.{IsDatum, shape_for, spans_of}
 use Rattle.f3_word_cells.specs.States.{IsLaid}
 use Rattle.f3_word_control.specs.Texts.{datum_text, scalar_in, text_in}
 
@@ -83,7 +82,7 @@ module _ (m : Live) (s : Shape) (of : Base) (b : ℕ) (are : (o : ℕ) (h : Held
       let ws = words_of m b in
       let next : suc o ≡ o + 1 = omega arith in
       let top : drop o ws ≡ slice_index_or ws o (pos 0) ∷ drop (o + 1) ws =
-          drop-cons ws o (pos 0) (omega (arith, h)) ∙ ap (λ n. slice_index_or ws o (pos 0) ∷ drop n ws) next in
+      drop-cons ws o (pos 0) (omega (arith, h)) ∙ ap (λ n. slice_index_or ws o (pos 0) ∷ drop n ws) next in
       ap (λ v. text_of v ++ flat_map text_of (elements k 1 (object m s) b (o + 1) (others hs))) (are o (first hs))
       ∙ ap (λ bytes. text_in of (word m b o) ++ bytes) (elements_text k (o + 1) (others hs) (omega (arith, h)))
       ∙ ap (λ zs. flat_map (text_in of) (take (suc k) zs)) (sym top)

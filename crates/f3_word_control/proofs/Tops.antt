@@ -1,5 +1,5 @@
 -- Which cells stand on top at a line.
-use Rattle.std.proofs.Common.{◌≡◌, ◌∙◌, ℕ, ℤ, ◌+◌, Bool, true, false, List, [], ◌∷◌, ◌++◌, refl, sym, subst, ap}
+use Rattle.std.proofs.Common.{◌≡◌, ◌∙◌, ℕ, ℤ, ◌+◌, true, List, [], ◌∷◌, refl, sym, subst, ap}
 use Rattle.std.specs.Prelude.{drop, map, slice_get, Option, Some, None, ◌||◌, pos, unwrap_or}
 use Rattle.f3_program.specs.declared.declarations.Constant.TheVariants as constant
 use Rattle.f3_program.specs.declared.statement.Range.{Range}
@@ -16,7 +16,6 @@ use Rattle.f3_meaning_whole.specs.Store.{Store}
 use Rattle.f3_meaning_whole.specs.Exec as exec
 use Rattle.f3_meaning_whole.specs.Formed.{is_number, is_scalar, is_whole_number}
 use Rattle.f3_meaning_whole.specs.Permitted.{same_type}
-use Rattle.f3_arithmetic.specs.Turns.{turns_of}
 use Rattle.f3_code.specs.State as s
 use Rattle.f3_code.specs.State.{Line}
 use Rattle.f3_code.specs.declared.instruction.Instruction.{Instruction}
@@ -26,7 +25,6 @@ use Rattle.f3_cell_kinds.specs.Effect.{truth}
 use Rattle.f3_cell_kinds.specs.Kinds.{Goes}
 use Rattle.f3_cell_kinds.proofs.Standing.{in_is}
 use Rattle.f3_cells.specs.declared.cell.Flow.{Flow}
-use Rattle.f3_cells.specs.Cells.{flow_of}
 use Rattle.f3_cell_kinds.specs.Types.{Scope, CellType, Site, sort_of_type}
 use Rattle.f3_cell_kinds.specs.Types as cell
 use Rattle.f3_cell_kinds.specs.Holds.{IsOf, Is}
@@ -41,7 +39,7 @@ use Rattle.f3_word_cells.specs.declared.cell.Datum.{Datum}
 use Rattle.f3_word_cells.specs.declared.cell.Here.{Here}
 use Rattle.f3_word_cells.specs.declared.state.Name.{Name}
 use Rattle.f3_word_cells.specs.declared.state.State.{State}
-use Rattle.f3_word_cells.specs.Areas.{IsDatum, spans_of}
+use Rattle.f3_word_cells.specs.Areas.{IsDatum}
 use Rattle.f3_word_cells.specs.Cells.{IsCell, AreCells, selected_of}
 use Rattle.f3_word_cells.specs.States.{Stands, own}
 use Rattle.f3_word_cells.specs.Does.{IsTold}

@@ -19,7 +19,7 @@ use Rattle.f3_word_cells.specs.Scenes.{code_of}
 use Rattle.f3_word_cells.specs.States.{cell_blocks, own}
 use Rattle.f3_word_cells.specs.Moves.{Popped}
 use Rattle.f3_word_cells.specs.Does.{IsTold}
-use Rattle.f3_word_cells.proofs.OnTop.{AreOf, AreOnTop, cells_taken, line_kinds}
+use Rattle.f3_word_cells.proofs.OnTop.{AreOf, cells_taken, line_kinds}
 use Rattle.f3_word_cells.proofs.Flat.{IsFlat, plain_is_flat}
 use Rattle.f3_word_cells.proofs.Amid.{Amid, amid_popped, amid_some}
 use Rattle.f3_word_cells.proofs.InHand.{amid_without, hand_free}

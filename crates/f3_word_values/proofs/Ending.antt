@@ -1,5 +1,5 @@
 -- How an instruction ends that computes a scalar.
-use Rattle.std.proofs.Common.{◌≡◌, ◌∙◌, refl, Bool, ℕ, ◌+◌, List, [], ◌∷◌, ◌++◌, sym, ap}
+use Rattle.std.proofs.Common.{◌≡◌, ◌∙◌, refl, Bool, ℕ, ◌+◌, List, [], ◌∷◌, sym, ap}
 use Rattle.std.specs.Prelude.{⊤, Ok, Err, Result}
 use Rattle.f3_program.specs.declared.declarations.Constant.{Constant}
 use Rattle.f3_program.specs.declared.declarations.Kind.{Kind}

@@ -1,12 +1,12 @@
 -- Operations on scalars at the width of a type.
-use Rattle.std.proofs.Common.{◌≡◌, ◌∙◌, Bool, true, false, ℤ, cond, refl, ap, sym}
-use Rattle.std.specs.Prelude.{◌||◌, ◌&&◌}
+use Rattle.std.proofs.Common.{◌≡◌, ◌∙◌, Bool, true, false, refl, ap, sym}
+use Rattle.std.specs.Prelude.{◌||◌}
 use Rattle.f3_places.specs.declared.source.Place.{Place}
 use Rattle.f3_program.specs.declared.declarations.Base.{Base}
 use Rattle.f3_program.specs.declared.declarations.Base.TheVariants as base
 use Rattle.f3_program.specs.declared.expression.BinaryOperator.{BinaryOperator}
 use Rattle.f3_program.specs.declared.expression.BinaryOperator.TheVariants as o
-use Rattle.f3_meaning_whole.specs.Value.{Value, Number}
+use Rattle.f3_meaning_whole.specs.Value.{Value}
 use Rattle.f3_meaning_whole.specs.Arithmetic.{apply}
 use Rattle.f3_meaning_whole.specs.Permitted.{same_type}
 use Rattle.f3_meaning_whole.specs.Formed.{alike, is_number, of_kind}

@@ -1,5 +1,5 @@
 use Rattle.f3_word_cells.specs.declared.cell.Here.{Here}
-use Rattle.std.proofs.Common.{refl, sym, ap, ◌∙◌}
+use Rattle.std.proofs.Common.{sym, ap, ◌∙◌}
 use Rattle.f3_code.specs.Machine.{flow_of}
 use Rattle.f3_word_cells.proofs.OnTop.{line_kinds}
 use Rattle.f3_word_cells.proofs.Within.{here_stands}

@@ -1,4 +1,4 @@
-use Rattle.std.proofs.Common.{[], refl, ap, sym, subst}
+use Rattle.std.proofs.Common.{[], ap, sym, subst}
 use Rattle.std.specs.Prelude.{Ok}
 use Rattle.f3_rooms.specs.Laws.{without}
 use Rattle.f3_cell_kinds.specs.Types.{Site}

@@ -1,8 +1,6 @@
 use Rattle.std.proofs.Common.{◌≡◌, [], ◌+◌, ◌∙◌, refl, ap, sym, subst, drop, arith}
-use Rattle.std.specs.Prelude.{Ok}
 use Rattle.f3_cell_kinds.specs.Types.{Site}
 use Rattle.f3_cell_kinds.specs.Laws.{site_at}
-use Rattle.f3_word_cells.specs.Does.{Becomes}
 use Rattle.f3_word_cells.proofs.OnTop.{line_kinds}
 use Rattle.f3_word_cells.proofs.Amid.{Amid, amid_first}
 use Rattle.f3_word_control.proofs.Lines.{advances, goes}

@@ -1,12 +1,12 @@
-use Rattle.std.proofs.Common.{[], refl, ap, ◌∙◌, ◌++◌, arith}
+use Rattle.std.proofs.Common.{[], ap, ◌∙◌, ◌++◌, arith}
 use Rattle.f3_cell_kinds.specs.Types.{Site}
 use Rattle.f3_rooms.proofs.Framing.{times_append}
 use Rattle.f3_word_cells.specs.States.{cell_blocks}
-use Rattle.f3_word_cells.proofs.OnTop.{line_kinds, one_on_top, two_on_top}
+use Rattle.f3_word_cells.proofs.OnTop.{line_kinds, two_on_top}
 use Rattle.f3_word_cells.proofs.Amid.{amid_first, amid_popped, amid_pushed}
 use Rattle.f3_word_control.proofs.Moving.{in_order}
 use Rattle.f3_word_control.proofs.Lines.{goes_with, goes}
-use Rattle.f3_word_control.proofs.Tops.{swap_flat, no_top}
+use Rattle.f3_word_control.proofs.Tops.{swap_flat}
 use Rattle.f3_word_control.proofs.Does.{swapped}
 use Rattle.f3_word_control.proofs.jumps.swap.Goals as goal
 

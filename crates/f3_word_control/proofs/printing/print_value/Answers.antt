@@ -1,6 +1,5 @@
 use Rattle.std.proofs.Common.{[], ◌+◌, refl, ap, sym, subst}
 use Rattle.f3_rooms.specs.Laws.{without}
-use Rattle.f3_output.specs.Output.{state_of, Wrote, Faulted}
 use Rattle.f3_shaping.specs.Results.{value_text}
 use Rattle.f3_cell_kinds.specs.Types.{Site}
 use Rattle.f3_word_cells.specs.States.{datum_blocks}
@@ -28,20 +27,23 @@ returns-in-Ok-clause-does g c = λ p t l x told there is st.
     let lead = line_kinds p t l _ told there is in
     let top = datum_taken p t m _ x _ c.in-Some.ensures.taken (amid_first p t m _ x _ t.stack st lead.2.before refl) in
     let gone = amid_without p t m _ _ x _ top.below t.world.store (datum_blocks d) [] top.amid in
-    let text = shown p m lead.0 d top.value lead.1 top.known top.is in
-    (value_text top.value,
-    subst (λ n. Follows p l t (value_text top.value) n c.advance.new.self) (sym c.let_go_datum.ensures)
-    (prints p l t m (without (datum_blocks d) m) _ x st top.below (value_text top.value)
-    (goes_so p l t _ [] is (printed (value_text top.value)) (λ rest. value_printed p l t rest _ _ top.split)) gone
-    c.in-Some.ensures.taken.pc (ap (λ (z : Site). z.cells) lead.2.next) c.advance.ensures),
-    rw (sym text) (c.in-Ok.ensures {u = tt}).all)
+    let text = shown p m lead.0 d top.value lead.1 top.known top.is in (
+      value_text top.value,
+      subst (λ n. Follows p l t (value_text top.value) n c.advance.new.self) (sym c.let_go_datum.ensures)
+          (prints p l t m (without (datum_blocks d) m) _ x st top.below (value_text top.value)
+          (goes_so p l t _ [] is (printed (value_text top.value)) (λ rest. value_printed p l t rest _ _ top.split)) gone
+          c.in-Some.ensures.taken.pc (ap (λ (z : Site). z.cells) lead.2.next) c.advance.ensures),
+      rw (sym text) (c.in-Ok.ensures {u = tt}).all,
+    )
 
 pub returns-in-Err-clause-does : goal.returns-in-Err-clause-does
 returns-in-Err-clause-does g c = λ p t l x told there is st.
     let m = g.B.Blocks.blocks c.args.heap.now in
     let lead = line_kinds p t l _ told there is in
     let top = datum_taken p t m _ x _ c.in-Some.ensures.taken (amid_first p t m _ x _ t.stack st lead.2.before refl) in
-    let text = shown p m lead.0 c.in-Some.datum top.value lead.1 top.known top.is in
-    (with_stack (t.pc + 1) top.below t, value_text top.value,
-    goes_so p l t _ [] is (printed (value_text top.value)) (λ rest. value_printed p l t rest _ _ top.split),
-    rw (sym text) (c.in-Err.ensures {u = tt}).front)
+    let text = shown p m lead.0 c.in-Some.datum top.value lead.1 top.known top.is in (
+      with_stack (t.pc + 1) top.below t,
+      value_text top.value,
+      goes_so p l t _ [] is (printed (value_text top.value)) (λ rest. value_printed p l t rest _ _ top.split),
+      rw (sym text) (c.in-Err.ensures {u = tt}).front,
+    )

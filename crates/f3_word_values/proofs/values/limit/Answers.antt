@@ -3,7 +3,6 @@ use Rattle.std.proofs.lemmas.Int.{to_z-of_z}
 use mir.Val.{SFits}
 use mir.Syntax.{w64}
 use Rattle.std.specs.Prelude.{Some}
-use Rattle.f3_meaning_whole.specs.Act as act
 use Rattle.f3_cell_kinds.specs.Types.{Site}
 use Rattle.f3_word_cells.proofs.OnTop.{line_kinds}
 use Rattle.f3_word_cells.proofs.Amid.{amid_first}
