@@ -1,0 +1,3 @@
+pub mod Owning
+pub mod Counting
+pub mod Leaving

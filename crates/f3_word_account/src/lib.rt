@@ -1,0 +1,22 @@
+//! What a machine over words takes of its heap: just the blocks of its variables, and of the values that it holds.
+#![tactic(auto)]
+
+ghost use Rattle.f3_word_account.specs.Laws.{LiveBlocksAreOwned, UsedIsWordsOfBlocks, NothingLeaks};
+
+/// Each live block is that of the variables that live for the whole run, that of the variables of an activation or of a value that is held
+/// for a call or an ASSOCIATE, or that of a value on the stack, and of these it is one only; and each of these is live (own rule).
+pub fn live_blocks_are_owned()
+    ensures { LiveBlocksAreOwned }
+{}
+
+/// The words in use are exactly those that these blocks take; and each value on the stack has a block of just its own words (own rule).
+pub fn used_is_words_of_blocks()
+    ensures { UsedIsWordsOfBlocks }
+{}
+
+/// Where no level is open but that of one activation and no value stands on the stack, only two blocks are in use: that of the variables
+/// that live for the whole run, and that of the variables of the activation. So it is at each statement of the main program that stands
+/// in no ASSOCIATE, and at its end, whatever was called before (own rule).
+pub fn nothing_leaks()
+    ensures { NothingLeaks }
+{}
