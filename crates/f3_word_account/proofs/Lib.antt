@@ -1,3 +1,5 @@
 pub mod Owning
 pub mod Counting
 pub mod Leaving
+pub mod Activations
+pub mod Empty

@@ -1,12 +1,19 @@
--- The laws of what a machine over words takes of its heap.
-use Rattle.std.specs.Prelude.{◌≡◌, ◌<◌, ◌≤◌, ℕ, ◌+◌, [], ◌∷◌, length}
+-- Laws of what a machine over words takes of its heap.
+use Rattle.std.specs.Prelude.{⊤, ◌≡◌, ◌<◌, ◌≤◌, ℕ, ◌+◌, List, [], ◌∷◌, length, reverse, Some, slice_get}
 use Rattle.f3_program.specs.declared.program.Program.{Program}
 use Rattle.f3_live_blocks.specs.Blocks.{Live, IsLive, words_of}
 use Rattle.f3_heap_laws.specs.Account.{r as taken_by, used_by}
 use Rattle.f3_code.specs.State as s
+use Rattle.f3_cells.specs.Cells.{variables_of}
+use Rattle.f3_cell_kinds.specs.Types.{CellType}
+use Rattle.f3_cell_kinds.specs.Types as cell
+use Rattle.f3_cell_kinds.specs.Holds.{Fits}
+use Rattle.f3_cell_kinds.specs.Laws.{site_at}
 use Rattle.f3_rooms.specs.Held.{times}
 use Rattle.f3_rooms.specs.Forms.{total}
 use Rattle.f3_rooms.specs.Rooms.{Rooms, blocks_of}
+use Rattle.f3_word_cells.specs.declared.cell.Here.{Here}
+use Rattle.f3_word_cells.specs.declared.state.Caller.{Caller}
 use Rattle.f3_word_cells.specs.declared.state.State.{State}
 use Rattle.f3_word_cells.specs.Areas.{types_of}
 use Rattle.f3_word_cells.specs.States.{Stands, statics_of, loose_blocks}
@@ -25,6 +32,18 @@ pub record AreOwned (m : Live) (w : State) (x : Rooms) : Type 0 where
 abbrev pub LiveBlocksAreOwned : Type 0
 LiveBlocksAreOwned = Always (λ p m w x t. AreOwned m w x)
 
+-- The variables of an activation stand in a block of its level.
+pub record HasBlock (p : Program) (m : Live) (w : State) (h : Here) : Type 0 where
+  pub start : ℕ
+  pub block : ℕ
+  pub level : slice_get w.levels.items.items h.level ≡ Some start
+  pub stands : slice_get w.blocks.items.items start ≡ Some block
+  pub long : total (types_of p) (variables_of p h.procedure) ≤ length (words_of m block)
+
+abbrev pub ActivationsHaveBlocks : Type 0
+ActivationsHaveBlocks = Always (λ p m w x t. HasBlock p m w w.here
+    × ((k : ℕ) (f : Caller) → slice_get (reverse w.callers.items.items) k ≡ Some f → HasBlock p m w f.here))
+
 -- The words in use are those of the blocks of rooms, by their lengths, and those of the values on the stack.
 abbrev pub UsedIsWordsOfBlocks : Type 0
 UsedIsWordsOfBlocks = Always (λ p m w x t. used_by m ≡ blocks_words m (room_blocks w) + cells_words p w.cells.items.items)
@@ -39,3 +58,20 @@ pub record AreTwo (p : Program) (m : Live) (w : State) (t : s.State) : Type 0 wh
 
 abbrev pub NothingLeaks : Type 0
 NothingLeaks = Always (λ p m w x t. length w.levels.items.items ≤ 1 → loose_blocks w ≡ [] → AreTwo p m w t)
+
+-- ---- what is known of a line before a run
+
+-- cells that hold no values
+abbrev pub HoldsNone : CellType → Type 0
+HoldsNone (cell.Datum k) = ⊥
+HoldsNone (cell.Argument g) = ⊥
+HoldsNone (cell.Selector k) = ⊥
+HoldsNone x = ⊤
+
+abbrev pub AllHoldNone : List CellType → Type 0
+AllHoldNone [] = ⊤
+AllHoldNone (x ∷ xs) = HoldsNone x × AllHoldNone xs
+
+-- Where no procedure is active, and such cells are known at the line, no value stands on the stack.
+abbrev pub LinesHoldNoValues : Type 0
+LinesHoldNoValues = Always (λ p m w x t. Fits p.types.items (site_at p) t → t.frames ≡ [] → AllHoldNone (site_at p t.pc).cells → loose_blocks w ≡ [])

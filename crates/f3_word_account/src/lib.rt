@@ -1,12 +1,17 @@
 //! What a machine over words takes of its heap: just the blocks of its variables, and of the values that it holds.
 #![tactic(auto)]
 
-ghost use Rattle.f3_word_account.specs.Laws.{LiveBlocksAreOwned, UsedIsWordsOfBlocks, NothingLeaks};
+ghost use Rattle.f3_word_account.specs.Laws.{ActivationsHaveBlocks, LinesHoldNoValues, LiveBlocksAreOwned, NothingLeaks, UsedIsWordsOfBlocks};
 
 /// Each live block is that of the variables that live for the whole run, that of the variables of an activation or of a value that is held
 /// for a call or an ASSOCIATE, or that of a value on the stack, and of these it is one only; and each of these is live (own rule).
 pub fn live_blocks_are_owned()
     ensures { LiveBlocksAreOwned }
+{}
+
+/// The variables of each activation stand in a block, which has at least their words (own rule).
+pub fn activations_have_blocks()
+    ensures { ActivationsHaveBlocks }
 {}
 
 /// The words in use are exactly those that these blocks take; and each value on the stack has a block of just its own words (own rule).
@@ -19,4 +24,10 @@ pub fn used_is_words_of_blocks()
 /// in no ASSOCIATE, and at its end, whatever was called before (own rule).
 pub fn nothing_leaks()
     ensures { NothingLeaks }
+{}
+
+/// At a line of the main program whose cells are known to hold no values, no value stands on the stack: so where a statement begins, within
+/// whatever DO or SELECT CASE, and at the end (own rule).
+pub fn lines_hold_no_values()
+    ensures { LinesHoldNoValues }
 {}
