@@ -25,7 +25,7 @@ use Rattle.f3_word_account.specs.Laws.{HoldsNone, AllHoldNone, LinesHoldNoValues
 
 module _ (p : Program) (n : Live) (types : List Derived) (sites : ℕ → Site) (Known : Scope → Type 0) where
   -- beneath the cells that are known there is nothing
-  nothing_under : (x : Rooms) (ns : List Name) (a : Cell) (b : s.Cell) (below : List s.Cell) (o : Around) (r end : Kind) → IsCell p x n ns a b
+  pub nothing_under : (x : Rooms) (ns : List Name) (a : Cell) (b : s.Cell) (below : List s.Cell) (o : Around) (r end : Kind) → IsCell p x n ns a b
       → Stand types sites Known o r [] (b ∷ below) end → ⊥
   nothing_under x ns (c.Datum d) (s.Datum v) below o r end is stand = stand
   nothing_under x ns (c.Datum d) b below o r end is stand = is

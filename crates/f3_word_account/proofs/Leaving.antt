@@ -16,7 +16,7 @@ use Rattle.f3_word_account.specs.Owned.{room_blocks, owned, blocks_words}
 use Rattle.f3_word_account.specs.Laws.{AreTwo, NothingLeaks}
 use Rattle.f3_word_account.proofs.Counting.{used_by_owned}
 
-starts_count : (n : ℕ) (ls : List (List Slot)) → length (starts_of n ls) ≡ length ls
+pub starts_count : (n : ℕ) (ls : List (List Slot)) → length (starts_of n ls) ≡ length ls
 starts_count n [] = refl
 starts_count n (l ∷ ls) = let e = starts_count (n + length (level_rooms l)) ls in omega (arith, e)
 

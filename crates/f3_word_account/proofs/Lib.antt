@@ -3,3 +3,4 @@ pub mod Counting
 pub mod Leaving
 pub mod Activations
 pub mod Empty
+pub mod Idle

@@ -20,7 +20,7 @@ use Rattle.f3_word_cells.specs.States.{Stands, statics_of, loose_blocks}
 use Rattle.f3_word_account.specs.Owned.{room_blocks, owned, blocks_words, cells_words}
 
 -- what holds of blocks and a state in memory, where these stand for whatever state of a program in whatever rooms
-abbrev Always : (Program → Live → State → Rooms → s.State → Type 0) → Type 0
+abbrev pub Always : (Program → Live → State → Rooms → s.State → Type 0) → Type 0
 Always P = (p : Program) (m : Live) (w : State) (x : Rooms) (t : s.State) → Stands p m w x t → P p m w x t
 
 -- A block is live where the state has it, once, and nowhere else.

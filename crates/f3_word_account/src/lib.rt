@@ -2,6 +2,7 @@
 #![tactic(auto)]
 
 ghost use Rattle.f3_word_account.specs.Laws.{ActivationsHaveBlocks, LinesHoldNoValues, LiveBlocksAreOwned, NothingLeaks, UsedIsWordsOfBlocks};
+ghost use Rattle.f3_word_account.specs.Runs.{StatementsLeakNothing};
 
 /// Each live block is that of the variables that live for the whole run, that of the variables of an activation or of a value that is held
 /// for a call or an ASSOCIATE, or that of a value on the stack, and of these it is one only; and each of these is live (own rule).
@@ -30,4 +31,10 @@ pub fn nothing_leaks()
 /// whatever DO or SELECT CASE, and at the end (own rule).
 pub fn lines_hold_no_values()
     ensures { LinesHoldNoValues }
+{}
+
+/// So in each state of a run of the main program, at a line at which no cell is known that holds a value or belongs to an ASSOCIATE: where a
+/// statement begins, whatever was called before, and at the end, nothing else is in use than these two blocks (own rule).
+pub fn statements_leak_nothing()
+    ensures { StatementsLeakNothing }
 {}
