@@ -4,3 +4,4 @@ pub mod Leaving
 pub mod Activations
 pub mod Empty
 pub mod Idle
+pub mod Ending

@@ -2,7 +2,7 @@
 #![tactic(auto)]
 
 ghost use Rattle.f3_word_account.specs.Laws.{ActivationsHaveBlocks, LinesHoldNoValues, LiveBlocksAreOwned, NothingLeaks, UsedIsWordsOfBlocks};
-ghost use Rattle.f3_word_account.specs.Runs.{StatementsLeakNothing};
+ghost use Rattle.f3_word_account.specs.Runs.{EndsLeakNothing, StatementsLeakNothing};
 
 /// Each live block is that of the variables that live for the whole run, that of the variables of an activation or of a value that is held
 /// for a call or an ASSOCIATE, or that of a value on the stack, and of these it is one only; and each of these is live (own rule).
@@ -37,4 +37,9 @@ pub fn lines_hold_no_values()
 /// statement begins, whatever was called before, and at the end, nothing else is in use than these two blocks (own rule).
 pub fn statements_leak_nothing()
     ensures { StatementsLeakNothing }
+{}
+
+/// So it is where a run comes to the END of the main program (own rule for ISO/IEC 1539-1:2004, 11.1).
+pub fn ends_leak_nothing()
+    ensures { EndsLeakNothing }
 {}
