@@ -1,0 +1,3 @@
+pub mod Tops
+pub mod Going
+pub mod Nexts
