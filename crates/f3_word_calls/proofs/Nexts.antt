@@ -1,5 +1,5 @@
 -- Objects of names, one after another.
-use Rattle.std.proofs.Common.{◌≡◌, ◌∙◌, ℕ, zero, suc, ◌+◌, ◌≤◌, Bool, true, false, List, [], ◌∷◌, ◌++◌, length, take, drop, refl, sym, ap, subst, inl, inr, arith}
+use Rattle.std.proofs.Common.{◌≡◌, ◌∙◌, ℕ, zero, suc, ◌+◌, ◌≤◌, Bool, true, false, List, [], ◌∷◌, length, take, drop, refl, sym, ap, subst, inl, inr, arith}
 use Rattle.std.specs.Prelude.{⊤, ◌⊎◌, Ok, Result, Some, None, slice_get, Option}
 use Rattle.f3_program.specs.declared.declarations.Kind.{Kind}
 use Rattle.f3_program.specs.declared.program.Program.{Program}
@@ -9,6 +9,9 @@ use Rattle.f3_code.specs.declared.instruction.Instruction.{Instruction}
 use Rattle.f3_code.specs.declared.instruction.Instruction.TheVariants as i
 use Rattle.f3_code.specs.State.{Line, Goes}
 use Rattle.f3_code.specs.Heap.{with_answers}
+use Rattle.f3_code.specs.Exec.{is_held}
+use Rattle.f3_code.specs.Machine.{next_argument, passed_in}
+use Rattle.f3_meaning_whole.specs.Act.{passed_at}
 use Rattle.f3_code.specs.State as s
 use Rattle.f3_cell_kinds.proofs.Standing.{in_is}
 use Rattle.f3_cell_kinds.specs.Types.{CellType, Scope}
@@ -20,7 +23,6 @@ use Rattle.f3_cell_kinds.specs.Laws.{site_at}
 use Rattle.f3_rooms.specs.Rooms.{Rooms}
 use Rattle.f3_word_cells.specs.declared.cell.Object.{Object}
 use Rattle.f3_word_cells.specs.declared.cell.Range.{Range}
-use Rattle.f3_word_cells.specs.declared.cell.Cell.{Cell}
 use Rattle.f3_word_cells.specs.declared.cell.Cell.TheVariants as c
 use Rattle.f3_word_cells.specs.declared.state.Name.{Name}
 use Rattle.f3_word_cells.specs.declared.state.State.{State}
@@ -35,7 +37,7 @@ use Rattle.f3_word_cells.proofs.OnTop.{line_kinds, of_objects, one_on_top}
 use Rattle.f3_word_cells.proofs.Within.{here_stands}
 use Rattle.f3_word_cells.proofs.Moving.{Beneath, moved_to}
 use Rattle.f3_word_cells.proofs.Amid.{Amid, amid_first, amid_popped, amid_pushed}
-use Rattle.f3_word_cells.proofs.Lines.{becomes_ahead, does_so, line_goes}
+use Rattle.f3_word_cells.proofs.Lines.{becomes_ahead, does_so, line_goes, with_stack}
 use Rattle.f3_word_calls.specs.Nexts.{HasNext, IsFirst}
 use Rattle.f3_word_calls.specs.Taken.{Took}
 use Rattle.f3_word_calls.proofs.Tops.{objects_cell, top_is}
@@ -176,3 +178,18 @@ module _ (p : Program) (live : Live) (old : State) (x : Rooms) (t : s.State) (l 
               (pushed.pc ∙ popped.pc) kinds size went
               (line_goes p l t act (s.Objects (top.first ∷ top.others) ∷ top.below)
               (moved_to t (t.pc + 1 + d) (s.Objects top.others ∷ top.below) t.here t.world) [] [] is top.split goes)
+
+          -- by an argument
+          pub argument_goes : (number d : ℕ) (new : State) → l.act ≡ i.NextArgument number d → Pushed (c.Object o) (more.pc + 1) more new
+              → (site_at p (t.pc + 1)).cells ≡ cell.Object k ∷ cell.Objects ks ∷ rest → is_held (passed_at number (passed_in t.frames)) ≡ true
+              → Becomes p l t (Ok tt) live new
+          argument_goes number d new is put kinds held =
+              next_goes (i.NextArgument number d) new is put kinds (λ r. ap (λ b. next_argument (top.first ∷ top.others) b d
+              (with_answers r (with_stack (s.Objects (top.first ∷ top.others) ∷ top.below) t)) top.below) held)
+
+          pub argument_ahead : (number d total : ℕ) (new : State) (result : Result ⊤ Stop) → l.act ≡ i.NextArgument number d
+              → WentAhead d total result more new → length (code_of p).lines ≡ total → (site_at p (t.pc + 1 + d)).cells ≡ cell.Objects ks ∷ rest
+              → is_held (passed_at number (passed_in t.frames)) ≡ false → Becomes p l t result live new
+          argument_ahead number d total new result is went size kinds held =
+              others_ahead (i.NextArgument number d) d total new result is went size kinds (λ r. ap (λ b. next_argument (top.first ∷ top.others) b d
+              (with_answers r (with_stack (s.Objects (top.first ∷ top.others) ∷ top.below) t)) top.below) held)

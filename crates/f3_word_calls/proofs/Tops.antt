@@ -1,12 +1,10 @@
 -- Which cell is one of the machine over values.
-use Rattle.std.proofs.Common.{◌≡◌, ℕ, List, [], ◌∷◌, refl, ap, sym, subst, ◌∙◌}
-use Rattle.std.specs.Prelude.{Option, Some, None}
+use Rattle.std.proofs.Common.{◌≡◌, ℕ, List, [], ◌∷◌, refl}
 use Rattle.f3_program.specs.declared.program.Program.{Program}
 use Rattle.f3_live_blocks.specs.Blocks.{Live}
 use Rattle.f3_meaning_whole.specs.Value.{Value}
 use Rattle.f3_meaning_whole.specs.Reference.{Reference}
 use Rattle.f3_meaning_whole.specs.Exec.{Flow}
-use Rattle.f3_meaning_whole.specs.Exec as exec
 use Rattle.f3_meaning_whole.specs.Act as m
 use Rattle.f3_code.specs.State as s
 use Rattle.f3_rooms.specs.Rooms.{Rooms}

@@ -1,5 +1,5 @@
 -- The next of some objects.
-use Rattle.std.specs.Prelude.{◌≡◌, ◌⊎◌, ◌≤◌, ℕ, ◌+◌, Bool, false, List, [], ◌∷◌, length, Option, None, Some, slice_get}
+use Rattle.std.specs.Prelude.{◌≡◌, ◌⊎◌, ◌≤◌, ℕ, ◌+◌, Bool, false, List, [], ◌∷◌, length, reverse, Option, None, Some, slice_get}
 use Rattle.f3_word_cells.specs.declared.cell.Object.{Object}
 use Rattle.f3_word_cells.specs.declared.cell.Range.{Range}
 use Rattle.f3_word_cells.specs.declared.state.Name.{Name}
@@ -24,3 +24,8 @@ HasNext (Some x) ns range = IsFirst ns range x.0 x.1
 abbrev pub is_passed_held : List Caller → List Name → ℕ → Bool
 is_passed_held [] ns k = false
 is_passed_held (f ∷ fs) ns k = is_held_at (names_in f.dummies ns) k
+
+-- the latest caller, if there is one: the last on the stack
+abbrev pub HasLatest : Option Caller → List Caller → Type 0
+HasLatest None fs = reverse fs ≡ []
+HasLatest (Some f) fs = (others : List Caller) × (reverse fs ≡ f ∷ others)
