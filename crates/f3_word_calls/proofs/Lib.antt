@@ -1,6 +1,9 @@
 pub mod Tops
 pub mod Beneath
 pub mod Latest
+pub mod Giving
+pub mod Leaving
 pub mod Going
 pub mod Nexts
 pub mod Outward
+pub mod Returning

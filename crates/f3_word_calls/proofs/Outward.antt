@@ -86,7 +86,7 @@ module _ (p : Program) (live : Live) (old : State) (x : Rooms) (t : s.State) (l 
   are_callers =
       callers_stand p live (beneath old) (reverse old.callers.items.items) t.frames x old.names.items.items old.here t.here (own old) t.stack st.stack
 
-  no_frames : (fs : List Caller) (gs : List s.Frame) → AreCallers p live (beneath old) fs gs x old.names.items.items → fs ≡ [] → gs ≡ []
+  pub no_frames : (fs : List Caller) (gs : List s.Frame) → AreCallers p live (beneath old) fs gs x old.names.items.items → fs ≡ [] → gs ≡ []
   no_frames [] [] are e = refl
   no_frames [] (g ∷ gs) are e = absurd are
   no_frames (f ∷ fs) gs are e = absurd (cc)

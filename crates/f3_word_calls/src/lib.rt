@@ -3,4 +3,6 @@
 
 pub mod copies;
 pub mod dummies;
+mod ends;
 pub mod operands;
+pub mod returns;
