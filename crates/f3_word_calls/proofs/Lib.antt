@@ -7,3 +7,5 @@ pub mod Going
 pub mod Nexts
 pub mod Outward
 pub mod Returning
+pub mod Ending
+pub mod Associated

@@ -1,6 +1,7 @@
 //! Calls of procedures and the ASSOCIATE construct, over words.
 #![tactic(auto)]
 
+pub mod associates;
 pub mod copies;
 pub mod dummies;
 mod ends;
