@@ -9,3 +9,4 @@ pub mod Outward
 pub mod Returning
 pub mod Ending
 pub mod Associated
+pub mod Holding
