@@ -1,24 +1,23 @@
 -- Values that are held, as variables of a level.
-use Rattle.std.proofs.Common.{◌≡◌, ◌≢◌, ◌∙◌, ℕ, zero, suc, ◌+◌, ◌*◌, ◌<◌, ◌≤◌, ◌^◌, Bool, true, false, List, [], ◌∷◌, ◌++◌, length, map, refl, sym, ap, subst, arith}
+use Rattle.std.proofs.Common.{◌≡◌, ◌∙◌, ℕ, zero, suc, ◌+◌, ◌*◌, ◌<◌, ◌≤◌, ◌^◌, Bool, true, false, List, [], ◌∷◌, ◌++◌, length, map, refl, sym, ap, subst, arith}
 use Rattle.std.specs.Prelude.{⊤, not, ◌&&◌, if◌then◌else◌, Vec}
 use Rattle.std.specs.declared.alloc.Global.{Global}
 use Rattle.std.proofs.lemmas.List.{length-map}
 use denote.RawPtr.{null_ptr}
 use native.Mathlib.Nat.{le_refl}
-use Rattle.f3_program.specs.declared.declarations.Constant.{Constant}
 use Rattle.f3_program.specs.declared.declarations.Declared.{Declared}
 use Rattle.f3_program.specs.declared.declarations.Dimension.{Dimension}
 use Rattle.f3_program.specs.declared.program.Program.{Program}
-use Rattle.f3_live_blocks.specs.Blocks.{Live, words_of}
+use Rattle.f3_live_blocks.specs.Blocks.{Live}
 use Rattle.f3_meaning_whole.specs.Arithmetic.{constant_value}
 use Rattle.f3_meaning_whole.specs.Value.{Span, Value, count}
 use Rattle.f3_meaning_whole.specs.Shape.{Shape, Whole, Logical, Record, Parts, nothing, and, spans_declared}
 use Rattle.f3_desc.specs.declared.descriptor.Dim.{Dim}
 use Rattle.f3_desc.specs.Laws.{size_of}
 use Rattle.f3_cell_kinds.proofs.Asked.{and_is, not_is}
-use Rattle.f3_rooms.specs.Held.{Empty, Held, Row, end, times}
+use Rattle.f3_rooms.specs.Held.{Empty, end, times}
 use Rattle.f3_rooms.specs.Flat.{are_flat, is_flat}
-use Rattle.f3_rooms.specs.Forms.{Form, Laid, Allocatable, form_of, form_words, laid_words, words_for}
+use Rattle.f3_rooms.specs.Forms.{Laid, Allocatable, form_of, form_words, laid_words, words_for}
 use Rattle.f3_rooms.specs.Values.{formed, object}
 use Rattle.f3_rooms.specs.Rooms.{Known, Room, Rooms, Slot, Stands as Stood, blocks_of, level_blocks, level_values, room_values, slot_blocks, slot_values, store_of}
 use Rattle.f3_rooms.specs.Laws.{with_level}
@@ -225,10 +224,10 @@ module _ (p : Program) (h : Global) (m : Live) (flat : (of : Base) → is_flat (
       × IsSound (types_of p) m (with_level x (slots_of h ds short))
   holding_begins x ds short vs are sound apart =
       let begun = levels_begin (types_of p) m m x (slots_of h ds short) sound (λ b some. refl) (level_holds ds short vs are)
-          (λ q. let a = apart q in let e = ap (times q) (level_block ds short) in omega (arith, a, e)) in (
+      (λ q. let a = apart q in let e = ap (times q) (level_block ds short) in omega (arith, a, e)) in (
         begun.0 ∙ ap (λ ws. let s : Store = record {
-              statics = (store_of (types_of p) m x).statics;
-              levels = (store_of (types_of p) m x).levels ++ ws ∷ [];
-            } in s) (level_value ds short vs are),
+          statics = (store_of (types_of p) m x).statics;
+          levels = (store_of (types_of p) m x).levels ++ ws ∷ [];
+        } in s) (level_value ds short vs are),
         begun.1,
       )

@@ -10,3 +10,4 @@ pub mod Returning
 pub mod Ending
 pub mod Associated
 pub mod Holding
+pub mod Bounded

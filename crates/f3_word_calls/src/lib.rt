@@ -2,6 +2,7 @@
 #![tactic(auto)]
 
 pub mod associates;
+pub mod bounds;
 pub mod copies;
 pub mod dummies;
 mod ends;
