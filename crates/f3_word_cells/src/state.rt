@@ -17,7 +17,7 @@ pub struct Name {
 }
 
 /// What a procedure goes back to: the line and the activation of its caller, where the cells of that begin, the place where it was called,
-/// the level of the values that are held for it, its dummies, and the block for its value, where that is of array or derived type.
+/// the level of the values that are held for it, and its dummies.
 #[derive(Clone, Copy, Debug)]
 pub struct Caller {
     pub pc: usize,
@@ -26,7 +26,6 @@ pub struct Caller {
     pub place: Place,
     pub level: usize,
     pub dummies: Range,
-    pub value: Option<BlockId>,
 }
 
 /// A state: the number of the next line, from 0 on; the cells of all activations, the one on top at the end, and where those of the one at
@@ -54,7 +53,7 @@ pub enum Stop {
     Stopped(Option<u32>),
     /// An error at the place of the line.
     Failed(RunError),
-    /// A jump leads to where there is no line, which no code of a program does.
+    /// A jump leads to where there is no line, or what has no caller goes back to it, which no code of a program does.
     Lost,
     /// A value that is held would change, which only happens where a change is not permitted.
     Forbidden,

@@ -1,0 +1,9 @@
+pub mod Owning
+pub mod Counting
+pub mod Leaving
+pub mod Activations
+pub mod Empty
+pub mod Idle
+pub mod Ending
+pub mod Beginning
+pub mod Statements
