@@ -1,1 +1,2 @@
 mod Laying
+mod There

@@ -1,1 +1,2 @@
 pub mod Dims
+pub mod Parts
