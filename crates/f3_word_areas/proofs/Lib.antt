@@ -1,2 +1,3 @@
 mod Laying
 mod There
+mod Wide

@@ -1,2 +1,3 @@
 pub mod Dims
 pub mod Parts
+pub mod Sections
