@@ -1,3 +1,4 @@
 mod Laying
 mod There
 mod Wide
+mod Triplets
