@@ -2,3 +2,4 @@ mod Laying
 mod There
 mod Wide
 mod Triplets
+mod Picking
