@@ -3,4 +3,5 @@
 
 pub mod bounds;
 pub mod copies;
+pub mod parts;
 pub mod sections;
