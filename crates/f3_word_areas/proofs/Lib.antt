@@ -1,5 +1,7 @@
 mod Laying
-mod There
 mod Wide
 mod Triplets
-mod Picking
+pub mod There
+pub mod Picking
+pub mod Types
+pub mod Components
