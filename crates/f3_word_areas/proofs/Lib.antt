@@ -5,3 +5,4 @@ pub mod There
 pub mod Picking
 pub mod Types
 pub mod Components
+pub mod Further
