@@ -6,3 +6,4 @@ pub mod Picking
 pub mod Types
 pub mod Components
 pub mod Further
+pub mod Variables
