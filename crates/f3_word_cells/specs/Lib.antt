@@ -4,4 +4,6 @@ pub mod States
 pub mod Moves
 pub mod Plain
 pub mod Scenes
+pub mod Forms
+pub mod Free
 pub mod Does
