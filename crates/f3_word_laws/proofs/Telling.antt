@@ -1,5 +1,5 @@
 -- From a state of which the kinds are told a line leads to another.
-use Rattle.std.proofs.Common.{◌≡◌, ℕ, Bool, false, refl, sym, ap, subst, ◌∙◌, arith}
+use Rattle.std.proofs.Common.{◌≡◌, ℕ, Bool, false, refl, sym, ap, subst, ◌∙◌, arith, reverse}
 use Rattle.f3_program.specs.declared.program.Program.{Program}
 use Rattle.f3_code.specs.State as s
 use Rattle.f3_code.specs.State.{Line, Goes}
@@ -18,7 +18,7 @@ use Rattle.f3_store_kinds.specs.Laws.{first_typing}
 use Rattle.f3_store_kinds.proofs.Running.{steps_accord, start_accords, code_is_clean, code_begins}
 use Rattle.f3_store_kinds.proofs.Standing.{parts_stand}
 use Rattle.f3_word_cells.specs.Scenes.{code_of}
-use Rattle.f3_word_cells.specs.States.{own}
+use Rattle.f3_word_cells.specs.States.{AreCallers, beneath, own}
 use Rattle.f3_word_cells.specs.Does.{stream}
 use Rattle.f3_word_laws.specs.Laws.{ObjectsAreThere, StartIsTold, RunsAreTold}
 use Rattle.f3_store_kinds.specs.There.{CellsThere}
@@ -28,7 +28,8 @@ pub objects_are_there : ObjectsAreThere
 objects_are_there p live w x t g stands fits acc =
     parts_stand p (site_at p) t g fits acc
     (subst (λ z. CellsThere z (site_at p t.pc).cells t.stack) (sym stands.store)
-    (cells_there p live x stands.sound w.names.items.items (site_at p t.pc).cells (own w) t.stack stands.stack))
+    (cells_there p live x stands.sound (AreCallers p live (beneath w) (reverse w.callers.items.items) t.frames) w.names.items.items w.here t.here
+    (site_at p t.pc).cells (own w) t.stack stands.stack))
 
 -- kinds do not ask for the answers of a heap
 fits_with : (p : Program) (t : s.State) (answers : ℕ → Bool) → Fits p.types.items (site_at p) t → Fits p.types.items (site_at p) (with_answers answers t)
@@ -66,6 +67,7 @@ runs_are_told p t u l bytes told at goes live m x stands =
       formed = told.formed;
       sense = told.sense;
       kinds = told.kinds;
+      clean = told.clean;
       fits = fits;
       stands = objects_are_there p live m x u acc.0 stands fits accords;
       typing = acc.0;
@@ -81,6 +83,7 @@ start_is_told p plain formed sense answers t begins live m x stands =
       formed = formed;
       sense = sense;
       kinds = (code_has_kinds p formed sense).1;
+      clean = code_is_clean p;
       fits = fits;
       stands = objects_are_there p live m x t (first_typing p) stands fits accords;
       typing = first_typing p;
