@@ -1,0 +1,6 @@
+//! Instructions that locate objects, over words, in programs without allocatables.
+#![tactic(auto)]
+
+pub mod asking;
+pub mod locating;
+mod taking;

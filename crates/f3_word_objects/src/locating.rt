@@ -1,0 +1,1 @@
+//! Objects are located.
