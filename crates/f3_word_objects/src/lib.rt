@@ -3,4 +3,5 @@
 
 pub mod asking;
 pub mod locating;
+pub mod shapes;
 mod taking;
