@@ -17,13 +17,13 @@ use f3_word_cells::state::{State, Stop};
 fn same_extents(left: &[Dim], right: &[Dim]) -> bool
     ensures { result ≡ same_extents (spans_of left.now) (spans_of right.now) }
 {
-    match (left.split_first(), right.split_first()) {
-        (None, None) => true,
-        (Some((first, others)), Some((second, rest))) => {
-            first.extent == second.extent && same_extents(others, rest)
-        }
-        _ => false,
-    }
+    let Some((first, others)) = left.split_first() else {
+        return right.is_empty();
+    };
+    let Some((second, rest)) = right.split_first() else {
+        return false;
+    };
+    first.extent == second.extent && same_extents(others, rest)
 }
 
 /// The dimensions of an object.
