@@ -1,3 +1,5 @@
 mod Tops
 mod Passing
 mod Shaping
+mod Members
+mod Reaching
