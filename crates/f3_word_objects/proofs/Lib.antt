@@ -1,3 +1,4 @@
+mod Lists
 mod Tops
 mod Passing
 mod Shaping

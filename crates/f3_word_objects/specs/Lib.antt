@@ -2,3 +2,4 @@ pub mod Taken
 pub mod Ranks
 pub mod Shapes
 pub mod Parts
+pub mod Variables

@@ -3,5 +3,6 @@
 
 pub mod asking;
 pub mod locating;
+pub mod naming;
 pub mod shapes;
 mod taking;
