@@ -4,3 +4,4 @@ mod Passing
 mod Shaping
 mod Members
 mod Reaching
+mod Named
