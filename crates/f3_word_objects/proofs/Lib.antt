@@ -5,3 +5,4 @@ mod Shaping
 mod Members
 mod Reaching
 mod Named
+mod Referring

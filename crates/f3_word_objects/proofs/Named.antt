@@ -86,7 +86,7 @@ module _ (x : Scene) (scene : IsScene x) (m : Live) (w : State) (rooms : Rooms) 
   stored = store_of (types_of q) m rooms
 
   -- the declared statics
-  static-at : (i : ℕ) (y : static.Static) → slice_get q.statics.items i ≡ Some y → slice_get (statics_of q) i ≡ Some y.declared
+  pub static-at : (i : ℕ) (y : static.Static) → slice_get q.statics.items i ≡ Some y → slice_get (statics_of q) i ≡ Some y.declared
   static-at i y e = get-mapped (λ (y : static.Static). y.declared) q.statics.items i ∙ ap (option_map (λ (y : static.Static). y.declared)) e
 
   static-ranked : (i : ℕ) (y : static.Static) → slice_get q.statics.items i ≡ Some y → y.declared.kind.is_allocatable ≡ false → length y.declared.dimensions.items ≡ y.declared.kind.rank
