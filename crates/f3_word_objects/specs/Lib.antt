@@ -3,3 +3,4 @@ pub mod Ranks
 pub mod Shapes
 pub mod Parts
 pub mod Variables
+pub mod Picks

@@ -4,5 +4,6 @@
 pub mod asking;
 pub mod locating;
 pub mod naming;
+pub mod selecting;
 pub mod shapes;
 mod taking;

@@ -27,8 +27,9 @@ fn same_extents(left: &[Dim], right: &[Dim]) -> bool
 }
 
 /// The dimensions of an object.
-fn dims_of(object: &Object) -> &[Dim]
-    ensures { result.now ≡ dims_of object.now }
+pub(crate) fn dims_of(object: &Object) -> &[Dim]
+    ensures dims { result.now ≡ dims_of object.now }
+    ensures few { length result.now ≤ 7 }
 {
     match object {
         Object::Held(_, _) => &[],
