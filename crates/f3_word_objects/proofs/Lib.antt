@@ -3,6 +3,8 @@ mod Tops
 mod Passing
 mod Shaping
 mod Members
+mod Popping
+mod Choosing
 mod Reaching
 mod Named
 mod Referring
