@@ -25,6 +25,7 @@ use Rattle.f3_word_cells.specs.declared.cell.Here.{Here}
 use Rattle.f3_word_cells.specs.declared.cell.Object.{Object}
 use Rattle.f3_word_cells.specs.declared.state.Name.{Name}
 use Rattle.f3_word_cells.specs.declared.state.State.{State}
+use Rattle.f3_word_cells.specs.Areas.{IsObject}
 use Rattle.f3_word_cells.specs.Cells.{AreCells, IsCell}
 use Rattle.f3_word_cells.specs.Does.{IsTold}
 use Rattle.f3_word_cells.specs.Moves.{Popped}
@@ -81,14 +82,14 @@ choices-on-top p t k bs rest told e =
 -- ---- cells in memory
 
 pub cells-there : (p : Program) (m : Live) (Rest : Rooms → List Name → Type 0) (x : Rooms) (ns : List Name) (h : Here) (here : act.Here) (zs : List Cell) (hs : List act.Chosen) (r : Reference) (below : List s.Cell)
-    → AreCells p m Rest x ns h here zs (map s.Choice hs ++ s.Object r ∷ below) → (cs : List Chosen) × (z : Object) × (more : List Cell) × (zs ≡ map c.Choice cs ++ c.Object z ∷ more) × (length cs ≡ length hs)
+    → AreCells p m Rest x ns h here zs (map s.Choice hs ++ s.Object r ∷ below) → (cs : List Chosen) × (z : Object) × (more : List Cell) × (zs ≡ map c.Choice cs ++ c.Object z ∷ more) × (length cs ≡ length hs) × IsObject p x z r
 cells-there p m Rest x ns h here [] [] r below are = absurd are
-cells-there p m Rest x ns h here (c.Object z ∷ zs) [] r below are = ([], z, zs, refl, refl)
+cells-there p m Rest x ns h here (c.Object z ∷ zs) [] r below are = ([], z, zs, refl, refl, are.0)
 cells-there p m Rest x ns h here (a ∷ zs) [] r below are = absurd are.0
 cells-there p m Rest x ns h here [] (g ∷ hs) r below are = absurd are
 cells-there p m Rest x ns h here (c.Choice a ∷ zs) (g ∷ hs) r below are =
     let rest = cells-there p m Rest x ns h here zs hs r below are.2 in
-    (a ∷ rest.0, rest.1, rest.2, ap (λ l. c.Choice a ∷ l) rest.3, let e = rest.4 in omega arith)
+    (a ∷ rest.0, rest.1, rest.2, ap (λ l. c.Choice a ∷ l) rest.3, (let e = rest.4 in omega arith), rest.5)
 cells-there p m Rest x ns h here (a ∷ zs) (g ∷ hs) r below are = absurd are.0
 
 -- they are taken

@@ -5,6 +5,7 @@ mod Shaping
 mod Members
 mod Popping
 mod Choosing
+mod Sectioning
 mod Reaching
 mod Named
 mod Referring

@@ -15,6 +15,10 @@ pub popped-own : (zs : List Cell) (old new : State) → PoppedAll zs old new →
 popped-own [] old new h = ap own (sym h)
 popped-own (a ∷ zs) old new h = h.1.cells ∙ ap (λ l. a ∷ l) (popped-own zs h.0 new h.2)
 
+pub popped-pc : (zs : List Cell) (old new : State) → PoppedAll zs old new → new.pc ≡ old.pc
+popped-pc [] old new h = ap (λ (w : State). w.pc) h
+popped-pc (a ∷ zs) old new h = popped-pc zs h.0 new h.2 ∙ h.1.pc
+
 popped-more : (zs : List Cell) (a : Cell) (old mid new : State) → PoppedAll zs old mid → Popped a mid new → PoppedAll (zs ++ a ∷ []) old new
 popped-more [] a old mid new h more = (new, subst (λ (w : State). Popped a w new) h more, refl)
 popped-more (b ∷ zs) a old mid new h more = (h.0, h.1, popped-more zs a h.0 mid new h.2 more)

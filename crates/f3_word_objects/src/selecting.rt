@@ -65,8 +65,10 @@ pub fn select(state: &mut State, is_opened: bool, count: usize) -> Result<(), St
     ensures does { (p : program.Program) (live : Live) → AreShort live → DoesIn p (i.Select is_opened count) result live live state.old state.new }
     ensures keeps { Keeps state.old state.new }
 {
-    let rank = rank_beneath(state.cells.items.as_slice(), count);
-    if is_opened || rank != Some(count) {
+    let Some(rank) = rank_beneath(state.cells.items.as_slice(), count) else {
+        return Err(Stop::Lost);
+    };
+    if is_opened || rank != count {
         return Err(Stop::Lost);
     }
     let Some(chosen) = pop_choices(state, count) else {
