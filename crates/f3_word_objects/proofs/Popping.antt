@@ -15,6 +15,9 @@ pub popped-own : (zs : List Cell) (old new : State) → PoppedAll zs old new →
 popped-own [] old new h = ap own (sym h)
 popped-own (a ∷ zs) old new h = h.1.cells ∙ ap (λ l. a ∷ l) (popped-own zs h.0 new h.2)
 
+abbrev pub choice-cells : List Chosen → List Cell
+choice-cells cs = map c.Choice cs
+
 pub popped-pc : (zs : List Cell) (old new : State) → PoppedAll zs old new → new.pc ≡ old.pc
 popped-pc [] old new h = ap (λ (w : State). w.pc) h
 popped-pc (a ∷ zs) old new h = popped-pc zs h.0 new h.2 ∙ h.1.pc
