@@ -1,34 +1,31 @@
 -- The line of an element or a section.
-use Rattle.std.proofs.Common.{◌≡◌, ◌≢◌, ◌∙◌, ℕ, zero, suc, ◌+◌, ◌<◌, Bool, true, false, List, [], ◌∷◌, ◌++◌, length, map, reverse, take, drop, refl, sym, ap, subst, arith, append_assoc, length-take-le}
-use Rattle.std.specs.Prelude.{⊤, Ok, Err, None, Some, Option, slice_get, ◌&&◌, ◌||◌, not, ◌≤◌, if◌then◌else◌, nat_eq, nat_lt}
-use Rattle.std.proofs.lemmas.Bool.{eqb-true, ne_eqb, cases_eq}
+use Rattle.std.proofs.Common.{◌≡◌, ◌∙◌, ℕ, zero, suc, ◌+◌, Bool, true, false, List, [], ◌∷◌, ◌++◌, length, map, reverse, take, drop, refl, sym, ap, subst, arith, append_assoc, length-take-le}
+use Rattle.std.specs.Prelude.{Ok, Err, None, Some, Option, slice_get, ◌&&◌, ◌||◌, not, ◌≤◌, if◌then◌else◌, nat_eq, nat_lt}
+use Rattle.std.proofs.lemmas.Bool.{eqb-true, ne_eqb}
 use Rattle.std.proofs.lemmas.List.{reverse-append, reverse-reverse, length-reverse, append-nil}
 use Rattle.f3_program.specs.declared.declarations.Kind.{Kind}
 use Rattle.f3_program.specs.declared.program.Program.{Program}
-use Rattle.f3_live_blocks.specs.Blocks.{Live, words_of}
+use Rattle.f3_live_blocks.specs.Blocks.{Live}
 use Rattle.f3_meaning_whole.specs.Act as act
 use Rattle.f3_meaning_whole.specs.Act.{places, picks, picked, places_in, spans_in, some_zero_step, all_inside, elements_at, first_of}
-use Rattle.f3_meaning_whole.specs.Formed.{sectioned, same_truth, only, of_kind, count_ranges}
+use Rattle.f3_meaning_whole.specs.Formed.{same_truth, only, of_kind, count_ranges}
 use Rattle.f3_meaning_whole.specs.Ran.{World, gives, fails, ◌>>=◌, Ran}
 use Rattle.f3_meaning_whole.specs.Reference.{Reference, Reach, One, Many, spans}
-use Rattle.f3_meaning_whole.specs.Store.{Path, Store}
-use Rattle.f3_meaning_whole.specs.Value.{Span, count}
-use Rattle.f3_meaning_whole.specs.declared.run_error.RunError.{RunError}
+use Rattle.f3_meaning_whole.specs.Store.{Path}
+use Rattle.f3_meaning_whole.specs.Value.{Span}
 use Rattle.f3_meaning_whole.specs.declared.run_error.RunError.TheVariants.{StepIsZero, SubscriptOutOfBounds}
-use Rattle.f3_desc.specs.Descriptor.{HasPlaces}
 use Rattle.f3_code.specs.declared.instruction.Instruction.TheVariants as i
-use Rattle.f3_code.specs.Machine.{performs, on, on_object, selects}
+use Rattle.f3_code.specs.Machine.{performs, on, selects}
 use Rattle.f3_code.specs.Heap.{with_answers}
 use Rattle.f3_code.specs.State.{Line, placed, Next, Goes, Stays, Failed}
 use Rattle.f3_code.specs.State as s
-use Rattle.f3_cell_kinds.specs.Holds.{Refers, Reaches}
+use Rattle.f3_cell_kinds.specs.Holds.{Reaches}
 use Rattle.f3_cell_kinds.specs.Laws.{site_at}
 use Rattle.f3_cell_kinds.specs.Types.{CellType, choices_on}
 use Rattle.f3_cell_kinds.specs.Types as cell
 use Rattle.f3_cells.specs.declared.cell.Chosen.{Chosen}
 use Rattle.f3_cells.specs.Cells.{chosen_of}
 use Rattle.f3_rooms.specs.Rooms.{Rooms}
-use Rattle.f3_word_areas.specs.Sections.{Selected, triplets_of}
 use Rattle.f3_word_areas.proofs.Further.{has-places}
 use Rattle.f3_word_areas.proofs.Picking.{picked-there, all-within, within-all}
 use Rattle.f3_word_cells.specs.declared.cell.Area.{Area}
@@ -40,23 +37,22 @@ use Rattle.f3_word_cells.specs.declared.state.State.{State}
 use Rattle.f3_word_cells.specs.declared.state.Stop.{Stop}
 use Rattle.f3_word_cells.specs.declared.state.Stop.TheVariants as stop
 use Rattle.f3_word_cells.specs.Areas.{AreThere, IsObject, shape_for, spans_of, types_of}
-use Rattle.f3_word_cells.specs.Does.{Becomes, DoesIn, GoesOn, IsTold, StopsSo, stream}
+use Rattle.f3_word_cells.specs.Does.{Becomes, IsTold}
 use Rattle.f3_word_cells.specs.Moves.{Popped, Pushed}
 use Rattle.f3_word_cells.specs.Plain.{is_plain_act}
 use Rattle.f3_word_cells.specs.Scenes.{code_of}
 use Rattle.f3_word_cells.specs.States.{Stands, own}
 use Rattle.f3_word_cells.proofs.Amid.{Amid, amid_first, amid_popped, amid_pushed}
-use Rattle.f3_word_cells.proofs.Lines.{does_so, line_goes, line_stops, performs_gives, performs_fails, first_gives, first_fails, with_stack, answering}
-use Rattle.f3_word_cells.proofs.Moving.{moved_to}
+use Rattle.f3_word_cells.proofs.Lines.{does_so, line_goes, line_stops, performs_gives, first_gives, first_fails, with_stack, answering}
 use Rattle.f3_word_cells.proofs.OnTop.{line_kinds}
-use Rattle.f3_word_objects.specs.Picks.{Picks, PicksOf, with_elements}
+use Rattle.f3_word_objects.specs.Picks.{Picks, with_elements}
 use Rattle.f3_word_objects.specs.Ranks.{AreShort}
 use Rattle.f3_word_objects.specs.Shapes.{dims_of}
 use Rattle.f3_word_objects.specs.Taken.{PoppedAll, Took, TookChoices}
 use Rattle.f3_word_objects.proofs.Popping.{popped-pc}
 use Rattle.f3_word_objects.proofs.Choosing.{ChoicesOnTop, choices-on-is, choices-on-top, choices-taken, cells-there, takes-choices}
 use Rattle.f3_word_objects.proofs.Passing.{object-spans}
-use Rattle.f3_word_objects.proofs.Tops.{goes-on, top-cell}
+use Rattle.f3_word_objects.proofs.Tops.{goes-on}
 
 both : (a b : Bool) → (a && b) ≡ true → (a ≡ true) × (b ≡ true)
 both true b e = (refl, e)
@@ -112,23 +108,25 @@ array-on-top p t l is_opened n told there is =
     let rank : length lead.1 ≡ k.rank = eqb-true _ _ b.0 in
     let turned : length (reverse lead.1) ≡ n = length-reverse lead.1 ∙ lead.3 in
     let kinds : (site_at p t.pc).cells ≡ map cell.Choice (reverse lead.1) ++ (cell.Object k ∷ lead.5.rest) =
-        lead.5.before ∙ ap (λ ks. ks ++ lead.5.rest) (choices-on-is lead.1 (cell.Object k ∷ [])) ∙ append_assoc (map cell.Choice (reverse lead.1)) (cell.Object k ∷ []) lead.5.rest in
+    lead.5.before ∙ ap (λ ks. ks ++ lead.5.rest) (choices-on-is lead.1 (cell.Object k ∷ [])) ∙ append_assoc (map cell.Choice (reverse lead.1)) (cell.Object k ∷ []) lead.5.rest in
     let top = subst (λ (m : ℕ). ChoicesOnTop k m t.stack) turned (choices-on-top p t k (reverse lead.1) lead.5.rest told kinds) in
-    let reach = reaches-many k top.reference.reach plain b.1 top.refers.1 in
-    (closed, record {
-      kind = k;
-      other = lead.2;
-      triplets = reverse lead.1;
-      rest = lead.5.rest;
-      before = kinds;
-      next = ap (λ h. h.cells) lead.5.next;
-      top = top;
-      many = turned;
-      spans = reach.0;
-      paths = reach.1;
-      reach = reach.2;
-      ranked = reach.3 ∙ sym rank ∙ lead.3;
-    })
+    let reach = reaches-many k top.reference.reach plain b.1 top.refers.1 in (
+      closed,
+      record {
+        kind = k;
+        other = lead.2;
+        triplets = reverse lead.1;
+        rest = lead.5.rest;
+        before = kinds;
+        next = ap (λ h. h.cells) lead.5.next;
+        top = top;
+        many = turned;
+        spans = reach.0;
+        paths = reach.1;
+        reach = reach.2;
+        ranked = reach.3 ∙ sym rank ∙ lead.3;
+      },
+    )
 
 -- ---- cells in memory
 
@@ -158,9 +156,14 @@ module _ (p : Program) (t : s.State) (m : Live) (old : State) (x : Rooms) (n : �
       let items = old.cells.items.items in
       let choices = map c.Choice f.0 in
       let mine : drop old.base items ≡ reverse f.2 ++ (c.Object f.1 ∷ reverse choices) =
-          sym (reverse-reverse (drop old.base items)) ∙ ap reverse f.3 ∙ reverse-append choices (c.Object f.1 ∷ f.2) ∙ turned f.1 f.2 (reverse choices) in
-      (take old.base items ++ reverse f.2, reverse choices, f.1, split-at old.base items ∙ ap (λ l. take old.base items ++ l) mine ∙ sym (append_assoc (take old.base items) (reverse f.2) (c.Object f.1 ∷ reverse choices)),
-      length-reverse choices ∙ mapped f.0 ∙ f.4 ∙ h.top.many, dims-many f.1 f.5)
+      sym (reverse-reverse (drop old.base items)) ∙ ap reverse f.3 ∙ reverse-append choices (c.Object f.1 ∷ f.2) ∙ turned f.1 f.2 (reverse choices) in (
+        take old.base items ++ reverse f.2,
+        reverse choices,
+        f.1,
+        split-at old.base items ∙ ap (λ l. take old.base items ++ l) mine ∙ sym (append_assoc (take old.base items) (reverse f.2) (c.Object f.1 ∷ reverse choices)),
+        length-reverse choices ∙ mapped f.0 ∙ f.4 ∙ h.top.many,
+        dims-many f.1 f.5,
+      )
     where
       turned : (z : Object) (more ys : List Cell) → reverse (c.Object z ∷ more) ++ ys ≡ reverse more ++ (c.Object z ∷ ys)
       turned z more ys = ap (λ l. l ++ ys) (reverse-append (c.Object z ∷ []) more) ∙ append_assoc (reverse more) (c.Object z ∷ []) ys
@@ -335,7 +338,7 @@ module _ (p : Program) (m : Live) (old : State) (is_opened : Bool) (n : ℕ) (t 
       let h = on-top in
       let many = length-reverse (take n ch) ∙ length-take-le n ch all ∙ sym h.top.many in
       let amid = choices-taken p t m old old mid x (cell.Object h.kind ∷ h.rest) h.triplets h.top.choices (s.Object h.top.reference ∷ h.top.below) (t.world).store (reverse (take n ch)) many (h.many ∙ sym h.top.many)
-          (first p t m old x n st h) choices in
+      (first p t m old x n st h) choices in
       let f = cells-there p m _ x old.names.items.items old.here t.here (own mid) [] h.top.reference h.top.below amid.1.cells in
       by f.0 f.1 f.2 f.3 f.4
     where

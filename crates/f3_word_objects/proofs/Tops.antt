@@ -1,6 +1,6 @@
 -- Objects on top.
-use Rattle.std.proofs.Common.{◌≡◌, ◌∙◌, ℕ, ◌+◌, List, [], ◌∷◌, ◌++◌, refl, sym, ap, subst}
-use Rattle.std.specs.Prelude.{⊤, Ok, None, Some, slice_get}
+use Rattle.std.proofs.Common.{◌≡◌, ◌∙◌, ◌+◌, List, [], ◌∷◌, refl, sym, ap}
+use Rattle.std.specs.Prelude.{Ok, None}
 use Rattle.f3_program.specs.declared.declarations.Kind.{Kind}
 use Rattle.f3_program.specs.declared.program.Program.{Program}
 use Rattle.f3_live_blocks.specs.Blocks.{Live}
@@ -22,9 +22,9 @@ use Rattle.f3_word_cells.specs.declared.state.State.{State}
 use Rattle.f3_word_cells.specs.Areas.{IsObject}
 use Rattle.f3_word_cells.specs.Cells.{AreCells, IsCell}
 use Rattle.f3_word_cells.specs.Does.{Becomes, GoesOn, IsTold}
-use Rattle.f3_word_cells.specs.Moves.{Popped, Pushed}
-use Rattle.f3_word_cells.specs.States.{Stands, cell_blocks, own}
-use Rattle.f3_word_cells.proofs.Amid.{Amid, amid_first, amid_last, amid_popped, amid_pushed}
+use Rattle.f3_word_cells.specs.Moves.{Popped}
+use Rattle.f3_word_cells.specs.States.{Stands, own}
+use Rattle.f3_word_cells.proofs.Amid.{Amid, amid_first, amid_last, amid_popped}
 use Rattle.f3_word_cells.proofs.Moving.{moved_to}
 use Rattle.f3_word_cells.proofs.OnTop.{one_on_top, of_object}
 use Rattle.f3_word_objects.specs.Taken.{Took}

@@ -1,7 +1,6 @@
-use Rattle.std.proofs.Common.{◌≡◌, ◌∙◌, ◌++◌, ◌∷◌, ℕ, sym, ap, subst, refl, true, false, List, Bool, length, map, reverse, take, ⊎_elim, arith}
-use Rattle.std.specs.Prelude.{Some, None}
+use Rattle.std.proofs.Common.{◌≡◌, ◌∙◌, ◌++◌, ◌∷◌, ℕ, sym, ap, true, false, List, length, reverse, take, ⊎_elim, arith}
+use Rattle.std.specs.Prelude.{Some}
 use Rattle.f3_code.specs.declared.instruction.Instruction.TheVariants as i
-use Rattle.f3_code.specs.State.{Line}
 use Rattle.f3_word_cells.specs.declared.cell.Cell.{Cell}
 use Rattle.f3_word_cells.specs.declared.cell.Cell.TheVariants as c
 use Rattle.f3_word_cells.specs.declared.cell.Object.{Object}
@@ -19,13 +18,13 @@ in-state xs ys n result same of front behind z e many = of front behind z (same 
 pub returns-in_default-clause-does : goal.returns-in_default-clause-does
 returns-in_default-clause-does c = λ p live short t l x told there is st.
     let e = rank-is p live c.args.state.now c.args.is_opened c.args.count t l x told there is st c.rank_beneath.result
-        (in-state c.as_slice.result.now c.args.state.now.cells.items.items c.args.count c.rank_beneath.result c.as_slice.ensures.value c.rank_beneath.ensures.is) in
+    (in-state c.as_slice.result.now c.args.state.now.cells.items.items c.args.count c.rank_beneath.result c.as_slice.ensures.value c.rank_beneath.ensures.is) in
     absurd (c.in_default.not-Some c.args.count e)
 
 pub returns-then-is_opened-clause-does : goal.returns-then-is_opened-clause-does
 returns-then-is_opened-clause-does c = λ p live short t l x told there is st.
     let e = rank-is p live c.args.state.now c.args.is_opened c.args.count t l x told there is st c.rank_beneath.result
-        (in-state c.as_slice.result.now c.args.state.now.cells.items.items c.args.count c.rank_beneath.result c.as_slice.ensures.value c.rank_beneath.ensures.is) in
+    (in-state c.as_slice.result.now c.args.state.now.cells.items.items c.args.count c.rank_beneath.result c.as_slice.ensures.value c.rank_beneath.ensures.is) in
     let shut = closed p live c.args.state.now c.args.is_opened c.args.count t l x told there is st in
     let same : Some c.in-Some.rank ≡ Some c.args.count = sym c.in-Some.is ∙ e in
     absurd (⊎_elim (λ opened. let wrong : true ≡ false = sym opened ∙ shut in cc) (λ h. h.1 cc) c.then-is_opened.either)
