@@ -7,5 +7,6 @@ mod Popping
 mod Choosing
 mod Sectioning
 mod Reaching
+mod Beside
 mod Named
 mod Referring

@@ -83,11 +83,9 @@ reaches-many k (Many ss ps) e f h = (ss, ps, refl, h.2)
 -- subscripts and triplets above an array
 pub record ArrayOnTop (p : Program) (t : s.State) (n : ℕ) : Type 0 where
   pub kind : Kind
-  pub other : Kind
   pub triplets : List Bool
   pub rest : List CellType
   pub before : (site_at p t.pc).cells ≡ map cell.Choice triplets ++ (cell.Object kind ∷ rest)
-  pub next : (site_at p (t.pc + 1)).cells ≡ cell.Object other ∷ rest
   pub top : ChoicesOnTop kind n t.stack
   pub many : length triplets ≡ n
   pub spans : List Span
@@ -96,7 +94,7 @@ pub record ArrayOnTop (p : Program) (t : s.State) (n : ℕ) : Type 0 where
   pub ranked : length spans ≡ n
 
 pub array-on-top : (p : Program) (t : s.State) (l : Line) (is_opened : Bool) (n : ℕ) → IsTold p t → slice_get (code_of p).lines t.pc ≡ Some l → l.act ≡ i.Select is_opened n
-    → (is_opened ≡ false) × ArrayOnTop p t n
+    → (is_opened ≡ false) × (h : ArrayOnTop p t n) × (j : Kind) × ((site_at p (t.pc + 1)).cells ≡ cell.Object j ∷ h.rest)
 array-on-top p t l is_opened n told there is =
     let lead = line_kinds p t l (i.Select is_opened n) told there is in
     let closed = not-opened is_opened (ap is_plain_act (sym is) ∙ told.plain.lines t.pc l there) in
@@ -114,19 +112,16 @@ array-on-top p t l is_opened n told there is =
       closed,
       record {
         kind = k;
-        other = lead.2;
         triplets = reverse lead.1;
         rest = lead.5.rest;
         before = kinds;
-        next = ap (λ h. h.cells) lead.5.next;
         top = top;
         many = turned;
         spans = reach.0;
         paths = reach.1;
         reach = reach.2;
         ranked = reach.3 ∙ sym rank ∙ lead.3;
-      },
-    )
+      }, lead.2, ap (λ h. h.cells) lead.5.next)
 
 -- ---- cells in memory
 
@@ -134,7 +129,7 @@ module _ (p : Program) (t : s.State) (m : Live) (old : State) (x : Rooms) (n : �
   abbrev stack : List s.Cell
   stack = map s.Choice h.top.choices ++ s.Object h.top.reference ∷ h.top.below
 
-  first : Amid p t m old old x (map cell.Choice h.triplets ++ (cell.Object h.kind ∷ h.rest)) stack (t.world).store []
+  pub first : Amid p t m old old x (map cell.Choice h.triplets ++ (cell.Object h.kind ∷ h.rest)) stack (t.world).store []
   first = amid_first p t m old x (map cell.Choice h.triplets ++ (cell.Object h.kind ∷ h.rest)) stack st h.before h.top.split
 
   pub in-memory : (cs : List Chosen) × (z : Object) × (more : List Cell) × (own old ≡ map c.Choice cs ++ c.Object z ∷ more) × (length cs ≡ length h.top.choices) × IsObject p x z h.top.reference
@@ -211,7 +206,7 @@ picked-of r ps [] ks = by (elements_at ps ks)
 -- ---- the cells are taken
 
 module _ (p : Program) (m : Live) (short : AreShort m) (old mid last : State) (n : ℕ) (ch : List Chosen) (z : Object) (all : n ≤ length ch) (choices : PoppedAll (map c.Choice (reverse (take n ch))) old mid) (popped : Popped (c.Object z) mid last)
-    (t : s.State) (l : Line) (x : Rooms) (told : IsTold p t) (st : Stands p m old x t) (is-line : l.act ≡ i.Select false n) (h : ArrayOnTop p t n) where
+    (t : s.State) (x : Rooms) (told : IsTold p t) (st : Stands p m old x t) (h : ArrayOnTop p t n) where
   abbrev hs : List act.Chosen
   hs = map chosen_of (take n ch)
 
@@ -225,12 +220,12 @@ module _ (p : Program) (m : Live) (short : AreShort m) (old mid last : State) (n
   afterwards = choices-taken p t m old old mid x (cell.Object h.kind ∷ h.rest) h.triplets h.top.choices (s.Object r ∷ h.top.below) (t.world).store (reverse (take n ch)) chosen-many (h.many ∙ sym h.top.many)
       (first p t m old x n st h) choices
 
-  object-there : IsObject p x z r × Amid p t m old last x h.rest h.top.below (t.world).store []
+  pub object-there : IsObject p x z r × Amid p t m old last x h.rest h.top.below (t.world).store []
   object-there =
       let one = amid_popped p t m old mid last x (cell.Object h.kind) h.rest (s.Object r) h.top.below (t.world).store [] (c.Object z) afterwards.1 popped tt in
       (one.0, one.2)
 
-  in-order : reverse h.top.choices ++ [] ≡ hs
+  pub in-order : reverse h.top.choices ++ [] ≡ hs
   in-order = append-nil (reverse h.top.choices) ∙ ap reverse (sym afterwards.0) ∙ turned (take n ch)
     where
       mapped : (xs ys : List Chosen) → map chosen_of (xs ++ ys) ≡ map chosen_of xs ++ map chosen_of ys
@@ -242,19 +237,6 @@ module _ (p : Program) (m : Live) (short : AreShort m) (old mid last : State) (n
       turned (a ∷ xs) =
           ap (λ l. reverse (map chosen_of l)) (reverse-append (a ∷ []) xs) ∙ ap reverse (mapped (reverse xs) (a ∷ []))
           ∙ reverse-append (map chosen_of (reverse xs)) (chosen_of a ∷ []) ∙ ap (λ l. chosen_of a ∷ l) (turned xs)
-
-  abbrev at-place : act.Here
-  at-place = placed l.place t.here
-
-  runs : (rest : ℕ → Bool) → does_so p l t (i.Select false n) (stack p t m old x n st h) [] rest
-      ≡ performs (picks r (Many h.spans h.paths) hs at-place) (answering (t.world).store rest) (λ q. on (with_answers rest (with_stack (stack p t m old x n st h) t)) (s.Object q ∷ h.top.below))
-  runs rest =
-      let w = answering (t.world).store rest in
-      let f : Reference → World → s.State = λ q. on (with_answers rest (with_stack (stack p t m old x n st h) t)) (s.Object q ∷ h.top.below) in
-      takes-choices h.top.choices [] (s.Object r ∷ h.top.below) n _ h.top.many
-      ∙ ap (λ (gs : List act.Chosen). performs (selects false gs r at-place) w f) in-order
-      ∙ first_gives r (λ y. picks y y.reach hs at-place) w f
-      ∙ ap (λ (y : Reach). performs (picks r y hs at-place) w f) h.reach
 
   abbrev after : Reference
   after = picked r h.paths (spans_in h.spans hs) (places_in h.spans hs)
@@ -269,10 +251,11 @@ module _ (p : Program) (m : Live) (short : AreShort m) (old mid last : State) (n
   area-there : (a : Area) → IsObject p x (o.Stands a) r → AreThere p x a r.path (Many h.spans h.paths)
   area-there a is = subst (λ (y : Reach). AreThere p x a r.path y) h.reach is.1
 
-  pub section-passes : (y : Object) (new : State) → Picks z hs (Ok y) → Pushed (c.Object y) (last.pc + 1) last new → Becomes p l t (Ok tt) m new
-  section-passes y new picks pushed = by z object-there.0 picks
+  -- what is picked stands there
+  pub section-there : (y : Object) → Picks z hs (Ok y) → IsObject p x y after × (some_zero_step hs ≡ false) × (all_inside h.spans hs ≡ true)
+  section-there y picks = by z object-there.0 picks
     where
-      by : (z : Object) → IsObject p x z r → Picks z hs (Ok y) → Becomes p l t (Ok tt) m new
+      by : (z : Object) → IsObject p x z r → Picks z hs (Ok y) → IsObject p x y after × (some_zero_step hs ≡ false) × (all_inside h.spans hs ≡ true)
       by (o.Held of v) is picks = absurd cc
       by (o.Stands a) is picks =
           let there = area-there a is in
@@ -282,32 +265,74 @@ module _ (p : Program) (m : Live) (short : AreShort m) (old mid last : State) (n
           let b = with_elements a picks.0 in
           let stands = picked-there p x a b r h.spans h.paths hs refl many sel.1 (sel.2 has) there.1 there.2 in
           let inside : all_inside h.spans hs ≡ true = ap (λ ts. all_inside ts hs) there.1 ∙ within-all (a.elements).dims.items hs many sel.1 in
-          let object : IsObject p x y after = subst (λ (w : Object). IsObject p x w after) (sym picks.1) (picked-of r h.paths (spans_in h.spans hs) (places_in h.spans hs) ∙ is.0, stands) in
-          let amid = amid_pushed p t m old last new x (cell.Object h.other) h.rest (s.Object after) h.top.below (t.world).store [] (c.Object y) (last.pc + 1) object-there.1 pushed tt object tt in
-          goes-on p t m old x told st l new (cell.Object h.other ∷ h.rest) (s.Object after ∷ h.top.below) amid h.next
-          (pushed.pc ∙ ap (λ k. k + 1) (popped.pc ∙ popped-pc (map c.Choice (reverse (take n ch))) old mid choices))
-          (line_goes p l t (i.Select false n) (stack p t m old x n st h) _ [] [] is-line h.top.split (λ rest. runs rest ∙ picks-goes r h.spans h.paths hs at-place _ _ sel.0 inside))
+          (subst (λ (w : Object). IsObject p x w after) (sym picks.1) (picked-of r h.paths (spans_in h.spans hs) (places_in h.spans hs) ∙ is.0, stands), sel.0, inside)
 
-  pub section-fails : (e : Stop) (new : State) → Picks z hs (Err e) → Becomes p l t (Err e) m new
-  section-fails e new picks = by z e object-there.0 picks
+  -- or why nothing is picked
+  abbrev pub Why : Stop → Type 0
+  Why (stop.Failed StepIsZero) = some_zero_step hs ≡ true
+  Why (stop.Failed SubscriptOutOfBounds) = (some_zero_step hs ≡ false) × (all_inside h.spans hs ≡ false)
+  Why e = ⊥
+
+  pub section-error : (e : Stop) → Picks z hs (Err e) → Why e
+  section-error e picks = by z e object-there.0 picks
     where
       wrong : (a : Area) → IsObject p x (o.Stands a) r → (length hs ≡ length (a.elements).dims.items → ⊥) → ⊥
       wrong a is none = none (hs-many a (dims-many p t m old x n st h (o.Stands a) is))
 
-      by : (z : Object) (e : Stop) → IsObject p x z r → Picks z hs (Err e) → Becomes p l t (Err e) m new
+      not-true : (b : Bool) → (b ≡ true → ⊥) → b ≡ false
+      not-true true f = absurd (f refl)
+      not-true false f = refl
+
+      by : (z : Object) (e : Stop) → IsObject p x z r → Picks z hs (Err e) → Why e
       by (o.Held of v) e is picks = absurd (let f : One ≡ Many h.spans h.paths = sym is.1 ∙ h.reach in cc)
-      by (o.Stands a) (stop.Failed StepIsZero) is picks =
-          line_stops p l t (i.Select false n) (stack p t m old x n st h) _ [] is-line h.top.split (λ rest. runs rest ∙ picks-zero r h.spans h.paths hs at-place _ _ picks)
+      by (o.Stands a) (stop.Failed StepIsZero) is picks = picks
       by (o.Stands a) (stop.Failed SubscriptOutOfBounds) is picks =
           let there = area-there a is in
           let many = hs-many a (dims-many p t m old x n st h (o.Stands a) is) in
-          let outside : all_inside h.spans hs ≡ false = ap (λ ts. all_inside ts hs) there.1 ∙ not-true (all_inside (spans_of (a.elements).dims.items) hs) (λ e. picks.1 (all-within (a.elements).dims.items hs many e)) in
-          line_stops p l t (i.Select false n) (stack p t m old x n st h) _ [] is-line h.top.split (λ rest. runs rest ∙ picks-outside r h.spans h.paths hs at-place _ _ picks.0 outside)
-        where
-          not-true : (b : Bool) → (b ≡ true → ⊥) → b ≡ false
-          not-true true f = absurd (f refl)
-          not-true false f = refl
+          (picks.0, ap (λ ts. all_inside ts hs) there.1 ∙ not-true (all_inside (spans_of (a.elements).dims.items) hs) (λ e. picks.1 (all-within (a.elements).dims.items hs many e)))
       by (o.Stands a) e is picks = absurd (wrong a is picks)
+
+-- ---- the line
+
+module _ (p : Program) (m : Live) (short : AreShort m) (old mid last : State) (n : ℕ) (ch : List Chosen) (z : Object) (all : n ≤ length ch) (choices : PoppedAll (map c.Choice (reverse (take n ch))) old mid) (popped : Popped (c.Object z) mid last)
+    (t : s.State) (l : Line) (x : Rooms) (told : IsTold p t) (st : Stands p m old x t) (is-line : l.act ≡ i.Select false n) (h : ArrayOnTop p t n) where
+  abbrev gs : List act.Chosen
+  gs = map chosen_of (take n ch)
+
+  abbrev part : Reference
+  part = picked h.top.reference h.paths (spans_in h.spans gs) (places_in h.spans gs)
+
+  abbrev at-place : act.Here
+  at-place = placed l.place t.here
+
+  runs : (rest : ℕ → Bool) → does_so p l t (i.Select false n) (stack p t m old x n st h) [] rest
+      ≡ performs (picks h.top.reference (Many h.spans h.paths) gs at-place) (answering (t.world).store rest) (λ q. on (with_answers rest (with_stack (stack p t m old x n st h) t)) (s.Object q ∷ h.top.below))
+  runs rest =
+      let w = answering (t.world).store rest in
+      let f : Reference → World → s.State = λ q. on (with_answers rest (with_stack (stack p t m old x n st h) t)) (s.Object q ∷ h.top.below) in
+      takes-choices h.top.choices [] (s.Object h.top.reference ∷ h.top.below) n _ h.top.many
+      ∙ ap (λ (ys : List act.Chosen). performs (selects false ys h.top.reference at-place) w f) (in-order p m short old mid last n ch z all choices popped t x told st h)
+      ∙ first_gives h.top.reference (λ y. picks y y.reach gs at-place) w f
+      ∙ ap (λ (y : Reach). performs (picks h.top.reference y gs at-place) w f) h.reach
+
+  pub section-passes : (y : Object) (new : State) (j : Kind) → (site_at p (t.pc + 1)).cells ≡ cell.Object j ∷ h.rest → Picks z gs (Ok y) → Pushed (c.Object y) (last.pc + 1) last new → Becomes p l t (Ok tt) m new
+  section-passes y new j next picks pushed =
+      let there = section-there p m short old mid last n ch z all choices popped t x told st h y picks in
+      let amid = amid_pushed p t m old last new x (cell.Object j) h.rest (s.Object part) h.top.below (t.world).store [] (c.Object y) (last.pc + 1)
+          (object-there p m short old mid last n ch z all choices popped t x told st h).1 pushed tt there.0 tt in
+      goes-on p t m old x told st l new (cell.Object j ∷ h.rest) (s.Object part ∷ h.top.below) amid next
+      (pushed.pc ∙ ap (λ k. k + 1) (popped.pc ∙ popped-pc (map c.Choice (reverse (take n ch))) old mid choices))
+      (line_goes p l t (i.Select false n) (stack p t m old x n st h) _ [] [] is-line h.top.split (λ rest. runs rest ∙ picks-goes h.top.reference h.spans h.paths gs at-place _ _ there.1 there.2))
+
+  pub section-fails : (e : Stop) (new : State) → Picks z gs (Err e) → Becomes p l t (Err e) m new
+  section-fails e new picks = by e (section-error p m short old mid last n ch z all choices popped t x told st h e picks)
+    where
+      by : (e : Stop) → Why p m short old mid last n ch z all choices popped t x told st h e → Becomes p l t (Err e) m new
+      by (stop.Failed StepIsZero) why =
+          line_stops p l t (i.Select false n) (stack p t m old x n st h) _ [] is-line h.top.split (λ rest. runs rest ∙ picks-zero h.top.reference h.spans h.paths gs at-place _ _ why)
+      by (stop.Failed SubscriptOutOfBounds) why =
+          line_stops p l t (i.Select false n) (stack p t m old x n st h) _ [] is-line h.top.split (λ rest. runs rest ∙ picks-outside h.top.reference h.spans h.paths gs at-place _ _ why.0 why.1)
+      by e why = absurd why
 
 -- ---- what cannot be
 

@@ -51,7 +51,7 @@ returns-in-Ok-clause-does c = λ p live short t l x told there is st.
     let found = array-on-top p t l c.args.is_opened c.args.count told there is in
     let line : l.act ≡ i.Select false c.args.count = is ∙ ap (λ b. i.Select b c.args.count) found.0 in
     section-passes p live short c.args.state.now c.pop_choices.new.state c.pop_object.new.state c.args.count c.in-Some-pop_choices.chosen c.in-Some-pop_object.object taken.0 taken.1 c.in-Some-pop_object.ensures.taken
-    t l x told st line found.1 c.in-Ok.part _ c.in-Ok.ensures c.go_on_with.ensures
+    t l x told st line found.1 c.in-Ok.part _ found.2 found.3 c.in-Ok.ensures c.go_on_with.ensures
 
 pub returns-in-Err-clause-does : goal.returns-in-Err-clause-does
 returns-in-Err-clause-does c = λ p live short t l x told there is st.
