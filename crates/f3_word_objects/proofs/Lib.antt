@@ -8,5 +8,6 @@ mod Choosing
 mod Sectioning
 mod Reaching
 mod Beside
+mod Around
 mod Named
 mod Referring

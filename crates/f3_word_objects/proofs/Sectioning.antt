@@ -62,7 +62,7 @@ only-if : (b : Bool) (x j : Kind) → only b x ≡ Some j → b ≡ true
 only-if true x j e = refl
 only-if false x j e = absurd cc
 
-not-opened : (b : Bool) → not b ≡ true → b ≡ false
+pub not-opened : (b : Bool) → not b ≡ true → b ≡ false
 not-opened true e = absurd cc
 not-opened false e = refl
 
@@ -93,35 +93,42 @@ pub record ArrayOnTop (p : Program) (t : s.State) (n : ℕ) : Type 0 where
   pub reach : top.reference.reach ≡ Many spans paths
   pub ranked : length spans ≡ n
 
+-- by the kinds of what stands on top
+pub array-of : (p : Program) (t : s.State) (n : ℕ) (k : Kind) (bs : List Bool) (rest : List CellType) (is_opened : Bool) (j : Kind) → IsTold p t → is_opened ≡ false → length bs ≡ n
+    → only (same_truth is_opened k.is_allocatable && (nat_eq (length bs) k.rank && nat_lt 0 k.rank)) (of_kind k.of (count_ranges bs)) ≡ Some j
+    → (site_at p t.pc).cells ≡ map cell.Choice (reverse bs) ++ (cell.Object k ∷ rest) → (h : ArrayOnTop p t n) × (h.rest ≡ rest)
+array-of p t n k bs rest is_opened j told closed many picked kinds =
+    let test = only-if (same_truth is_opened k.is_allocatable && (nat_eq (length bs) k.rank && nat_lt 0 k.rank)) (of_kind k.of (count_ranges bs)) j picked in
+    let a = both (same_truth is_opened k.is_allocatable) _ test in
+    let b = both (nat_eq (length bs) k.rank) _ a.1 in
+    let plain = not-allocatable is_opened k.is_allocatable closed a.0 in
+    let rank : length bs ≡ k.rank = eqb-true _ _ b.0 in
+    let turned : length (reverse bs) ≡ n = length-reverse bs ∙ many in
+    let top = subst (λ (m : ℕ). ChoicesOnTop k m t.stack) turned (choices-on-top p t k (reverse bs) rest told kinds) in
+    let reach = reaches-many k top.reference.reach plain b.1 top.refers.1 in
+    (record {
+      kind = k;
+      triplets = reverse bs;
+      rest = rest;
+      before = kinds;
+      top = top;
+      many = turned;
+      spans = reach.0;
+      paths = reach.1;
+      reach = reach.2;
+      ranked = reach.3 ∙ sym rank ∙ many;
+    }, refl)
+
 pub array-on-top : (p : Program) (t : s.State) (l : Line) (is_opened : Bool) (n : ℕ) → IsTold p t → slice_get (code_of p).lines t.pc ≡ Some l → l.act ≡ i.Select is_opened n
     → (is_opened ≡ false) × (h : ArrayOnTop p t n) × (j : Kind) × ((site_at p (t.pc + 1)).cells ≡ cell.Object j ∷ h.rest)
 array-on-top p t l is_opened n told there is =
     let lead = line_kinds p t l (i.Select is_opened n) told there is in
     let closed = not-opened is_opened (ap is_plain_act (sym is) ∙ told.plain.lines t.pc l there) in
     let k = lead.0 in
-    let test = only-if (same_truth is_opened k.is_allocatable && (nat_eq (length lead.1) k.rank && nat_lt 0 k.rank)) (of_kind k.of (count_ranges lead.1)) lead.2 lead.4 in
-    let a = both (same_truth is_opened k.is_allocatable) _ test in
-    let b = both (nat_eq (length lead.1) k.rank) _ a.1 in
-    let plain = not-allocatable is_opened k.is_allocatable closed a.0 in
-    let rank : length lead.1 ≡ k.rank = eqb-true _ _ b.0 in
-    let turned : length (reverse lead.1) ≡ n = length-reverse lead.1 ∙ lead.3 in
     let kinds : (site_at p t.pc).cells ≡ map cell.Choice (reverse lead.1) ++ (cell.Object k ∷ lead.5.rest) =
     lead.5.before ∙ ap (λ ks. ks ++ lead.5.rest) (choices-on-is lead.1 (cell.Object k ∷ [])) ∙ append_assoc (map cell.Choice (reverse lead.1)) (cell.Object k ∷ []) lead.5.rest in
-    let top = subst (λ (m : ℕ). ChoicesOnTop k m t.stack) turned (choices-on-top p t k (reverse lead.1) lead.5.rest told kinds) in
-    let reach = reaches-many k top.reference.reach plain b.1 top.refers.1 in (
-      closed,
-      record {
-        kind = k;
-        triplets = reverse lead.1;
-        rest = lead.5.rest;
-        before = kinds;
-        top = top;
-        many = turned;
-        spans = reach.0;
-        paths = reach.1;
-        reach = reach.2;
-        ranked = reach.3 ∙ sym rank ∙ lead.3;
-      }, lead.2, ap (λ h. h.cells) lead.5.next)
+    let h = array-of p t n k lead.1 lead.5.rest is_opened lead.2 told closed lead.3 lead.4 kinds in
+    (closed, h.0, lead.2, ap (λ h. h.cells) lead.5.next ∙ ap (λ ks. cell.Object lead.2 ∷ ks) (sym h.1))
 
 -- ---- cells in memory
 
@@ -248,7 +255,7 @@ module _ (p : Program) (m : Live) (short : AreShort m) (old mid last : State) (n
       mapped [] = refl
       mapped (b ∷ xs) = let e = mapped xs in omega arith
 
-  area-there : (a : Area) → IsObject p x (o.Stands a) r → AreThere p x a r.path (Many h.spans h.paths)
+  pub area-there : (a : Area) → IsObject p x (o.Stands a) r → AreThere p x a r.path (Many h.spans h.paths)
   area-there a is = subst (λ (y : Reach). AreThere p x a r.path y) h.reach is.1
 
   -- what is picked stands there
@@ -336,31 +343,23 @@ module _ (p : Program) (m : Live) (short : AreShort m) (old mid last : State) (n
 
 -- ---- what cannot be
 
-module _ (p : Program) (m : Live) (old : State) (is_opened : Bool) (n : ℕ) (t : s.State) (l : Line) (x : Rooms) (told : IsTold p t)
-    (there : slice_get (code_of p).lines t.pc ≡ Some l) (is : l.act ≡ i.Select is_opened n) (st : Stands p m old x t) where
-  abbrev on-top : ArrayOnTop p t n
-  on-top = (array-on-top p t l is_opened n told there is).1
-
-  pub closed : is_opened ≡ false
-  closed = (array-on-top p t l is_opened n told there is).0
-
+module _ (p : Program) (m : Live) (old : State) (n : ℕ) (t : s.State) (x : Rooms) (st : Stands p m old x t) (h : ArrayOnTop p t n) where
   -- the object beneath has so many dimensions
   pub rank-is : (result : Option ℕ) → ((front behind : List Cell) (z : Object) → old.cells.items.items ≡ front ++ c.Object z ∷ behind → length behind ≡ n → result ≡ Some (length (dims_of z)))
       → result ≡ Some n
   rank-is result of =
-      let b = beneath-there p t m old x n st on-top in
+      let b = beneath-there p t m old x n st h in
       of b.0 b.1 b.2 b.3 b.4 ∙ ap Some b.5
 
   -- the choices are there
   pub choices-there : (mid : State) → TookChoices n None old mid → ⊥
   choices-there mid none =
-      let f = in-memory p t m old x n st on-top in
-      none f.0 (c.Object f.1 ∷ f.2) (f.4 ∙ on-top.top.many) f.3
+      let f = in-memory p t m old x n st h in
+      none f.0 (c.Object f.1 ∷ f.2) (f.4 ∙ h.top.many) f.3
 
   -- the object is there
   pub object-beneath : (mid last : State) (ch : List Chosen) → n ≤ length ch → PoppedAll (map c.Choice (reverse (take n ch))) old mid → Took c.Object None mid last → ⊥
   object-beneath mid last ch all choices none =
-      let h = on-top in
       let many = length-reverse (take n ch) ∙ length-take-le n ch all ∙ sym h.top.many in
       let amid = choices-taken p t m old old mid x (cell.Object h.kind ∷ h.rest) h.triplets h.top.choices (s.Object h.top.reference ∷ h.top.below) (t.world).store (reverse (take n ch)) many (h.many ∙ sym h.top.many)
       (first p t m old x n st h) choices in

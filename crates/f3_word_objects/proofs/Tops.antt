@@ -35,7 +35,7 @@ pub top-cell : (p : Program) (m : Live) (Rest : Rooms → List Name → Type 0) 
 top-cell p m Rest x ns h here [] b bs are = absurd are
 top-cell p m Rest x ns h here (a ∷ zs) b bs are = (a, zs, refl, are.0)
 
-object-cell : (p : Program) (m : Live) (x : Rooms) (ns : List Name) (a : Cell) (r : Reference) → IsCell p x m ns a (s.Object r) → (o : Object) × (a ≡ c.Object o)
+pub object-cell : (p : Program) (m : Live) (x : Rooms) (ns : List Name) (a : Cell) (r : Reference) → IsCell p x m ns a (s.Object r) → (o : Object) × (a ≡ c.Object o)
 object-cell p m x ns (c.Object o) r is = (o, refl)
 object-cell p m x ns a r is = absurd is
 

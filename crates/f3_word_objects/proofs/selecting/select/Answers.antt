@@ -5,7 +5,7 @@ use Rattle.f3_word_cells.specs.declared.cell.Cell.{Cell}
 use Rattle.f3_word_cells.specs.declared.cell.Cell.TheVariants as c
 use Rattle.f3_word_cells.specs.declared.cell.Object.{Object}
 use Rattle.f3_word_objects.specs.Shapes.{dims_of}
-use Rattle.f3_word_objects.proofs.Sectioning.{array-on-top, closed, rank-is, choices-there, object-beneath, section-passes, section-fails}
+use Rattle.f3_word_objects.proofs.Sectioning.{array-on-top, rank-is, choices-there, object-beneath, section-passes, section-fails}
 use Rattle.f3_word_objects.proofs.Popping.{choice-cells, popped-pc}
 use Rattle.f3_word_objects.proofs.selecting.select.Goals as goal
 
@@ -17,26 +17,26 @@ in-state xs ys n result same of front behind z e many = of front behind z (same 
 
 pub returns-in_default-clause-does : goal.returns-in_default-clause-does
 returns-in_default-clause-does c = λ p live short t l x told there is st.
-    let e = rank-is p live c.args.state.now c.args.is_opened c.args.count t l x told there is st c.rank_beneath.result
+    let e = rank-is p live c.args.state.now c.args.count t x st (array-on-top p t l c.args.is_opened c.args.count told there is).1 c.rank_beneath.result
     (in-state c.as_slice.result.now c.args.state.now.cells.items.items c.args.count c.rank_beneath.result c.as_slice.ensures.value c.rank_beneath.ensures.is) in
     absurd (c.in_default.not-Some c.args.count e)
 
 pub returns-then-is_opened-clause-does : goal.returns-then-is_opened-clause-does
 returns-then-is_opened-clause-does c = λ p live short t l x told there is st.
-    let e = rank-is p live c.args.state.now c.args.is_opened c.args.count t l x told there is st c.rank_beneath.result
+    let e = rank-is p live c.args.state.now c.args.count t x st (array-on-top p t l c.args.is_opened c.args.count told there is).1 c.rank_beneath.result
     (in-state c.as_slice.result.now c.args.state.now.cells.items.items c.args.count c.rank_beneath.result c.as_slice.ensures.value c.rank_beneath.ensures.is) in
-    let shut = closed p live c.args.state.now c.args.is_opened c.args.count t l x told there is st in
+    let shut = (array-on-top p t l c.args.is_opened c.args.count told there is).0 in
     let same : Some c.in-Some.rank ≡ Some c.args.count = sym c.in-Some.is ∙ e in
     absurd (⊎_elim (λ opened. let wrong : true ≡ false = sym opened ∙ shut in cc) (λ h. h.1 cc) c.then-is_opened.either)
 
 pub returns-in_default-pop_choices-clause-does : goal.returns-in_default-pop_choices-clause-does
 returns-in_default-pop_choices-clause-does c = λ p live short t l x told there is st.
-    absurd (choices-there p live c.args.state.now c.args.is_opened c.args.count t l x told there is st c.pop_choices.new.state c.in_default-pop_choices.ensures.taken)
+    absurd (choices-there p live c.args.state.now c.args.count t x st (array-on-top p t l c.args.is_opened c.args.count told there is).1 c.pop_choices.new.state c.in_default-pop_choices.ensures.taken)
 
 pub returns-in_default-pop_object-clause-does : goal.returns-in_default-pop_object-clause-does
 returns-in_default-pop_object-clause-does c = λ p live short t l x told there is st.
     let taken = c.in-Some-pop_choices.ensures.taken in
-    absurd (object-beneath p live c.args.state.now c.args.is_opened c.args.count t l x told there is st c.pop_choices.new.state c.pop_object.new.state c.in-Some-pop_choices.chosen taken.0 taken.1 c.in_default-pop_object.ensures.taken)
+    absurd (object-beneath p live c.args.state.now c.args.count t x st (array-on-top p t l c.args.is_opened c.args.count told there is).1 c.pop_choices.new.state c.pop_object.new.state c.in-Some-pop_choices.chosen taken.0 taken.1 c.in_default-pop_object.ensures.taken)
 
 pub go_on_with-requires-clause-pc : goal.go_on_with-requires-clause-pc
 go_on_with-requires-clause-pc c =
