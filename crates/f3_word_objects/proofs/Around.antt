@@ -101,25 +101,29 @@ around-on-top p t l is_opened m n ones told there is =
     let rest = lead.8.rest in
     let one = ones.elements t.pc l is_opened m n there is bs _ whole rest lead.8.before in
     let kinds : (site_at p t.pc).cells ≡ map cell.Choice (reverse bs) ++ (cell.Object part ∷ cell.Object whole ∷ rest) =
-        lead.8.before ∙ ap (λ (a : CellType). choices_on bs (a ∷ cell.Object whole ∷ []) ++ rest) (one-cell whole part one)
-        ∙ ap (λ ks. ks ++ rest) (choices-on-is bs (cell.Object part ∷ cell.Object whole ∷ []))
-        ∙ append_assoc (map cell.Choice (reverse bs)) (cell.Object part ∷ cell.Object whole ∷ []) rest in
+    lead.8.before ∙ ap (λ (a : CellType). choices_on bs (a ∷ cell.Object whole ∷ []) ++ rest) (one-cell whole part one)
+    ∙ ap (λ ks. ks ++ rest) (choices-on-is bs (cell.Object part ∷ cell.Object whole ∷ []))
+    ∙ append_assoc (map cell.Choice (reverse bs)) (cell.Object part ∷ cell.Object whole ∷ []) rest in
     let made = array-of p t n part bs (cell.Object whole ∷ rest) is_opened j told closed lead.4 (sym (one-picked p is_opened bs whole part one) ∙ lead.7) kinds in
     let h = made.0 in
     let fits = told.fits in
     let stand = subst (λ xs. Stand p.types.items (site_at p) (Knows p.types.items t.here) (site_at p t.pc).scope (site_at p t.pc).returns xs t.stack fits.end) kinds fits.stack in
     let at = subst (λ xs. Stand p.types.items (site_at p) (Knows p.types.items t.here) (site_at p t.pc).scope (site_at p t.pc).returns (map cell.Choice (reverse bs) ++ (cell.Object part ∷ cell.Object whole ∷ rest)) xs fits.end) h.top.split stand in
-    let under = beneath p.types.items (site_at p) (Knows p.types.items t.here) (site_at p t.pc).scope (site_at p t.pc).returns (reverse bs) part whole rest h.top.choices h.top.reference h.top.below fits.end (h.top.many ∙ sym (length-reverse bs ∙ lead.4)) at in
-    (closed, h, j, record {
-      whole = whole;
-      rest = rest;
-      kinds = made.1;
-      reference = under.0;
-      below = under.1;
-      is = under.2;
-      one = reaches-one whole under.0.reach one under.3.1;
-      next = ap (λ h. h.cells) lead.8.next;
-    })
+    let under = beneath p.types.items (site_at p) (Knows p.types.items t.here) (site_at p t.pc).scope (site_at p t.pc).returns (reverse bs) part whole rest h.top.choices h.top.reference h.top.below fits.end (h.top.many ∙ sym (length-reverse bs ∙ lead.4)) at in (
+      closed,
+      h,
+      j,
+      record {
+        whole = whole;
+        rest = rest;
+        kinds = made.1;
+        reference = under.0;
+        below = under.1;
+        is = under.2;
+        one = reaches-one whole under.0.reach one under.3.1;
+        next = ap (λ h. h.cells) lead.8.next;
+      },
+    )
 
 -- ---- the line
 

@@ -1,6 +1,6 @@
 -- The line of a component of which elements are selected.
-use Rattle.std.proofs.Common.{◌≡◌, ◌∙◌, ℕ, ◌+◌, Bool, true, false, List, [], ◌∷◌, ◌++◌, refl, sym, ap, subst}
-use Rattle.std.specs.Prelude.{⊤, Ok, Err, None, Some, Option, slice_get, nat_eq, if◌then◌else◌}
+use Rattle.std.proofs.Common.{◌≡◌, ◌∙◌, ℕ, ◌+◌, true, [], ◌∷◌, sym, ap, subst}
+use Rattle.std.specs.Prelude.{Ok, Err, None, Some, nat_eq, if◌then◌else◌}
 use Rattle.f3_program.specs.declared.declarations.Kind.{Kind}
 use Rattle.f3_program.specs.declared.program.Program.{Program}
 use Rattle.f3_live_blocks.specs.Blocks.{Live}
@@ -13,7 +13,6 @@ use Rattle.f3_code.specs.State as s
 use Rattle.f3_cell_kinds.specs.Effect.{part_cell, part_kind}
 use Rattle.f3_cell_kinds.specs.Types.{CellType}
 use Rattle.f3_cell_kinds.specs.Types as cell
-use Rattle.f3_rooms.specs.Rooms.{Rooms}
 use Rattle.f3_room_places.specs.declared.types.Types.{Types}
 use Rattle.f3_word_cells.specs.declared.cell.Cell.TheVariants as c
 use Rattle.f3_word_cells.specs.declared.cell.Object.{Object}
@@ -22,7 +21,7 @@ use Rattle.f3_word_cells.specs.declared.state.Stop.TheVariants as stop
 use Rattle.f3_word_cells.specs.Areas.{IsObject}
 use Rattle.f3_word_cells.specs.Does.{DoesIn}
 use Rattle.f3_word_cells.specs.Moves.{Popped, Pushed}
-use Rattle.f3_word_cells.proofs.Amid.{Amid, amid_pushed}
+use Rattle.f3_word_cells.proofs.Amid.{amid_pushed}
 use Rattle.f3_word_cells.proofs.Lines.{line_goes, performs_looks}
 use Rattle.f3_word_cells.proofs.OnTop.{line_kinds}
 use Rattle.f3_word_objects.specs.Ones.{AreOfOne}
@@ -30,7 +29,7 @@ use Rattle.f3_word_objects.specs.Parts.{Located}
 use Rattle.f3_word_objects.specs.Ranks.{AreShort}
 use Rattle.f3_word_objects.proofs.Members.{component-of, component-stands, some-component}
 use Rattle.f3_word_objects.proofs.Passing.{OnObject}
-use Rattle.f3_word_objects.proofs.Tops.{Taken, object-taken, goes-on}
+use Rattle.f3_word_objects.proofs.Tops.{object-taken, goes-on}
 
 pub on-beside : (p : Program) (m : Live) (old : State) (n : ℕ) → OnObject p m old (i.ComponentOf n)
 on-beside p m old n t l told there is = let lead = line_kinds p t l (i.ComponentOf n) told there is in (lead.0, lead.4.rest, lead.4.before)

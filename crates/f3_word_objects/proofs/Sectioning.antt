@@ -105,19 +105,21 @@ array-of p t n k bs rest is_opened j told closed many picked kinds =
     let rank : length bs ≡ k.rank = eqb-true _ _ b.0 in
     let turned : length (reverse bs) ≡ n = length-reverse bs ∙ many in
     let top = subst (λ (m : ℕ). ChoicesOnTop k m t.stack) turned (choices-on-top p t k (reverse bs) rest told kinds) in
-    let reach = reaches-many k top.reference.reach plain b.1 top.refers.1 in
-    (record {
-      kind = k;
-      triplets = reverse bs;
-      rest = rest;
-      before = kinds;
-      top = top;
-      many = turned;
-      spans = reach.0;
-      paths = reach.1;
-      reach = reach.2;
-      ranked = reach.3 ∙ sym rank ∙ many;
-    }, refl)
+    let reach = reaches-many k top.reference.reach plain b.1 top.refers.1 in (
+      record {
+        kind = k;
+        triplets = reverse bs;
+        rest = rest;
+        before = kinds;
+        top = top;
+        many = turned;
+        spans = reach.0;
+        paths = reach.1;
+        reach = reach.2;
+        ranked = reach.3 ∙ sym rank ∙ many;
+      },
+      refl,
+    )
 
 pub array-on-top : (p : Program) (t : s.State) (l : Line) (is_opened : Bool) (n : ℕ) → IsTold p t → slice_get (code_of p).lines t.pc ≡ Some l → l.act ≡ i.Select is_opened n
     → (is_opened ≡ false) × (h : ArrayOnTop p t n) × (j : Kind) × ((site_at p (t.pc + 1)).cells ≡ cell.Object j ∷ h.rest)
@@ -326,7 +328,7 @@ module _ (p : Program) (m : Live) (short : AreShort m) (old mid last : State) (n
   section-passes y new j next picks pushed =
       let there = section-there p m short old mid last n ch z all choices popped t x told st h y picks in
       let amid = amid_pushed p t m old last new x (cell.Object j) h.rest (s.Object part) h.top.below (t.world).store [] (c.Object y) (last.pc + 1)
-          (object-there p m short old mid last n ch z all choices popped t x told st h).1 pushed tt there.0 tt in
+      (object-there p m short old mid last n ch z all choices popped t x told st h).1 pushed tt there.0 tt in
       goes-on p t m old x told st l new (cell.Object j ∷ h.rest) (s.Object part ∷ h.top.below) amid next
       (pushed.pc ∙ ap (λ k. k + 1) (popped.pc ∙ popped-pc (map c.Choice (reverse (take n ch))) old mid choices))
       (line_goes p l t (i.Select false n) (stack p t m old x n st h) _ [] [] is-line h.top.split (λ rest. runs rest ∙ picks-goes h.top.reference h.spans h.paths gs at-place _ _ there.1 there.2))

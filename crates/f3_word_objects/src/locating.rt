@@ -55,11 +55,7 @@ pub fn component(scene: Scene<'_>, state: &mut State, number: usize) -> Result<(
 
 /// The component of a number, and the object stays beneath. So far for single objects.
 #[inline(never)]
-pub fn component_beside(
-    scene: Scene<'_>,
-    state: &mut State,
-    number: usize,
-) -> Result<(), Stop>
+pub fn component_beside(scene: Scene<'_>, state: &mut State, number: usize) -> Result<(), Stop>
     requires scene { IsScene scene }
     requires ranks { AreRanked scene.program.now }
     requires pc { state.old.pc < 2 ^ 63 }
