@@ -1,0 +1,7 @@
+//! Variables are read and changed, over words, in programs without allocatables.
+#![tactic(auto)]
+
+mod packing;
+pub mod reading;
+mod scalars;
+mod taking;
