@@ -1,5 +1,5 @@
 -- What comes onto a stack and goes from it, and nothing else changes.
-use Rattle.std.specs.Prelude.{⊤, ◌≡◌, ◌≤◌, ◌<◌, ℕ, ◌+◌, List, [], ◌∷◌, ◌++◌, length, Option, None, Some, Result, Ok, Err}
+use Rattle.std.specs.Prelude.{⊤, ◌≡◌, ◌≤◌, ◌<◌, ℕ, ◌+◌, [], ◌∷◌, length, Option, None, Some, Result, Ok, Err}
 use Rattle.f3_rooms.specs.Held.{times}
 use Rattle.f3_word_cells.specs.declared.cell.Cell.{Cell}
 use Rattle.f3_word_cells.specs.declared.state.State.{State}
