@@ -1,0 +1,5 @@
+pub mod Strides
+pub mod Types
+pub mod Flatness
+pub mod Areas
+pub mod Copying

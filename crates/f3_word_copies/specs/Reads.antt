@@ -24,7 +24,7 @@ use Rattle.f3_word_cells.specs.States.{datum_blocks}
 
 -- an object of a program with such types that stands in sound rooms, where no component is allocatable
 pub record IsThere (p : Program) (types : Types) (m : Live) (x : Rooms) (o : Object) (r : Reference) : Type 0 where
-  pub types : types.derived.now ≡ p.types.items
+  pub derived : types.derived.now ≡ p.types.items
   pub flat : All (λ s. is_flat s ≡ true) (types_of p)
   pub sound : IsSound (types_of p) m x
   pub is : IsObject p x o r

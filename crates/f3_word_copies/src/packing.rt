@@ -38,7 +38,7 @@ fn stride_over(dim: &Dim, stride: i64) -> Option<i64>
 
 /// The dimensions of a value with the bounds of an array, of elements of so many words. There are none where it has 2 ^ 63 words or
 /// more, which no heap has.
-pub(crate) fn packed(dims: &[Dim], words: usize) -> Option<Packed>
+pub(crate) fn pack(dims: &[Dim], words: usize) -> Option<Packed>
     requires { length dims.now ≤ 7 }
     ensures dims { IfSome result (λ x. x.dims.items ≡ packed_from (pos words) dims.now) }
     ensures words { IfSome result (λ x. pos x.words ≡ stride_behind (pos words) dims.now) }

@@ -11,7 +11,7 @@ ghost use Rattle.f3_word_cells.specs.Does.{DoesIn, IsAt, Keeps};
 ghost use Rattle.f3_word_cells.specs.declared.cell.Object.TheVariants as o;
 ghost use Rattle.f3_word_copies.specs.Reads.{IsLarge, IsThere, Reads};
 
-use crate::packing::packed;
+use crate::packing::pack;
 use crate::scalars::{is_scalar, scalar_in};
 use crate::taking::pop_object;
 use f3_desc::descriptor::Descriptor;
@@ -31,7 +31,7 @@ fn copied<B: Blocks>(heap: &mut B, types: Types<'_>, area: &Area) -> Result<Datu
     ensures { (p : Program) (x : Rooms) (r : Reference) → IsThere p types.entry (B.blocks heap.old) x (o.Stands area.now) r → Reads p (B.blocks heap.old) (B.blocks heap.new) x r result }
 {
     let size = words(types, area.of);
-    let Some(packed) = packed(&area.elements.dims, size) else {
+    let Some(packed) = pack(&area.elements.dims, size) else {
         return Err(Stop::Failed(RunError::HeapHasNoRoom));
     };
     let block = match heap.take(packed.words) {
