@@ -3,3 +3,4 @@ pub mod Types
 pub mod Flatness
 pub mod Areas
 pub mod Copying
+pub mod Standing

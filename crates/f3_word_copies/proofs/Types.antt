@@ -34,3 +34,10 @@ module _ (ts : List Derived) (xs : List TypeTable) (are : AreTables (shapes_of t
       by : (b : Bool) → leb (length xs) t ≡ b → b ≡ is_scalar_shape (shape_in (shapes_of ts) (base.Derived t))
       by true e = sym (scalar-past t (leb-true (length xs) t e))
       by false e = sym (scalar-before t (leb-false (length xs) t e))
+
+  pub scalar-derived : (t : ℕ) → is_scalar_shape (shape_in (shapes_of ts) (base.Derived t)) ≡ true → shape_in (shapes_of ts) (base.Derived t) ≡ Whole
+  scalar-derived t e = by (leb (length xs) t) refl
+    where
+      by : (b : Bool) → leb (length xs) t ≡ b → shape_in (shapes_of ts) (base.Derived t) ≡ Whole
+      by true f = let le = leb-true (length xs) t f in let n = a_table_each ts xs are in past_types ts t (omega arith)
+      by false f = let g = scalar-before t (leb-false (length xs) t f) in absurd cc
