@@ -1,7 +1,7 @@
 -- What is put on a stack and taken from it.
 use Rattle.std.proofs.Common.{◌≡◌, ℕ, ◌+◌, ◌<◌, ◌≤◌, List, [], ◌∷◌, ◌++◌, length, take, drop, reverse, refl, sym, ap, ◌∙◌, arith}
 use Rattle.std.specs.Prelude.{Option, None, Some, MatchOption}
-use Rattle.std.proofs.lemmas.List.{length-append, drop-append-le, take-append-le, reverse-append, append-nil}
+use Rattle.std.proofs.lemmas.List.{length-append, drop-append-le, take-append-le, reverse-append, append-nil, take-append-drop}
 use Rattle.f3_rooms.specs.Held.{times}
 use Rattle.f3_rooms.proofs.Framing.{times_append}
 use Rattle.f3_word_cells.specs.declared.cell.Cell.{Cell}
@@ -88,3 +88,20 @@ pub popped_or : (result : Option Cell) (old : State) (cells : Stack Cell)
     → cells.room ≡ old.cells.room → old.base < length old.cells.items.items → PoppedOr result old (record old { cells = cells })
 popped_or None old cells h room within = let e : length old.cells.items.items ≡ 0 = ap length h.0 in absurd (omega arith)
 popped_or (Some c) old cells h room within = popped c old cells h room within
+
+-- ---- lists of cells
+
+pub cells_blocks_reverse : (q : ℕ) (xs : List Cell) → times q (cells_blocks (reverse xs)) ≡ times q (cells_blocks xs)
+cells_blocks_reverse q [] = refl
+cells_blocks_reverse q (x ∷ xs) =
+    let parts : reverse (x ∷ xs) ≡ reverse xs ++ x ∷ [] = reverse-append (x ∷ []) xs in
+    let sum : times q (cells_blocks (reverse xs ++ x ∷ [])) ≡ times q (cells_blocks (reverse xs)) + times q (cells_blocks (x ∷ [])) =
+    cells_blocks_append q (reverse xs) (x ∷ []) in
+    let one = cells_blocks_one q x in
+    let rest = cells_blocks_reverse q xs in
+    let all : times q (cells_blocks (x ∷ xs)) ≡ times q (cell_blocks x) + times q (cells_blocks xs) = times_append q (cell_blocks x) (cells_blocks xs) in
+    ap (λ ys. times q (cells_blocks ys)) parts ∙ omega (arith, sum, one, rest, all)
+
+pub cells_blocks_split : (q k : ℕ) (xs : List Cell)
+    → times q (cells_blocks xs) ≡ times q (cells_blocks (take k xs)) + times q (cells_blocks (drop k xs))
+cells_blocks_split q k xs = ap (λ ys. times q (cells_blocks ys)) (sym (take-append-drop k xs)) ∙ cells_blocks_append q (take k xs) (drop k xs)
