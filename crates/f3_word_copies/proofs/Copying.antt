@@ -229,16 +229,10 @@ module _ (p : Program) (types : Types) (old : Live) (x : Rooms) (a : Area) (r : 
           words = ap (λ (q : ℕ). length (words_of now q)) block-is ∙ now-long ∙ sym words-many;
         }
 
-        unpinned : pins_of now block ≡ 0
-        unpinned = ap (λ (m : Live). pins_of m block) now-is ∙ pins-insert_same mid block _ ∙ ap (λ (m : Live). pins_of m block) mid-is ∙ pins-insert_same old block _
-
-        elsewhere : (q : ℕ) → q ≢ block → find now q ≡ find old q
-        elsewhere q ne = ap (λ (m : Live). find m q) now-is ∙ get-insert_other mid block _ q ne ∙ ap (λ (m : Live). find m q) mid-is ∙ get-insert_other old block _ q ne
-
         pub was-read : IsRead p old now x r (datum.Block b)
         was-read = record {
           value = (is-block, sym value-is);
-          gains = subst (IsNew old now) (sym block-is) (record { fresh = fresh; live = now-live; unpinned = unpinned; others = elsewhere });
+          gains = subst (IsNew old now) (sym block-is) (record { fresh = fresh; room = total; written = ws; is = now-is ∙ ap (λ (m : Live). with_words m block ws) mid-is });
         }
 
     -- where it has no words nothing is copied

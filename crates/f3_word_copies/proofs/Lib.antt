@@ -4,3 +4,5 @@ pub mod Flatness
 pub mod Areas
 pub mod Copying
 pub mod Standing
+pub mod Tops
+pub mod Loading

@@ -1,9 +1,9 @@
 -- What it is to read an object.
-use Rattle.std.specs.Prelude.{⊤, ◌≡◌, ◌≢◌, ◌⊎◌, ℕ, true, false, List, [], ◌∷◌, None, Result, Ok, Err}
+use Rattle.std.specs.Prelude.{⊤, ◌≡◌, ◌≢◌, ◌⊎◌, ℕ, ℤ, true, false, List, [], ◌∷◌, None, Result, Ok, Err}
 use Rattle.std.specs.List.{All}
 use Rattle.std.specs.FinMap.{get as find}
 use Rattle.f3_program.specs.declared.program.Program.{Program}
-use Rattle.f3_live_blocks.specs.Blocks.{Live, IsLive, pins_of}
+use Rattle.f3_live_blocks.specs.Blocks.{Live, with_taken, with_words}
 use Rattle.f3_meaning_whole.specs.Reference.{Reference, held_at}
 use Rattle.f3_meaning_whole.specs.Act.{needs_storage}
 use Rattle.f3_meaning_whole.specs.declared.run_error.RunError.TheVariants.{HeapHasNoRoom}
@@ -33,12 +33,12 @@ pub record IsThere (p : Program) (types : Types) (m : Live) (x : Rooms) (o : Obj
 abbrev pub IsLarge : Types → Area → Type 0
 IsLarge types a = ((a.elements).dims.items ≢ []) ⊎ (is_scalar_shape (shape_in (shapes types) a.of) ≡ false)
 
--- a block more is live, and not pinned, and all others are as they were
+-- a block more is live, with some words
 pub record IsNew (m n : Live) (b : ℕ) : Type 0 where
   pub fresh : find m b ≡ None
-  pub live : IsLive n b
-  pub unpinned : pins_of n b ≡ 0
-  pub others : (q : ℕ) → q ≢ b → find n q ≡ find m q
+  pub room : ℕ
+  pub written : List ℤ
+  pub is : n ≡ with_words (with_taken m b room) b written
 
 -- just these blocks are new: one, or none
 abbrev pub Gains : Live → Live → List ℕ → Type 0

@@ -1,0 +1,99 @@
+-- What an object holds is loaded.
+use Rattle.std.proofs.Common.{◌≡◌, ◌∙◌, sym, ap, subst, refl, ℕ, ◌+◌, Bool, true, false, List, [], ◌∷◌, ◌++◌, length}
+use Rattle.std.specs.Prelude.{⊤, None, Some, Ok, Err, slice_get}
+use Rattle.f3_program.specs.declared.declarations.Constant.TheVariants as constant
+use Rattle.f3_program.specs.declared.declarations.Kind.{Kind}
+use Rattle.f3_program.specs.declared.program.Program.{Program}
+use Rattle.f3_live_blocks.specs.Blocks.{Live}
+use Rattle.f3_meaning_whole.specs.Value.{Value}
+use Rattle.f3_meaning_whole.specs.Store.{Store}
+use Rattle.f3_meaning_whole.specs.Reference.{Reference, held_at}
+use Rattle.f3_meaning_whole.specs.Ran.{gives, looks, ◌>>=◌}
+use Rattle.f3_meaning_whole.specs.Act.{Here, claim, claim_for, needs_storage}
+use Rattle.f3_meaning_whole.specs.Arithmetic.{constant_value}
+use Rattle.f3_meaning_whole.specs.declared.run_error.RunError.TheVariants.{HeapHasNoRoom}
+use Rattle.f3_code.specs.declared.instruction.Instruction.TheVariants as i
+use Rattle.f3_code.specs.State.{Line, placed, Goes, Stays, Failed}
+use Rattle.f3_code.specs.State as s
+use Rattle.f3_code.specs.Machine.{performs, on}
+use Rattle.f3_code.specs.Heap.{with_answers}
+use Rattle.f3_cell_kinds.specs.Laws.{site_at}
+use Rattle.f3_rooms.specs.Rooms.{Rooms, store_of}
+use Rattle.f3_room_places.specs.declared.types.Types.{Types}
+use Rattle.f3_word_cells.specs.declared.cell.Datum.{Datum}
+use Rattle.f3_word_cells.specs.declared.cell.Datum.TheVariants as datum
+use Rattle.f3_word_cells.specs.declared.cell.Object.{Object}
+use Rattle.f3_word_cells.specs.declared.cell.Cell.TheVariants as c
+use Rattle.f3_word_cells.specs.declared.state.State.{State}
+use Rattle.f3_word_cells.specs.declared.state.Stop.{Stop}
+use Rattle.f3_word_cells.specs.declared.state.Stop.TheVariants as stop
+use Rattle.f3_word_cells.specs.Areas.{types_of, IsDatum}
+use Rattle.f3_word_cells.specs.Scenes.{code_of}
+use Rattle.f3_word_cells.specs.States.{Stands, datum_blocks}
+use Rattle.f3_word_cells.specs.Moves.{Popped, Pushed}
+use Rattle.f3_word_cells.specs.Does.{Becomes, DoesIn, GoesOn, IsAt, IsTold, StopsSo, stream}
+use Rattle.f3_word_cells.proofs.Scalars.{Large, IsComposite, IsArray, large_block}
+use Rattle.f3_word_cells.proofs.OnTop.{line_kinds}
+use Rattle.f3_word_cells.proofs.Moving.{moved_to}
+use Rattle.f3_word_cells.proofs.Amid.{Amid, amid_first, amid_last, amid_popped, amid_pushed, amid_taken, amid_written}
+use Rattle.f3_word_cells.proofs.Lines.{answering, with_stack, does_so, line_goes, line_stops, performs_gives, first_looks, first_gives, first_granted, first_refused, claim_for_block, claim_for_scalar}
+use Rattle.f3_word_copies.specs.Taken.{TookObject}
+use Rattle.f3_word_copies.specs.Reads.{IsThere, IsNew, Gains, IsRead, Reads}
+use Rattle.f3_word_copies.proofs.Tops.{ObjectOnTop, object-on-top, object-there}
+
+-- ---- an object on top
+
+pub on-load : (p : Program) (t : s.State) (l : Line) → IsTold p t → slice_get (code_of p).lines t.pc ≡ Some l → l.act ≡ i.Load → (k : Kind) × ObjectOnTop k t.stack
+on-load p t l told at act =
+    let d = line_kinds p t l i.Load told at act in
+    (d.0, object-on-top p t d.0 _ told d.2.before)
+
+pub lost-load : (p : Program) (m n : Live) (old mid new : State) → TookObject None old mid → DoesIn p i.Load (Err stop.Lost) m n old new
+lost-load p m n old mid new none t l x told at act st =
+    let top = (on-load p t l told at act).1 in
+    let there = object-there p x m old.names.items.items _ top.reference top.below (amid_first p m old x t (s.Object top.reference ∷ top.below) st top.stack).cells in
+    absurd (none there.0 there.1 there.2)
+
+-- ---- what a value claims
+
+pub scalar-needs : (c : _) (v : Value) → v ≡ constant_value c → needs_storage v ≡ false
+scalar-needs (constant.Number z) v e = ap needs_storage e
+scalar-needs (constant.Truth b) v e = ap needs_storage e
+
+large-needs : (ds : _) (v : Value) → Large ds v → needs_storage v ≡ true
+large-needs ds v (IsComposite vs none is) = ap needs_storage is
+large-needs ds v (IsArray ss vs same is) = ap needs_storage is
+
+pub block-needs : (p : Program) (m : Live) (a : _) (v : Value) → IsDatum p m (datum.Block a) v → needs_storage v ≡ true
+block-needs p m a v is = ap needs_storage is.1 ∙ large-needs _ _ (large_block p m a is.0)
+
+-- ---- a block more is in hand
+
+pub amid-gained : (p : Program) (m n o : Live) (old now : State) (x : Rooms) (ns : _) (stack : List s.Cell) (store : Store) (d : Datum) → Amid p m n old now x ns stack store [] → Gains n o (datum_blocks d)
+    → Amid p m o old now x ns stack store (datum_blocks d ++ [])
+amid-gained p m n o old now x ns stack store (datum.Scalar c) amid is = subst (λ (l : Live). Amid p m l old now x ns stack store []) (sym is) amid
+amid-gained p m n o old now x ns stack store (datum.Block a) amid is =
+    let b = (a.elements).block in
+    subst (λ (l : Live). Amid p m l old now x ns stack store (b ∷ [])) (sym is.is)
+    (amid_written p m _ old now x ns stack store b [] (amid_taken p m n old now x ns stack store [] amid b is.room is.fresh) is.written)
+
+-- ---- the line
+
+module _ (p : Program) (t : s.State) (l : Line) (r : Reference) (below : List s.Cell) (act : l.act ≡ i.Load) (stack : t.stack ≡ s.Object r ∷ below) where
+  abbrev here : Here
+  here = placed l.place t.here
+
+  abbrev value : Value
+  value = held_at (t.world).store r.path r.reach
+
+  abbrev next : s.State
+  next = moved_to t (t.pc + 1) (s.Datum value ∷ below) t.here t.world
+
+  pub goes-scalar : needs_storage value ≡ false → GoesOn p l t next []
+  goes-scalar none = line_goes p l t i.Load (s.Object r ∷ below) next [] [] act stack (λ rest. ?)
+
+  pub goes-block : needs_storage value ≡ true → GoesOn p l t next []
+  goes-block some = line_goes p l t i.Load (s.Object r ∷ below) next (false ∷ []) [] act stack (λ rest. ?)
+
+  pub stops-full : needs_storage value ≡ true → StopsSo p l t (Failed HeapHasNoRoom here.place) []
+  stops-full some = line_stops p l t i.Load (s.Object r ∷ below) (Failed HeapHasNoRoom here.place) (true ∷ []) act stack (λ rest. ?)
