@@ -1,11 +1,11 @@
 -- Amid an instruction: some cells were taken, others put on top, and blocks of values are in hand.
-use Rattle.std.proofs.Common.{◌≡◌, ◌≢◌, ◌∙◌, inl, inr, ℕ, ◌+◌, ◌<◌, ◌≤◌, ℤ, List, [], ◌∷◌, ◌++◌, length, take, drop, is_some, refl, sym, ap, subst, arith}
-use Rattle.std.specs.Prelude.{None, Some, replicate, pos}
+use Rattle.std.proofs.Common.{◌≡◌, ◌≢◌, ◌∙◌, inl, inr, ℕ, ◌+◌, ◌<◌, ◌≤◌, ℤ, List, [], ◌∷◌, ◌++◌, drop, is_some, refl, sym, ap, subst, arith}
+use Rattle.std.specs.Prelude.{None}
 use Rattle.std.specs.FinMap.{get as find, remove}
-use Rattle.std.proofs.lemmas.Bool.{cases_eq, ne_eqb, eq-eqb}
+use Rattle.std.proofs.lemmas.Bool.{cases_eq, cases_lt, ne_eqb, eq-eqb}
 use Rattle.f3_program.specs.declared.program.Program.{Program}
-use Rattle.f3_live_blocks.specs.Blocks.{Live, IsLive, pins_of, pins_in, words_of, with_taken, with_words}
-use Rattle.f3_live_blocks.proofs.Laws.{get-insert_other, get-remove_same, get-remove_other, live-insert_same, pins-insert_same, pins-insert_other, pins-remove_other}
+use Rattle.f3_live_blocks.specs.Blocks.{Live, IsLive, pins_of, pins_in, with_taken, with_words}
+use Rattle.f3_live_blocks.proofs.Laws.{get-insert_other, get-remove_same, get-remove_other, live-insert_same, live-insert, fresh-apart, pins-insert_same, pins-insert_other, pins-remove_other}
 use Rattle.f3_meaning_whole.specs.Ran.{World}
 use Rattle.f3_meaning_whole.specs.Store.{Store}
 use Rattle.f3_meaning_whole.specs.Act as act
@@ -13,7 +13,8 @@ use Rattle.f3_code.specs.State as s
 use Rattle.f3_rooms.specs.Held.{times}
 use Rattle.f3_rooms.specs.Rooms.{Rooms, blocks_of, store_of}
 use Rattle.f3_rooms.specs.Sound.{IsSound}
-use Rattle.f3_rooms.proofs.Framing.{Kept, Steady, kept_fewer, times_append}
+use Rattle.f3_rooms.proofs.Framing.{Kept, Steady, times_append}
+use Rattle.f3_rooms.proofs.Living.{all_live}
 use Rattle.f3_rooms.proofs.Keeping.{as_it_was, store_stays, rooms_persist}
 use Rattle.f3_word_cells.specs.declared.cell.Here.{Here}
 use Rattle.f3_word_cells.specs.declared.cell.Cell.{Cell}
@@ -23,13 +24,13 @@ use Rattle.f3_word_cells.specs.Areas.{types_of}
 use Rattle.f3_word_cells.specs.Cells.{AreCells, IsCell, IsHere, names_under}
 use Rattle.f3_word_cells.specs.States.{Stands, beneath, callers_blocks, cell_blocks, cells_blocks, loose_blocks, own}
 use Rattle.f3_word_cells.specs.Moves.{IsSame, Moved, Popped, Pushed}
-use Rattle.f3_word_cells.proofs.Stacks.{cells_blocks_split}
+use Rattle.f3_word_cells.proofs.Stacks.{cells_blocks_reverse, cells_blocks_split}
 use Rattle.f3_word_cells.proofs.Staying.{cells_stay}
-use Rattle.f3_word_cells.proofs.Moving.{IsSameElse, StandsSo, moved_to, same_else, stands_so}
+use Rattle.f3_word_cells.proofs.Moving.{IsSameElse, moved_to, stands_so}
 
--- how often a block is one of a room, of a value on a stack, or kept for the value of a function
-abbrev pub uses : Rooms → State → ℕ → ℕ
-uses x w q = (times q (blocks_of x) + times q (cells_blocks w.cells.items.items)) + times q (callers_blocks w.callers.items.items)
+-- how often a block is one of a value on a stack, or kept for the value of a function
+abbrev pub uses : State → ℕ → ℕ
+uses w q = times q (cells_blocks w.cells.items.items) + times q (callers_blocks w.callers.items.items)
 
 -- Amid an instruction that began in a state `old`, over blocks `m`: now these are the blocks, this the state in memory, these the cells of
 -- the activation, which speak of these names, and this the store; and blocks of values are in hand, which are on no stack.
@@ -40,17 +41,18 @@ pub record Amid (p : Program) (m n : Live) (old now : State) (x : Rooms) (ns : L
   pub is : store ≡ store_of (types_of p) n x
   pub kept : Kept m n (cells_blocks (beneath old))
   pub cells : AreCells p x n ns (own now) stack
-  pub once : (q : ℕ) → uses x now q + times q hand ≤ 1
-  pub all : (q : ℕ) → IsLive n q → 0 < uses x now q + times q hand
+  pub once : (q : ℕ) → times q (blocks_of x) + (uses now q + times q hand) ≤ 1
+  pub all : (q : ℕ) → IsLive n q → 0 < times q (blocks_of x) + (uses now q + times q hand)
+  pub live : (q : ℕ) → 0 < uses now q + times q hand → IsLive n q
   pub unpinned : (q : ℕ) → pins_of n q ≡ 0
 
 -- ---- the beginning and the end
 
-uses_is : (x : Rooms) (w : State) (q : ℕ) → times q (blocks_of x ++ loose_blocks w) ≡ uses x w q
-uses_is x w q =
-    let a = times_append q (blocks_of x) (loose_blocks w) in
-    let b = times_append q (cells_blocks w.cells.items.items) (callers_blocks w.callers.items.items) in
-    omega (arith, a, b)
+loose_is : (w : State) (q : ℕ) → times q (loose_blocks w) ≡ uses w q
+loose_is w q = times_append q (cells_blocks w.cells.items.items) (callers_blocks w.callers.items.items)
+
+uses_is : (x : Rooms) (w : State) (q : ℕ) → times q (blocks_of x ++ loose_blocks w) ≡ times q (blocks_of x) + uses w q
+uses_is x w q = times_append q (blocks_of x) (loose_blocks w) ∙ ap (λ k. times q (blocks_of x) + k) (loose_is w q)
 
 -- no block is in hand
 pub amid_first : (p : Program) (m : Live) (old : State) (x : Rooms) (t : s.State) (stack : List s.Cell) → Stands p m old x t → t.stack ≡ stack
@@ -64,6 +66,7 @@ amid_first p m old x t stack st e = record {
   cells = subst (λ (bs : List s.Cell). AreCells p x m old.names.items.items (own old) bs) e st.stack;
   once = λ q. let one = st.once q in let e = uses_is x old q in omega (arith, one, e);
   all = λ q alive. let some = st.all q alive in let e = uses_is x old q in omega (arith, some, e);
+  live = λ q some. st.live q (let e = loose_is old q in omega (arith, some, e));
   unpinned = st.unpinned;
 }
 
@@ -91,6 +94,7 @@ amid_last_in p m n old now x t pc stack here world st amid h there =
       cells = amid.cells;
       once = λ q. let one = amid.once q in let e = uses_is x now q in omega (arith, one, e);
       all = λ q alive. let some = amid.all q alive in let e = uses_is x now q in omega (arith, some, e);
+      live = λ q some. amid.live q (let e = loose_is now q in omega (arith, some, e));
       unpinned = amid.unpinned;
     })
 
@@ -108,6 +112,7 @@ amid_last p m n old now x t pc stack world st amid line =
       cells = amid.cells;
       once = λ q. let one = amid.once q in let e = uses_is x now q in omega (arith, one, e);
       all = λ q alive. let some = amid.all q alive in let e = uses_is x now q in omega (arith, some, e);
+      live = λ q some. amid.live q (let e = loose_is now q in omega (arith, some, e));
       unpinned = amid.unpinned;
     })
 
@@ -151,6 +156,8 @@ amid_popped p m n old mid now x ns b below store hand c amid popped =
             let g = times_append q (cell_blocks c) hand in omega (arith, one, e, f, g);
         all = λ q alive. let some = amid.all q alive in let e = popped.blocks q in let f = callers_same q mid now popped.same in
             let g = times_append q (cell_blocks c) hand in omega (arith, some, e, f, g);
+        live = λ q some. amid.live q (let e = popped.blocks q in let f = callers_same q mid now popped.same in
+            let g = times_append q (cell_blocks c) hand in omega (arith, some, e, f, g));
         unpinned = amid.unpinned;
       },
     )
@@ -170,6 +177,8 @@ amid_pushed p m n old mid now x ns b below store hand c to amid pushed is = reco
       let g = times_append q (cell_blocks c) hand in omega (arith, one, e, f, g);
   all = λ q alive. let some = amid.all q alive in let e = pushed.blocks q in let f = callers_same q mid now pushed.same in
       let g = times_append q (cell_blocks c) hand in omega (arith, some, e, f, g);
+  live = λ q some. amid.live q (let e = pushed.blocks q in let f = callers_same q mid now pushed.same in
+      let g = times_append q (cell_blocks c) hand in omega (arith, some, e, f, g));
   unpinned = amid.unpinned;
 }
 
@@ -195,6 +204,7 @@ amid_line p m n old now x ns stack store hand pc amid =
       cells = amid.cells;
       once = amid.once;
       all = amid.all;
+      live = amid.live;
       unpinned = amid.unpinned;
     }
 
@@ -202,3 +212,164 @@ pub amid_moved : (p : Program) (m n : Live) (old mid now : State) (x : Rooms) (n
     → Amid p m n old mid x ns stack store hand → Moved pc mid now → Amid p m n old now x ns stack store hand
 amid_moved p m n old mid now x ns stack store hand pc amid moved =
     subst (λ (w : State). Amid p m n old w x ns stack store hand) (sym moved.is) (amid_line p m n old mid x ns stack store hand pc amid)
+
+-- ---- blocks
+
+times_same : (b : ℕ) (bs : List ℕ) → times b (b ∷ bs) ≡ 1 + times b bs
+times_same b bs = rw (eq-eqb b b refl) refl
+
+times_other : (q b : ℕ) (bs : List ℕ) → q ≢ b → times q (b ∷ bs) ≡ times q bs
+times_other q b bs ne = rw (ne_eqb q b ne) (omega arith)
+
+then_steady : (m n o : Live) (q : ℕ) → Steady m n q → Steady n o q → Steady m o q
+then_steady m n o q a b = record { live = λ h. b.live (a.live h); long = b.long ∙ a.long; same = λ i. b.same i ∙ a.same i }
+
+module _ (p : Program) (m n : Live) (old now : State) (x : Rooms) (ns : List Name) (stack : List s.Cell) (store : Store) (hand : List ℕ)
+    (amid : Amid p m n old now x ns stack store hand) where
+  -- what is beneath is on the stack, and what the activation has
+  under : (q : ℕ) → times q (cells_blocks (beneath old)) ≤ times q (cells_blocks now.cells.items.items)
+  under q =
+      let e : times q (cells_blocks (beneath now)) ≡ times q (cells_blocks (beneath old)) = ap (λ cs. times q (cells_blocks cs)) amid.same.beneath in
+      let f = cells_blocks_split q now.base now.cells.items.items in
+      omega (arith, e, f)
+
+  above : (q : ℕ) → times q (cells_blocks (own now)) ≤ times q (cells_blocks now.cells.items.items)
+  above q =
+      let e = cells_blocks_reverse q (drop now.base now.cells.items.items) in
+      let f = cells_blocks_split q now.base now.cells.items.items in
+      omega (arith, e, f)
+
+  -- Blocks change, and those in hand; but what values on the stack are does not.
+  pub amid_so : (o : Live) (others : List ℕ) (stored : Store) → Kept n o (cells_blocks now.cells.items.items) → IsSound (types_of p) o x
+      → stored ≡ store_of (types_of p) o x → ((q : ℕ) → times q (blocks_of x) + (uses now q + times q others) ≤ 1)
+      → ((q : ℕ) → IsLive o q → 0 < times q (blocks_of x) + (uses now q + times q others)) → ((q : ℕ) → 0 < uses now q + times q others → IsLive o q)
+      → ((q : ℕ) → pins_of o q ≡ 0) → Amid p m o old now x ns stack stored others
+  amid_so o others stored kept sound is once all live unpinned = record {
+    same = amid.same;
+    here = amid.here;
+    sound = sound;
+    is = is;
+    kept = λ q some. then_steady m n o q (amid.kept q some) (kept q (let e = under q in omega (arith, e, some)));
+    cells = cells_stay p n o x ns (own now) stack (λ q some. kept q (let e = above q in omega (arith, e, some))) amid.cells;
+    once = once;
+    all = all;
+    live = live;
+    unpinned = unpinned;
+  }
+
+  -- blocks that are in use stay, and the store with them
+  amid_stays : (o : Live) (others : List ℕ) → ((q : ℕ) → 0 < times q (blocks_of x) + times q (cells_blocks now.cells.items.items) → find o q ≡ find n q)
+      → ((q : ℕ) → times q (blocks_of x) + (uses now q + times q others) ≤ 1)
+      → ((q : ℕ) → IsLive o q → 0 < times q (blocks_of x) + (uses now q + times q others)) → ((q : ℕ) → 0 < uses now q + times q others → IsLive o q)
+      → ((q : ℕ) → pins_of o q ≡ 0) → Amid p m o old now x ns stack store others
+  amid_stays o others same once all live unpinned =
+      let rooms : Kept n o (blocks_of x) = λ q some. as_it_was n o q (same q (omega arith)) in
+      amid_so o others store (λ q some. as_it_was n o q (same q (omega arith))) (rooms_persist (types_of p) n o x amid.sound rooms)
+      (amid.is ∙ sym (store_stays (types_of p) n o x rooms)) once all live unpinned
+
+  -- a block that is not live is in no use
+  no_room : (b : ℕ) → find n b ≡ None → times b (blocks_of x) ≡ 0
+  no_room b none = elim (cases_lt 0 (times b (blocks_of x))) [
+    | inl some ↦ absurd (fresh-apart n b b none (all_live (types_of p) n x amid.sound b some) refl)
+    | inr few ↦ omega arith
+  ]
+
+  not_loose : (b : ℕ) → find n b ≡ None → uses now b + times b hand ≡ 0
+  not_loose b none = elim (cases_lt 0 (uses now b + times b hand)) [
+    | inl some ↦ absurd (fresh-apart n b b none (amid.live b some) refl)
+    | inr few ↦ omega arith
+  ]
+
+  unused_at : (b : ℕ) → find n b ≡ None → times b (blocks_of x) + (uses now b + times b hand) ≡ 0
+  unused_at b none = let e = no_room b none in let f = not_loose b none in omega (arith, e, f)
+
+  -- a new block of zeros is taken, and is in hand
+  pub amid_taken : (b k : ℕ) → find n b ≡ None → Amid p m (with_taken n b k) old now x ns stack store (b ∷ hand)
+  amid_taken b k none =
+      let dead : (q : ℕ) → IsLive n q → q ≢ b = λ q alive. fresh-apart n b q none alive in
+      let unused : times b (blocks_of x) + (uses now b + times b hand) ≡ 0 = unused_at b none in
+      amid_stays (with_taken n b k) (b ∷ hand)
+      (λ q some. get-insert_other n b _ q (λ e. let f = ap (λ j. times j (blocks_of x) + times j (cells_blocks now.cells.items.items)) e in omega (arith, some, f, unused)))
+      (λ q. elim (cases_eq q b) [
+        | inl e ↦ subst (λ j. times j (blocks_of x) + (uses now j + times j (b ∷ hand)) ≤ 1) (sym e) (let f = times_same b hand in omega (arith, f, unused))
+        | inr ne ↦ let f = times_other q b hand ne in let one = amid.once q in omega (arith, f, one)
+      ])
+      (λ q alive. elim (cases_eq q b) [
+        | inl e ↦ subst (λ j. 0 < times j (blocks_of x) + (uses now j + times j (b ∷ hand))) (sym e) (let f = times_same b hand in omega (arith, f))
+        | inr ne ↦ let f = times_other q b hand ne in let some = amid.all q (ap is_some (sym (get-insert_other n b _ q ne)) ∙ alive) in omega (arith, f, some)
+      ])
+      (λ q some. elim (cases_eq q b) [
+        | inl e ↦ subst (λ j. IsLive (with_taken n b k) j) (sym e) (live-insert_same n b _)
+        | inr ne ↦ live-insert n b _ q (amid.live q (let f = times_other q b hand ne in omega (arith, f, some)))
+      ])
+      (λ q. elim (cases_eq q b) [
+        | inl e ↦ subst (λ j. pins_of (with_taken n b k) j ≡ 0) (sym e) (pins-insert_same n b _)
+        | inr ne ↦ pins-insert_other n b _ q ne ∙ amid.unpinned q
+      ])
+
+  -- words are written in rooms
+  pub amid_put : (o : Live) (stored : Store) → IsSound (types_of p) o x → stored ≡ store_of (types_of p) o x
+      → ((q : ℕ) → times q (blocks_of x) ≡ 0 → find o q ≡ find n q) → ((q : ℕ) → IsLive o q → IsLive n q) → ((q : ℕ) → pins_of o q ≡ pins_of n q)
+      → Amid p m o old now x ns stack stored hand
+  amid_put o stored sound is elsewhere fewer pins =
+      let loose : (q : ℕ) → 0 < uses now q + times q hand → times q (blocks_of x) ≡ 0 = λ q some. let one = amid.once q in omega (arith, some, one) in
+      amid_so o hand stored (λ q some. as_it_was n o q (elsewhere q (loose q (omega arith)))) sound is amid.once
+      (λ q alive. amid.all q (fewer q alive)) (λ q some. ap is_some (elsewhere q (loose q some)) ∙ amid.live q some) (λ q. pins q ∙ amid.unpinned q)
+
+-- ---- the block that is first in hand
+
+module _ (p : Program) (m n : Live) (old now : State) (x : Rooms) (ns : List Name) (stack : List s.Cell) (store : Store) (b : ℕ) (hand : List ℕ)
+    (amid : Amid p m n old now x ns stack store (b ∷ hand)) where
+  -- it is in no other use
+  pub hand_alone : times b (blocks_of x) + (uses now b + times b hand) ≡ 0
+  hand_alone = let one = amid.once b in let e = times_same b hand in omega (arith, one, e)
+
+  pub hand_live : IsLive n b
+  hand_live = amid.live b (let e = times_same b hand in omega (arith, e))
+
+  aside : (q : ℕ) → 0 < times q (blocks_of x) + times q (cells_blocks now.cells.items.items) → q ≢ b
+  aside q some = λ e. let f : times q (blocks_of x) + times q (cells_blocks now.cells.items.items) ≡ times b (blocks_of x) + times b (cells_blocks now.cells.items.items) =
+      ap (λ j. times j (blocks_of x) + times j (cells_blocks now.cells.items.items)) e in
+      let g = hand_alone in absurd (omega (arith, some, f, g))
+
+  -- it is given back
+  pub amid_gone : Amid p m (remove n b) old now x ns stack store hand
+  amid_gone =
+      amid_stays p m n old now x ns stack store (b ∷ hand) amid (remove n b) hand
+      (λ q some. get-remove_other n b q (aside q some))
+      (λ q. let one = amid.once q in omega (arith, one))
+      (λ q alive. elim (cases_eq q b) [
+        | inl e ↦ absurd (fresh-apart (remove n b) b b (get-remove_same n b) (subst (λ j. IsLive (remove n b) j) e alive) refl)
+        | inr ne ↦ let f = times_other q b hand ne in let some = amid.all q (ap is_some (sym (get-remove_other n b q ne)) ∙ alive) in omega (arith, f, some)
+      ])
+      (λ q some. elim (cases_eq q b) [
+        | inl e ↦ absurd (let f : uses now q + times q hand ≡ uses now b + times b hand = ap (λ j. uses now j + times j hand) e in let g = hand_alone in omega (arith, f, g, some))
+        | inr ne ↦ ap is_some (get-remove_other n b q ne) ∙ amid.live q (let f = times_other q b hand ne in omega (arith, f, some))
+      ])
+      (λ q. elim (cases_eq q b) [
+        | inl e ↦ subst (λ j. pins_of (remove n b) j ≡ 0) (sym e) (ap pins_in (get-remove_same n b))
+        | inr ne ↦ pins-remove_other n b q ne ∙ amid.unpinned q
+      ])
+
+  -- only its words change
+  pub amid_changed : (o : Live) → ((q : ℕ) → q ≢ b → find o q ≡ find n q) → IsLive o b → pins_of o b ≡ 0 → Amid p m o old now x ns stack store (b ∷ hand)
+  amid_changed o other alive_there pins =
+      amid_stays p m n old now x ns stack store (b ∷ hand) amid o (b ∷ hand)
+      (λ q some. other q (aside q some))
+      amid.once
+      (λ q alive. elim (cases_eq q b) [
+        | inl e ↦ amid.all q (subst (λ j. IsLive n j) (sym e) hand_live)
+        | inr ne ↦ amid.all q (ap is_some (sym (other q ne)) ∙ alive)
+      ])
+      (λ q some. elim (cases_eq q b) [
+        | inl e ↦ subst (λ j. IsLive o j) (sym e) alive_there
+        | inr ne ↦ ap is_some (other q ne) ∙ amid.live q some
+      ])
+      (λ q. elim (cases_eq q b) [
+        | inl e ↦ subst (λ j. pins_of o j ≡ 0) (sym e) pins
+        | inr ne ↦ ap pins_in (other q ne) ∙ amid.unpinned q
+      ])
+
+  pub amid_written : (ws : List ℤ) → Amid p m (with_words n b ws) old now x ns stack store (b ∷ hand)
+  amid_written ws =
+      amid_changed (with_words n b ws) (λ q ne. get-insert_other n b _ q ne) (live-insert_same n b _) (pins-insert_same n b _ ∙ amid.unpinned b)

@@ -1,5 +1,5 @@
 -- What a line does where the heap answers.
-use Rattle.std.proofs.Common.{◌≡◌, ◌∙◌, ℕ, ◌+◌, ◌≤◌, Bool, true, false, List, [], ◌∷◌, length, refl, sym, ap, subst, arith}
+use Rattle.std.proofs.Common.{◌≡◌, ◌∙◌, ℕ, ◌+◌, ◌≤◌, Bool, true, false, List, [], ◌∷◌, length, refl, sym, ap, arith}
 use Rattle.std.specs.Prelude.{⊤, Result, Ok, Err, if◌then◌else◌}
 use Rattle.std.proofs.lemmas.Option.{slice_get_past}
 use Rattle.f3_places.specs.declared.source.Place.{Place}
@@ -23,9 +23,9 @@ use Rattle.f3_word_cells.specs.declared.state.State.{State}
 use Rattle.f3_word_cells.specs.declared.state.Stop.{Stop}
 use Rattle.f3_word_cells.specs.declared.state.Stop.TheVariants as stop
 use Rattle.f3_word_cells.specs.Scenes.{code_of}
-use Rattle.f3_word_cells.specs.Moves.{Moved, WentAhead}
+use Rattle.f3_word_cells.specs.Moves.{WentAhead}
 use Rattle.f3_word_cells.specs.States.{Stands}
-use Rattle.f3_word_cells.specs.Does.{Becomes, GoesOn, IsLost, StopsBy, StopsSo, stream}
+use Rattle.f3_word_cells.specs.Does.{Becomes, GoesOn, IsLost, StopsSo, stream}
 use Rattle.f3_word_cells.proofs.Amid.{Amid, amid_last, amid_moved}
 use Rattle.f3_word_cells.proofs.Moving.{moved_to}
 

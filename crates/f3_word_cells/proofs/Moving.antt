@@ -1,5 +1,5 @@
 -- States of which only cells, the line and the activation become others.
-use Rattle.std.proofs.Common.{◌≡◌, ◌∙◌, ℕ, ◌<◌, ◌≤◌, List, ◌++◌, length, reverse, refl, sym, ap, subst, arith}
+use Rattle.std.proofs.Common.{◌≡◌, ◌∙◌, ℕ, ◌<◌, ◌≤◌, List, [], ◌++◌, length, reverse, refl, sym, ap, subst, arith}
 use Rattle.f3_program.specs.declared.program.Program.{Program}
 use Rattle.f3_live_blocks.specs.Blocks.{Live, IsLive, pins_of}
 use Rattle.f3_meaning_whole.specs.Ran.{World}
@@ -55,6 +55,7 @@ pub record StandsSo (p : Program) (m n : Live) (old new : State) (x : Rooms) (t 
   pub cells : AreCells p x n old.names.items.items (own new) stack
   pub once : (q : ℕ) → times q (blocks_of x ++ loose_blocks new) ≤ 1
   pub all : (q : ℕ) → IsLive n q → 0 < times q (blocks_of x ++ loose_blocks new)
+  pub live : (q : ℕ) → 0 < times q (loose_blocks new) → IsLive n q
   pub unpinned : (q : ℕ) → pins_of n q ≡ 0
 
 abbrev pub moved_to : s.State → ℕ → List s.Cell → act.Here → World → s.State
@@ -85,6 +86,7 @@ stands_so p m n old new x t pc stack here world st so =
       callers = subst (λ (cs : _). AreCallers p n x new.names.items.items (beneath new) (reverse cs.items.items) t.frames) (sym same.callers) beneath_is;
       once = so.once;
       all = so.all;
+      live = so.live;
       unpinned = so.unpinned;
     }
 
@@ -118,6 +120,7 @@ stands_at p live old new x t pc stack here st same at there cells blocks = stand
   cells = cells;
   once = λ q. subst (λ (k : ℕ). k ≤ 1) (sym (blocks_moved q old new (blocks_of x) same.callers (blocks q))) (st.once q);
   all = λ q alive. subst (λ (k : ℕ). 0 < k) (sym (blocks_moved q old new (blocks_of x) same.callers (blocks q))) (st.all q alive);
+  live = λ q some. st.live q (subst (λ (k : ℕ). 0 < k) (blocks_moved q old new [] same.callers (blocks q)) some);
   unpinned = st.unpinned;
 })
 
