@@ -6,3 +6,4 @@ pub mod Copying
 pub mod Standing
 pub mod Tops
 pub mod Loading
+pub mod Rooms

@@ -9,7 +9,7 @@ use Rattle.f3_meaning_whole.specs.Value.{Value}
 use Rattle.f3_meaning_whole.specs.Store.{Store}
 use Rattle.f3_meaning_whole.specs.Reference.{Reference, held_at}
 use Rattle.f3_meaning_whole.specs.Ran.{gives, looks, ◌>>=◌}
-use Rattle.f3_meaning_whole.specs.Act.{Here, claim, claim_for, needs_storage}
+use Rattle.f3_meaning_whole.specs.Act.{Here, claim_for, needs_storage, read}
 use Rattle.f3_meaning_whole.specs.Arithmetic.{constant_value}
 use Rattle.f3_meaning_whole.specs.declared.run_error.RunError.TheVariants.{HeapHasNoRoom}
 use Rattle.f3_code.specs.declared.instruction.Instruction.TheVariants as i
@@ -51,8 +51,8 @@ on-load p t l told at act =
 pub lost-load : (p : Program) (m n : Live) (old mid new : State) → TookObject None old mid → DoesIn p i.Load (Err stop.Lost) m n old new
 lost-load p m n old mid new none t l x told at act st =
     let top = (on-load p t l told at act).1 in
-    let there = object-there p x m old.names.items.items _ top.reference top.below (amid_first p m old x t (s.Object top.reference ∷ top.below) st top.stack).cells in
-    absurd (none there.0 there.1 there.2)
+    let there = object-there p x m old.names.items.items _ top.reference top.below (amid_first p m old x t (s.Object top.reference ∷ top.below) st top.split).cells in
+    absurd (none.0 there.0 there.1 there.2)
 
 -- ---- what a value claims
 
@@ -89,11 +89,70 @@ module _ (p : Program) (t : s.State) (l : Line) (r : Reference) (below : List s.
   abbrev next : s.State
   next = moved_to t (t.pc + 1) (s.Datum value ∷ below) t.here t.world
 
+  -- the run of the line, where the heap gives these answers
+  reads-so : (answers : ℕ → Bool) → performs (read r here) (answering (t.world).store answers) (λ x. on (with_answers answers (with_stack (s.Object r ∷ below) t)) (s.Datum x ∷ below))
+      ≡ performs (claim_for value here >>= λ done. gives value) (answering (t.world).store answers) (λ x. on (with_answers answers (with_stack (s.Object r ∷ below) t)) (s.Datum x ∷ below))
+  reads-so answers = first_looks (λ store. held_at store r.path r.reach) (λ v. claim_for v here >>= λ done. gives v) (answering (t.world).store answers) _
+
   pub goes-scalar : needs_storage value ≡ false → GoesOn p l t next []
-  goes-scalar none = line_goes p l t i.Load (s.Object r ∷ below) next [] [] act stack (λ rest. ?)
+  goes-scalar none = line_goes p l t i.Load (s.Object r ∷ below) next [] [] act stack (λ rest.
+      reads-so (stream [] rest)
+      ∙ ap (λ m. performs (m >>= λ done. gives value) (answering (t.world).store (stream [] rest)) (λ x. on (with_answers (stream [] rest) (with_stack (s.Object r ∷ below) t)) (s.Datum x ∷ below)))
+        (claim_for_scalar value here none)
+      ∙ first_gives tt (λ done. gives value) _ _ ∙ performs_gives value _ _)
 
   pub goes-block : needs_storage value ≡ true → GoesOn p l t next []
-  goes-block some = line_goes p l t i.Load (s.Object r ∷ below) next (false ∷ []) [] act stack (λ rest. ?)
+  goes-block some = line_goes p l t i.Load (s.Object r ∷ below) next (false ∷ []) [] act stack (λ rest.
+      reads-so (stream (false ∷ []) rest)
+      ∙ ap (λ m. performs (m >>= λ done. gives value) (answering (t.world).store (stream (false ∷ []) rest)) (λ x. on (with_answers (stream (false ∷ []) rest) (with_stack (s.Object r ∷ below) t)) (s.Datum x ∷ below)))
+        (claim_for_block value here some)
+      ∙ first_granted here (t.world).store [] rest (λ done. gives value) _ ∙ performs_gives value _ _)
 
   pub stops-full : needs_storage value ≡ true → StopsSo p l t (Failed HeapHasNoRoom here.place) []
-  stops-full some = line_stops p l t i.Load (s.Object r ∷ below) (Failed HeapHasNoRoom here.place) (true ∷ []) act stack (λ rest. ?)
+  stops-full some = line_stops p l t i.Load (s.Object r ∷ below) (Failed HeapHasNoRoom here.place) (true ∷ []) act stack (λ rest.
+      reads-so (stream (true ∷ []) rest)
+      ∙ ap (λ m. performs (m >>= λ done. gives value) (answering (t.world).store (stream (true ∷ []) rest)) (λ x. on (with_answers (stream (true ∷ []) rest) (with_stack (s.Object r ∷ below) t)) (s.Datum x ∷ below)))
+        (claim_for_block value here some)
+      ∙ first_refused here (t.world).store [] rest (λ done. gives value) _)
+
+  goes-datum : (m : Live) (d : Datum) → IsDatum p m d value → GoesOn p l t next []
+  goes-datum m (datum.Scalar c) is = goes-scalar (scalar-needs c value is)
+  goes-datum m (datum.Block a) is = goes-block (block-needs p m a value is)
+
+-- an object is read
+module _ (p : Program) (m : Live) (old mid : State) (o : Object) (popped : Popped (c.Object o) old mid) (types : Types) (derived : types.derived.now ≡ p.types.items) where
+  -- it stands there
+  pub there-load : (t : s.State) (l : Line) (x : Rooms) → IsTold p t → slice_get (code_of p).lines t.pc ≡ Some l → l.act ≡ i.Load → Stands p m old x t
+      → (k : Kind) × (top : ObjectOnTop k t.stack) × IsThere p types m x o top.reference × Amid p m m old mid x old.names.items.items top.below (t.world).store []
+  there-load t l x told at act st =
+      let top = on-load p t l told at act in
+      let amid = amid_popped p m m old old mid x old.names.items.items (s.Object (top.1).reference) (top.1).below (t.world).store [] (c.Object o)
+      (amid_first p m old x t (s.Object (top.1).reference ∷ (top.1).below) st (top.1).split) popped in
+      (top.0, top.1, record { derived = derived; flat = told.plain.types; sound = st.sound; is = amid.0 }, amid.1)
+
+  module _ (n : Live) where
+    pub does-load : (new : State) (d : Datum) → ((x : Rooms) (r : Reference) → IsThere p types m x o r → Reads p m n x r (Ok d)) → Pushed (c.Datum d) (mid.pc + 1) mid new
+        → DoesIn p i.Load (Ok tt) m n old new
+    does-load new d reads pushed t l x told at act st =
+        let there = there-load t l x told at act st in
+        let top = there.1 in
+        let r = top.reference in
+        let read = reads x r there.2 in
+        let value = subst (λ store. IsDatum p n d (held_at store r.path r.reach)) (sym st.store) read.value in
+        let gained = amid-gained p m m n old mid x old.names.items.items top.below (t.world).store d there.3 read.gains in
+        let amid = amid_pushed p m n old mid new x old.names.items.items (s.Datum (held_at (t.world).store r.path r.reach)) top.below (t.world).store [] (c.Datum d) (mid.pc + 1) gained pushed value in
+        let line : t.pc + 1 ≡ new.pc = ap (λ k. k + 1) (st.pc ∙ sym popped.pc) ∙ sym pushed.pc in
+        record {
+          next = moved_to t (t.pc + 1) (s.Datum (held_at (t.world).store r.path r.reach) ∷ top.below) t.here t.world;
+          rooms = x;
+          goes = goes-datum p t l r top.below act top.split n d value;
+          stands = amid_last p m n old new x t (t.pc + 1) (s.Datum (held_at (t.world).store r.path r.reach) ∷ top.below) t.world st amid line;
+        }
+
+    pub fails-load : (new : State) (e : Stop) → ((x : Rooms) (r : Reference) → IsThere p types m x o r → Reads p m n x r (Err e)) → DoesIn p i.Load (Err e) m n old new
+    fails-load new (stop.Failed HeapHasNoRoom) reads t l x told at act st =
+        let there = there-load t l x told at act st in
+        let r = (there.1).reference in
+        stops-full p t l r (there.1).below act (there.1).split (ap (λ store. needs_storage (held_at store r.path r.reach)) st.store ∙ reads x r there.2)
+    fails-load new stop.Memory reads t l x told at act st = tt
+    fails-load new e reads t l x told at act st = let there = there-load t l x told at act st in absurd (reads x (there.1).reference there.2)

@@ -24,14 +24,14 @@ use Rattle.f3_word_cells.proofs.OnTop.{one_on_top, of_object}
 pub record ObjectOnTop (k : Kind) (stack : List s.Cell) : Type 0 where
   pub reference : Reference
   pub below : List s.Cell
-  pub stack : stack ≡ s.Object reference ∷ below
+  pub split : stack ≡ s.Object reference ∷ below
   pub refers : Refers k reference
 
 pub object-on-top : (p : Program) (t : s.State) (k : Kind) (rest : List CellType) → IsTold p t → (site_at p t.pc).cells ≡ cell.Object k ∷ rest → ObjectOnTop k t.stack
 object-on-top p t k rest told e =
     let one = one_on_top p t (cell.Object k) rest told e in
     let is = of_object p.types.items k one.cell one.is in
-    record { reference = is.0; below = one.below; stack = one.split ∙ ap (λ a. a ∷ one.below) is.1; refers = is.2 }
+    record { reference = is.0; below = one.below; split = one.split ∙ ap (λ a. a ∷ one.below) is.1; refers = is.2 }
 
 -- then so it is in memory
 pub object-there : (p : Program) (x : Rooms) (live : Live) (ns : List Name) (cells : List Cell) (r : Reference) (below : List s.Cell) → AreCells p x live ns cells (s.Object r ∷ below)
