@@ -7,3 +7,4 @@ pub mod Standing
 pub mod Tops
 pub mod Loading
 pub mod Rooms
+pub mod Spreads

@@ -2,3 +2,4 @@ pub mod Packed
 pub mod Scalars
 pub mod Taken
 pub mod Reads
+pub mod Spread

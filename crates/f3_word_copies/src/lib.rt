@@ -4,4 +4,5 @@
 mod packing;
 pub mod reading;
 mod scalars;
+mod spreading;
 mod taking;
