@@ -1,5 +1,5 @@
 -- Amid an instruction: some cells were taken, others put on top, and blocks of values are in hand.
-use Rattle.std.proofs.Common.{◌≡◌, ◌≢◌, ◌∙◌, inl, inr, ℕ, ◌+◌, ◌<◌, ◌≤◌, ℤ, List, [], ◌∷◌, ◌++◌, drop, is_some, refl, sym, ap, subst, arith}
+use Rattle.std.proofs.Common.{◌≡◌, ◌≢◌, ◌∙◌, inl, inr, ℕ, ◌+◌, ◌<◌, ◌≤◌, ℤ, List, [], ◌∷◌, ◌++◌, drop, reverse, is_some, refl, sym, ap, subst, arith}
 use Rattle.std.specs.Prelude.{None}
 use Rattle.std.specs.FinMap.{get as find, remove}
 use Rattle.std.proofs.lemmas.Bool.{cases_eq, cases_lt, ne_eqb, eq-eqb}
@@ -10,10 +10,12 @@ use Rattle.f3_meaning_whole.specs.Ran.{World}
 use Rattle.f3_meaning_whole.specs.Store.{Store}
 use Rattle.f3_meaning_whole.specs.Act as act
 use Rattle.f3_code.specs.State as s
+use Rattle.f3_cell_kinds.specs.Types.{CellType}
+use Rattle.f3_cell_kinds.specs.Laws.{site_at}
 use Rattle.f3_rooms.specs.Held.{times}
 use Rattle.f3_rooms.specs.Rooms.{Rooms, blocks_of, store_of}
 use Rattle.f3_rooms.specs.Sound.{IsSound}
-use Rattle.f3_rooms.proofs.Framing.{Kept, Steady, times_append}
+use Rattle.f3_rooms.proofs.Framing.{Kept, times_append}
 use Rattle.f3_rooms.proofs.Living.{all_live}
 use Rattle.f3_rooms.proofs.Keeping.{as_it_was, store_stays, rooms_persist}
 use Rattle.f3_word_cells.specs.declared.cell.Here.{Here}
@@ -21,26 +23,30 @@ use Rattle.f3_word_cells.specs.declared.cell.Cell.{Cell}
 use Rattle.f3_word_cells.specs.declared.state.Name.{Name}
 use Rattle.f3_word_cells.specs.declared.state.State.{State}
 use Rattle.f3_word_cells.specs.Areas.{types_of}
-use Rattle.f3_word_cells.specs.Cells.{AreCells, IsCell, IsHere, names_under}
-use Rattle.f3_word_cells.specs.States.{Stands, beneath, callers_blocks, cell_blocks, cells_blocks, loose_blocks, own}
+use Rattle.f3_word_cells.specs.Cells.{AreCells, IsCell, IsHere}
+use Rattle.f3_word_cells.specs.States.{AreKnown, IsKnown, Stands, beneath, cell_blocks, cells_blocks, loose_blocks, own}
 use Rattle.f3_word_cells.specs.Moves.{IsSame, Moved, Popped, Pushed}
 use Rattle.f3_word_cells.proofs.Stacks.{cells_blocks_reverse, cells_blocks_split}
-use Rattle.f3_word_cells.proofs.Staying.{cells_stay}
-use Rattle.f3_word_cells.proofs.Moving.{IsSameElse, moved_to, stands_so}
+use Rattle.f3_word_cells.proofs.Within.{rehere}
+use Rattle.f3_word_cells.proofs.Known.{known_popped, known_pushed}
+use Rattle.f3_word_cells.proofs.Flat.{IsFlat, flat_above, flat_under}
+use Rattle.f3_word_cells.proofs.Staying.{callers_stay, cells_stay}
+use Rattle.f3_word_cells.proofs.Moving.{Beneath, IsSameElse, moved_to, stands_so}
 
--- how often a block is one of a value on a stack, or kept for the value of a function
+-- how often a block is one of a value on a stack
 abbrev pub uses : State → ℕ → ℕ
-uses w q = times q (cells_blocks w.cells.items.items) + times q (callers_blocks w.callers.items.items)
+uses w q = times q (cells_blocks w.cells.items.items)
 
--- Amid an instruction that began in a state `old`, over blocks `m`: now these are the blocks, this the state in memory, these the cells of
--- the activation, which speak of these names, and this the store; and blocks of values are in hand, which are on no stack.
-pub record Amid (p : Program) (m n : Live) (old now : State) (x : Rooms) (ns : List Name) (stack : List s.Cell) (store : Store) (hand : List ℕ) : Type 0 where
+-- Amid an instruction that began in a state `old`, for one `t` of the machine over values: now these are the blocks, this the state in memory,
+-- these the cells of the activation and their types, and this the store; and blocks of values are in hand, which are on no stack.
+pub record Amid (p : Program) (t : s.State) (n : Live) (old now : State) (x : Rooms) (ks : List CellType) (stack : List s.Cell) (store : Store)
+    (hand : List ℕ) : Type 0 where
   pub same : IsSameElse old now
   pub here : now.here ≡ old.here
   pub sound : IsSound (types_of p) n x
   pub is : store ≡ store_of (types_of p) n x
-  pub kept : Kept m n (cells_blocks (beneath old))
-  pub cells : AreCells p x n ns (own now) stack
+  pub known : AreKnown p ks (own now)
+  pub cells : AreCells p n (Beneath p n old t.frames) x old.names.items.items old.here t.here (own now) stack
   pub once : (q : ℕ) → times q (blocks_of x) + (uses now q + times q hand) ≤ 1
   pub all : (q : ℕ) → IsLive n q → 0 < times q (blocks_of x) + (uses now q + times q hand)
   pub live : (q : ℕ) → 0 < uses now q + times q hand → IsLive n q
@@ -48,33 +54,31 @@ pub record Amid (p : Program) (m n : Live) (old now : State) (x : Rooms) (ns : L
 
 -- ---- the beginning and the end
 
-loose_is : (w : State) (q : ℕ) → times q (loose_blocks w) ≡ uses w q
-loose_is w q = times_append q (cells_blocks w.cells.items.items) (callers_blocks w.callers.items.items)
-
 uses_is : (x : Rooms) (w : State) (q : ℕ) → times q (blocks_of x ++ loose_blocks w) ≡ times q (blocks_of x) + uses w q
-uses_is x w q = times_append q (blocks_of x) (loose_blocks w) ∙ ap (λ k. times q (blocks_of x) + k) (loose_is w q)
+uses_is x w q = times_append q (blocks_of x) (loose_blocks w)
 
 -- no block is in hand
-pub amid_first : (p : Program) (m : Live) (old : State) (x : Rooms) (t : s.State) (stack : List s.Cell) → Stands p m old x t → t.stack ≡ stack
-    → Amid p m m old old x old.names.items.items stack t.world.store []
-amid_first p m old x t stack st e = record {
+pub amid_first : (p : Program) (t : s.State) (m : Live) (old : State) (x : Rooms) (ks : List CellType) (stack : List s.Cell) → Stands p m old x t
+    → (site_at p t.pc).cells ≡ ks → t.stack ≡ stack → Amid p t m old old x ks stack t.world.store []
+amid_first p t m old x ks stack st kinds e = record {
   same = record { names = refl; callers = refl; statics = refl; blocks = refl; levels = refl; beneath = refl; bottom = λ h. h };
   here = refl;
   sound = st.sound;
   is = st.store;
-  kept = λ q some. as_it_was m m q refl;
-  cells = subst (λ (bs : List s.Cell). AreCells p x m old.names.items.items (own old) bs) e st.stack;
+  known = subst (λ (ts : List CellType). AreKnown p ts (own old)) kinds st.known;
+  cells = subst (λ (bs : List s.Cell). AreCells p m (Beneath p m old t.frames) x old.names.items.items old.here t.here (own old) bs) e st.stack;
   once = λ q. let one = st.once q in let e = uses_is x old q in omega (arith, one, e);
   all = λ q alive. let some = st.all q alive in let e = uses_is x old q in omega (arith, some, e);
-  live = λ q some. st.live q (let e = loose_is old q in omega (arith, some, e));
+  live = λ q some. st.live q (omega (arith, some));
   unpinned = st.unpinned;
 }
 
--- all blocks in hand are on a stack again, or gone
-pub amid_last_in : (p : Program) (m n : Live) (old now : State) (x : Rooms) (t : s.State) (pc : ℕ) (stack : List s.Cell) (here : act.Here) (world : World)
-    → Stands p m old x t → Amid p m n old now x old.names.items.items stack world.store [] → (h : Here) → IsHere p x old.names.items.items h here
+-- all blocks in hand are on a stack again, or gone; the line and the activation may be others, of the same scope
+pub amid_last_in : (p : Program) (t : s.State) (m n : Live) (old now : State) (x : Rooms) (ks : List CellType) (pc : ℕ) (stack : List s.Cell) (here : act.Here)
+    (world : World) → Stands p m old x t → Amid p t n old now x ks stack world.store [] → (site_at p pc).cells ≡ ks
+    → (h : Here) → ((y : Rooms) (ms : List Name) → IsHere p y ms old.here t.here → IsHere p y ms h here)
     → Stands p n (record now { pc = pc; here = h }) x (moved_to t pc stack here world)
-amid_last_in p m n old now x t pc stack here world st amid h there =
+amid_last_in p t m n old now x ks pc stack here world st amid kinds h there =
     let same = amid.same in
     stands_so p m n old (record now { pc = pc; here = h }) x t pc stack here world st (record {
       same = record {
@@ -87,32 +91,30 @@ amid_last_in p m n old now x t pc stack here world st amid h there =
         bottom = same.bottom;
       };
       line = refl;
-      at = there;
       sound = amid.sound;
       store = amid.is;
-      kept = amid.kept;
-      cells = amid.cells;
+      known = subst (λ (ts : List CellType). AreKnown p ts (own now)) (sym kinds) amid.known;
+      cells = rehere p n (Beneath p n old t.frames) old.here h t.here here there x old.names.items.items (own now) stack amid.cells;
       once = λ q. let one = amid.once q in let e = uses_is x now q in omega (arith, one, e);
       all = λ q alive. let some = amid.all q alive in let e = uses_is x now q in omega (arith, some, e);
-      live = λ q some. amid.live q (let e = loose_is now q in omega (arith, some, e));
+      live = λ q some. amid.live q (omega (arith, some));
       unpinned = amid.unpinned;
     })
 
-pub amid_last : (p : Program) (m n : Live) (old now : State) (x : Rooms) (t : s.State) (pc : ℕ) (stack : List s.Cell) (world : World)
-    → Stands p m old x t → Amid p m n old now x old.names.items.items stack world.store [] → pc ≡ now.pc
+pub amid_last : (p : Program) (t : s.State) (m n : Live) (old now : State) (x : Rooms) (ks : List CellType) (pc : ℕ) (stack : List s.Cell) (world : World)
+    → Stands p m old x t → Amid p t n old now x ks stack world.store [] → (site_at p pc).cells ≡ ks → pc ≡ now.pc
     → Stands p n now x (moved_to t pc stack t.here world)
-amid_last p m n old now x t pc stack world st amid line =
+amid_last p t m n old now x ks pc stack world st amid kinds line =
     stands_so p m n old now x t pc stack t.here world st (record {
       same = amid.same;
       line = line;
-      at = subst (λ (h : Here). IsHere p x old.names.items.items h t.here) (sym amid.here) st.here;
       sound = amid.sound;
       store = amid.is;
-      kept = amid.kept;
-      cells = amid.cells;
+      known = subst (λ (ts : List CellType). AreKnown p ts (own now)) (sym kinds) amid.known;
+      cells = subst (λ (h : Here). AreCells p n (Beneath p n old t.frames) x old.names.items.items h t.here (own now) stack) (sym amid.here) amid.cells;
       once = λ q. let one = amid.once q in let e = uses_is x now q in omega (arith, one, e);
       all = λ q alive. let some = amid.all q alive in let e = uses_is x now q in omega (arith, some, e);
-      live = λ q some. amid.live q (let e = loose_is now q in omega (arith, some, e));
+      live = λ q some. amid.live q (omega (arith, some));
       unpinned = amid.unpinned;
     })
 
@@ -129,63 +131,62 @@ same_then g h = record {
   bottom = λ k. h.bottom (g.bottom k);
 }
 
-callers_same : (q : ℕ) (a b : State) → IsSame a b → times q (callers_blocks b.callers.items.items) ≡ times q (callers_blocks a.callers.items.items)
-callers_same q a b h = ap (λ (w : _). times q (callers_blocks w.items.items)) h.callers
-
 -- there is a cell where the machine over values has one
-pub amid_some : (p : Program) (m n : Live) (old now : State) (x : Rooms) (ns : List Name) (b : s.Cell) (below : List s.Cell) (store : Store) (hand : List ℕ)
-    → Amid p m n old now x ns (b ∷ below) store hand → own now ≡ [] → ⊥
-amid_some p m n old now x ns b below store hand amid e = subst (λ (cs : List Cell). AreCells p x n ns cs (b ∷ below)) e amid.cells
+pub amid_some : (p : Program) (t : s.State) (n : Live) (old now : State) (x : Rooms) (ks : List CellType) (b : s.Cell) (below : List s.Cell) (store : Store)
+    (hand : List ℕ) → Amid p t n old now x ks (b ∷ below) store hand → own now ≡ [] → ⊥
+amid_some p t n old now x ks b below store hand amid e =
+    subst (λ (cs : List Cell). AreCells p n (Beneath p n old t.frames) x old.names.items.items old.here t.here cs (b ∷ below)) e amid.cells
 
 -- a cell is taken, and its block is in hand
-pub amid_popped : (p : Program) (m n : Live) (old mid now : State) (x : Rooms) (ns : List Name) (b : s.Cell) (below : List s.Cell) (store : Store)
-    (hand : List ℕ) (c : Cell) → Amid p m n old mid x ns (b ∷ below) store hand → Popped c mid now
-    → IsCell p x n ns c b × Amid p m n old now x (names_under c ns) below store (cell_blocks c ++ hand)
-amid_popped p m n old mid now x ns b below store hand c amid popped =
-    let cells : AreCells p x n ns (c ∷ own now) (b ∷ below) =
-    subst (λ (cs : List Cell). AreCells p x n ns cs (b ∷ below)) popped.cells amid.cells in (
+pub amid_popped : (p : Program) (t : s.State) (n : Live) (old mid now : State) (x : Rooms) (k : CellType) (ks : List CellType) (b : s.Cell)
+    (below : List s.Cell) (store : Store) (hand : List ℕ) (c : Cell) → Amid p t n old mid x (k ∷ ks) (b ∷ below) store hand → Popped c mid now → IsFlat b
+    → IsCell p x n old.names.items.items c b × IsKnown p k c × Amid p t n old now x ks below store (cell_blocks c ++ hand)
+amid_popped p t n old mid now x k ks b below store hand c amid popped flat =
+    let Rest : Rooms → List Name → Type 0 = Beneath p n old t.frames in
+    let cells : AreCells p n Rest x old.names.items.items old.here t.here (c ∷ own now) (b ∷ below) =
+    subst (λ (cs : List Cell). AreCells p n Rest x old.names.items.items old.here t.here cs (b ∷ below)) popped.cells amid.cells in
+    let known = known_popped p k ks c mid now amid.known popped in (
       cells.0,
+      known.0,
       record {
         same = same_then amid.same popped.same;
         here = popped.same.here ∙ amid.here;
         sound = amid.sound;
         is = amid.is;
-        kept = amid.kept;
-        cells = cells.1;
-        once = λ q. let one = amid.once q in let e = popped.blocks q in let f = callers_same q mid now popped.same in
-            let g = times_append q (cell_blocks c) hand in omega (arith, one, e, f, g);
-        all = λ q alive. let some = amid.all q alive in let e = popped.blocks q in let f = callers_same q mid now popped.same in
-            let g = times_append q (cell_blocks c) hand in omega (arith, some, e, f, g);
-        live = λ q some. amid.live q (let e = popped.blocks q in let f = callers_same q mid now popped.same in
-            let g = times_append q (cell_blocks c) hand in omega (arith, some, e, f, g));
+        known = known.1;
+        cells = flat_under p n (λ y ms h here. AreCells p n Rest y ms h here (own now) below) x old.names.items.items old.here t.here c b cells.0 flat cells.2;
+        once = λ q. let one = amid.once q in let e = popped.blocks q in let g = times_append q (cell_blocks c) hand in omega (arith, one, e, g);
+        all = λ q alive. let some = amid.all q alive in let e = popped.blocks q in let g = times_append q (cell_blocks c) hand in omega (arith, some, e, g);
+        live = λ q some. amid.live q (let e = popped.blocks q in let g = times_append q (cell_blocks c) hand in omega (arith, some, e, g));
         unpinned = amid.unpinned;
       },
     )
 
 -- a cell is put on top, with a block in hand, where it has one
-pub amid_pushed : (p : Program) (m n : Live) (old mid now : State) (x : Rooms) (ns : List Name) (b : s.Cell) (below : List s.Cell) (store : Store)
-    (hand : List ℕ) (c : Cell) (to : ℕ) → Amid p m n old mid x (names_under c ns) below store (cell_blocks c ++ hand) → Pushed c to mid now
-    → IsCell p x n ns c b → Amid p m n old now x ns (b ∷ below) store hand
-amid_pushed p m n old mid now x ns b below store hand c to amid pushed is = record {
-  same = same_then amid.same pushed.same;
-  here = pushed.same.here ∙ amid.here;
-  sound = amid.sound;
-  is = amid.is;
-  kept = amid.kept;
-  cells = subst (λ (cs : List Cell). AreCells p x n ns cs (b ∷ below)) (sym pushed.cells) (is, amid.cells);
-  once = λ q. let one = amid.once q in let e = pushed.blocks q in let f = callers_same q mid now pushed.same in
-      let g = times_append q (cell_blocks c) hand in omega (arith, one, e, f, g);
-  all = λ q alive. let some = amid.all q alive in let e = pushed.blocks q in let f = callers_same q mid now pushed.same in
-      let g = times_append q (cell_blocks c) hand in omega (arith, some, e, f, g);
-  live = λ q some. amid.live q (let e = pushed.blocks q in let f = callers_same q mid now pushed.same in
-      let g = times_append q (cell_blocks c) hand in omega (arith, some, e, f, g));
-  unpinned = amid.unpinned;
-}
+pub amid_pushed : (p : Program) (t : s.State) (n : Live) (old mid now : State) (x : Rooms) (k : CellType) (ks : List CellType) (b : s.Cell)
+    (below : List s.Cell) (store : Store) (hand : List ℕ) (c : Cell) (to : ℕ) → Amid p t n old mid x ks below store (cell_blocks c ++ hand) → Pushed c to mid now
+    → IsFlat b → IsCell p x n old.names.items.items c b → IsKnown p k c → Amid p t n old now x (k ∷ ks) (b ∷ below) store hand
+amid_pushed p t n old mid now x k ks b below store hand c to amid pushed flat is shape =
+    let Rest : Rooms → List Name → Type 0 = Beneath p n old t.frames in
+    let above = flat_above p n (λ y ms h here. AreCells p n Rest y ms h here (own mid) below) x old.names.items.items old.here t.here c b is flat in
+    record {
+      same = same_then amid.same pushed.same;
+      here = pushed.same.here ∙ amid.here;
+      sound = amid.sound;
+      is = amid.is;
+      known = known_pushed p k ks c to mid now amid.known pushed shape;
+      cells = subst (λ (cs : List Cell). AreCells p n Rest x old.names.items.items old.here t.here cs (b ∷ below)) (sym pushed.cells)
+          (is, above.0, above.1 amid.cells);
+      once = λ q. let one = amid.once q in let e = pushed.blocks q in let g = times_append q (cell_blocks c) hand in omega (arith, one, e, g);
+      all = λ q alive. let some = amid.all q alive in let e = pushed.blocks q in let g = times_append q (cell_blocks c) hand in omega (arith, some, e, g);
+      live = λ q some. amid.live q (let e = pushed.blocks q in let g = times_append q (cell_blocks c) hand in omega (arith, some, e, g));
+      unpinned = amid.unpinned;
+    }
 
 -- another line
-pub amid_line : (p : Program) (m n : Live) (old now : State) (x : Rooms) (ns : List Name) (stack : List s.Cell) (store : Store) (hand : List ℕ) (pc : ℕ)
-    → Amid p m n old now x ns stack store hand → Amid p m n old (record now { pc = pc }) x ns stack store hand
-amid_line p m n old now x ns stack store hand pc amid =
+pub amid_line : (p : Program) (t : s.State) (n : Live) (old now : State) (x : Rooms) (ks : List CellType) (stack : List s.Cell) (store : Store) (hand : List ℕ) (pc : ℕ)
+    → Amid p t n old now x ks stack store hand → Amid p t n old (record now { pc = pc }) x ks stack store hand
+amid_line p t n old now x ks stack store hand pc amid =
     let same = amid.same in
     record {
       same = record {
@@ -200,7 +201,7 @@ amid_line p m n old now x ns stack store hand pc amid =
       here = amid.here;
       sound = amid.sound;
       is = amid.is;
-      kept = amid.kept;
+      known = amid.known;
       cells = amid.cells;
       once = amid.once;
       all = amid.all;
@@ -208,10 +209,10 @@ amid_line p m n old now x ns stack store hand pc amid =
       unpinned = amid.unpinned;
     }
 
-pub amid_moved : (p : Program) (m n : Live) (old mid now : State) (x : Rooms) (ns : List Name) (stack : List s.Cell) (store : Store) (hand : List ℕ) (pc : ℕ)
-    → Amid p m n old mid x ns stack store hand → Moved pc mid now → Amid p m n old now x ns stack store hand
-amid_moved p m n old mid now x ns stack store hand pc amid moved =
-    subst (λ (w : State). Amid p m n old w x ns stack store hand) (sym moved.is) (amid_line p m n old mid x ns stack store hand pc amid)
+pub amid_moved : (p : Program) (t : s.State) (n : Live) (old mid now : State) (x : Rooms) (ks : List CellType) (stack : List s.Cell) (store : Store) (hand : List ℕ) (pc : ℕ)
+    → Amid p t n old mid x ks stack store hand → Moved pc mid now → Amid p t n old now x ks stack store hand
+amid_moved p t n old mid now x ks stack store hand pc amid moved =
+    subst (λ (w : State). Amid p t n old w x ks stack store hand) (sym moved.is) (amid_line p t n old mid x ks stack store hand pc amid)
 
 -- ---- blocks
 
@@ -221,11 +222,8 @@ times_same b bs = rw (eq-eqb b b refl) refl
 times_other : (q b : ℕ) (bs : List ℕ) → q ≢ b → times q (b ∷ bs) ≡ times q bs
 times_other q b bs ne = rw (ne_eqb q b ne) (omega arith)
 
-then_steady : (m n o : Live) (q : ℕ) → Steady m n q → Steady n o q → Steady m o q
-then_steady m n o q a b = record { live = λ h. b.live (a.live h); long = b.long ∙ a.long; same = λ i. b.same i ∙ a.same i }
-
-module _ (p : Program) (m n : Live) (old now : State) (x : Rooms) (ns : List Name) (stack : List s.Cell) (store : Store) (hand : List ℕ)
-    (amid : Amid p m n old now x ns stack store hand) where
+module _ (p : Program) (t : s.State) (n : Live) (old now : State) (x : Rooms) (ks : List CellType) (stack : List s.Cell) (store : Store) (hand : List ℕ)
+    (amid : Amid p t n old now x ks stack store hand) where
   -- what is beneath is on the stack, and what the activation has
   under : (q : ℕ) → times q (cells_blocks (beneath old)) ≤ times q (cells_blocks now.cells.items.items)
   under q =
@@ -243,14 +241,16 @@ module _ (p : Program) (m n : Live) (old now : State) (x : Rooms) (ns : List Nam
   pub amid_so : (o : Live) (others : List ℕ) (stored : Store) → Kept n o (cells_blocks now.cells.items.items) → IsSound (types_of p) o x
       → stored ≡ store_of (types_of p) o x → ((q : ℕ) → times q (blocks_of x) + (uses now q + times q others) ≤ 1)
       → ((q : ℕ) → IsLive o q → 0 < times q (blocks_of x) + (uses now q + times q others)) → ((q : ℕ) → 0 < uses now q + times q others → IsLive o q)
-      → ((q : ℕ) → pins_of o q ≡ 0) → Amid p m o old now x ns stack stored others
+      → ((q : ℕ) → pins_of o q ≡ 0) → Amid p t o old now x ks stack stored others
   amid_so o others stored kept sound is once all live unpinned = record {
     same = amid.same;
     here = amid.here;
     sound = sound;
     is = is;
-    kept = λ q some. then_steady m n o q (amid.kept q some) (kept q (let e = under q in omega (arith, e, some)));
-    cells = cells_stay p n o x ns (own now) stack (λ q some. kept q (let e = above q in omega (arith, e, some))) amid.cells;
+    known = amid.known;
+    cells = cells_stay p n o (Beneath p n old t.frames) (Beneath p o old t.frames)
+        (callers_stay p n o (beneath old) (reverse old.callers.items.items) t.frames (λ q some. kept q (let e = under q in omega (arith, e, some))))
+        x old.names.items.items old.here t.here (own now) stack (λ q some. kept q (let e = above q in omega (arith, e, some))) amid.cells;
     once = once;
     all = all;
     live = live;
@@ -261,7 +261,7 @@ module _ (p : Program) (m n : Live) (old now : State) (x : Rooms) (ns : List Nam
   amid_stays : (o : Live) (others : List ℕ) → ((q : ℕ) → 0 < times q (blocks_of x) + times q (cells_blocks now.cells.items.items) → find o q ≡ find n q)
       → ((q : ℕ) → times q (blocks_of x) + (uses now q + times q others) ≤ 1)
       → ((q : ℕ) → IsLive o q → 0 < times q (blocks_of x) + (uses now q + times q others)) → ((q : ℕ) → 0 < uses now q + times q others → IsLive o q)
-      → ((q : ℕ) → pins_of o q ≡ 0) → Amid p m o old now x ns stack store others
+      → ((q : ℕ) → pins_of o q ≡ 0) → Amid p t o old now x ks stack store others
   amid_stays o others same once all live unpinned =
       let rooms : Kept n o (blocks_of x) = λ q some. as_it_was n o q (same q (omega arith)) in
       amid_so o others store (λ q some. as_it_was n o q (same q (omega arith))) (rooms_persist (types_of p) n o x amid.sound rooms)
@@ -284,7 +284,7 @@ module _ (p : Program) (m n : Live) (old now : State) (x : Rooms) (ns : List Nam
   unused_at b none = let e = no_room b none in let f = not_loose b none in omega (arith, e, f)
 
   -- a new block of zeros is taken, and is in hand
-  pub amid_taken : (b k : ℕ) → find n b ≡ None → Amid p m (with_taken n b k) old now x ns stack store (b ∷ hand)
+  pub amid_taken : (b k : ℕ) → find n b ≡ None → Amid p t (with_taken n b k) old now x ks stack store (b ∷ hand)
   amid_taken b k none =
       let dead : (q : ℕ) → IsLive n q → q ≢ b = λ q alive. fresh-apart n b q none alive in
       let unused : times b (blocks_of x) + (uses now b + times b hand) ≡ 0 = unused_at b none in
@@ -310,7 +310,7 @@ module _ (p : Program) (m n : Live) (old now : State) (x : Rooms) (ns : List Nam
   -- words are written in rooms
   pub amid_put : (o : Live) (stored : Store) → IsSound (types_of p) o x → stored ≡ store_of (types_of p) o x
       → ((q : ℕ) → times q (blocks_of x) ≡ 0 → find o q ≡ find n q) → ((q : ℕ) → IsLive o q → IsLive n q) → ((q : ℕ) → pins_of o q ≡ pins_of n q)
-      → Amid p m o old now x ns stack stored hand
+      → Amid p t o old now x ks stack stored hand
   amid_put o stored sound is elsewhere fewer pins =
       let loose : (q : ℕ) → 0 < uses now q + times q hand → times q (blocks_of x) ≡ 0 = λ q some. let one = amid.once q in omega (arith, some, one) in
       amid_so o hand stored (λ q some. as_it_was n o q (elsewhere q (loose q (omega arith)))) sound is amid.once
@@ -318,8 +318,8 @@ module _ (p : Program) (m n : Live) (old now : State) (x : Rooms) (ns : List Nam
 
 -- ---- the block that is first in hand
 
-module _ (p : Program) (m n : Live) (old now : State) (x : Rooms) (ns : List Name) (stack : List s.Cell) (store : Store) (b : ℕ) (hand : List ℕ)
-    (amid : Amid p m n old now x ns stack store (b ∷ hand)) where
+module _ (p : Program) (t : s.State) (n : Live) (old now : State) (x : Rooms) (ks : List CellType) (stack : List s.Cell) (store : Store) (b : ℕ) (hand : List ℕ)
+    (amid : Amid p t n old now x ks stack store (b ∷ hand)) where
   -- it is in no other use
   pub hand_alone : times b (blocks_of x) + (uses now b + times b hand) ≡ 0
   hand_alone = let one = amid.once b in let e = times_same b hand in omega (arith, one, e)
@@ -333,9 +333,9 @@ module _ (p : Program) (m n : Live) (old now : State) (x : Rooms) (ns : List Nam
       let g = hand_alone in absurd (omega (arith, some, f, g))
 
   -- it is given back
-  pub amid_gone : Amid p m (remove n b) old now x ns stack store hand
+  pub amid_gone : Amid p t (remove n b) old now x ks stack store hand
   amid_gone =
-      amid_stays p m n old now x ns stack store (b ∷ hand) amid (remove n b) hand
+      amid_stays p t n old now x ks stack store (b ∷ hand) amid (remove n b) hand
       (λ q some. get-remove_other n b q (aside q some))
       (λ q. let one = amid.once q in omega (arith, one))
       (λ q alive. elim (cases_eq q b) [
@@ -352,9 +352,9 @@ module _ (p : Program) (m n : Live) (old now : State) (x : Rooms) (ns : List Nam
       ])
 
   -- only its words change
-  pub amid_changed : (o : Live) → ((q : ℕ) → q ≢ b → find o q ≡ find n q) → IsLive o b → pins_of o b ≡ 0 → Amid p m o old now x ns stack store (b ∷ hand)
+  pub amid_changed : (o : Live) → ((q : ℕ) → q ≢ b → find o q ≡ find n q) → IsLive o b → pins_of o b ≡ 0 → Amid p t o old now x ks stack store (b ∷ hand)
   amid_changed o other alive_there pins =
-      amid_stays p m n old now x ns stack store (b ∷ hand) amid o (b ∷ hand)
+      amid_stays p t n old now x ks stack store (b ∷ hand) amid o (b ∷ hand)
       (λ q some. other q (aside q some))
       amid.once
       (λ q alive. elim (cases_eq q b) [
@@ -370,6 +370,6 @@ module _ (p : Program) (m n : Live) (old now : State) (x : Rooms) (ns : List Nam
         | inr ne ↦ ap pins_in (other q ne) ∙ amid.unpinned q
       ])
 
-  pub amid_written : (ws : List ℤ) → Amid p m (with_words n b ws) old now x ns stack store (b ∷ hand)
+  pub amid_written : (ws : List ℤ) → Amid p t (with_words n b ws) old now x ks stack store (b ∷ hand)
   amid_written ws =
       amid_changed (with_words n b ws) (λ q ne. get-insert_other n b _ q ne) (live-insert_same n b _) (pins-insert_same n b _ ∙ amid.unpinned b)

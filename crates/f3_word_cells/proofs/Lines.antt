@@ -18,6 +18,8 @@ use Rattle.f3_code.specs.State as s
 use Rattle.f3_code.specs.Machine.{act, performs}
 use Rattle.f3_code.specs.Heap.{with_answers}
 use Rattle.f3_cells.specs.States.{setting}
+use Rattle.f3_cell_kinds.specs.Types.{CellType}
+use Rattle.f3_cell_kinds.specs.Laws.{site_at}
 use Rattle.f3_rooms.specs.Rooms.{Rooms}
 use Rattle.f3_word_cells.specs.declared.state.State.{State}
 use Rattle.f3_word_cells.specs.declared.state.Stop.{Stop}
@@ -137,27 +139,27 @@ pub lost_ahead : (p : Program) (l : Line) (t to : s.State) → GoesOn p l t to [
 lost_ahead p l t to goes past = record { to = to; goes = goes; nowhere = slice_get_past (code_of p).lines to.pc past }
 
 -- so far on from the next line, where the cells are these
-pub becomes_ahead : (p : Program) (m n : Live) (old mid new : State) (x : Rooms) (t : s.State) (l : Line) (stack : List s.Cell) (d total : ℕ)
-    (result : Result ⊤ Stop) → Stands p m old x t → Amid p m n old mid x old.names.items.items stack t.world.store [] → mid.pc ≡ old.pc
-    → length (code_of p).lines ≡ total → WentAhead d total result mid new → GoesOn p l t (moved_to t (t.pc + 1 + d) stack t.here t.world) []
+pub becomes_ahead : (p : Program) (m n : Live) (old mid new : State) (x : Rooms) (ks : List CellType) (t : s.State) (l : Line) (stack : List s.Cell)
+    (d total : ℕ) (result : Result ⊤ Stop) → Stands p m old x t → Amid p t n old mid x ks stack t.world.store [] → mid.pc ≡ old.pc
+    → (site_at p (t.pc + 1 + d)).cells ≡ ks → length (code_of p).lines ≡ total → WentAhead d total result mid new → GoesOn p l t (moved_to t (t.pc + 1 + d) stack t.here t.world) []
     → Becomes p l t result n new
-becomes_ahead p m n old mid new x t l stack d total (Ok done) st amid line size went goes =
+becomes_ahead p m n old mid new x ks t l stack d total (Ok done) st amid line kinds size went goes =
     let far : t.pc ≡ mid.pc = st.pc ∙ sym line in
-    let there : Amid p m n old new x old.names.items.items stack t.world.store [] =
-    amid_moved p m n old mid new x old.names.items.items stack t.world.store [] (mid.pc + 1 + d) amid (record { is = went.0 }) in
+    let there : Amid p t n old new x ks stack t.world.store [] =
+    amid_moved p t n old mid new x ks stack t.world.store [] (mid.pc + 1 + d) amid (record { is = went.0 }) in
     let at : t.pc + 1 + d ≡ new.pc = ap (λ k. k + 1 + d) far ∙ sym (ap (λ (w : State). w.pc) went.0) in
     record {
       next = moved_to t (t.pc + 1 + d) stack t.here t.world;
       rooms = x;
       goes = goes;
-      stands = amid_last p m n old new x t (t.pc + 1 + d) stack t.world st there at;
+      stands = amid_last p t m n old new x ks (t.pc + 1 + d) stack t.world st there kinds at;
     }
-becomes_ahead p m n old mid new x t l stack d total (Err stop.Lost) st amid line size went goes =
+becomes_ahead p m n old mid new x ks t l stack d total (Err stop.Lost) st amid line kinds size went goes =
     let far : t.pc ≡ mid.pc = st.pc ∙ sym line in
     lost_ahead p l t (moved_to t (t.pc + 1 + d) stack t.here t.world) goes (let past = went.1 in omega arith)
-becomes_ahead p m n old mid new x t l stack d total (Err stop.Done) st amid line size went goes = absurd went
-becomes_ahead p m n old mid new x t l stack d total (Err (stop.Stopped number)) st amid line size went goes = absurd went
-becomes_ahead p m n old mid new x t l stack d total (Err (stop.Failed error)) st amid line size went goes = absurd went
-becomes_ahead p m n old mid new x t l stack d total (Err stop.Forbidden) st amid line size went goes = absurd went
-becomes_ahead p m n old mid new x t l stack d total (Err stop.Refused) st amid line size went goes = absurd went
-becomes_ahead p m n old mid new x t l stack d total (Err stop.Memory) st amid line size went goes = absurd went
+becomes_ahead p m n old mid new x ks t l stack d total (Err stop.Done) st amid line kinds size went goes = absurd went
+becomes_ahead p m n old mid new x ks t l stack d total (Err (stop.Stopped number)) st amid line kinds size went goes = absurd went
+becomes_ahead p m n old mid new x ks t l stack d total (Err (stop.Failed error)) st amid line kinds size went goes = absurd went
+becomes_ahead p m n old mid new x ks t l stack d total (Err stop.Forbidden) st amid line kinds size went goes = absurd went
+becomes_ahead p m n old mid new x ks t l stack d total (Err stop.Refused) st amid line kinds size went goes = absurd went
+becomes_ahead p m n old mid new x ks t l stack d total (Err stop.Memory) st amid line kinds size went goes = absurd went

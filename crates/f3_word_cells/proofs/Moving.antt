@@ -1,5 +1,5 @@
 -- States of which only cells, the line and the activation become others.
-use Rattle.std.proofs.Common.{◌≡◌, ◌∙◌, ℕ, ◌<◌, ◌≤◌, List, [], ◌++◌, length, reverse, refl, sym, ap, subst, arith}
+use Rattle.std.proofs.Common.{◌≡◌, ◌∙◌, ℕ, ◌<◌, ◌≤◌, List, ◌++◌, length, reverse, sym, ap, subst, arith}
 use Rattle.f3_program.specs.declared.program.Program.{Program}
 use Rattle.f3_live_blocks.specs.Blocks.{Live, IsLive, pins_of}
 use Rattle.f3_meaning_whole.specs.Ran.{World}
@@ -8,17 +8,17 @@ use Rattle.f3_code.specs.State as s
 use Rattle.f3_rooms.specs.Held.{times}
 use Rattle.f3_rooms.specs.Rooms.{Rooms, blocks_of, store_of}
 use Rattle.f3_rooms.specs.Sound.{IsSound}
-use Rattle.f3_rooms.proofs.Framing.{Kept, times_append}
-use Rattle.f3_rooms.proofs.Keeping.{as_it_was}
+use Rattle.f3_rooms.proofs.Framing.{times_append}
 use Rattle.f3_word_cells.specs.declared.cell.Here.{Here}
 use Rattle.f3_word_cells.specs.declared.cell.Cell.{Cell}
 use Rattle.f3_word_cells.specs.declared.state.Name.{Name}
+use Rattle.f3_word_cells.specs.declared.state.Caller.{Caller}
 use Rattle.f3_word_cells.specs.declared.state.State.{State}
+use Rattle.f3_cell_kinds.specs.Laws.{site_at}
 use Rattle.f3_word_cells.specs.Areas.{types_of}
-use Rattle.f3_word_cells.specs.Cells.{AreCells, IsHere}
-use Rattle.f3_word_cells.specs.States.{AreCallers, Stands, beneath, callers_blocks, cells_blocks, loose_blocks, own}
+use Rattle.f3_word_cells.specs.Cells.{AreCells}
+use Rattle.f3_word_cells.specs.States.{AreCallers, AreKnown, Stands, beneath, cells_blocks, loose_blocks, own}
 use Rattle.f3_word_cells.specs.Moves.{IsSame}
-use Rattle.f3_word_cells.proofs.Staying.{callers_stay}
 
 -- all but the line, the activation and its cells
 pub record IsSameElse (old new : State) : Type 0 where
@@ -43,16 +43,19 @@ same_else h = record {
 
 -- ---- whatever becomes of blocks
 
+-- what is beneath the cells of the activation at work, where it has these frames
+abbrev pub Beneath : Program → Live → State → List s.Frame → Rooms → List Name → Type 0
+Beneath p m w frames = AreCallers p m (beneath w) (reverse w.callers.items.items) frames
+
 -- What is left to show where blocks, cells, the line and the activation become others, and variables stand in the same rooms.
-pub record StandsSo (p : Program) (m n : Live) (old new : State) (x : Rooms) (t : s.State) (pc : ℕ) (stack : List s.Cell) (here : act.Here) (world : World)
+pub record StandsSo (p : Program) (n : Live) (old new : State) (x : Rooms) (t : s.State) (pc : ℕ) (stack : List s.Cell) (here : act.Here) (world : World)
     : Type 0 where
   pub same : IsSameElse old new
   pub line : pc ≡ new.pc
-  pub at : IsHere p x old.names.items.items new.here here
   pub sound : IsSound (types_of p) n x
   pub store : world.store ≡ store_of (types_of p) n x
-  pub kept : Kept m n (cells_blocks (beneath old))
-  pub cells : AreCells p x n old.names.items.items (own new) stack
+  pub known : AreKnown p (site_at p pc).cells (own new)
+  pub cells : AreCells p n (Beneath p n old t.frames) x old.names.items.items new.here here (own new) stack
   pub once : (q : ℕ) → times q (blocks_of x ++ loose_blocks new) ≤ 1
   pub all : (q : ℕ) → IsLive n q → 0 < times q (blocks_of x ++ loose_blocks new)
   pub live : (q : ℕ) → 0 < times q (loose_blocks new) → IsLive n q
@@ -62,28 +65,30 @@ abbrev pub moved_to : s.State → ℕ → List s.Cell → act.Here → World →
 moved_to t pc stack here world = record { pc = pc; stack = stack; here = here; frames = t.frames; world = world }
 
 pub stands_so : (p : Program) (m n : Live) (old new : State) (x : Rooms) (t : s.State) (pc : ℕ) (stack : List s.Cell) (here : act.Here) (world : World)
-    → Stands p m old x t → StandsSo p m n old new x t pc stack here world → Stands p n new x (moved_to t pc stack here world)
+    → Stands p m old x t → StandsSo p n old new x t pc stack here world → Stands p n new x (moved_to t pc stack here world)
 stands_so p m n old new x t pc stack here world st so =
     let same = so.same in
     let names : old.names.items.items ≡ new.names.items.items = ap (λ (w : _). w.items.items) (sym same.names) in
-    let callers : AreCallers p n x old.names.items.items (beneath old) (reverse old.callers.items.items) t.frames =
-    callers_stay p m n x old.names.items.items (beneath old) (reverse old.callers.items.items) t.frames so.kept st.callers in
-    let named : AreCallers p n x new.names.items.items (beneath old) (reverse old.callers.items.items) t.frames =
-    subst (λ (ns : List Name). AreCallers p n x ns (beneath old) (reverse old.callers.items.items) t.frames) names callers in
-    let beneath_is : AreCallers p n x new.names.items.items (beneath new) (reverse old.callers.items.items) t.frames =
-    subst (λ (cs : List Cell). AreCallers p n x new.names.items.items cs (reverse old.callers.items.items) t.frames) (sym same.beneath) named in
+    let callers : reverse old.callers.items.items ≡ reverse new.callers.items.items = ap (λ (w : _). reverse w.items.items) (sym same.callers) in
+    let Rest : List Cell → List Caller → Rooms → List Name → Type 0 = λ cs fs. AreCallers p n cs fs t.frames in
+    let named : AreCells p n (Rest (beneath old) (reverse old.callers.items.items)) x new.names.items.items new.here here (own new) stack =
+    subst (λ (ns : List Name). AreCells p n (Rest (beneath old) (reverse old.callers.items.items)) x ns new.here here (own new) stack) names so.cells in
+    let called : AreCells p n (Rest (beneath old) (reverse new.callers.items.items)) x new.names.items.items new.here here (own new) stack =
+    subst (λ (fs : List Caller). AreCells p n (Rest (beneath old) fs) x new.names.items.items new.here here (own new) stack) callers named in
     record {
       sound = so.sound;
       store = so.store;
       statics = st.statics ∙ sym same.statics;
       declared = st.declared;
+      bare = st.bare;
+      all_bare = st.all_bare;
       blocks = ap (λ (w : _). w.items.items) same.blocks ∙ st.blocks;
       levels = ap (λ (w : _). w.items.items) same.levels ∙ st.levels;
       pc = so.line;
-      here = subst (λ (ns : List Name). IsHere p x ns new.here here) names so.at;
       bottom = same.bottom st.bottom;
-      stack = subst (λ (ns : List Name). AreCells p x n ns (own new) stack) names so.cells;
-      callers = subst (λ (cs : _). AreCallers p n x new.names.items.items (beneath new) (reverse cs.items.items) t.frames) (sym same.callers) beneath_is;
+      known = so.known;
+      stack = subst (λ (cs : List Cell). AreCells p n (Rest cs (reverse new.callers.items.items)) x new.names.items.items new.here here (own new) stack)
+          (sym same.beneath) called;
       once = so.once;
       all = so.all;
       live = so.live;
@@ -92,43 +97,40 @@ stands_so p m n old new x t pc stack here world st so =
 
 -- ---- the blocks are the same
 
-blocks_moved : (q : ℕ) (old new : State) (bs : List ℕ) → new.callers ≡ old.callers
+blocks_moved : (q : ℕ) (old new : State) (bs : List ℕ)
     → times q (cells_blocks new.cells.items.items) ≡ times q (cells_blocks old.cells.items.items)
     → times q (bs ++ loose_blocks new) ≡ times q (bs ++ loose_blocks old)
-blocks_moved q old new bs callers cells =
+blocks_moved q old new bs cells =
     let a = times_append q bs (loose_blocks new) in
     let b = times_append q bs (loose_blocks old) in
-    let d = times_append q (cells_blocks new.cells.items.items) (callers_blocks new.callers.items.items) in
-    let e = times_append q (cells_blocks old.cells.items.items) (callers_blocks old.callers.items.items) in
-    let f : times q (callers_blocks new.callers.items.items) ≡ times q (callers_blocks old.callers.items.items) =
-    ap (λ (w : _). times q (callers_blocks w.items.items)) callers in
-    omega (arith, a, b, d, e, f, cells)
+    omega (arith, a, b, cells)
 
 -- the line, the activation and its cells become others, with values in the same blocks
 pub stands_at : (p : Program) (live : Live) (old new : State) (x : Rooms) (t : s.State) (pc : ℕ) (stack : List s.Cell) (here : act.Here)
-    → Stands p live old x t → IsSameElse old new → pc ≡ new.pc → IsHere p x old.names.items.items new.here here
-    → AreCells p x live old.names.items.items (own new) stack
+    → Stands p live old x t → IsSameElse old new → pc ≡ new.pc → AreKnown p (site_at p pc).cells (own new)
+    → AreCells p live (Beneath p live old t.frames) x old.names.items.items new.here here (own new) stack
     → ((q : ℕ) → times q (cells_blocks new.cells.items.items) ≡ times q (cells_blocks old.cells.items.items))
     → Stands p live new x (moved_to t pc stack here t.world)
-stands_at p live old new x t pc stack here st same at there cells blocks = stands_so p live live old new x t pc stack here t.world st (record {
+stands_at p live old new x t pc stack here st same at known cells blocks = stands_so p live live old new x t pc stack here t.world st (record {
   same = same;
   line = at;
-  at = there;
   sound = st.sound;
   store = st.store;
-  kept = λ q some. as_it_was live live q refl;
+  known = known;
   cells = cells;
-  once = λ q. subst (λ (k : ℕ). k ≤ 1) (sym (blocks_moved q old new (blocks_of x) same.callers (blocks q))) (st.once q);
-  all = λ q alive. subst (λ (k : ℕ). 0 < k) (sym (blocks_moved q old new (blocks_of x) same.callers (blocks q))) (st.all q alive);
-  live = λ q some. st.live q (subst (λ (k : ℕ). 0 < k) (blocks_moved q old new [] same.callers (blocks q)) some);
+  once = λ q. subst (λ (k : ℕ). k ≤ 1) (sym (blocks_moved q old new (blocks_of x) (blocks q))) (st.once q);
+  all = λ q alive. subst (λ (k : ℕ). 0 < k) (sym (blocks_moved q old new (blocks_of x) (blocks q))) (st.all q alive);
+  live = λ q some. st.live q (subst (λ (k : ℕ). 0 < k) (blocks q) some);
   unpinned = st.unpinned;
 })
 
 -- only the line and cells become others
 pub stands_moved : (p : Program) (live : Live) (old new : State) (x : Rooms) (t : s.State) (pc : ℕ) (stack : List s.Cell)
-    → Stands p live old x t → IsSame old new → pc ≡ new.pc → AreCells p x live old.names.items.items (own new) stack
+    → Stands p live old x t → IsSame old new → pc ≡ new.pc → AreKnown p (site_at p pc).cells (own new)
+    → AreCells p live (Beneath p live old t.frames) x old.names.items.items old.here t.here (own new) stack
     → ((q : ℕ) → times q (cells_blocks new.cells.items.items) ≡ times q (cells_blocks old.cells.items.items))
     → Stands p live new x (moved_to t pc stack t.here t.world)
-stands_moved p live old new x t pc stack st same at cells blocks =
-    stands_at p live old new x t pc stack t.here st (same_else same) at (subst (λ (h : Here). IsHere p x old.names.items.items h t.here) (sym same.here) st.here)
-    cells blocks
+stands_moved p live old new x t pc stack st same at known cells blocks =
+    stands_at p live old new x t pc stack t.here st (same_else same) at known
+    (subst (λ (h : Here). AreCells p live (Beneath p live old t.frames) x old.names.items.items h t.here (own new) stack) (sym same.here) cells)
+    blocks

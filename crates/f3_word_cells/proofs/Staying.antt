@@ -1,5 +1,5 @@
 -- What cells are where the blocks of their values stay.
-use Rattle.std.proofs.Common.{◌≡◌, ◌∙◌, ℕ, List, [], ◌∷◌, length, take, drop, reverse, sym, arith}
+use Rattle.std.proofs.Common.{◌≡◌, ◌∙◌, ℕ, List, [], ◌∷◌, length, take, drop, sym, arith}
 use Rattle.f3_program.specs.declared.program.Program.{Program}
 use Rattle.f3_live_blocks.specs.Blocks.{Live}
 use Rattle.f3_meaning_whole.specs.Value.{Value}
@@ -10,6 +10,7 @@ use Rattle.f3_rooms.specs.Held.{Empty}
 use Rattle.f3_rooms.specs.Forms.{words_for}
 use Rattle.f3_rooms.specs.Values.{object}
 use Rattle.f3_rooms.specs.Rooms.{Rooms}
+use Rattle.f3_rooms.specs.Laws.{before_level}
 use Rattle.f3_rooms.proofs.Framing.{Kept, kept_fewer, kept_front, kept_back, kept_here, laid_stays, object_stays}
 use Rattle.f3_word_cells.specs.declared.cell.Area.{Area}
 use Rattle.f3_word_cells.specs.declared.cell.Datum.{Datum}
@@ -18,16 +19,17 @@ use Rattle.f3_word_cells.specs.declared.cell.Passed.{Passed}
 use Rattle.f3_word_cells.specs.declared.cell.Passed.TheVariants as passed
 use Rattle.f3_word_cells.specs.declared.cell.Association.{Association}
 use Rattle.f3_word_cells.specs.declared.cell.Association.TheVariants as association
+use Rattle.f3_word_cells.specs.declared.cell.Here.{Here}
 use Rattle.f3_word_cells.specs.declared.cell.Cell.{Cell}
 use Rattle.f3_word_cells.specs.declared.cell.Cell.TheVariants as c
 use Rattle.f3_word_cells.specs.declared.state.Name.{Name}
 use Rattle.f3_word_cells.specs.declared.state.Caller.{Caller}
 use Rattle.f3_word_cells.specs.Areas.{IsBlock, IsDatum, shape_for, spans_of, value_in}
-use Rattle.f3_word_cells.specs.Cells.{AreCells, IsAssociation, IsCell, IsPassed, names_under}
-use Rattle.f3_word_cells.specs.States.{AreCallers, IsCaller, cell_blocks, cells_blocks, datum_blocks}
+use Rattle.f3_word_cells.specs.Cells.{AreCells, IsAssociation, IsCell, IsPassed, IsWithin, here_beneath, here_under, names_under, rooms_under}
+use Rattle.f3_word_cells.specs.States.{AreCallers, cell_blocks, cells_blocks, cells_from, datum_blocks}
 use Rattle.f3_word_cells.proofs.Stacks.{cells_blocks_reverse, cells_blocks_split}
 
-module _ (p : Program) (m n : Live) (x : Rooms) where
+module _ (p : Program) (m n : Live) where
   -- ---- values
 
   pub value_stays : (a : Area) → Kept m n (a.elements.block ∷ []) → value_in p n a ≡ value_in p m a
@@ -48,7 +50,7 @@ module _ (p : Program) (m n : Live) (x : Rooms) where
 
   -- ---- cells
 
-  module _ (ns : List Name) where
+  module _ (x : Rooms) (ns : List Name) where
     passed_stays : (a : Passed) (b : act.Passed) → Kept m n (cell_blocks (c.Argument a)) → IsPassed p x m ns a b → IsPassed p x n ns a b
     passed_stays (passed.Given k d) (act.Given i v) kept is = (is.0, datum_stays d v kept is.1)
     passed_stays (passed.Given k d) (act.Lent i r) kept is = absurd is
@@ -88,13 +90,33 @@ module _ (p : Program) (m n : Live) (x : Rooms) where
     cell_stays (c.Going f) (s.Going g) kept is = is
     cell_stays (c.Going f) b kept is = absurd is
 
-  pub cells_stay : (ns : List Name) (cs : List Cell) (bs : List s.Cell) → Kept m n (cells_blocks cs) → AreCells p x m ns cs bs → AreCells p x n ns cs bs
-  cells_stay ns [] [] kept h = h
-  cells_stay ns [] (b ∷ bs) kept h = h
-  cells_stay ns (a ∷ cs) [] kept h = h
-  cells_stay ns (a ∷ cs) (b ∷ bs) kept h = (
-    cell_stays ns a b (kept_front m n (cell_blocks a) (cells_blocks cs) kept) h.0,
-    cells_stay (names_under a ns) cs bs (kept_back m n (cell_blocks a) (cells_blocks cs) kept) h.1,
+  -- where statements are executed tells of no value
+  within_stays : (x : Rooms) (ns : List Name) (h : Here) (here : act.Here) (a : Cell) → IsWithin p m x ns h here a → IsWithin p n x ns h here a
+  within_stays x ns h here (c.Datum d) is = is
+  within_stays x ns h here (c.Object d) is = is
+  within_stays x ns h here (c.Argument d) is = is
+  within_stays x ns h here (c.Choice d) is = is
+  within_stays x ns h here (c.Bound d) is = is
+  within_stays x ns h here (c.Bounds d) is = is
+  within_stays x ns h here (c.Turns d e) is = is
+  within_stays x ns h here (c.Objects d) is = is
+  within_stays x ns h here (c.Selector d) is = is
+  within_stays x ns h here (c.Level d e) is = is
+  within_stays x ns h here (c.Outside d) is = is
+  within_stays x ns h here (c.Going d) is = is
+
+  -- and what is beneath the cells
+  pub cells_stay : (Rest Same : Rooms → List Name → Type 0) → ((x : Rooms) (ns : List Name) → Rest x ns → Same x ns)
+      → (x : Rooms) (ns : List Name) (h : Here) (here : act.Here) (cs : List Cell) (bs : List s.Cell) → Kept m n (cells_blocks cs)
+      → AreCells p m Rest x ns h here cs bs → AreCells p n Same x ns h here cs bs
+  cells_stay Rest Same f x ns h here [] [] kept are = (are.0, f x ns are.1)
+  cells_stay Rest Same f x ns h here [] (b ∷ bs) kept are = absurd are
+  cells_stay Rest Same f x ns h here (a ∷ cs) [] kept are = absurd are
+  cells_stay Rest Same f x ns h here (a ∷ cs) (b ∷ bs) kept are = (
+    cell_stays x ns a b (kept_front m n (cell_blocks a) (cells_blocks cs) kept) are.0,
+    within_stays x ns h here a are.1,
+    cells_stay Rest Same f (rooms_under a x) (names_under a ns) (here_under a h) (here_beneath a b here) cs bs
+        (kept_back m n (cell_blocks a) (cells_blocks cs) kept) are.2,
   )
 
   -- ---- callers
@@ -102,27 +124,17 @@ module _ (p : Program) (m n : Live) (x : Rooms) where
   kept_taken : (k : ℕ) (cs : List Cell) → Kept m n (cells_blocks cs) → Kept m n (cells_blocks (take k cs))
   kept_taken k cs = kept_fewer m n (cells_blocks cs) (cells_blocks (take k cs)) (λ q. let e = cells_blocks_split q k cs in omega arith)
 
-  kept_left : (k : ℕ) (cs : List Cell) → Kept m n (cells_blocks cs) → Kept m n (cells_blocks (reverse (drop k cs)))
-  kept_left k cs = kept_fewer m n (cells_blocks cs) (cells_blocks (reverse (drop k cs)))
+  kept_left : (k : ℕ) (cs : List Cell) → Kept m n (cells_blocks cs) → Kept m n (cells_blocks (cells_from k cs))
+  kept_left k cs = kept_fewer m n (cells_blocks cs) (cells_blocks (cells_from k cs))
       (λ q. let e = cells_blocks_split q k cs in let f = cells_blocks_reverse q (drop k cs) in omega arith)
 
-  caller_stays : (ns : List Name) (cs : List Cell) (f : Caller) (g : s.Frame) → Kept m n (cells_blocks cs) → IsCaller p m x ns cs f g → IsCaller p n x ns cs f g
-  caller_stays ns cs f g kept h = record {
-    pc = h.pc;
-    bottom = h.bottom;
-    dummies = h.dummies;
-    stack = cells_stay (take f.dummies.from ns) (reverse (drop f.base cs)) g.stack (kept_left f.base cs kept) h.stack;
-    here = h.here;
-    caller = h.caller;
-    level = h.level;
-    within = h.within;
-    arguments = h.arguments;
-  }
-
-  pub callers_stay : (ns : List Name) (cs : List Cell) (fs : List Caller) (gs : List s.Frame) → Kept m n (cells_blocks cs) → AreCallers p m x ns cs fs gs
-      → AreCallers p n x ns cs fs gs
-  callers_stay ns cs [] [] kept h = h
-  callers_stay ns cs [] (g ∷ gs) kept h = h
-  callers_stay ns cs (f ∷ fs) [] kept h = h
-  callers_stay ns cs (f ∷ fs) (g ∷ gs) kept h =
-      (caller_stays ns cs f g kept h.0, callers_stay (take f.dummies.from ns) (take f.base cs) fs gs (kept_taken f.base cs kept) h.1)
+  pub callers_stay : (cs : List Cell) (fs : List Caller) (gs : List s.Frame) → Kept m n (cells_blocks cs) → (x : Rooms) (ns : List Name)
+      → AreCallers p m cs fs gs x ns → AreCallers p n cs fs gs x ns
+  callers_stay cs [] [] kept x ns h = h
+  callers_stay cs [] (g ∷ gs) kept x ns h = absurd h
+  callers_stay cs (f ∷ fs) [] kept x ns h = absurd h
+  callers_stay cs (f ∷ fs) (g ∷ gs) kept x ns h = (
+    h.0,
+    cells_stay (AreCallers p m (take f.base cs) fs gs) (AreCallers p n (take f.base cs) fs gs) (callers_stay (take f.base cs) fs gs (kept_taken f.base cs kept))
+        (before_level x f.level) (take f.dummies.from ns) f.here g.here (cells_from f.base cs) g.stack (kept_left f.base cs kept) h.1,
+  )

@@ -4,4 +4,5 @@ pub mod States
 pub mod Moves
 pub mod Plain
 pub mod Scenes
+pub mod Free
 pub mod Does

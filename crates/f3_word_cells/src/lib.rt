@@ -2,6 +2,7 @@
 #![tactic(auto)]
 
 pub mod cell;
+pub mod giving;
 pub mod scene;
 pub mod stack;
 pub mod state;

@@ -17,7 +17,7 @@ pub struct Name {
 }
 
 /// What a procedure goes back to: the line and the activation of its caller, where the cells of that begin, the place where it was called,
-/// the level of the values that are held for it, its dummies, and the block for its value, where that is of array or derived type.
+/// the level of the values that are held for it, and its dummies.
 #[derive(Clone, Copy, Debug)]
 pub struct Caller {
     pub pc: usize,
@@ -26,7 +26,6 @@ pub struct Caller {
     pub place: Place,
     pub level: usize,
     pub dummies: Range,
-    pub value: Option<BlockId>,
 }
 
 /// A state: the number of the next line, from 0 on; the cells of all activations, the one on top at the end, and where those of the one at

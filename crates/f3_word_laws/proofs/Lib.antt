@@ -1,0 +1,3 @@
+pub mod There
+pub mod Telling
+pub mod Coming

@@ -1,0 +1,20 @@
+-- What lines do one after another.
+use Rattle.std.specs.Prelude.{◌≡◌, ℕ, ◌+◌, Bool, List}
+use Rattle.f3_program.specs.declared.program.Program.{Program}
+use Rattle.f3_meaning_whole.specs.Ran.{Event}
+use Rattle.f3_meaning_whole.specs.Run.{output}
+use Rattle.f3_code.specs.State.{State}
+use Rattle.f3_code.specs.Machine.{before, run}
+use Rattle.f3_code.specs.Heap.{with_answers}
+use Rattle.f3_cells.specs.States.{setting}
+use Rattle.f3_word_cells.specs.Scenes.{code_of}
+use Rattle.f3_word_cells.specs.Does.{stream}
+
+-- From one state the machine comes to another by so many instructions, where the heap gives some answers, whatever those are that come
+-- behind, and prints these bytes.
+pub record Comes (p : Program) (t u : State) (k : ℕ) (bytes : List ℕ) : Type 0 where
+  pub out : List Event
+  pub given : List Bool
+  pub printed : output out ≡ bytes
+  pub comes : (rest : ℕ → Bool) (n : ℕ) → run 1000 (setting p) (code_of p) (k + n) (with_answers (stream given rest) t)
+      ≡ before out (run 1000 (setting p) (code_of p) n (with_answers rest u))
