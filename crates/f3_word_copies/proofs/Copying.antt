@@ -233,6 +233,7 @@ module _ (p : Program) (types : Types) (old : Live) (x : Rooms) (a : Area) (r : 
         was-read = record {
           value = (is-block, sym value-is);
           gains = subst (IsNew old now) (sym block-is) (record { fresh = fresh; room = total; written = ws; is = now-is ∙ ap (λ (m : Live). with_words m block ws) mid-is });
+          typed = of-is ∙ sym there.is.0;
         }
 
     -- where it has no words nothing is copied

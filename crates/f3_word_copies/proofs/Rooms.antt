@@ -12,13 +12,7 @@ use Rattle.f3_word_cells.specs.Does.{Keeps}
 use Rattle.f3_word_copies.specs.Taken.{TookObject, TookDatum}
 
 pub keeps-same : (old new : State) → IsSame old new → Keeps old new
-keeps-same old new is = record {
-  cells = is.room;
-  names = ap (λ (w : _). w.room) is.names;
-  callers = ap (λ (w : _). w.room) is.callers;
-  blocks = ap (λ (w : _). w.room) is.blocks;
-  levels = ap (λ (w : _). w.room) is.levels;
-}
+keeps-same old new is = record { cells = is.room; names = is.names; callers = is.callers; blocks = is.blocks; levels = is.levels }
 
 pub keeps-then : (old mid new : State) → Keeps old mid → Keeps mid new → Keeps old new
 keeps-then old mid new a b = record {
@@ -32,10 +26,10 @@ keeps-then old mid new a b = record {
 pub keeps-all : (old new : State) → new ≡ old → Keeps old new
 keeps-all old new e = record {
   cells = ap (λ (w : State). (w.cells).room) e;
-  names = ap (λ (w : State). (w.names).room) e;
-  callers = ap (λ (w : State). (w.callers).room) e;
-  blocks = ap (λ (w : State). (w.blocks).room) e;
-  levels = ap (λ (w : State). (w.levels).room) e;
+  names = ap (λ (w : State). w.names) e;
+  callers = ap (λ (w : State). w.callers) e;
+  blocks = ap (λ (w : State). w.blocks) e;
+  levels = ap (λ (w : State). w.levels) e;
 }
 
 pub keeps-took : (o : Option Object) (old new : State) → TookObject o old new → Keeps old new

@@ -13,6 +13,8 @@ use Rattle.f3_cell_kinds.specs.Laws.{site_at}
 use Rattle.f3_rooms.specs.Rooms.{Rooms}
 use Rattle.f3_word_cells.specs.declared.cell.Datum.{Datum}
 use Rattle.f3_word_cells.specs.declared.cell.Object.{Object}
+use Rattle.f3_meaning_whole.specs.Act as m
+use Rattle.f3_word_cells.specs.declared.cell.Here.{Here}
 use Rattle.f3_word_cells.specs.declared.cell.Cell.{Cell}
 use Rattle.f3_word_cells.specs.declared.cell.Cell.TheVariants as c
 use Rattle.f3_word_cells.specs.declared.state.Name.{Name}
@@ -34,34 +36,34 @@ object-on-top p t k rest told e =
     record { reference = is.0; below = one.below; split = one.split ∙ ap (λ a. a ∷ one.below) is.1; refers = is.2 }
 
 -- then so it is in memory
-pub object-there : (p : Program) (x : Rooms) (live : Live) (ns : List Name) (cells : List Cell) (r : Reference) (below : List s.Cell) → AreCells p x live ns cells (s.Object r ∷ below)
+pub object-there : (p : Program) (live : Live) (Rest : Rooms → List Name → Type 0) (x : Rooms) (ns : List Name) (h : Here) (here : m.Here) (cells : List Cell) (r : Reference) (below : List s.Cell) → AreCells p live Rest x ns h here cells (s.Object r ∷ below)
     → (o : Object) × (rest : List Cell) × (cells ≡ c.Object o ∷ rest)
-object-there p x live ns [] r below are = absurd are
-object-there p x live ns (c.Object o ∷ rest) r below are = (o, rest, refl)
-object-there p x live ns (c.Datum d ∷ rest) r below are = absurd are.0
-object-there p x live ns (c.Argument a ∷ rest) r below are = absurd are.0
-object-there p x live ns (c.Choice a ∷ rest) r below are = absurd are.0
-object-there p x live ns (c.Bound z ∷ rest) r below are = absurd are.0
-object-there p x live ns (c.Bounds ds ∷ rest) r below are = absurd are.0
-object-there p x live ns (c.Turns k z ∷ rest) r below are = absurd are.0
-object-there p x live ns (c.Objects a ∷ rest) r below are = absurd are.0
-object-there p x live ns (c.Selector a ∷ rest) r below are = absurd are.0
-object-there p x live ns (c.Level k a ∷ rest) r below are = absurd are.0
-object-there p x live ns (c.Outside h ∷ rest) r below are = absurd are.0
-object-there p x live ns (c.Going f ∷ rest) r below are = absurd are.0
+object-there p live Rest x ns h here [] r below are = absurd are
+object-there p live Rest x ns h here (c.Object o ∷ rest) r below are = (o, rest, refl)
+object-there p live Rest x ns h here (c.Datum d ∷ rest) r below are = absurd are.0
+object-there p live Rest x ns h here (c.Argument a ∷ rest) r below are = absurd are.0
+object-there p live Rest x ns h here (c.Choice a ∷ rest) r below are = absurd are.0
+object-there p live Rest x ns h here (c.Bound z ∷ rest) r below are = absurd are.0
+object-there p live Rest x ns h here (c.Bounds ds ∷ rest) r below are = absurd are.0
+object-there p live Rest x ns h here (c.Turns k z ∷ rest) r below are = absurd are.0
+object-there p live Rest x ns h here (c.Objects a ∷ rest) r below are = absurd are.0
+object-there p live Rest x ns h here (c.Selector a ∷ rest) r below are = absurd are.0
+object-there p live Rest x ns h here (c.Level k a ∷ rest) r below are = absurd are.0
+object-there p live Rest x ns h here (c.Outside a ∷ rest) r below are = absurd are.0
+object-there p live Rest x ns h here (c.Going f ∷ rest) r below are = absurd are.0
 
-pub datum-there : (p : Program) (x : Rooms) (live : Live) (ns : List Name) (cells : List Cell) (v : Value) (below : List s.Cell) → AreCells p x live ns cells (s.Datum v ∷ below)
+pub datum-there : (p : Program) (live : Live) (Rest : Rooms → List Name → Type 0) (x : Rooms) (ns : List Name) (h : Here) (here : m.Here) (cells : List Cell) (v : Value) (below : List s.Cell) → AreCells p live Rest x ns h here cells (s.Datum v ∷ below)
     → (d : Datum) × (rest : List Cell) × (cells ≡ c.Datum d ∷ rest)
-datum-there p x live ns [] v below are = absurd are
-datum-there p x live ns (c.Datum d ∷ rest) v below are = (d, rest, refl)
-datum-there p x live ns (c.Object o ∷ rest) v below are = absurd are.0
-datum-there p x live ns (c.Argument a ∷ rest) v below are = absurd are.0
-datum-there p x live ns (c.Choice a ∷ rest) v below are = absurd are.0
-datum-there p x live ns (c.Bound z ∷ rest) v below are = absurd are.0
-datum-there p x live ns (c.Bounds ds ∷ rest) v below are = absurd are.0
-datum-there p x live ns (c.Turns k z ∷ rest) v below are = absurd are.0
-datum-there p x live ns (c.Objects a ∷ rest) v below are = absurd are.0
-datum-there p x live ns (c.Selector a ∷ rest) v below are = absurd are.0
-datum-there p x live ns (c.Level k a ∷ rest) v below are = absurd are.0
-datum-there p x live ns (c.Outside h ∷ rest) v below are = absurd are.0
-datum-there p x live ns (c.Going f ∷ rest) v below are = absurd are.0
+datum-there p live Rest x ns h here [] v below are = absurd are
+datum-there p live Rest x ns h here (c.Datum d ∷ rest) v below are = (d, rest, refl)
+datum-there p live Rest x ns h here (c.Object o ∷ rest) v below are = absurd are.0
+datum-there p live Rest x ns h here (c.Argument a ∷ rest) v below are = absurd are.0
+datum-there p live Rest x ns h here (c.Choice a ∷ rest) v below are = absurd are.0
+datum-there p live Rest x ns h here (c.Bound z ∷ rest) v below are = absurd are.0
+datum-there p live Rest x ns h here (c.Bounds ds ∷ rest) v below are = absurd are.0
+datum-there p live Rest x ns h here (c.Turns k z ∷ rest) v below are = absurd are.0
+datum-there p live Rest x ns h here (c.Objects a ∷ rest) v below are = absurd are.0
+datum-there p live Rest x ns h here (c.Selector a ∷ rest) v below are = absurd are.0
+datum-there p live Rest x ns h here (c.Level k a ∷ rest) v below are = absurd are.0
+datum-there p live Rest x ns h here (c.Outside a ∷ rest) v below are = absurd are.0
+datum-there p live Rest x ns h here (c.Going f ∷ rest) v below are = absurd are.0

@@ -2,6 +2,7 @@
 use Rattle.std.specs.Prelude.{⊤, ◌≡◌, ◌≢◌, ◌⊎◌, ℕ, ℤ, true, false, List, [], ◌∷◌, None, Result, Ok, Err}
 use Rattle.std.specs.List.{All}
 use Rattle.std.specs.FinMap.{get as find}
+use Rattle.f3_program.specs.declared.declarations.Base.{Base}
 use Rattle.f3_program.specs.declared.program.Program.{Program}
 use Rattle.f3_live_blocks.specs.Blocks.{Live, with_taken, with_words}
 use Rattle.f3_meaning_whole.specs.Reference.{Reference, held_at}
@@ -16,6 +17,7 @@ use Rattle.f3_room_places.specs.Places.{shapes}
 use Rattle.f3_word_cells.specs.declared.cell.Area.{Area}
 use Rattle.f3_room_places.specs.declared.types.Types.{Types}
 use Rattle.f3_word_cells.specs.declared.cell.Datum.{Datum}
+use Rattle.f3_word_cells.specs.declared.cell.Datum.TheVariants as datum
 use Rattle.f3_word_cells.specs.declared.cell.Object.{Object}
 use Rattle.f3_word_cells.specs.declared.state.Stop.{Stop}
 use Rattle.f3_word_cells.specs.declared.state.Stop.TheVariants as stop
@@ -46,10 +48,16 @@ Gains m n [] = n ≡ m
 Gains m n (b ∷ []) = IsNew m n b
 Gains m n (b ∷ c ∷ bs) = ⊥
 
+-- a value in a block is of this type
+abbrev pub IsOf : Base → Datum → Type 0
+IsOf of (datum.Scalar c) = ⊤
+IsOf of (datum.Block a) = a.of ≡ of
+
 -- its value was read, where a value of array or derived type is in a new block
 pub record IsRead (p : Program) (m n : Live) (x : Rooms) (r : Reference) (d : Datum) : Type 0 where
   pub value : IsDatum p n d (held_at (store_of (types_of p) m x) r.path r.reach)
   pub gains : Gains m n (datum_blocks d)
+  pub typed : IsOf r.of d
 
 -- or storage was refused
 abbrev pub Reads : Program → Live → Live → Rooms → Reference → Result Datum Stop → Type 0

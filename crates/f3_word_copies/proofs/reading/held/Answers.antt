@@ -12,7 +12,7 @@ use Rattle.f3_word_copies.proofs.reading.held.Goals.{else-is_empty-via-then-is_e
 pub returns-in-Held : goal.returns-in-Held
 returns-in-Held g c p x r there =
     let old = g.B.Blocks.blocks c.args.heap.now in
-    record { value = constant-held p c.args.types old x c.in-Held.field-0 c.in-Held.constant r (subst (λ o. IsThere p c.args.types old x o r) c.in-Held.is there); gains = refl }
+    record { value = constant-held p c.args.types old x c.in-Held.field-0 c.in-Held.constant r (subst (λ o. IsThere p c.args.types old x o r) c.in-Held.is there); gains = refl; typed = tt }
 
 pub read-word-requires-clause-live : goal.read-word-requires-clause-live
 read-word-requires-clause-live g c =
@@ -39,6 +39,7 @@ returns-then-is_scalar g c p x r at =
       value = one-value p old x there.sound c.in-Stands.area (no-dims _ c.if-is_empty.ensures) scalar c.args.types (tables-for p c.args.types there.derived c.requires.tables) r.path r.reach there.is.1
           ∙ ap (scalar_of c.in-Stands.area.of) (sym (to_z-of_z w64 c.read-word.result fits ∙ c.read-word.ensures)) ∙ sym c.scalar_in.ensures;
       gains = refl;
+      typed = tt;
     }
 
 pub copied-requires-clause-large : goal.copied-requires-clause-large

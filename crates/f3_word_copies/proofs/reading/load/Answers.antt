@@ -13,7 +13,7 @@ pub held-requires-clause-there : goal.held-requires-clause-there
 held-requires-clause-there g c =
     let at = c.requires.at in
     let there = there-load c.args.scene.program.now _ c.args.state.now _ c.in-Some.object c.in-Some.ensures c.args.scene.types c.requires.scene.types at.state at.line at.rooms at.told at.there at.act at.stands in
-    (c.args.scene.program.now, at.rooms, (there.1).reference, there.2)
+    (c.args.scene.program.now, at.rooms, (there.0).top.reference, there.1)
 
 pub returns-in-Ok-clause-does : goal.returns-in-Ok-clause-does
 returns-in-Ok-clause-does g c =
