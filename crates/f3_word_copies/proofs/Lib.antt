@@ -8,3 +8,4 @@ pub mod Tops
 pub mod Loading
 pub mod Rooms
 pub mod Spreads
+pub mod Each

@@ -1,5 +1,5 @@
 -- Words that many objects take.
-use Rattle.std.specs.Prelude.{⊤, ◌≢◌, ℕ, ℤ, List, [], ◌∷◌, unsigned_abs}
+use Rattle.std.specs.Prelude.{⊤, ◌≢◌, ℕ, ℤ, nat_lt, if◌then◌else◌, List, [], ◌∷◌, unsigned_abs}
 use Rattle.f3_live_blocks.specs.Blocks.{Live, IsLive, words_of}
 use Rattle.f3_objects.specs.Holds.{with_words_at}
 use Rattle.f3_word_copies.specs.declared.spreading.Source.{Source}
@@ -18,3 +18,7 @@ IsSource m block (Block b) = IsLive m b × (b ≢ block)
 abbrev pub spread_over : List ℤ → List ℤ → List ℤ → List ℤ
 spread_over us ws [] = us
 spread_over us ws (z ∷ zs) = spread_over (with_words_at us (unsigned_abs z) ws) ws zs
+
+-- the smaller of two numbers
+abbrev pub fewer_of : ℕ → ℕ → ℕ
+fewer_of n k = if nat_lt n k then n else k

@@ -1,6 +1,7 @@
 //! Variables are read and changed, over words, in programs without allocatables.
 #![tactic(auto)]
 
+mod elements;
 mod packing;
 pub mod reading;
 mod scalars;
