@@ -9,3 +9,4 @@ pub mod Loading
 pub mod Rooms
 pub mod Spreads
 pub mod Each
+pub mod Fewer
