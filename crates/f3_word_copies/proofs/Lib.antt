@@ -10,3 +10,5 @@ pub mod Rooms
 pub mod Spreads
 pub mod Each
 pub mod Fewer
+pub mod Taken
+pub mod Values

@@ -236,3 +236,6 @@ module _ (old : Live) (block : ℕ) (live : IsLive old block) (source : Source) 
 
     pub last-spread : last.extent ≡ j → mid ≡ with_words old block (spread_over us ws (places_from z all))
     last-spread e = so.is ∙ ap (λ (l : List ℤ). with_words old block (spread_over us ws l)) (ap (rows others z last.stride) (sym e) ∙ sym rows-are)
+
+pub congruent-same : (n : ℕ) → IsCongruent (pos n) (pos n)
+congruent-same n = record { turns = pos 0; same = omega (arith, ints) }

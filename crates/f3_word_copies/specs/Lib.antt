@@ -3,3 +3,4 @@ pub mod Scalars
 pub mod Taken
 pub mod Reads
 pub mod Spread
+pub mod Puts

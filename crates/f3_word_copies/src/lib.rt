@@ -3,6 +3,7 @@
 
 mod elements;
 mod packing;
+mod putting;
 pub mod reading;
 mod scalars;
 mod spreading;
