@@ -12,3 +12,6 @@ pub mod Each
 pub mod Fewer
 pub mod Taken
 pub mod Values
+pub mod Fitted
+pub mod OfKinds
+pub mod Assigned

@@ -4,3 +4,4 @@ pub mod Taken
 pub mod Reads
 pub mod Spread
 pub mod Puts
+pub mod Fits

@@ -1,7 +1,9 @@
 //! Variables are read and changed, over words, in programs without allocatables.
 #![tactic(auto)]
 
+pub mod assigning;
 mod elements;
+mod fitting;
 mod packing;
 mod putting;
 pub mod reading;
