@@ -15,3 +15,6 @@ pub mod Values
 pub mod Fitted
 pub mod OfKinds
 pub mod Assigned
+pub mod Turns
+pub mod Counted
+pub mod CountedUp

@@ -1,5 +1,6 @@
 -- Objects and values on top.
 use Rattle.std.proofs.Common.{◌≡◌, ◌∙◌, sym, ap, subst, refl, List, [], ◌∷◌, ◌++◌, length}
+use Rattle.std.specs.Prelude.{ℕ, ℤ, Option}
 use Rattle.f3_program.specs.declared.declarations.Kind.{Kind}
 use Rattle.f3_program.specs.declared.program.Program.{Program}
 use Rattle.f3_live_blocks.specs.Blocks.{Live}
@@ -18,6 +19,7 @@ use Rattle.f3_word_cells.specs.declared.cell.Here.{Here}
 use Rattle.f3_word_cells.specs.declared.cell.Cell.{Cell}
 use Rattle.f3_word_cells.specs.declared.cell.Cell.TheVariants as c
 use Rattle.f3_word_cells.specs.declared.state.Name.{Name}
+use Rattle.f3_word_cells.specs.Areas.{IsDatum}
 use Rattle.f3_word_cells.specs.Cells.{AreCells}
 use Rattle.f3_word_cells.specs.Does.{IsTold}
 use Rattle.f3_word_cells.proofs.OnTop.{one_on_top, of_object}
@@ -53,9 +55,9 @@ object-there p live Rest x ns h here (c.Outside a ∷ rest) r below are = absurd
 object-there p live Rest x ns h here (c.Going f ∷ rest) r below are = absurd are.0
 
 pub datum-there : (p : Program) (live : Live) (Rest : Rooms → List Name → Type 0) (x : Rooms) (ns : List Name) (h : Here) (here : m.Here) (cells : List Cell) (v : Value) (below : List s.Cell) → AreCells p live Rest x ns h here cells (s.Datum v ∷ below)
-    → (d : Datum) × (rest : List Cell) × (cells ≡ c.Datum d ∷ rest)
+    → (d : Datum) × (rest : List Cell) × (cells ≡ c.Datum d ∷ rest) × IsDatum p live d v
 datum-there p live Rest x ns h here [] v below are = absurd are
-datum-there p live Rest x ns h here (c.Datum d ∷ rest) v below are = (d, rest, refl)
+datum-there p live Rest x ns h here (c.Datum d ∷ rest) v below are = (d, rest, refl, are.0)
 datum-there p live Rest x ns h here (c.Object o ∷ rest) v below are = absurd are.0
 datum-there p live Rest x ns h here (c.Argument a ∷ rest) v below are = absurd are.0
 datum-there p live Rest x ns h here (c.Choice a ∷ rest) v below are = absurd are.0
@@ -67,3 +69,19 @@ datum-there p live Rest x ns h here (c.Selector a ∷ rest) v below are = absurd
 datum-there p live Rest x ns h here (c.Level k a ∷ rest) v below are = absurd are.0
 datum-there p live Rest x ns h here (c.Outside a ∷ rest) v below are = absurd are.0
 datum-there p live Rest x ns h here (c.Going f ∷ rest) v below are = absurd are.0
+
+pub turns-there : (p : Program) (live : Live) (Rest : Rooms → List Name → Type 0) (x : Rooms) (ns : List Name) (h : Here) (here : m.Here) (cells : List Cell) (k : ℕ) (z : ℤ) (below : List s.Cell) → AreCells p live Rest x ns h here cells (s.Turns k z ∷ below)
+    → (left : Option ℕ) × (y : ℤ) × (rest : List Cell) × (cells ≡ c.Turns left y ∷ rest)
+turns-there p live Rest x ns h here [] k z below are = absurd are
+turns-there p live Rest x ns h here (c.Turns left y ∷ rest) k z below are = (left, y, rest, refl)
+turns-there p live Rest x ns h here (c.Datum d ∷ rest) k z below are = absurd are.0
+turns-there p live Rest x ns h here (c.Object o ∷ rest) k z below are = absurd are.0
+turns-there p live Rest x ns h here (c.Argument a ∷ rest) k z below are = absurd are.0
+turns-there p live Rest x ns h here (c.Choice a ∷ rest) k z below are = absurd are.0
+turns-there p live Rest x ns h here (c.Bound b ∷ rest) k z below are = absurd are.0
+turns-there p live Rest x ns h here (c.Bounds ds ∷ rest) k z below are = absurd are.0
+turns-there p live Rest x ns h here (c.Objects a ∷ rest) k z below are = absurd are.0
+turns-there p live Rest x ns h here (c.Selector a ∷ rest) k z below are = absurd are.0
+turns-there p live Rest x ns h here (c.Level l a ∷ rest) k z below are = absurd are.0
+turns-there p live Rest x ns h here (c.Outside a ∷ rest) k z below are = absurd are.0
+turns-there p live Rest x ns h here (c.Going f ∷ rest) k z below are = absurd are.0

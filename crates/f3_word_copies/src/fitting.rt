@@ -17,7 +17,7 @@ use f3_room_places::types::Types;
 use f3_word_cells::cell::{Area, Datum};
 
 /// Whether a number of 64 bits is one of kind 4, -2147483648 to 2147483647 (own rule for ISO/IEC 1539-1:2004, 4.4.1).
-fn is_short(number: i64) -> bool
+pub(crate) fn is_short(number: i64) -> bool
     ensures { result ≡ fits base.Integer number }
 {
     number >= -2_147_483_648 && number <= 2_147_483_647
