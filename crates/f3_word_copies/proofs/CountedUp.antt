@@ -142,7 +142,7 @@ module _ (p : Program) (of : Base) (m : Live) (old mid : State) where
           live = one-live p m x st.sound a one.0 r.path r.reach is.1;
           within = one-within p m x st.sound a one.0 (ap is_scalar_shape whole) r.path r.reach is.1;
           value = ap number_of (object-is (types_of p) m x st.sound (a.elements).block (shape_for p a.of) (pos (a.elements).offset) r.path one.1
-              ∙ ap (λ (z : Shape). object m z (a.elements).block (unsigned_abs (pos (a.elements).offset)) _) whole);
+              ∙ ap (λ (z : Shape). object m z (a.elements).block (unsigned_abs (pos (a.elements).offset)) one.1.part.held) whole);
         })
 
     -- ---- the line
@@ -213,6 +213,7 @@ module _ (p : Program) (of : Base) (m : Live) (old mid : State) where
       pub ups : (n : Live) (number width next z : ℤ) → number ≡ word m (a.elements).block (a.elements).offset → width ≡ step → next ≡ number +ℤ width → fits of next ≡ true → z ≡ next
           → ((x : Rooms) (r : Reference) (v : Value) → CanTake p types m x a r (datum.Scalar (constant.Number z)) v → Takes p m n x r v)
           → (size : ℤ) → size ≡ step → (new : State) → Pushed (c.Turns left size) (low.pc + 1) low new → DoesIn p (i.CountUp of) (Ok tt) m n old new
+      unfolding up-stands up-can
       ups n number width next z e same sums fit zs takes size width_is new pushed t l x told at act st =
           let is = up-stands t l x told at act st in
           let on = is.0 in

@@ -18,3 +18,4 @@ pub mod Assigned
 pub mod Turns
 pub mod Counted
 pub mod CountedUp
+pub mod Cleared

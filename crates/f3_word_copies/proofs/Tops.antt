@@ -19,7 +19,7 @@ use Rattle.f3_word_cells.specs.declared.cell.Here.{Here}
 use Rattle.f3_word_cells.specs.declared.cell.Cell.{Cell}
 use Rattle.f3_word_cells.specs.declared.cell.Cell.TheVariants as c
 use Rattle.f3_word_cells.specs.declared.state.Name.{Name}
-use Rattle.f3_word_cells.specs.Areas.{IsDatum}
+use Rattle.f3_word_cells.specs.Areas.{IsDatum, IsObject}
 use Rattle.f3_word_cells.specs.Cells.{AreCells}
 use Rattle.f3_word_cells.specs.Does.{IsTold}
 use Rattle.f3_word_cells.proofs.OnTop.{one_on_top, of_object}
@@ -39,9 +39,9 @@ object-on-top p t k rest told e =
 
 -- then so it is in memory
 pub object-there : (p : Program) (live : Live) (Rest : Rooms → List Name → Type 0) (x : Rooms) (ns : List Name) (h : Here) (here : m.Here) (cells : List Cell) (r : Reference) (below : List s.Cell) → AreCells p live Rest x ns h here cells (s.Object r ∷ below)
-    → (o : Object) × (rest : List Cell) × (cells ≡ c.Object o ∷ rest)
+    → (o : Object) × (rest : List Cell) × (cells ≡ c.Object o ∷ rest) × IsObject p x o r
 object-there p live Rest x ns h here [] r below are = absurd are
-object-there p live Rest x ns h here (c.Object o ∷ rest) r below are = (o, rest, refl)
+object-there p live Rest x ns h here (c.Object o ∷ rest) r below are = (o, rest, refl, are.0)
 object-there p live Rest x ns h here (c.Datum d ∷ rest) r below are = absurd are.0
 object-there p live Rest x ns h here (c.Argument a ∷ rest) r below are = absurd are.0
 object-there p live Rest x ns h here (c.Choice a ∷ rest) r below are = absurd are.0

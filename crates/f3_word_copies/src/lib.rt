@@ -2,6 +2,7 @@
 #![tactic(auto)]
 
 pub mod assigning;
+pub mod clearing;
 pub mod counting;
 mod elements;
 mod fitting;
