@@ -1,6 +1,6 @@
 -- Nothing is allocated beneath objects.
-use Rattle.std.proofs.Common.{◌≡◌, ◌∙◌, sym, ap, subst, refl, ℕ, zero, suc, ◌+◌, ◌<◌, Bool, true, false, List, [], ◌∷◌, map, set, get_or}
-use Rattle.std.specs.Prelude.{⊤, ◌||◌, Some, Ok, slice_get, slice_index_or, slice_set, ℤ, pos}
+use Rattle.std.proofs.Common.{◌≡◌, ◌∙◌, sym, ap, subst, refl, ℕ, zero, suc, ◌+◌, Bool, true, false, List, [], ◌∷◌, map}
+use Rattle.std.specs.Prelude.{◌||◌, Some, Ok, slice_get, slice_index_or, slice_set, ℤ}
 use Rattle.std.specs.List.{All, AllZip}
 use Rattle.f3_program.specs.declared.declarations.Constant.{Constant}
 use Rattle.f3_program.specs.declared.declarations.Constant.TheVariants as constant
@@ -10,9 +10,9 @@ use Rattle.f3_live_blocks.specs.Blocks.{Live}
 use Rattle.f3_meaning_whole.specs.Value.{Value, Number, Truth, Composite, Array, Unallocated, Allocated, Values, none, more, joined, count, cleared, all_cleared}
 use Rattle.f3_meaning_whole.specs.Store.{Store, Root, Static, Local, Step, Component, Element, Contents, Path, at_root, with_root, part, part_at, with_part, with_part_at, get, put, put_all}
 use Rattle.f3_meaning_whole.specs.Shape.{Shape, Whole, Logical, Record, Parts, nothing, and}
-use Rattle.f3_meaning_whole.specs.Reference.{Reach, One, Many, Reference, paths, paths_by}
+use Rattle.f3_meaning_whole.specs.Reference.{Reach, Reference, paths, paths_by}
 use Rattle.f3_meaning_whole.specs.Ran.{World}
-use Rattle.f3_meaning_whole.specs.Act.{Here, change, clear}
+use Rattle.f3_meaning_whole.specs.Act.{change}
 use Rattle.f3_meaning_whole.specs.Arithmetic.{constant_value}
 use Rattle.f3_code.specs.declared.instruction.Instruction.TheVariants as i
 use Rattle.f3_code.specs.State.{Line, placed}
@@ -34,13 +34,11 @@ use Rattle.f3_room_arrays.specs.Elements.{IsFlat, StandsAt}
 use Rattle.f3_room_arrays.proofs.Objects.{object-is}
 use Rattle.f3_word_cells.specs.declared.cell.Object.{Object}
 use Rattle.f3_word_cells.specs.declared.cell.Object.TheVariants as o
-use Rattle.f3_word_cells.specs.declared.cell.Cell.TheVariants as c
 use Rattle.f3_word_cells.specs.declared.state.State.{State}
 use Rattle.f3_word_cells.specs.Areas.{types_of, shape_for, IsObject}
 use Rattle.f3_word_cells.specs.Scenes.{code_of}
-use Rattle.f3_word_cells.specs.States.{Stands, own}
 use Rattle.f3_word_cells.specs.Moves.{Moved}
-use Rattle.f3_word_cells.specs.Does.{Does, DoesIn, IsTold, stream}
+use Rattle.f3_word_cells.specs.Does.{Does, IsTold, stream}
 use Rattle.f3_word_cells.proofs.OnTop.{line_kinds}
 use Rattle.f3_word_cells.proofs.Moving.{moved_to}
 use Rattle.f3_word_cells.proofs.Amid.{Amid, amid_first, amid_last, amid_moved}

@@ -1,5 +1,5 @@
 -- Objects and values on top.
-use Rattle.std.proofs.Common.{◌≡◌, ◌∙◌, sym, ap, subst, refl, List, [], ◌∷◌, ◌++◌, length}
+use Rattle.std.proofs.Common.{◌≡◌, ◌∙◌, ap, refl, List, [], ◌∷◌}
 use Rattle.std.specs.Prelude.{ℕ, ℤ, Option}
 use Rattle.f3_program.specs.declared.declarations.Kind.{Kind}
 use Rattle.f3_program.specs.declared.program.Program.{Program}
@@ -9,7 +9,7 @@ use Rattle.f3_meaning_whole.specs.Reference.{Reference}
 use Rattle.f3_code.specs.State as s
 use Rattle.f3_cell_kinds.specs.Types.{CellType}
 use Rattle.f3_cell_kinds.specs.Types as cell
-use Rattle.f3_cell_kinds.specs.Holds.{IsOf, Refers}
+use Rattle.f3_cell_kinds.specs.Holds.{Refers}
 use Rattle.f3_cell_kinds.specs.Laws.{site_at}
 use Rattle.f3_rooms.specs.Rooms.{Rooms}
 use Rattle.f3_word_cells.specs.declared.cell.Datum.{Datum}

@@ -54,7 +54,13 @@ fn take_source<B: Blocks>(heap: &mut B, elements: &Descriptor, source: &Source)
         (spread_over (words_of (B.blocks heap.old) elements.now.block) (source_words (B.blocks heap.old) source.now) (places elements.now)) }
 {
     if has_elements(&elements.dims) {
-        spread(heap, source, elements.block, &elements.dims, elements.offset);
+        spread(
+            heap,
+            source,
+            elements.block,
+            &elements.dims,
+            elements.offset,
+        );
     }
 }
 
@@ -85,11 +91,7 @@ pub(crate) fn put<B: Blocks>(heap: &mut B, types: Types<'_>, area: &Area, datum:
             take_source(heap, &area.elements, &Source::Word(word_of(*constant)));
         }
         Datum::Block(value) if value.elements.dims.is_empty() => {
-            take_source(
-                heap,
-                &area.elements,
-                &Source::Block(value.elements.block),
-            );
+            take_source(heap, &area.elements, &Source::Block(value.elements.block));
         }
         Datum::Block(value) => {
             let size = words(types, area.of);

@@ -1,11 +1,11 @@
-use Rattle.std.proofs.Common.{◌≡◌, ◌∙◌, sym, ap, subst, refl, ◌<◌, ◌+◌, ◌≤◌, length, set, arith, rules, w64, FitsSigned}
+use Rattle.std.proofs.Common.{◌∙◌, sym, ap, subst, ◌+◌, ◌≤◌, length, set, arith, rules, w64, FitsSigned}
 use Rattle.std.specs.Prelude.{ℤ}
 use Rattle.std.proofs.lemmas.Int.{to_z-of_z}
 use Rattle.f3_live_blocks.specs.Blocks.{words_of, with_words}
 use Rattle.f3_objects.specs.Holds.{with_words_at}
-use Rattle.f3_word_copies.specs.Spread.{IsSource, source_words}
+use Rattle.f3_word_copies.specs.Spread.{source_words}
 use Rattle.f3_word_copies.specs.declared.spreading.Source.{Source}
-use Rattle.f3_word_copies.proofs.Spreads.{one-word, one-copied}
+use Rattle.f3_word_copies.proofs.Spreads.{one-word}
 use Rattle.f3_word_copies.proofs.spreading.write_one.Goals as goal
 
 pub returns-in-Word : goal.returns-in-Word
