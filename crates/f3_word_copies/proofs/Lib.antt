@@ -19,3 +19,4 @@ pub mod Turns
 pub mod Counted
 pub mod CountedUp
 pub mod Cleared
+pub mod Begun

@@ -6,6 +6,7 @@ pub mod clearing;
 pub mod counting;
 mod elements;
 mod fitting;
+mod initial;
 mod packing;
 mod putting;
 pub mod reading;
