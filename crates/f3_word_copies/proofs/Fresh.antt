@@ -1,16 +1,15 @@
 -- Words that are an initial value.
-use Rattle.std.proofs.Common.{◌≡◌, ◌∙◌, sym, ap, subst, refl, ℕ, zero, suc, ◌+◌, ◌<◌, ◌≤◌, List, [], ◌∷◌, ◌++◌, length, get_or, arith}
+use Rattle.std.proofs.Common.{◌≡◌, ◌∙◌, sym, ap, subst, refl, ℕ, ◌+◌, List, [], ◌∷◌, ◌++◌, length, get_or, arith}
 use Rattle.std.specs.Prelude.{ℤ, pos, false}
 use Rattle.std.specs.declared.alloc.Global.{Global}
 use Rattle.f3_program.specs.declared.declarations.Base.TheVariants as base
 use Rattle.f3_program.specs.declared.declarations.Declared.{Declared}
 use Rattle.f3_live_blocks.specs.Blocks.{Live, words_of, with_words}
-use Rattle.f3_meaning_whole.specs.Value.{Value, Unallocated}
+use Rattle.f3_meaning_whole.specs.Value.{Unallocated}
 use Rattle.f3_meaning_whole.specs.Shape.{Shape, Whole, Logical, Record, initial_of}
 use Rattle.f3_code.specs.CoreRun.{empty}
 use Rattle.f3_objects.proofs.Writes.{words-with, live-with}
-use Rattle.f3_rooms.specs.Held.{Held, Empty}
-use Rattle.f3_rooms.specs.Forms.{words_for}
+use Rattle.f3_rooms.specs.Held.{Empty}
 use Rattle.f3_rooms.specs.Values.{word, object}
 use Rattle.f3_room_objects.specs.Trees.{words_from}
 use Rattle.f3_room_objects.proofs.Windows.{WordsAre, from_are, whole_block}

@@ -1,11 +1,11 @@
 -- A variable takes its initial value.
-use Rattle.std.proofs.Common.{◌≡◌, ◌∙◌, sym, ap, subst, refl, ◌+◌, List, [], ◌∷◌, length}
+use Rattle.std.proofs.Common.{◌≡◌, ◌∙◌, sym, ap, subst, ◌+◌, List, [], ◌∷◌, length}
 use Rattle.std.specs.Prelude.{None, Some, Ok, Err, slice_get}
 use Rattle.f3_program.specs.declared.declarations.Base.{Base}
 use Rattle.f3_program.specs.declared.declarations.Kind.{Kind}
 use Rattle.f3_program.specs.declared.program.Program.{Program}
 use Rattle.f3_live_blocks.specs.Blocks.{Live}
-use Rattle.f3_meaning_whole.specs.Value.{Value, spread}
+use Rattle.f3_meaning_whole.specs.Value.{spread}
 use Rattle.f3_meaning_whole.specs.Shape.{initial_of}
 use Rattle.f3_meaning_whole.specs.Store.{Store, put_all}
 use Rattle.f3_meaning_whole.specs.Reference.{Reference, paths}

@@ -1,5 +1,5 @@
 -- All types can begin with their values, in programs that make sense.
-use Rattle.std.proofs.Common.{◌≡◌, ◌∙◌, sym, ap, subst, refl, inl, inr, ℕ, zero, suc, Bool, true, false, List, [], ◌∷◌, ◌++◌, length, nat_eq, nat_lt, arith}
+use Rattle.std.proofs.Common.{◌≡◌, refl, inl, inr, ℕ, zero, suc, Bool, true, false, List, [], ◌∷◌, ◌++◌, length, nat_eq, nat_lt, arith}
 use Rattle.std.specs.Prelude.{◌⊎◌, ◌&&◌, ◌||◌, Some, slice_get, slice_index_or, if◌then◌else◌}
 use Rattle.std.proofs.lemmas.Bool.{eqb-true, ltb-true}
 use Rattle.f3_program.specs.declared.declarations.Base.{Base}
@@ -14,7 +14,7 @@ use Rattle.f3_program.specs.declared.program.Program.{Program}
 use Rattle.f3_program.specs.declared.program.Static.{Static}
 use Rattle.f3_meaning_whole.specs.Value.{count}
 use Rattle.f3_meaning_whole.specs.Shape.{Shape, Whole, Record, shape_in, shapes_from, parts_in, spans_declared}
-use Rattle.f3_meaning_whole.specs.Formed.{all, is_declared, is_before, is_final, are_types, are_declared, is_procedure, IsWellFormed}
+use Rattle.f3_meaning_whole.specs.Formed.{all, is_declared, is_final, are_types, are_declared, is_procedure, IsWellFormed}
 use Rattle.f3_cell_kinds.specs.Sense.{constant_fits, initial_fits, MakesSense}
 use Rattle.f3_cell_kinds.proofs.Asked.{and_is}
 use Rattle.f3_room_levels.specs.Initial.{IsOf, AreOf, AreEnough, CanBegin, TypeCanBegin, PartsCanBegin}

@@ -97,9 +97,5 @@ pub(crate) fn begin<B: Blocks>(heap: &mut B, types: Types<'_>, area: &Area)
     requires can { (p : Program) × (x : Rooms) × (r : Reference) × CanBeginAt p types (B.blocks heap.old) x area.now r }
     ensures { (p : Program) (x : Rooms) (r : Reference) → CanBeginAt p types.entry (B.blocks heap.old) x area.now r → Takes p (B.blocks heap.old) (B.blocks heap.new) x r (initial_of (shape_for p area.now.of)) }
 {
-    take_source(
-        heap,
-        &area.elements,
-        &Source::Initial(types, area.of),
-    );
+    take_source(heap, &area.elements, &Source::Initial(types, area.of));
 }

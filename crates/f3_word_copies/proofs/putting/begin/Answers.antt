@@ -1,5 +1,4 @@
-use Rattle.std.proofs.Common.{◌∙◌, sym, ap, subst, ◌<◌, List, length}
-use Rattle.std.specs.Prelude.{ℤ}
+use Rattle.std.proofs.Common.{◌∙◌, sym, ap, subst, List, length}
 use Rattle.f3_live_blocks.specs.Blocks.{words_of, with_words}
 use Rattle.f3_program.specs.declared.declarations.Derived.{Derived}
 use Rattle.f3_meaning_whole.specs.Shape.{Shape, shape_in, shapes_of}

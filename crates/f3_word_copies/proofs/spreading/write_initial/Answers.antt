@@ -1,4 +1,4 @@
-use Rattle.std.proofs.Common.{◌∙◌, sym, ap, subst, ◌+◌, ◌≤◌, length, set, arith, rules, w64, FitsSigned}
+use Rattle.std.proofs.Common.{◌∙◌, ap, ◌+◌, set, arith, rules, w64, FitsSigned}
 use Rattle.std.specs.Prelude.{ℤ}
 use Rattle.std.proofs.lemmas.Int.{to_z-of_z}
 use Rattle.f3_live_blocks.specs.Blocks.{words_of, with_words}
