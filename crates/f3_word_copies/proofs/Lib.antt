@@ -20,3 +20,7 @@ pub mod Counted
 pub mod CountedUp
 pub mod Cleared
 pub mod Begun
+pub mod Filling
+pub mod Typed
+pub mod Fresh
+pub mod Reset

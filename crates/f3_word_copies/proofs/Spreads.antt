@@ -18,7 +18,7 @@ use Rattle.f3_room_arrays.specs.Words.{copied, IsInside, AreInside, places_from}
 use Rattle.f3_room_arrays.proofs.Numbers.{along, places-cons, bits-congruent}
 use Rattle.f3_room_arrays.proofs.Placing.{all-first, all-rest, all-front, all-back, all-more, all-none, inside-abs, inside-place}
 use Rattle.f3_word_copies.specs.declared.spreading.Source.{Source}
-use Rattle.f3_word_copies.specs.declared.spreading.Source.TheVariants.{Word, Block}
+use Rattle.f3_word_copies.specs.declared.spreading.Source.TheVariants.{Word, Block, Initial}
 use Rattle.f3_word_copies.specs.Spread.{source_words, IsSource, spread_over}
 
 -- ---- places by those of the dimensions before the last
@@ -114,9 +114,11 @@ module _ (old now : Live) (block : ℕ) (live : IsLive old block) (ws zs : List 
   pub source-stays : (source : Source) → IsSource old block source → source_words now source ≡ source_words old source
   source-stays (Word z) is = refl
   source-stays (Block b) is = spread-other old block live ws now zs so b is.1
+  source-stays (Initial types of) is = refl
 
   pub source-is : (source : Source) → IsSource old block source → IsSource now block source
   source-is (Word z) is = is
+  source-is (Initial types of) is = is
   source-is (Block b) is = (spread-live old block live ws now zs so b is.0, is.1)
 
 -- ---- one object

@@ -6,7 +6,7 @@ use Rattle.f3_program.specs.declared.declarations.Constant.{Constant}
 use Rattle.f3_program.specs.declared.program.Program.{Program}
 use Rattle.f3_live_blocks.specs.Blocks.{Live, IsLive, words_of, with_words}
 use Rattle.f3_meaning_whole.specs.Value.{Value, joined, count, spread}
-use Rattle.f3_meaning_whole.specs.Shape.{Shape}
+use Rattle.f3_meaning_whole.specs.Shape.{Shape, initial_of}
 use Rattle.f3_meaning_whole.specs.Store.{Store, Path, put_all}
 use Rattle.f3_meaning_whole.specs.Reference.{Reference, paths}
 use Rattle.f3_meaning_whole.specs.Arithmetic.{constant_value}
@@ -20,7 +20,7 @@ use Rattle.f3_rooms.specs.Rooms.{Rooms, blocks_of, store_of}
 use Rattle.f3_rooms.specs.Sound.{IsSound}
 use Rattle.f3_rooms.proofs.Framing.{one_here}
 use Rattle.f3_room_places.specs.declared.types.Types.{Types}
-use Rattle.f3_room_levels.specs.Initial.{IsOf, word_of}
+use Rattle.f3_room_levels.specs.Initial.{IsOf, TypeCanBegin, word_of, object_words}
 use Rattle.f3_room_arrays.specs.Words.{copied}
 use Rattle.f3_room_arrays.specs.Elements.{IsFlat, Tells, row}
 use Rattle.f3_room_arrays.specs.Changes.{LieWithin}
@@ -30,6 +30,8 @@ use Rattle.f3_word_cells.specs.declared.cell.Datum.{Datum}
 use Rattle.f3_word_cells.specs.declared.cell.Datum.TheVariants as datum
 use Rattle.f3_word_cells.specs.declared.cell.Object.TheVariants as o
 use Rattle.f3_word_cells.specs.Areas.{types_of, shape_for, spans_of}
+use Rattle.f3_room_levels.proofs.Widths.{object_many}
+use Rattle.f3_word_copies.proofs.Fresh.{shows-initial, repeat-initial}
 use Rattle.f3_word_copies.specs.Spread.{spread_over, fewer_of}
 use Rattle.f3_word_copies.specs.Reads.{IsThere}
 use Rattle.f3_word_copies.specs.Puts.{CanTake, Takes}
@@ -113,6 +115,12 @@ module _ (p : Program) (types : Types) (m : Live) (x : Rooms) (a : Area) (r : Re
 
   pub scalar-within : (c : Constant) → IsOf s c → 0 < size → LieWithin m a.elements (length (word_of c ∷ []))
   scalar-within c of some = subst (LieWithin m a.elements) (sym (constant-long s c of)) (take-within some)
+
+  pub initial-takes : (n : Live) → TypeCanBegin s → (size ≡ 0 → n ≡ m) → (0 < size → n ≡ with_words m block (spread_over (words_of m block) (object_words s) (places a.elements))) → Takes p m n x r (initial_of s)
+  initial-takes n can none some = spread-takes n (object_words s) (object_many s can) (initial_of s) (shows-initial p.types.alloc s flat can) (repeat-initial (length ps) s) none some
+
+  pub initial-within : TypeCanBegin s → 0 < size → LieWithin m a.elements (length (object_words s))
+  initial-within can some = subst (LieWithin m a.elements) (sym (object_many s can)) (take-within some)
 
   module _ (b : Area) (v : Value) (can : CanTake p types m x a r (datum.Block b) v) where
     abbrev from : ℕ

@@ -11,5 +11,6 @@ mod packing;
 mod putting;
 pub mod reading;
 mod scalars;
+pub mod setting;
 mod spreading;
 mod taking;

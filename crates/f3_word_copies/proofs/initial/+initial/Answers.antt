@@ -1,14 +1,13 @@
-use Rattle.std.proofs.Common.{ℕ, List, [], ◌≡◌, ◌∙◌, sym, ap, subst, ◌+◌, ◌-◌, ◌%◌, ◌<◌, ◌^◌, pos, length, drop, get_or, arith, rules, w64, FitsSigned}
+use Rattle.std.proofs.Common.{ℕ, List, [], ◌≡◌, ◌∙◌, sym, ap, subst, ◌+◌, ◌-◌, ◌%◌, ◌<◌, pos, length, drop, get_or, arith, rules, w64, FitsSigned}
 use Rattle.std.proofs.lemmas.Int.{to_z-of_z}
-use Rattle.std.proofs.lemmas.List.{drop_all}
 use Rattle.f3_program.specs.declared.declarations.Constant.{Constant}
 use Rattle.f3_program.specs.declared.declarations.Derived.{Derived}
 use Rattle.f3_meaning_whole.specs.Shape.{shape_in, shapes_of}
-use Rattle.f3_rooms.specs.Forms.{words_for, room, total}
+use Rattle.f3_rooms.specs.Forms.{words_for, total}
 use Rattle.f3_room_places.specs.Places.{shapes}
 use Rattle.f3_room_places.proofs.Trees.{past_types}
-use Rattle.f3_room_levels.specs.Initial.{word_of, declared_each, object_words, variable_words, initial_words, AllCanBegin}
-use Rattle.f3_room_levels.proofs.Types.{type_total, type_initial, type_can, drop_part, many_parts}
+use Rattle.f3_room_levels.specs.Initial.{word_of, declared_each, object_words, initial_words, AllCanBegin}
+use Rattle.f3_room_levels.proofs.Types.{type_total, type_initial, type_can, drop_part}
 use Rattle.f3_word_copies.proofs.Begun.{Seeks, seek-can, seek-small, seek-here, seek-next, default-at, several-at, several-many, whole-word, no-items, above}
 use Rattle.f3_word_copies.proofs.initial.+initial.Goals as goal
 
