@@ -21,8 +21,8 @@ pub fn dummies(state: &mut State) -> Result<(), Stop>
     ensures does { Does Dummies result state.old state.new }
     ensures keeps { Keeps state.old state.new }
 {
-    let names = state.here.names;
-    state.go_on_with(Cell::Objects(names));
+    let objects = state.here.names;
+    state.go_on_with(Cell::Objects(objects));
     Ok(())
 }
 
@@ -56,11 +56,11 @@ pub fn next_object(state: &mut State, distance: usize, total: usize) -> Result<(
     let Some(objects) = pop_objects(state) else {
         return Err(Stop::Lost);
     };
-    let Some((object, rest)) = next_of(&state.names, objects) else {
+    let Some((object, others)) = next_of(&state.names, objects) else {
         state.push(Cell::Objects(objects));
         return state.ahead(distance, total);
     };
-    state.push(Cell::Objects(rest));
+    state.push(Cell::Objects(others));
     state.go_on_with(Cell::Object(object));
     Ok(())
 }
