@@ -1,0 +1,13 @@
+mod Lists
+mod Tops
+mod Passing
+mod Shaping
+mod Members
+mod Popping
+mod Choosing
+mod Sectioning
+mod Reaching
+mod Beside
+mod Around
+mod Named
+mod Referring
