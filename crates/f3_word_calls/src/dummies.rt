@@ -6,8 +6,8 @@ ghost use Rattle.f3_word_cells.specs.Does.{Does, Keeps};
 ghost use Rattle.f3_word_calls.specs.Doing.{DoesAmong};
 ghost use Rattle.f3_word_calls.specs.Nexts.{HasLatest, HasNext, is_passed_held};
 
-use crate::copies::copied_object;
 use crate::operands::pop_objects;
+use f3_word_areas::copies::copied_object;
 use f3_word_cells::cell::{Cell, Object, Range};
 use f3_word_cells::stack::Stack;
 use f3_word_cells::state::{Caller, Name, State, Stop};
