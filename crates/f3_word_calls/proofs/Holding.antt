@@ -1,6 +1,6 @@
 -- Values that are held, as variables of a level.
 use Rattle.std.proofs.Common.{◌≡◌, ◌∙◌, ℕ, zero, suc, ◌+◌, ◌*◌, ◌<◌, ◌≤◌, ◌^◌, Bool, true, false, List, [], ◌∷◌, ◌++◌, length, map, refl, sym, ap, subst, arith}
-use Rattle.std.specs.Prelude.{⊤, not, ◌&&◌, if◌then◌else◌, Vec}
+use Rattle.std.specs.Prelude.{Some, slice_get, ⊤, not, ◌&&◌, if◌then◌else◌, Vec}
 use Rattle.std.specs.declared.alloc.Global.{Global}
 use Rattle.std.proofs.lemmas.List.{length-map}
 use denote.RawPtr.{null_ptr}
@@ -22,14 +22,20 @@ use Rattle.f3_rooms.specs.Values.{formed, object}
 use Rattle.f3_rooms.specs.Rooms.{Known, Room, Rooms, Slot, Stands as Stood, blocks_of, level_blocks, level_values, room_values, slot_blocks, slot_values, store_of}
 use Rattle.f3_rooms.specs.Laws.{with_level}
 use Rattle.f3_rooms.proofs.Levels.{levels_begin}
-use Rattle.f3_meaning_whole.specs.Store.{Store}
+use Rattle.f3_meaning_whole.specs.Store.{Local, Path, Store}
+use Rattle.f3_meaning_whole.specs.Reference.{One, Read, reach_of}
+use Rattle.f3_meaning_whole.specs.Act.{to_root}
+use Rattle.f3_rooms.specs.Places.{is_scalar_shape}
+use Rattle.f3_program.specs.declared.declarations.Constant.{Constant}
+use Rattle.f3_program.specs.declared.declarations.Constant.TheVariants as constant
+use Rattle.f3_word_cells.specs.declared.cell.Object.TheVariants as o
 use Rattle.f3_program.specs.declared.declarations.Base.{Base}
 use Rattle.f3_rooms.specs.Sound.{AreComponents, AreLaid, Each, Fact, IsForm, IsLevel, IsObject, IsRoom, IsSlot, IsSound}
 use Rattle.f3_rooms.specs.Ways.{numbers}
 use Rattle.f3_word_cells.specs.declared.cell.Area.{Area}
 use Rattle.f3_word_cells.specs.declared.cell.Datum.{Datum}
 use Rattle.f3_word_cells.specs.declared.cell.Datum.TheVariants as datum
-use Rattle.f3_word_cells.specs.Areas.{IsBlock, IsDatum, shape_for, spans_of, types_of, value_in}
+use Rattle.f3_word_cells.specs.Areas.{IsObject as IsAnObject, IsBlock, IsDatum, shape_for, spans_of, types_of, value_in}
 use Rattle.f3_word_cells.specs.States.{IsBareLevel, IsBareSlot, datum_blocks, level_rooms, slot_rooms}
 
 -- ---- objects in which nothing is held
@@ -231,3 +237,31 @@ module _ (p : Program) (h : Global) (m : Live) (flat : (of : Base) → is_flat (
         } in s) (level_value ds short vs are),
         begun.1,
       )
+
+-- ---- the object of a scalar that is held
+
+get_behind : {A : Type 0} (xs : List A) (y : A) → slice_get (xs ++ y ∷ []) (length xs) ≡ Some y
+get_behind [] y = refl
+get_behind (x ∷ xs) y = get_behind xs y
+
+whole_reach : (q : Path) (c : Constant) → reach_of q (constant_value c) ≡ One
+whole_reach q (constant.Number z) = refl
+whole_reach q (constant.Truth b) = refl
+
+pub held_there : (p : Program) (x : Rooms) (front behind : List Slot) (of : Base) (c : Constant) (unit : ℕ) → is_scalar_shape (shape_for p of) ≡ true
+    → IsAnObject p (with_level x (front ++ Known (constant_value c) ∷ behind)) (o.Held of c)
+    (to_root (Local (length x.levels) (numbers front)) of Read unit (constant_value c))
+held_there p x front behind of c unit scalar = (
+  refl,
+  whole_reach _ c,
+  refl,
+  scalar,
+  record {
+    level = length x.levels;
+    front = front;
+    behind = behind;
+    stands = get_behind x.levels (front ++ Known (constant_value c) ∷ behind);
+    root = refl;
+    steps = refl;
+  },
+)

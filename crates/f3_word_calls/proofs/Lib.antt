@@ -11,3 +11,4 @@ pub mod Ending
 pub mod Associated
 pub mod Holding
 pub mod Bounded
+pub mod Resulting

@@ -3,7 +3,6 @@
 
 pub mod associates;
 pub mod bounds;
-pub mod copies;
 pub mod dummies;
 mod ends;
 pub mod operands;
