@@ -1,0 +1,5 @@
+//! A machine over words: a run of a program without allocatables, whose values lie in blocks of a heap.
+#![tactic(auto)]
+
+pub mod running;
+mod step;
