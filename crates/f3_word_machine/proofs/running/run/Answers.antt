@@ -1,26 +1,43 @@
-use Rattle.std.proofs.Common.{rules, ◌≡◌, ℕ, ◌+◌, ◌-◌, ◌*◌, ◌<◌, ◌≤◌, length, ◌/◌, ◌%◌, Bool, true, false, nat_eq, nat_lt, List, [], ◌∷◌, ◌++◌, slice_index_or, slice_set, bit_and, bit_or, Fits, w8, w32, w64, Bor, MutBor}
+use Rattle.std.proofs.Common.{◌≡◌, ℕ, ◌+◌, ◌<◌, ◌≤◌, subst, sym, arith, Fits, w64}
 use Rattle.f3_output.specs.Output.{state_of}
-use Rattle.f3_word_cells.specs.Scenes.{IsScene}
 use Rattle.f3_word_machine.specs.Runs.{RunsFrom}
-use Rattle.f3_word_machine.specs.Steps.{IsReady}
+use Rattle.f3_word_machine.specs.Steps.{IsReady, Steps}
+use Rattle.f3_word_machine.proofs.Course.{Reached, begun, goes_on, stops, at_limit}
 use Rattle.f3_word_machine.proofs.running.run.Goals as goal
 
--- src/running.rt:28:5
 pub loop-done-init : goal.loop-done-init
-loop-done-init g c = ?
+loop-done-init g c = λ t x told stands.
+    begun c.args.scene.program.now t (g.B.Blocks.blocks c.args.heap.now) c.args.state.now x (state_of g.W.Write.contents c.args.output.now) told stands
 
--- src/running.rt:29:15
 pub step-requires-clause-ready : goal.step-requires-clause-ready
-step-requires-clause-ready g c = ?
+step-requires-clause-ready g c =
+    let r = c.loop-done.invariant c.requires.ready.state c.requires.ready.rooms c.requires.ready.told c.requires.ready.stands in
+    record { state = r.to; rooms = r.rooms; told = r.told; stands = r.stands }
 
--- src/running.rt:31:25
 pub returns-in-Err : goal.returns-in-Err
-returns-in-Err g c = ?
+returns-in-Err g c = λ t x told stands.
+    let r = c.loop-done.invariant t x told stands in
+    let a = state_of g.W.Write.contents c.args.output.now in
+    let b = state_of g.W.Write.contents c.loop-done.output in
+    let d = state_of g.W.Write.contents c.step.new.output in
+    stops c.args.scene.program.now t c.loop-done._done (g.B.Blocks.blocks c.loop-done.heap) c.loop-done.state a b r (g.B.Blocks.blocks c.step.new.heap) c.step.new.state d
+    c.args.steps c.in-Err.end (omega (arith, c.loop-done-test.true))
+    (subst (λ z. Steps c.args.scene.program.now r.to z (g.B.Blocks.blocks c.step.new.heap) c.step.new.state b d) c.in-Err.is (c.step.ensures r.to r.rooms r.told r.stands))
 
--- src/running.rt:28:5
 pub loop-done-preserved : goal.loop-done-preserved
-loop-done-preserved g c = ?
+loop-done-preserved g c = λ t x told stands.
+    let r = c.loop-done.invariant t x told stands in
+    let a = state_of g.W.Write.contents c.args.output.now in
+    let b = state_of g.W.Write.contents c.loop-done.output in
+    let d = state_of g.W.Write.contents c.step.new.output in
+    goes_on c.args.scene.program.now t c.loop-done._done (g.B.Blocks.blocks c.loop-done.heap) c.loop-done.state a b r (g.B.Blocks.blocks c.step.new.heap) c.step.new.state d
+    (subst (λ z. Steps c.args.scene.program.now r.to z (g.B.Blocks.blocks c.step.new.heap) c.step.new.state b d) c.in-Ok.is (c.step.ensures r.to r.rooms r.told r.stands))
 
--- src/running.rt:17:1
 pub returns : goal.returns
-returns g c = ?
+returns g c = λ t x told stands.
+    let r = c.loop-done.invariant t x told stands in
+    at_limit c.args.scene.program.now t c.args.steps (g.B.Blocks.blocks c.loop-done.heap) c.loop-done.state (state_of g.W.Write.contents c.args.output.now)
+    (state_of g.W.Write.contents c.loop-done.output)
+    (let last : c.loop-done._done ≡ c.args.steps = omega (arith, c.loop-done-test.false, c.loop-done.auto._done-end) in
+    subst (λ k. Reached c.args.scene.program.now t k (g.B.Blocks.blocks c.loop-done.heap) c.loop-done.state (state_of g.W.Write.contents c.args.output.now)
+    (state_of g.W.Write.contents c.loop-done.output)) last r)
