@@ -1,0 +1,4 @@
+pub mod Plains
+pub mod Framing
+pub mod Taking
+pub mod Starting

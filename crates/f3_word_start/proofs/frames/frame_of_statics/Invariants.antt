@@ -1,0 +1,8 @@
+use Rattle.std.proofs.Common.{map, take}
+use Rattle.f3_program.specs.declared.program.Static as static
+use Rattle.f3_room_places.specs.Places.{shapes}
+use Rattle.f3_word_cells.specs.Scenes.{IsFrame}
+use Rattle.f3_word_start.proofs.frames.frame_of_statics.Given as goal
+
+abbrev pub invariant-loop-one : goal.invariant-loop-one
+invariant-loop-one l = IsFrame (shapes l.types) (take l.one-index (map (λ (y : static.Static). y.declared) l.statics)) l.frame

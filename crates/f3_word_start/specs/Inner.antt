@@ -1,0 +1,4 @@
+-- What only private functions and proofs cite.
+pub mod Declared
+pub mod Stacks
+pub mod Taken
