@@ -15,8 +15,8 @@ use Rattle.f3_courses.proofs.Coming.{output_both}
 use Rattle.f3_output.specs.Output as o
 use Rattle.f3_output.specs.Output.{Wrote, Faulted}
 use Rattle.f3_output.proofs.Outputs.{wrote_none, wrote_more, faulted_behind}
-use Rattle.f3_machine_laws.specs.declared.ended.Ended.{Ended}
-use Rattle.f3_machine_laws.specs.declared.ended.Ended.TheVariants as end
+use Rattle.f3_word_machine.specs.declared.ended.Ended.{Ended}
+use Rattle.f3_word_machine.specs.declared.ended.Ended.TheVariants as end
 use Rattle.f3_machine_laws.specs.Answers.{EndsSo, GoesOnAfter, AnswersFor}
 use Rattle.f3_rooms.specs.Rooms.{Rooms}
 use Rattle.f3_word_cells.specs.declared.state.State.{State}
@@ -29,7 +29,7 @@ use Rattle.f3_word_laws.proofs.Telling.{runs_are_told}
 use Rattle.f3_word_machine.specs.Steps.{Went, Ends, Refuses, Strays, Steps}
 use Rattle.f3_word_machine.specs.Runs.{course_from, Answered, Strayed, AnswersSo}
 
-none_more : ℕ → Bool
+abbrev pub none_more : ℕ → Bool
 none_more n = false
 
 module _ (p : Program) (t : s.State) where
@@ -117,7 +117,8 @@ module _ (p : Program) (t : s.State) where
           so = (done + 1, omega arith, subst (λ bytes. Faulted a c bytes) (sym (ap (λ (y : Course). output y.out) at ∙ printed)) (faulted_behind r.wrote e.faulted));
         }
     stops n new c steps end.Memory left e = record { answers = stream (r.comes).given none_more; so = (done, omega arith, until c e) }
-    stops n new c steps end.Stuck left e =
+    stops n new c steps end.NoRoom left e = record { answers = stream (r.comes).given none_more; so = (done, omega arith, until c e) }
+    stops n new c steps end.Strayed left e =
         record { to = r.to; count = done; within = omega arith; bytes = r.bytes; comes = r.comes; strays = e }
 
   pub at_limit : (steps : ℕ) (m : Live) (old : State) (a b : o.State) → Reached steps m old a b → AnswersSo p t steps a b end.StepLimit

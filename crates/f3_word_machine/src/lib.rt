@@ -1,5 +1,7 @@
 //! A machine over words: a run of a program without allocatables, whose values lie in blocks of a heap.
 #![tactic(auto)]
 
+pub mod ended;
 pub mod running;
 mod step;
+pub mod whole;

@@ -5,9 +5,9 @@ ghost use Rattle.f3_word_cells.specs.Scenes.{IsScene};
 ghost use Rattle.f3_word_machine.specs.Runs.{RunsFrom};
 ghost use Rattle.f3_word_machine.specs.Steps.{IsReady};
 
+use crate::ended::Ended;
 use crate::step::step;
 use f3_heap::Blocks;
-use f3_machine_laws::ended::Ended;
 use f3_output::output::Output;
 use f3_word_cells::scene::Scene;
 use f3_word_cells::state::State;

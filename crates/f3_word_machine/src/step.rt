@@ -4,8 +4,8 @@ ghost use Rattle.f3_output.specs.Output.{state_of};
 ghost use Rattle.f3_word_cells.specs.Scenes.{IsScene};
 ghost use Rattle.f3_word_machine.specs.Steps.{IsReady, StepsFrom};
 
+use crate::ended::Ended;
 use f3_heap::Blocks;
-use f3_machine_laws::ended::Ended;
 use f3_output::output::Output;
 use f3_word_cells::scene::Scene;
 use f3_word_cells::state::State;
