@@ -1,0 +1,12 @@
+pub mod Depths
+pub mod Few
+pub mod Naming
+pub mod Sized
+pub mod Shifting
+pub mod Levels
+pub mod Keeping
+pub mod Owners
+pub mod Cells
+pub mod Rows
+pub mod Emitted
+pub mod Memory

@@ -1,0 +1,49 @@
+//! Laws of how much room stacks want.
+
+ghost use Rattle.f3_word_needs.specs.Laws.{CallersAreFew, CellsAreFew, DummiesAreFew, LevelsAreFew, LinesKeepRoom, MemoryIsAsLarge, NamesAreFew, SelectorsAreFew, StartHasRoom};
+
+/// A program begins in a state with room (own rule).
+pub fn start_has_room()
+    ensures { StartHasRoom }
+{}
+
+/// From such a state each line leads to another (own rule).
+pub fn lines_keep_room()
+    ensures { LinesKeepRoom }
+{}
+
+/// There are at most 1000 callers (own rule).
+pub fn callers_are_few()
+    ensures { CallersAreFew }
+{}
+
+/// All activations together have no more cells than the main program needs, and a thousand procedures of the greatest need (own rule).
+pub fn cells_are_few()
+    ensures { CellsAreFew }
+{}
+
+/// All activations together have no more names than if each had those of the procedure that has most: its dummies, and those of its
+/// ASSOCIATEs twice (ISO/IEC 1539-1:2004, 12.5.2.1, 8.1.4).
+pub fn names_are_few()
+    ensures { NamesAreFew }
+{}
+
+/// ASSOCIATEs that are open have no more names than if each activation had the most that a procedure has of these (8.1.4).
+pub fn selectors_are_few()
+    ensures { SelectorsAreFew }
+{}
+
+/// No procedure has more dummies than are told (ISO/IEC 1539-1:2004, 12.5.2.1).
+pub fn dummies_are_few()
+    ensures { DummiesAreFew }
+{}
+
+/// There are at most two levels of values for each caller, one for the main program, and one for each cell (own rule).
+pub fn levels_are_few()
+    ensures { LevelsAreFew }
+{}
+
+/// What stands in memory for a state has as many cells, callers and levels, and keeps as many names of ASSOCIATEs (own rule).
+pub fn memory_is_as_large()
+    ensures { MemoryIsAsLarge }
+{}

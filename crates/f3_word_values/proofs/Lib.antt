@@ -1,0 +1,4 @@
+pub mod Ending
+pub mod Does
+pub mod Widths
+pub mod Plain

@@ -1,0 +1,23 @@
+use Rattle.std.proofs.Common.{refl, ap}
+use Rattle.f3_cell_kinds.specs.Types.{Site}
+use Rattle.f3_word_cells.proofs.OnTop.{line_kinds}
+use Rattle.f3_word_cells.proofs.Amid.{amid_first}
+use Rattle.f3_word_control.proofs.Moving.{datum_taken}
+use Rattle.f3_word_control.proofs.Lines.{goes_with}
+use Rattle.f3_word_control.proofs.Tops.{datum_on}
+use Rattle.f3_word_values.proofs.Does.{selected_so}
+use Rattle.f3_word_values.proofs.Widths.{laid_alike}
+use Rattle.f3_word_values.proofs.values.select_value.Goals as goal
+
+pub returns-in_default-clause-does : goal.returns-in_default-clause-does
+returns-in_default-clause-does c = λ p m t l x told there is st.
+    let lead = line_kinds p t l _ told there is in
+    let top = datum_on p m x t _ told st _ _ lead.3.before in
+    absurd (c.in_default.ensures.taken top.0 top.1 top.3)
+
+pub returns-clause-does : goal.returns-clause-does
+returns-clause-does c = λ p m t l x told there is st.
+    let lead = line_kinds p t l _ told there is in
+    let top = datum_taken p t m _ x _ c.in-Some.ensures.taken (amid_first p t m _ x _ t.stack st lead.3.before refl) in
+    goes_with p l t m m _ x st top.below _ _ (selected_so p l t _ _ top.split _ is) top.amid c.in-Some.ensures.taken.pc
+    (ap (λ (z : Site). z.cells) lead.3.next) c.go_on_with.ensures tt (refl, top.is) (laid_alike p _ lead.0 _ lead.2 top.known)

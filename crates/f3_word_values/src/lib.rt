@@ -1,0 +1,8 @@
+//! Instructions over words that make values of values.
+#![tactic(auto)]
+
+mod bounds;
+mod finish;
+pub mod operations;
+pub mod queries;
+pub mod values;
