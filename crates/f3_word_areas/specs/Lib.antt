@@ -1,0 +1,3 @@
+pub mod Dims
+pub mod Parts
+pub mod Sections

@@ -1,0 +1,11 @@
+mod Lists
+mod Tops
+mod Passing
+mod Shaping
+mod Members
+mod Popping
+mod Choosing
+mod Sectioning
+mod Reaching
+mod Named
+mod Referring
