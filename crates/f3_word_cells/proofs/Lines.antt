@@ -1,5 +1,5 @@
 -- What a line does where the heap answers.
-use Rattle.std.proofs.Common.{◌≡◌, ◌∙◌, ℕ, ◌+◌, ◌≤◌, Bool, true, false, List, [], ◌∷◌, length, refl, sym, ap, arith}
+use Rattle.std.proofs.Common.{◌≡◌, ◌∙◌, inl, ℕ, ◌+◌, ◌≤◌, Bool, true, false, List, [], ◌∷◌, length, refl, sym, ap, arith}
 use Rattle.std.specs.Prelude.{⊤, Result, Ok, Err, if◌then◌else◌}
 use Rattle.std.proofs.lemmas.Option.{slice_get_past}
 use Rattle.f3_places.specs.declared.source.Place.{Place}
@@ -156,7 +156,7 @@ becomes_ahead p m n old mid new x ks t l stack d total (Ok done) st amid line ki
     }
 becomes_ahead p m n old mid new x ks t l stack d total (Err stop.Lost) st amid line kinds size went goes =
     let far : t.pc ≡ mid.pc = st.pc ∙ sym line in
-    lost_ahead p l t (moved_to t (t.pc + 1 + d) stack t.here t.world) goes (let past = went.1 in omega arith)
+    inl (lost_ahead p l t (moved_to t (t.pc + 1 + d) stack t.here t.world) goes (let past = went.1 in omega arith))
 becomes_ahead p m n old mid new x ks t l stack d total (Err stop.Done) st amid line kinds size went goes = absurd went
 becomes_ahead p m n old mid new x ks t l stack d total (Err (stop.Stopped number)) st amid line kinds size went goes = absurd went
 becomes_ahead p m n old mid new x ks t l stack d total (Err (stop.Failed error)) st amid line kinds size went goes = absurd went

@@ -53,7 +53,7 @@ pub enum Stop {
     Stopped(Option<u32>),
     /// An error at the place of the line.
     Failed(RunError),
-    /// A jump leads to where there is no line, which no code of a program does.
+    /// A jump leads to where there is no line, or what has no caller goes back to it, which no code of a program does.
     Lost,
     /// A value that is held would change, which only happens where a change is not permitted.
     Forbidden,

@@ -1,0 +1,11 @@
+pub mod Tops
+pub mod Beneath
+pub mod Latest
+pub mod Giving
+pub mod Leaving
+pub mod Going
+pub mod Nexts
+pub mod Outward
+pub mod Returning
+pub mod Ending
+pub mod Associated

@@ -1,0 +1,4 @@
+pub mod Taken
+pub mod Doing
+pub mod Nexts
+pub mod Gone

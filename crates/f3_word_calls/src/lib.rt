@@ -1,0 +1,9 @@
+//! Calls of procedures and the ASSOCIATE construct, over words.
+#![tactic(auto)]
+
+pub mod associates;
+pub mod copies;
+pub mod dummies;
+mod ends;
+pub mod operands;
+pub mod returns;
