@@ -4,4 +4,5 @@
 pub mod ended;
 pub mod running;
 mod step;
+mod table;
 pub mod whole;

@@ -1,15 +1,37 @@
 //! One instruction.
 
+ghost use Rattle.std.specs.Prelude.{◌≡◌};
 ghost use Rattle.f3_output.specs.Output.{state_of};
 ghost use Rattle.f3_word_cells.specs.Scenes.{IsScene};
-ghost use Rattle.f3_word_machine.specs.Steps.{IsReady, StepsFrom};
+ghost use Rattle.f3_word_objects.specs.Ranks.{AreRanked};
+ghost use Rattle.f3_word_machine.specs.Steps.{IsReady, StepsFrom, ended_by};
 
 use crate::ended::Ended;
+use crate::table::perform;
 use f3_heap::Blocks;
 use f3_output::output::Output;
+use f3_places::source::Place;
 use f3_word_cells::scene::Scene;
-use f3_word_cells::state::State;
+use f3_word_cells::state::{State, Stop};
 use std::io::Write;
+
+/// So many words or more are not in use.
+const MOST: usize = 1 << 63;
+
+/// How a run ends where an instruction at a place stops it.
+#[inline(never)]
+fn end_of(stop: Stop, place: Place) -> Ended
+    ensures { result ≡ ended_by stop place }
+{
+    match stop {
+        Stop::Done => Ended::Done,
+        Stop::Stopped(number) => Ended::Stopped(number),
+        Stop::Failed(error) => Ended::Failed(error, place),
+        Stop::Lost | Stop::Forbidden => Ended::Strayed,
+        Stop::Refused => Ended::WriteFault,
+        Stop::Memory => Ended::Memory,
+    }
+}
 
 /// The next instruction.
 pub(crate) fn step<B: Blocks, W: Write>(
@@ -19,9 +41,20 @@ pub(crate) fn step<B: Blocks, W: Write>(
     output: &mut Output<W>,
 ) -> Result<(), Ended>
     requires scene { IsScene scene }
+    requires ranks { AreRanked scene.program.now }
     requires ready { IsReady scene.program.now (B.blocks heap.old) state.old }
     ensures { StepsFrom scene.entry.program.now result (B.blocks heap.old) (B.blocks heap.new) state.old state.new
         (state_of W.contents output.old) (state_of W.contents output.new) }
 {
-    Err(Ended::Memory)
+    let Some(line) = scene.emission.lines.get(state.pc) else {
+        return Err(Ended::Strayed);
+    };
+    if state.cells.items.len() >= state.cells.room || heap.used() >= MOST {
+        return Err(Ended::NoRoom);
+    }
+    let place = line.place.unwrap_or(state.here.place);
+    match perform(scene, heap, line.act, place, state, output) {
+        Ok(()) => Ok(()),
+        Err(stop) => Err(end_of(stop, place)),
+    }
 }

@@ -1,0 +1,91 @@
+-- What an instruction does, by what its call says.
+use Rattle.std.proofs.Common.{◌≡◌, ◌≤◌, ◌<◌, ◌^◌, ℕ, Bool, false, true, [], length, sym, ◌∙◌, subst, ap, vec_len, arith}
+use Rattle.std.specs.Prelude.{⊤, ◌⊎◌, Result, Ok, Err, Some, None, slice_get, unwrap_or, Vec}
+use Rattle.std.specs.declared.alloc.Global.{Global}
+use Rattle.std.proofs.lemmas.List.{length-map}
+use Rattle.f3_places.specs.declared.source.Place.{Place}
+use Rattle.f3_program.specs.declared.program.Program.{Program}
+use Rattle.f3_live_blocks.specs.Blocks.{Live, IsLive, words_of}
+use Rattle.f3_heap_laws.specs.Account.{used_by}
+use Rattle.f3_heap_laws.proofs.Answers.{used-removed}
+use Rattle.f3_code.specs.declared.instruction.Instruction.{Instruction}
+use Rattle.f3_code.specs.State as s
+use Rattle.f3_code.specs.State.{Line}
+use Rattle.f3_gen_values.specs.Emission.{code_in}
+use Rattle.f3_output.specs.Output as o
+use Rattle.f3_output.specs.Output.{Wrote}
+use Rattle.f3_output.proofs.Outputs.{wrote_none}
+use Rattle.f3_rooms.specs.Rooms.{Rooms}
+use Rattle.f3_word_cells.specs.declared.scene.Scene.{Scene}
+use Rattle.f3_word_cells.specs.declared.state.State.{State}
+use Rattle.f3_word_cells.specs.declared.state.Stop.{Stop}
+use Rattle.f3_word_cells.specs.declared.state.Stop.TheVariants as stop
+use Rattle.f3_word_cells.specs.Plain.{is_plain_act}
+use Rattle.f3_word_cells.specs.Scenes.{IsScene, code_of}
+use Rattle.f3_word_cells.specs.States.{Stands}
+use Rattle.f3_word_cells.specs.Does.{IsTold, IsAt, Becomes, Does, DoesIn, DoesAt}
+use Rattle.f3_word_control.specs.Doing.{DoesAmong, DoesThere, DoesWith, DoesPrint, Prints}
+use Rattle.f3_word_objects.specs.Ranks.{AreShort}
+use Rattle.f3_word_machine.specs.declared.ended.Ended.{Ended}
+use Rattle.f3_word_machine.specs.declared.ended.Ended.TheVariants as end
+use Rattle.f3_word_machine.specs.Steps.{PrintsAt, Steps, Strays, ended_by}
+
+module _ (p : Program) (act : Instruction) (place : Place) (old new : State) (r : Result ⊤ Stop) (m n : Live) (a : o.State) where
+  silent : (t : s.State) (l : Line) (z : Result ⊤ Stop) → Becomes p l t z n new → Prints p l t z n new a a
+  silent t l (Ok done) f = ([], f, wrote_none)
+  silent t l (Err stop.Done) f = (f, wrote_none)
+  silent t l (Err (stop.Stopped number)) f = (f, wrote_none)
+  silent t l (Err (stop.Failed error)) f = (f, wrote_none)
+  silent t l (Err stop.Lost) f = (f, wrote_none)
+  silent t l (Err stop.Forbidden) f = (f, wrote_none)
+  silent t l (Err stop.Refused) f = absurd f
+  silent t l (Err stop.Memory) f = (tt, wrote_none)
+
+  pub by_in : (i : Instruction) → act ≡ i → DoesIn p i r m n old new → PrintsAt p place act r m n old new a a
+  by_in i is d = λ t l x told there acts at stands. silent t l r (d t l x told there (acts ∙ is) stands)
+
+  pub by_with : (i : Instruction) → act ≡ i → DoesWith i r m n old new → PrintsAt p place act r m n old new a a
+  by_with i is d = by_in i is (d p)
+
+  pub by_prints : (b : o.State) (i : Instruction) → act ≡ i → DoesPrint i r m n old new a b → PrintsAt p place act r m n old new a b
+  by_prints b i is d = λ t l x told there acts at stands. d p t l x told there (acts ∙ is) stands
+
+module _ (p : Program) (act : Instruction) (place : Place) (old new : State) (r : Result ⊤ Stop) (m : Live) (k : Live) (a : o.State) where
+  pub by_does : (i : Instruction) → act ≡ i → Does i r old new → PrintsAt p place act r m m old new a a
+  by_does i is d = by_in p act place old new r m m a i is (d p m)
+
+  pub by_there : (i : Instruction) → act ≡ i → DoesThere place i r old new → PrintsAt p place act r m m old new a a
+  by_there i is d = λ t l x told there acts at stands. silent p act place old new r m m a t l r (d p m t l x told there (acts ∙ is) at stands)
+
+  pub by_among : (i : Instruction) (total : ℕ) → act ≡ i → length (code_of p).lines ≡ total → DoesAmong total i r old new → PrintsAt p place act r m m old new a a
+  by_among i total is lines d = by_in p act place old new r m m a i is (d p m lines)
+
+-- how many lines there are
+pub lines_are : (x : Scene) → IsScene x → (k : ℕ) → k ≡ vec_len x.emission.now.lines → length (code_of x.program.now).lines ≡ k
+lines_are x scene k is = ?
+
+-- a block has no more words than are in use
+pub all_short : (m : Live) (n : ℕ) → used_by m < n → n ≤ 2 ^ 63 → AreShort m
+all_short m n few most q = ?
+
+-- no such instruction is in a program without allocatables
+pub not_plain : (p : Program) (act : Instruction) (m n : Live) (old new : State) (place : Place) (r : Result ⊤ Stop) (a b : o.State) → is_plain_act act ≡ false
+    → IsAt p act m old → PrintsAt p place act r m n old new a b
+not_plain p act m n old new place r a b no at =
+    let yes = ((at.told).plain).lines (at.state).pc at.line at.there in
+    absurd (true_is_false (sym yes ∙ (ap is_plain_act at.act ∙ no)))
+
+-- ---- steps
+
+module _ (p : Program) (t : s.State) (l : Line) (there : slice_get (code_of p).lines t.pc ≡ Some l) (place : Place) (at : unwrap_or l.place (t.here).place ≡ place) (n : Live) (new : State) (a b : o.State) where
+  pub steps : Prints p l t (Ok tt) n new a b → Steps p t (Ok tt) n new a b
+  steps (bytes, f, wrote) = record { line = l; there = there; next = f.next; rooms = f.rooms; bytes = bytes; goes = f.goes; stands = f.stands; wrote = wrote }
+
+  pub stops : (e : Stop) → Prints p l t (Err e) n new a b → Steps p t (Err (ended_by e place)) n new a b
+  stops stop.Done f = record { line = l; there = there; bytes = []; stops = f.0; wrote = f.1 }
+  stops (stop.Stopped number) f = record { line = l; there = there; bytes = []; stops = f.0; wrote = f.1 }
+  stops (stop.Failed error) f = record { line = l; there = there; bytes = []; stops = ?; wrote = f.1 }
+  stops stop.Lost f = inr (record { line = l; there = there; how = inl f.0 })
+  stops stop.Forbidden f = inr (record { line = l; there = there; how = inr f.0 })
+  stops stop.Refused (to, bytes, goes, faulted) = record { line = l; there = there; next = to; bytes = bytes; goes = goes; faulted = faulted }
+  stops stop.Memory f = f.1
