@@ -1,5 +1,5 @@
 -- No cells are known at the end of the main program.
-use Rattle.std.proofs.Common.{◌≡◌, ℕ, suc, ◌+◌, ◌&&◌, List, [], ◌∷◌, ◌++◌, length, length-append, refl, ap, sym, subst, ◌∙◌, arith}
+use Rattle.std.proofs.Common.{◌≡◌, ℕ, suc, ◌+◌, ◌&&◌, List, [], ◌∷◌, ◌++◌, length, length-append, ap, sym, subst, ◌∙◌, arith}
 use Rattle.std.specs.Prelude.{slice_index_or}
 use Rattle.f3_program.specs.declared.program.Program.{Program}
 use Rattle.f3_program.specs.declared.program.Static.{Static}
@@ -7,15 +7,15 @@ use Rattle.f3_meaning_whole.specs.Formed.{IsWellFormed, all, are_types, is_decla
 use Rattle.f3_code.specs.Core as core
 use Rattle.f3_code.specs.Code.{main_code}
 use Rattle.f3_code.specs.Lower.{lowered_program}
-use Rattle.f3_cell_kinds.specs.Types.{CellType, Site}
+use Rattle.f3_cell_kinds.specs.Types.{Site}
 use Rattle.f3_cell_kinds.specs.Values.{at}
-use Rattle.f3_cell_kinds.specs.Program.{scope_of, returns_of, code_sites, main_sites, procedures_sites, routines_sites, program_sites}
+use Rattle.f3_cell_kinds.specs.Program.{scope_of, returns_of, code_sites, procedures_sites, routines_sites, program_sites}
 use Rattle.f3_cell_kinds.specs.Sense.{MakesSense}
 use Rattle.f3_cell_kinds.specs.Laws.{nowhere, site_at}
 use Rattle.f3_cell_kinds.proofs.Asked.{and_is}
 use Rattle.f3_cell_kinds.proofs.OfProgram.{main_part}
 use Rattle.f3_word_account.specs.Runs.{AreIdle, IsEnd, EndsLeakNothing}
-use Rattle.f3_word_account.proofs.Idle.{statements_leak_nothing}
+use Rattle.f3_word_account.proofs.Idle.{lines_leak_nothing}
 
 -- the second of two sites behind others
 second_is : (front : List Site) (y z : Site) (rest : List Site) → slice_index_or ((front ++ y ∷ z ∷ []) ++ rest) (length front + 1) nowhere ≡ z
@@ -57,4 +57,4 @@ module _ (p : Program) (formed : IsWellFormed p) (sense : MakesSense p) where
 
 pub ends_leak_nothing : EndsLeakNothing
 ends_leak_nothing p n w x t st told has none is =
-    statements_leak_nothing p n w x t st told.fits has none (subst AreIdle (sym (end_cells p told.formed told.sense t.pc is)) tt)
+    lines_leak_nothing p n w x t st told.fits has none (subst AreIdle (sym (end_cells p told.formed told.sense t.pc is)) tt)

@@ -1,5 +1,5 @@
 -- Where no ASSOCIATE is open there is one level.
-use Rattle.std.proofs.Common.{◌≡◌, ◌≤◌, ℕ, ◌+◌, List, [], ◌∷◌, length, map, reverse, refl, ap, sym, subst, ◌∙◌, arith}
+use Rattle.std.proofs.Common.{◌≡◌, ◌≤◌, ℕ, List, [], ◌∷◌, length, reverse, refl, ap, sym, subst, ◌∙◌, arith}
 use Rattle.std.proofs.lemmas.List.{length-map}
 use Rattle.f3_program.specs.declared.declarations.Derived.{Derived}
 use Rattle.f3_program.specs.declared.declarations.Kind.{Kind}
@@ -18,11 +18,11 @@ use Rattle.f3_word_cells.specs.declared.state.Name.{Name}
 use Rattle.f3_word_cells.specs.declared.state.State.{State}
 use Rattle.f3_word_cells.specs.Areas.{types_of}
 use Rattle.f3_word_cells.specs.Cells.{AreCells, rooms_under, names_under, here_under, here_beneath}
-use Rattle.f3_word_cells.specs.States.{Stands, AreCallers, starts_of, own, beneath}
+use Rattle.f3_word_cells.specs.States.{Stands, AreCallers, own, beneath}
 use Rattle.f3_word_needs.specs.Counts.{associated, all_levels}
-use Rattle.f3_word_needs.specs.Room.{Beneath, FramesLevelled, HasRoom}
+use Rattle.f3_word_needs.specs.Room.{Beneath, FramesLevelled}
 use Rattle.f3_word_account.specs.Laws.{HoldsNone, AllHoldNone}
-use Rattle.f3_word_account.specs.Runs.{IsIdle, AreIdle, StatementsLeakNothing}
+use Rattle.f3_word_account.specs.Runs.{IsIdle, AreIdle, LinesLeakNothing}
 use Rattle.f3_word_account.proofs.Leaving.{starts_count, nothing_leaks}
 use Rattle.f3_word_account.proofs.Empty.{nothing_under, lines_hold_no_values}
 
@@ -90,8 +90,8 @@ module _ (p : Program) (n : Live) (w : State) (x : Rooms) (t : s.State) (st : St
       ap length st.levels ∙ starts_count 0 x.levels
       ∙ sym (ap (λ (y : _). length y.levels) st.store ∙ length-map x.levels (level_values (types_of p) n))
 
-pub statements_leak_nothing : StatementsLeakNothing
-statements_leak_nothing p n w x t st fits has none idle =
+pub lines_leak_nothing : LinesLeakNothing
+lines_leak_nothing p n w x t st fits has none idle =
     let Rest = AreCallers p n (beneath w) (reverse w.callers.items.items) t.frames in
     let shut : associated t.stack ≡ [] =
     levels_idle p n p.types.items (site_at p) (Knows p.types.items t.here) Rest x w.names.items.items w.here t.here (own w) t.stack

@@ -5,3 +5,5 @@ pub mod Activations
 pub mod Empty
 pub mod Idle
 pub mod Ending
+pub mod Beginning
+pub mod Statements

@@ -2,7 +2,7 @@
 #![tactic(auto)]
 
 ghost use Rattle.f3_word_account.specs.Laws.{ActivationsHaveBlocks, LinesHoldNoValues, LiveBlocksAreOwned, NothingLeaks, UsedIsWordsOfBlocks};
-ghost use Rattle.f3_word_account.specs.Runs.{EndsLeakNothing, StatementsLeakNothing};
+ghost use Rattle.f3_word_account.specs.Runs.{EndsLeakNothing, LinesLeakNothing, StatementsLeakNothing};
 
 /// Each live block is that of the variables that live for the whole run, that of the variables of an activation or of a value that is held
 /// for a call or an ASSOCIATE, or that of a value on the stack, and of these it is one only; and each of these is live (own rule).
@@ -21,20 +21,24 @@ pub fn used_is_words_of_blocks()
 {}
 
 /// Where no level is open but that of one activation and no value stands on the stack, only two blocks are in use: that of the variables
-/// that live for the whole run, and that of the variables of the activation. So it is at each statement of the main program that stands
-/// in no ASSOCIATE, and at its end, whatever was called before (own rule).
+/// that live for the whole run, and that of the variables of the activation (own rule).
 pub fn nothing_leaks()
     ensures { NothingLeaks }
 {}
 
-/// At a line of the main program whose cells are known to hold no values, no value stands on the stack: so where a statement begins, within
-/// whatever DO or SELECT CASE, and at the end (own rule).
+/// At a line of the main program whose cells are known to hold no values, no value stands on the stack (own rule).
 pub fn lines_hold_no_values()
     ensures { LinesHoldNoValues }
 {}
 
-/// So in each state of a run of the main program, at a line at which no cell is known that holds a value or belongs to an ASSOCIATE: where a
-/// statement begins, whatever was called before, and at the end, nothing else is in use than these two blocks (own rule).
+/// In each state of a run of the main program, at a line at which no cell is known that holds a value or belongs to an ASSOCIATE, nothing
+/// else is in use than these two blocks (own rule).
+pub fn lines_leak_nothing()
+    ensures { LinesLeakNothing }
+{}
+
+/// So it is where a statement of the main program begins that stands in no ASSOCIATE, within whatever other constructs, and whatever was
+/// called before (own rule).
 pub fn statements_leak_nothing()
     ensures { StatementsLeakNothing }
 {}

@@ -1,28 +1,21 @@
 -- Components stand where their tables say.
-use Rattle.std.proofs.Common.{◌≡◌, ◌∙◌, sym, ap, subst, refl, inl, inr, ⊎_elim, ℕ, zero, suc, ◌+◌, ◌*◌, ◌%◌, ◌^◌, ◌<◌, ◌≤◌, List, [], ◌∷◌, ◌++◌, length, take, arith}
-use Rattle.std.specs.Prelude.{ℤ, pos, ◌+ℤ◌, ◌≢◌, false, Option, None, Some, map}
-use Rattle.std.specs.List.{AllZip, flat_map}
-use Rattle.std.proofs.lemmas.Int.{ints}
-use Rattle.std.proofs.Math.Nat.{mod-eq_of_lt}
+use Rattle.std.proofs.Common.{◌≡◌, ◌∙◌, sym, ap, refl, ℕ, zero, suc, ◌+◌, ◌≤◌, List, [], ◌∷◌, take, arith}
+use Rattle.std.specs.Prelude.{Some}
 use Rattle.f3_program.specs.declared.declarations.Base.{Base}
-use Rattle.f3_program.specs.declared.declarations.Base.TheVariants as base
 use Rattle.f3_program.specs.declared.declarations.Component as m
-use Rattle.f3_program.specs.declared.declarations.Declared.{Declared}
 use Rattle.f3_program.specs.declared.program.Program.{Program}
-use Rattle.f3_live_blocks.specs.Blocks.{Live, words_of}
 use Rattle.f3_meaning_whole.specs.Act.{component_of}
 use Rattle.f3_meaning_whole.specs.Formed.{IsWellFormed}
 use Rattle.f3_meaning_whole.specs.Shape.{Shape, Record, parts_in, shape_in, shapes_of}
-use Rattle.f3_meaning_whole.specs.Store.{Step, Component, Path, within}
+use Rattle.f3_meaning_whole.specs.Store.{Component}
 use Rattle.f3_rooms.specs.Held.{parts_of, part_at}
 use Rattle.f3_rooms.specs.Forms.{Form, Laid, Allocatable, form_of, form_words, words_for, words_for_parts}
-use Rattle.f3_rooms.specs.Rooms.{Rooms}
-use Rattle.f3_rooms.specs.Places.{Found, found, in_form, in_object, in_component}
+use Rattle.f3_rooms.specs.Places.{Found, in_form, in_object}
 use Rattle.f3_rooms.specs.Ways.{settled, part_of}
 use Rattle.f3_room_places.specs.Components.{offset_at}
 use Rattle.f3_room_places.specs.Places.{without_bounds}
 use Rattle.f3_room_places.proofs.Components.{type_is, component_found, start, start_moved, start_within}
-use Rattle.f3_word_cells.specs.Areas.{types_of, shape_for}
+use Rattle.f3_word_cells.specs.Areas.{shape_for}
 use Rattle.f3_word_areas.proofs.Types.{Known, known, component-declared, same-tree, declared-before}
 
 same-form : (form : Form) → without_bounds form ≡ settled form

@@ -1,6 +1,6 @@
 -- Parts of what areas tell of.
 use Rattle.std.proofs.Common.{◌≡◌, ◌∙◌, sym, ap, subst, refl, inl, inr, ⊎_elim, ℕ, zero, suc, ◌+◌, ◌*◌, ◌%◌, ◌^◌, ◌<◌, ◌≤◌, List, [], ◌∷◌, ◌++◌, length, arith}
-use Rattle.std.specs.Prelude.{ℤ, pos, ◌+ℤ◌, ◌≢◌, ◌⊎◌, false, Option, None, Some, map}
+use Rattle.std.specs.Prelude.{ℤ, pos, ◌+ℤ◌, ◌≢◌, ◌⊎◌, false, Some, map}
 use Rattle.std.specs.List.{AllZip, flat_map}
 use Rattle.std.proofs.lemmas.Int.{ints}
 use Rattle.std.proofs.Math.Nat.{mod-eq_of_lt}
@@ -10,19 +10,19 @@ use Rattle.f3_program.specs.declared.program.Program.{Program}
 use Rattle.f3_live_blocks.specs.Blocks.{Live, words_of}
 use Rattle.f3_meaning_whole.specs.Act.{component_of}
 use Rattle.f3_meaning_whole.specs.Formed.{IsWellFormed}
-use Rattle.f3_meaning_whole.specs.Reference.{Reach, One, Many, reach_of}
+use Rattle.f3_meaning_whole.specs.Reference.{One, Many, reach_of}
 use Rattle.f3_meaning_whole.specs.Shape.{Shape}
 use Rattle.f3_meaning_whole.specs.Store.{Step, Component, Path, within, get}
 use Rattle.f3_meaning_whole.specs.Value.{Span, from_one}
 use Rattle.f3_desc.specs.declared.descriptor.Descriptor.{Descriptor}
 use Rattle.f3_desc.specs.declared.descriptor.Dim.{Dim}
-use Rattle.f3_desc.specs.Descriptor.{HasElement, HasPlaces, choices, place, places, progression, subscripts}
+use Rattle.f3_desc.specs.Descriptor.{HasPlaces, choices, place, places, progression, subscripts}
 use Rattle.f3_desc.specs.Laws.{number, size_of}
 use Rattle.f3_desc.proofs.Orders.{ordered}
 use Rattle.f3_desc.proofs.Spots.{moved}
-use Rattle.f3_rooms.specs.Forms.{Form, Laid, form_of, form_words, words_for}
+use Rattle.f3_rooms.specs.Forms.{Laid, form_of, form_words, words_for}
 use Rattle.f3_rooms.specs.Rooms.{Rooms, store_of}
-use Rattle.f3_rooms.specs.Places.{Found, found}
+use Rattle.f3_rooms.specs.Places.{Found}
 use Rattle.f3_rooms.specs.Sound.{IsSound}
 use Rattle.f3_rooms.specs.Laws.{path_at}
 use Rattle.f3_rooms.specs.Ways.{settled, part_of}
@@ -36,9 +36,9 @@ use Rattle.f3_room_places.specs.Components.{offset_at}
 use Rattle.f3_word_cells.specs.declared.cell.Area.{Area}
 use Rattle.f3_word_cells.specs.Areas.{types_of, shape_for, spans_of, AreThere}
 use Rattle.f3_word_areas.specs.Dims.{dims_from_one}
-use Rattle.f3_word_areas.specs.Parts.{IsPart, IsLaid, IsPartOf, moved_from_one}
+use Rattle.f3_word_areas.specs.Parts.{IsPartOf, moved_from_one}
 use Rattle.f3_word_areas.proofs.There.{none_left, part-there}
-use Rattle.f3_word_areas.proofs.Types.{Known, known, component-declared, declared-rank}
+use Rattle.f3_word_areas.proofs.Types.{known, component-declared, declared-rank}
 use Rattle.f3_word_areas.proofs.Components.{component-found, part-is, component-within}
 
 -- ---- places
@@ -79,8 +79,8 @@ first-place at [] = inr ([], ap (λ z. z ∷ []) (let e : at +ℤ pos 0 ≡ at =
 first-place at (d ∷ ds) =
     ⊎_elim (λ none. inl (ap (λ n. d.extent * n) none ∙ omega arith))
     (λ h. ⊎_elim (λ none. inl (ap (λ n. n * size_of ds) none ∙ omega arith))
-        (λ g. inr (g.0, places-cons at d ds ∙ ap (λ (zs : List ℤ). flat_map (along d) zs) h.1 ∙ g.1))
-        (first-along d at h.0))
+    (λ g. inr (g.0, places-cons at d ds ∙ ap (λ (zs : List ℤ). flat_map (along d) zs) h.1 ∙ g.1))
+    (first-along d at h.0))
     (first-place at ds)
 
 -- ---- parts
@@ -136,19 +136,19 @@ module _ (ts : List Shape) (m : Live) (x : Rooms) (sound : IsSound ts m x) (s u 
       let Stands = StandsAt ts x (a.elements).block u in
       ⊎_elim
       (λ none.
-          let some : places a.elements ≡ [] = none_left (places a.elements) (places-many (pos at) ds ∙ none) in
-          let others : places b ≡ [] = none_left (places b) (places-many (pos ((at + o) % 2 ^ 64)) (dims_from_one ds) ∙ size-alike ds ∙ none) in
-          let paths : ps ≡ [] = nothing-told ts x (a.elements).block s (places a.elements) ps some tells in
-          subst (λ (zs : List ℤ). AllZip Stands zs qs) (sym others)
-          (subst (λ (rs : List Path). AllZip Stands [] (map (λ (q : Path). path_at q.root (q.steps ++ way)) rs)) (sym paths) tt))
+      let some : places a.elements ≡ [] = none_left (places a.elements) (places-many (pos at) ds ∙ none) in
+      let others : places b ≡ [] = none_left (places b) (places-many (pos ((at + o) % 2 ^ 64)) (dims_from_one ds) ∙ size-alike ds ∙ none) in
+      let paths : ps ≡ [] = nothing-told ts x (a.elements).block s (places a.elements) ps some tells in
+      subst (λ (zs : List ℤ). AllZip Stands zs qs) (sym others)
+      (subst (λ (rs : List Path). AllZip Stands [] (map (λ (q : Path). path_at q.root (q.steps ++ way)) rs)) (sym paths) tt))
       (λ h.
-          let inside = first-inside ts m x sound (a.elements).block s (pos at) (places a.elements) h.0 ps h.1 tells in
-          let ends = inside.to in
-          let exact : (at + o) % 2 ^ 64 ≡ at + o = mod-eq_of_lt (omega (arith, ints)) in
-          let from : pos ((at + o) % 2 ^ 64) ≡ pos at +ℤ pos o = ap pos exact ∙ split at o in
-          let spots : places b ≡ map (λ z. pos o +ℤ z) (places a.elements) =
-              places-alike (pos ((at + o) % 2 ^ 64)) ds ∙ ap (λ (z : ℤ). places_from z ds) from ∙ moved (pos at) (pos o) ds (choices (map subscripts ds)) in
-          subst (λ (zs : List ℤ). AllZip Stands zs qs) (sym spots) (all-further ts x (a.elements).block s u way o leads (places a.elements) ps tells))
+      let inside = first-inside ts m x sound (a.elements).block s (pos at) (places a.elements) h.0 ps h.1 tells in
+      let ends = inside.to in
+      let exact : (at + o) % 2 ^ 64 ≡ at + o = mod-eq_of_lt (omega (arith, ints)) in
+      let from : pos ((at + o) % 2 ^ 64) ≡ pos at +ℤ pos o = ap pos exact ∙ split at o in
+      let spots : places b ≡ map (λ z. pos o +ℤ z) (places a.elements) =
+      places-alike (pos ((at + o) % 2 ^ 64)) ds ∙ ap (λ (z : ℤ). places_from z ds) from ∙ moved (pos at) (pos o) ds (choices (map subscripts ds)) in
+      subst (λ (zs : List ℤ). AllZip Stands zs qs) (sym spots) (all-further ts x (a.elements).block s u way o leads (places a.elements) ps tells))
       (first-place (pos at) ds)
     where
       split : (x y : ℕ) → pos (x + y) ≡ pos x +ℤ pos y
@@ -197,9 +197,9 @@ module _ (p : Program) (m : Live) (x : Rooms) (sound : IsSound (types_of p) m x)
   each-component scalar q ss ps there =
       let e = part.each there.0 in
       let leads : Leads (shape_for p a.of) (Component k ∷ []) o (shape_for p c.declared.kind.of) = λ f shape form.
-          (component-found p a.of k c f, part-is p a.of k c formed is f shape form, refl, refl, refl, scalar) in
+      (component-found p a.of k c f, part-is p a.of k c formed is f shape form, refl, refl, refl, scalar) in
       let told = told-further (types_of p) m x sound (shape_for p a.of) (shape_for p c.declared.kind.of) (Component k ∷ []) o leads
-          (let w = component-within p a.of k c formed is in omega arith) a c.declared.kind.of ps short there.2 in
+      (let w = component-within p a.of k c formed is in omega arith) a c.declared.kind.of ps short there.2 in
       subst (λ (y : Area). AreThere p x y q (Many (from_one ss) (map (λ (q : Path). within q (Component k)) ps))) (sym e)
       (some (a.elements).dims.items there.0, ap from_one there.1 ∙ sym (spans-from-one (a.elements).dims.items), told)
     where

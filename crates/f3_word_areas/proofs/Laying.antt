@@ -1,6 +1,6 @@
 -- The dimensions of an array, one after another.
 use Rattle.std.proofs.Common.{◌≡◌, ◌∙◌, sym, ap, subst, refl, inl, inr, ⊎_elim, ℕ, zero, suc, ◌+◌, ◌*◌, ◌<◌, ◌≤◌, ◌^◌, ◌%◌, List, [], ◌∷◌, ◌++◌, length, length-append, append_assoc, arith, w64, to_z}
-use Rattle.std.specs.Prelude.{◌⊎◌, ℤ, pos, ◌*ℤ◌, map}
+use Rattle.std.specs.Prelude.{◌⊎◌, ℤ, pos, ◌*ℤ◌}
 use Rattle.std.proofs.Math.Nat.{mod-eq_of_lt}
 use Rattle.std.proofs.lemmas.Int.{to_z_pos}
 use Rattle.std.proofs.lemmas.List.{append-nil}
@@ -30,9 +30,11 @@ laying-none all words few = record { room = omega arith; spans = refl; apart = �
 contiguous-more : (w : ℕ) (ds : List Dim) (d : Dim) → IsContiguous (pos w) ds → d.stride ≡ pos (w * size_of ds) → IsContiguous (pos w) (ds ++ d ∷ [])
 contiguous-more w [] d is e = (e ∙ ap pos (omega arith), tt)
 contiguous-more w (x ∷ ds) d is e =
-    let same : pos x.extent *ℤ pos w ≡ pos (x.extent * w) = refl in
-    (is.0, subst (λ (z : ℤ). IsContiguous z (ds ++ d ∷ [])) (sym same)
-    (contiguous-more (x.extent * w) ds d (subst (λ (z : ℤ). IsContiguous z ds) same is.1) (e ∙ ap pos (omega arith))))
+    let same : pos x.extent *ℤ pos w ≡ pos (x.extent * w) = refl in (
+      is.0,
+      subst (λ (z : ℤ). IsContiguous z (ds ++ d ∷ [])) (sym same)
+          (contiguous-more (x.extent * w) ds d (subst (λ (z : ℤ). IsContiguous z ds) same is.1) (e ∙ ap pos (omega arith))),
+    )
 
 size-more : (ds : List Dim) (d : Dim) → size_of (ds ++ d ∷ []) ≡ size_of ds * d.extent
 size-more [] d = omega arith

@@ -1,21 +1,18 @@
 -- What is picked of an array, over words as over values.
-use Rattle.std.proofs.Common.{◌≡◌, ◌∙◌, sym, ap, subst, refl, ℕ, zero, suc, ◌+◌, List, [], ◌∷◌, ◌++◌, length, arith, T}
-use Rattle.std.specs.Prelude.{ℤ, pos, negsuc, ◌+ℤ◌, ◌-ℤ◌, ◌≤ℤ◌, ◌<ℤ◌, All, Bool, true, false, ◌&&◌, int_le, int_lt, int_div, map, unwrap_or, slice_get, ◌≢◌}
+use Rattle.std.proofs.Common.{◌≡◌, ◌∙◌, sym, ap, subst, refl, ℕ, zero, suc, List, [], ◌∷◌, length, arith, T}
+use Rattle.std.specs.Prelude.{ℤ, pos, negsuc, ◌+ℤ◌, ◌-ℤ◌, All, Bool, true, false, ◌&&◌, int_le, int_lt, int_div, map, unwrap_or}
 use Rattle.std.specs.List.{AllZip}
 use Rattle.std.proofs.lemmas.Int.{ints}
 use Rattle.std.proofs.lemmas.List.Elements.{All-nil, All-cons, All-head, All-tail}
 use Rattle.f3_program.specs.declared.program.Program.{Program}
 use Rattle.f3_meaning_whole.specs.Arithmetic.{natural, trips}
 use Rattle.f3_meaning_whole.specs.Value.{Span}
-use Rattle.f3_meaning_whole.specs.Shape.{Shape}
 use Rattle.f3_meaning_whole.specs.Store.{Path}
-use Rattle.f3_meaning_whole.specs.Reference.{Reach, One, Many, Reference}
-use Rattle.f3_meaning_whole.specs.Act.{Chosen, At, Range, stepped, subscripts_in, end_of, is_inside, all_inside, places_in, spans_in, elements_at, first_of, moved, picked}
-use Rattle.f3_desc.specs.declared.descriptor.Descriptor.{Descriptor}
+use Rattle.f3_meaning_whole.specs.Reference.{Reference}
+use Rattle.f3_meaning_whole.specs.Act.{Chosen, At, Range, stepped, subscripts_in, end_of, is_inside, all_inside, places_in, spans_in, elements_at, first_of, picked}
 use Rattle.f3_desc.specs.declared.descriptor.Dim.{Dim}
 use Rattle.f3_desc.specs.declared.descriptor.Triplet.{Triplet}
-use Rattle.f3_desc.specs.declared.descriptor.Triplet.TheVariants as triplet
-use Rattle.f3_desc.specs.Descriptor.{HasPlaces, IsWithin, progression, places}
+use Rattle.f3_desc.specs.Descriptor.{IsWithin, progression, places}
 use Rattle.f3_desc.specs.Section.{IsSection, SelectsWithin, at_least_zero, count, selected, extents}
 use Rattle.f3_desc.proofs.Sections.{Within}
 use Rattle.f3_rooms.specs.Rooms.{Rooms}
@@ -132,7 +129,6 @@ module _ (p : Program) (x : Rooms) (a b : Area) (r : Reference) (ss : List Span)
     (section : IsSection a.elements (triplets_of (a.elements).dims.items hs) b.elements)
     (bounds : ss ≡ spans_of (a.elements).dims.items)
     (tells : Tells (types_of p) x a.elements (shape_for p a.of) ps) where
-
   abbrev cs : List Triplet
   cs = triplets_of (a.elements).dims.items hs
 

@@ -1,19 +1,17 @@
 -- Areas of parts of variables stand there.
 use Rattle.std.proofs.Common.{◌≡◌, ◌∙◌, sym, ap, subst, refl, ⊎_elim, ℕ, zero, suc, List, [], ◌∷◌, length, arith}
-use Rattle.std.specs.Prelude.{Some, ◌≢◌, ℤ, pos}
+use Rattle.std.specs.Prelude.{Some, ℤ, pos}
 use Rattle.std.specs.List.{AllZip}
 use Rattle.f3_program.specs.declared.program.Program.{Program}
 use Rattle.f3_live_blocks.specs.Blocks.{Live}
-use Rattle.f3_meaning_whole.specs.Value.{Span, Value, Array, Values, joined, count}
+use Rattle.f3_meaning_whole.specs.Value.{Span, Value, joined, count}
 use Rattle.f3_meaning_whole.specs.Shape.{Shape, Whole, Logical, Record}
 use Rattle.f3_meaning_whole.specs.Store.{Root, Step, Path, get}
-use Rattle.f3_meaning_whole.specs.Reference.{Reach, One, Many, reach_of, elements_from, paths_by}
-use Rattle.f3_desc.specs.declared.descriptor.Dim.{Dim}
+use Rattle.f3_meaning_whole.specs.Reference.{Reach, One, reach_of, elements_from, paths_by}
 use Rattle.f3_desc.specs.Descriptor.{places}
-use Rattle.f3_desc.specs.Laws.{size_of}
 use Rattle.f3_rooms.specs.Held.{Held, Row, parts_of}
 use Rattle.f3_rooms.specs.Forms.{Form, Laid, Allocatable, words_for}
-use Rattle.f3_rooms.specs.Values.{elements, laid, formed, object}
+use Rattle.f3_rooms.specs.Values.{elements, formed, object}
 use Rattle.f3_rooms.specs.Rooms.{Rooms, store_of}
 use Rattle.f3_rooms.specs.Places.{Found, found}
 use Rattle.f3_rooms.specs.Laws.{path_at}
@@ -23,7 +21,7 @@ use Rattle.f3_room_arrays.specs.Elements.{StandsAt, Tells}
 use Rattle.f3_room_arrays.proofs.Told.{arrays_are_told}
 use Rattle.f3_room_arrays.proofs.Numbers.{places-many}
 use Rattle.f3_word_cells.specs.declared.cell.Area.{Area}
-use Rattle.f3_word_cells.specs.Areas.{types_of, shape_for, spans_of, AreThere}
+use Rattle.f3_word_cells.specs.Areas.{types_of, shape_for, AreThere}
 use Rattle.f3_word_areas.specs.Parts.{AreDimsOf, IsPart}
 use Rattle.f3_word_areas.proofs.Laying.{size-count}
 
@@ -63,16 +61,16 @@ module _ (p : Program) (m : Live) (x : Rooms) (r : Root) (way : List Step) (f : 
       → Tells (types_of p) x a.elements (shape_for p a.of) (elements_from 0 here (joined (elements (count ss) (words_for f.shape) (object m f.shape) f.block f.at (parts_of f.held))))
   many-told rank ss e dims = ⊎_elim
       (λ none.
-          let none-there : places a.elements ≡ [] = none_left (places a.elements) (places-many (pos (a.elements).offset) (a.elements).dims.items ∙ none) in
-          let few : count ss ≡ 0 = ap count (sym dims.1) ∙ sym (size-count (a.elements).dims.items) ∙ none in
-          let no-paths = no-elements here (words_for f.shape) (count ss) (object m f.shape) f.block f.at (parts_of f.held) few in
-          subst (λ (zs : List ℤ). AllZip (StandsAt (types_of p) x (a.elements).block (shape_for p a.of)) zs (paths-of ss)) (sym none-there)
-          (subst (λ (ps : List Path). AllZip (StandsAt (types_of p) x (a.elements).block (shape_for p a.of)) [] ps) (sym no-paths) tt))
+      let none-there : places a.elements ≡ [] = none_left (places a.elements) (places-many (pos (a.elements).offset) (a.elements).dims.items ∙ none) in
+      let few : count ss ≡ 0 = ap count (sym dims.1) ∙ sym (size-count (a.elements).dims.items) ∙ none in
+      let no-paths = no-elements here (words_for f.shape) (count ss) (object m f.shape) f.block f.at (parts_of f.held) few in
+      subst (λ (zs : List ℤ). AllZip (StandsAt (types_of p) x (a.elements).block (shape_for p a.of)) zs (paths-of ss)) (sym none-there)
+      (subst (λ (ps : List Path). AllZip (StandsAt (types_of p) x (a.elements).block (shape_for p a.of)) [] ps) (sym no-paths) tt))
       (λ apart.
-          let told = arrays_are_told (types_of p) m x r way f leads rank ss e a.elements
-              (record { block = part.block; offset = part.offset; dims = apart; size = size-count (a.elements).dims.items ∙ ap count dims.1 }) in
-          subst (λ (s : Shape). Tells (types_of p) x a.elements s (paths-of ss)) (sym part.shape)
-          (subst (λ (v : Value). Tells (types_of p) x a.elements f.shape (paths_by here (reach_of here v))) (value-is (Laid (suc rank) ss) e) told))
+      let told = arrays_are_told (types_of p) m x r way f leads rank ss e a.elements
+      (record { block = part.block; offset = part.offset; dims = apart; size = size-count (a.elements).dims.items ∙ ap count dims.1 }) in
+      subst (λ (s : Shape). Tells (types_of p) x a.elements s (paths-of ss)) (sym part.shape)
+      (subst (λ (v : Value). Tells (types_of p) x a.elements f.shape (paths_by here (reach_of here v))) (value-is (Laid (suc rank) ss) e) told))
       dims.2
 
   by-form : (form : Form) → f.form ≡ form → AreDimsOf (words_for f.shape) form (a.elements).dims.items → AreThere p x a here (reach_of here there)

@@ -1,12 +1,11 @@
 -- Triplets for what is chosen in each dimension.
-use Rattle.std.proofs.Common.{◌≡◌, ◌∙◌, sym, ap, subst, refl, ℕ, zero, suc, ◌+◌, List, [], ◌∷◌, length, arith}
+use Rattle.std.proofs.Common.{◌≡◌, ap, refl, List, [], ◌∷◌, length, arith}
 use Rattle.f3_cells.specs.declared.cell.Chosen as d
 use Rattle.f3_cells.specs.Cells.{chosen_of}
-use Rattle.std.specs.Prelude.{map, ℤ, pos, All, Bool, true, false, nat_eq, nat_abs, if◌then◌else◌}
+use Rattle.std.specs.Prelude.{map, ℤ, All, Bool, true, false, nat_eq, nat_abs, if◌then◌else◌}
 use Rattle.std.proofs.lemmas.List.Elements.{All-nil, All-cons}
 use Rattle.f3_meaning_whole.specs.Act.{Chosen, At, Range, some_zero_step, steps_by_zero}
 use Rattle.f3_desc.specs.declared.descriptor.Dim.{Dim}
-use Rattle.f3_desc.specs.declared.descriptor.Triplet.{Triplet}
 use Rattle.f3_desc.specs.Section.{IsStepZero}
 use Rattle.f3_word_areas.specs.Sections.{triplet_of, triplets_of}
 

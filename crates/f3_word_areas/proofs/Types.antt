@@ -1,18 +1,17 @@
 -- Components of the types of a program that is well formed.
-use Rattle.std.proofs.Common.{◌≡◌, ◌∙◌, sym, ap, subst, refl, ℕ, zero, suc, ◌+◌, ◌<◌, ◌≤◌, List, [], ◌∷◌, length, take, arith, get_or}
-use Rattle.std.specs.Prelude.{Bool, true, false, ◌&&◌, nat_eq, nat_lt, if◌then◌else◌, Option, None, Some, slice_get, slice_index_or}
+use Rattle.std.proofs.Common.{◌≡◌, ◌∙◌, sym, ap, subst, refl, ℕ, zero, suc, ◌+◌, List, [], ◌∷◌, length, take, arith}
+use Rattle.std.specs.Prelude.{Bool, true, false, ◌&&◌, if◌then◌else◌, Option, None, Some, slice_get, slice_index_or}
 use Rattle.std.proofs.lemmas.Bool.{ltb-true, eqb-true}
 use Rattle.std.proofs.lemmas.List.{get_or-take}
-use Rattle.std.proofs.lemmas.Option.{slice_get_within}
 use Rattle.f3_program.specs.declared.declarations.Base.{Base}
 use Rattle.f3_program.specs.declared.declarations.Base.TheVariants as base
 use Rattle.f3_program.specs.declared.declarations.Component.{Component}
 use Rattle.f3_program.specs.declared.declarations.Declared.{Declared}
 use Rattle.f3_program.specs.declared.declarations.Derived.{Derived}
 use Rattle.f3_program.specs.declared.program.Program.{Program}
-use Rattle.f3_meaning_whole.specs.Act.{component_of, component_in, derived_of}
-use Rattle.f3_meaning_whole.specs.Shape.{Shape, Whole, shape_in, shapes_of}
-use Rattle.f3_meaning_whole.specs.Formed.{all, is_declared, is_before, is_final, are_types, is_well_formed, IsWellFormed}
+use Rattle.f3_meaning_whole.specs.Act.{component_of, component_in}
+use Rattle.f3_meaning_whole.specs.Shape.{Whole, shape_in, shapes_of}
+use Rattle.f3_meaning_whole.specs.Formed.{all, is_declared, is_before, is_final, are_types, IsWellFormed}
 use Rattle.f3_room_places.proofs.Trees.{trees_before}
 
 both : (a b : Bool) → (a && b) ≡ true → (a ≡ true) × (b ≡ true)

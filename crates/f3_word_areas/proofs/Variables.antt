@@ -1,5 +1,5 @@
 -- Variables stand in their blocks.
-use Rattle.std.proofs.Common.{◌≡◌, ◌∙◌, sym, ap, refl, ℕ, zero, suc, ◌+◌, ◌^◌, ◌<◌, ◌≤◌, List, [], ◌∷◌, length, arith}
+use Rattle.std.proofs.Common.{◌≡◌, ◌∙◌, ap, ℕ, zero, suc, ◌+◌, ◌^◌, ◌<◌, ◌≤◌, List, [], ◌∷◌, length, arith}
 use Rattle.std.specs.Prelude.{false, Some, slice_get}
 use Rattle.f3_program.specs.declared.declarations.Declared.{Declared}
 use Rattle.f3_program.specs.declared.program.Program.{Program}
@@ -15,7 +15,7 @@ use Rattle.f3_rooms.specs.Ways.{offset, variable_in}
 use Rattle.f3_room_places.specs.Starts.{starts_from}
 use Rattle.f3_word_cells.specs.declared.cell.Area.{Area}
 use Rattle.f3_word_cells.specs.Areas.{types_of, shape_for, AreThere}
-use Rattle.f3_word_areas.specs.Parts.{IsPart, IsLaid}
+use Rattle.f3_word_areas.specs.Parts.{IsLaid}
 use Rattle.f3_word_areas.proofs.There.{part-there}
 
 -- a variable begins behind those before it, and ends within all

@@ -9,3 +9,6 @@ pub mod Outward
 pub mod Returning
 pub mod Ending
 pub mod Associated
+pub mod Holding
+pub mod Bounded
+pub mod Resulting

@@ -6,8 +6,8 @@ ghost use Rattle.f3_word_cells.specs.Does.{Does, Keeps};
 ghost use Rattle.f3_word_calls.specs.Doing.{DoesAmong};
 ghost use Rattle.f3_word_calls.specs.Nexts.{HasLatest, HasNext, is_passed_held};
 
-use crate::copies::copied_object;
 use crate::operands::pop_objects;
+use f3_word_areas::copies::copied_object;
 use f3_word_cells::cell::{Cell, Object, Range};
 use f3_word_cells::stack::Stack;
 use f3_word_cells::state::{Caller, Name, State, Stop};
@@ -21,8 +21,8 @@ pub fn dummies(state: &mut State) -> Result<(), Stop>
     ensures does { Does Dummies result state.old state.new }
     ensures keeps { Keeps state.old state.new }
 {
-    let names = state.here.names;
-    state.go_on_with(Cell::Objects(names));
+    let objects = state.here.names;
+    state.go_on_with(Cell::Objects(objects));
     Ok(())
 }
 
@@ -56,11 +56,11 @@ pub fn next_object(state: &mut State, distance: usize, total: usize) -> Result<(
     let Some(objects) = pop_objects(state) else {
         return Err(Stop::Lost);
     };
-    let Some((object, rest)) = next_of(&state.names, objects) else {
+    let Some((object, others)) = next_of(&state.names, objects) else {
         state.push(Cell::Objects(objects));
         return state.ahead(distance, total);
     };
-    state.push(Cell::Objects(rest));
+    state.push(Cell::Objects(others));
     state.go_on_with(Cell::Object(object));
     Ok(())
 }

@@ -2,7 +2,7 @@
 #![tactic(auto)]
 
 pub mod associates;
-pub mod copies;
+pub mod bounds;
 pub mod dummies;
 mod ends;
 pub mod operands;

@@ -10,7 +10,7 @@ use Rattle.f3_meaning_whole.specs.Act as act
 use Rattle.f3_rooms.specs.Rooms.{Rooms}
 use Rattle.f3_word_cells.specs.declared.cell.Here.{Here}
 use Rattle.f3_word_cells.specs.declared.state.Name.{Name}
-use Rattle.f3_word_cells.specs.Cells.{IsHere, selected_of}
+use Rattle.f3_word_cells.specs.Cells.{IsHere, IsSelected}
 
 module _ (p : Program) (x : Rooms) (ns : List Name) (h : Here) (here : act.Here) (is : IsHere p x ns h here) where
   -- at a place
@@ -28,7 +28,7 @@ module _ (p : Program) (x : Rooms) (ns : List Name) (h : Here) (here : act.Here)
   }
 
   -- with a value of a SELECT CASE
-  pub here_selecting : (c : Option Constant) (v : Value) → v ≡ selected_of c → IsHere p x ns (record h { selected = c }) (act.selecting v here)
+  pub here_selecting : (c : Option Constant) (v : Value) → IsSelected c v → IsHere p x ns (record h { selected = c }) (act.selecting v here)
   here_selecting c v e = record {
     place = is.place;
     unit = is.unit;

@@ -7,7 +7,7 @@ use Rattle.f3_program.specs.declared.statement.Range.{Range}
 use Rattle.f3_meaning_whole.specs.Value.{Value, Truth, number_of, truth_of}
 use Rattle.f3_meaning_whole.specs.Arithmetic.{is_zero, meets}
 use Rattle.f3_meaning_whole.specs.Act as m
-use Rattle.f3_meaning_whole.specs.Act.{at, lending}
+use Rattle.f3_meaning_whole.specs.Act.{at, lending, selecting}
 use Rattle.f3_meaning_whole.specs.Exec as exec
 use Rattle.f3_meaning_whole.specs.Ran.{fails, gives, Event, Began, Printed, prints_bytes}
 use Rattle.f3_meaning_whole.specs.Ran as ran
@@ -124,6 +124,10 @@ module _ (p : Program) (l : Line) (t : s.State) (rest : ℕ → Bool) where
   pub turns_on : (d k n : ℕ) (step : ℤ) (below : List s.Cell) → t.stack ≡ s.Turns k step ∷ below → k ≡ suc n
       → Leads (i.CountNext d) [] (next (s.Turns n step ∷ below))
   turns_on d k n step below e f = rw (e, f) refl
+
+  pub selected_so : (v : Value) (below : List s.Cell) → t.stack ≡ s.Datum v ∷ below
+      → Leads i.Selecting [] (with_here (t.pc + 1) (s.Outside t.here ∷ below) (selecting v t.here) t)
+  selected_so v below e = rw e refl
 
   pub met : (r : Range) (b : Bool) → meets r t.here.selected ≡ b → Leads (i.Meets r) [] (next (s.Datum (Truth b) ∷ t.stack))
   met r b e = rw e refl

@@ -1,5 +1,5 @@
 -- A construct is left.
-use Rattle.std.proofs.Common.{◌≡◌, ◌∙◌, ℕ, ◌+◌, List, [], ◌∷◌, refl, sym, subst, ap, arith}
+use Rattle.std.proofs.Common.{inl, ◌≡◌, ◌∙◌, ℕ, ◌+◌, List, [], ◌∷◌, refl, sym, subst, ap, arith}
 use Rattle.std.specs.Prelude.{⊤, Ok, Err, Result}
 use Rattle.f3_program.specs.declared.program.Program.{Program}
 use Rattle.f3_live_blocks.specs.Blocks.{Live}
@@ -90,7 +90,7 @@ module _ (p : Program) (l : Line) (t : s.State) (m : Live) (old : State) (x : Ro
       }
   left_ahead {then = then} new h f g o rest d total (Err stop.Lost) outer below kinds far popped pushed flow cells size went goes =
       let at : then.pc ≡ t.pc = pushed.pc ∙ popped.pc ∙ sym st.pc in
-      lost_ahead p l t (with_here (t.pc + 1 + d) (s.Going g ∷ below) outer t) goes (let past = went.1 in omega (arith, past, at, size))
+      inl (lost_ahead p l t (with_here (t.pc + 1 + d) (s.Going g ∷ below) outer t) goes (let past = went.1 in omega (arith, past, at, size)))
   left_ahead new h f g o rest d total (Err stop.Done) outer below kinds far popped pushed flow cells size went goes = absurd went
   left_ahead new h f g o rest d total (Err (stop.Stopped i)) outer below kinds far popped pushed flow cells size went goes = absurd went
   left_ahead new h f g o rest d total (Err (stop.Failed i)) outer below kinds far popped pushed flow cells size went goes = absurd went

@@ -7,3 +7,4 @@ pub mod Leaving
 pub mod Unwinding
 pub mod Texts
 pub mod Shown
+pub mod Selecting

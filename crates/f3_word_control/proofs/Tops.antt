@@ -9,7 +9,7 @@ use Rattle.f3_program.specs.declared.declarations.Constant.{Constant}
 use Rattle.f3_program.specs.declared.declarations.Kind.{Kind}
 use Rattle.f3_program.specs.declared.program.Program.{Program}
 use Rattle.f3_live_blocks.specs.Blocks.{Live}
-use Rattle.f3_meaning_whole.specs.Value.{Value, Span}
+use Rattle.f3_meaning_whole.specs.Value.{Number, Value, Span}
 use Rattle.f3_meaning_whole.specs.Arithmetic.{constant_value, meets}
 use Rattle.f3_meaning_whole.specs.Act as m
 use Rattle.f3_meaning_whole.specs.Store.{Store}
@@ -33,6 +33,7 @@ use Rattle.f3_store_kinds.specs.Clean.{IsClean}
 use Rattle.f3_rooms.specs.Rooms.{Rooms}
 use Rattle.arrayvec.specs.ArrayVec.{ArrayVec}
 use Rattle.f3_desc.specs.declared.descriptor.Dim.{Dim}
+use Rattle.f3_shaping.proofs.Widths.{meets_same}
 use Rattle.f3_word_cells.specs.declared.cell.Cell.{Cell}
 use Rattle.f3_word_cells.specs.declared.cell.Cell.TheVariants as c
 use Rattle.f3_word_cells.specs.declared.cell.Datum.{Datum}
@@ -40,7 +41,7 @@ use Rattle.f3_word_cells.specs.declared.cell.Here.{Here}
 use Rattle.f3_word_cells.specs.declared.state.Name.{Name}
 use Rattle.f3_word_cells.specs.declared.state.State.{State}
 use Rattle.f3_word_cells.specs.Areas.{IsDatum}
-use Rattle.f3_word_cells.specs.Cells.{IsCell, AreCells, selected_of}
+use Rattle.f3_word_cells.specs.Cells.{IsCell, AreCells, IsSelected}
 use Rattle.f3_word_cells.specs.States.{Stands, own}
 use Rattle.f3_word_cells.specs.Does.{IsTold}
 use Rattle.f3_word_cells.proofs.OnTop.{one_on_top, of_datum, of_turns, of_outside, of_going, of_bound, of_bounds}
@@ -51,14 +52,10 @@ use Rattle.f3_word_cells.proofs.Flat.{IsFlat, plain_is_flat}
 use Rattle.f3_word_cells.proofs.Moving.{Beneath}
 use Rattle.f3_word_cells.proofs.Amid.{Amid}
 
--- the value of the SELECT CASE around is in a range, where there is none as 0 is
-pub selected_meets : (r : Range) (o : Option Constant) → meets r (selected_of o) ≡ meets r (constant_value (unwrap_or o (constant.Number (pos 0))))
-selected_meets r (Some y) = refl
-selected_meets (range.One (constant.Number z)) None = refl
-selected_meets (range.One (constant.Truth b)) None = refl
-selected_meets (range.From z) None = refl
-selected_meets (range.To z) None = refl
-selected_meets (range.Between y z) None = refl
+-- whether what is selected is in a range, where it is none as 0 is
+pub selected_meets : (r : Range) (o : Option Constant) (v : Value) → IsSelected o v → meets r v ≡ meets r (constant_value (unwrap_or o (constant.Number (pos 0))))
+selected_meets r (Some y) v is = ap (meets r) is
+selected_meets r None v is = meets_same r v (Number (pos 0)) is.0 is.1
 
 module _ (p : Program) (live : Live) (x : Rooms) where
   -- ---- which cell is one of the machine over values
@@ -145,6 +142,13 @@ module _ (p : Program) (live : Live) (x : Rooms) where
     met_at l r b =
         let at = in_is (site_at p t.pc).scope _ b in
         let lead = at.2.3 in (lead.rest, lead.before, ap (λ (z : Site). z.cells) lead.next)
+
+    pub selecting_at : (l : Line) → Goes p (site_at p) t.pc l i.Selecting
+        → (k : Kind) × (o : Scope) × (rest : List CellType) × ((site_at p t.pc).cells ≡ cell.Datum k ∷ rest)
+        × ((site_at p (t.pc + 1)).cells ≡ cell.Outside o ∷ rest)
+    selecting_at l b =
+        let at = in_is (site_at p t.pc).scope _ b in
+        let lead = at.2.2 in (at.2.0, at.0, lead.rest, lead.before, ap (λ (z : Site). z.cells) lead.next)
 
     pub left_at : (l : Line) (by : Way) (d : ℕ) → Goes p (site_at p) t.pc l (i.Leave by d)
         → (o : Scope) × (rest : List CellType) × ((site_at p t.pc).cells ≡ cell.Outside o ∷ rest) × ((site_at p (t.pc + 1 + d)).cells ≡ cell.Going ∷ rest)

@@ -2,21 +2,28 @@
 
 ghost use Rattle.std.specs.Prelude.{◌≡◌, ◌<◌, ◌≤◌, ◌^◌, length};
 ghost use Rattle.f3_arithmetic.specs.Turns.{turns_of};
-ghost use Rattle.f3_code.specs.declared.instruction.Instruction.TheVariants.{Begin, SetPlace, Meets, Leave, Depart, CountNext, Lend, Unlend, Discard, Finish};
+ghost use Rattle.f3_program.specs.declared.program.Program.{Program};
+ghost use Rattle.f3_live_blocks.specs.Blocks.{Live};
+ghost use Rattle.f3_meaning_whole.specs.Value.{Value};
+ghost use Rattle.f3_word_cells.specs.Areas.{IsDatum};
+ghost use Rattle.f3_word_cells.specs.Cells.{IsSelected};
+ghost use Rattle.f3_code.specs.declared.instruction.Instruction.TheVariants.{Begin, SetPlace, Meets, Selecting, Leave, Depart, CountNext, Lend, Unlend, Discard, Finish};
 ghost use Rattle.f3_code.specs.declared.instruction.Instruction.TheVariants as instruction;
 ghost use Rattle.f3_code.specs.Machine as machine;
 ghost use Rattle.f3_cells.specs.Cells.{flow_of};
 ghost use Rattle.f3_word_cells.specs.Does.{Does, Keeps};
-ghost use Rattle.f3_word_control.specs.Doing.{DoesAmong, DoesThere};
+ghost use Rattle.f3_word_control.specs.Doing.{DoesAmong, DoesThere, DoesWith, IsAtSome};
 
-use crate::operands::{pop_going, pop_outside, pop_turns};
+use crate::operands::{pop_datum, pop_going, pop_outside, pop_turns};
 use f3_arithmetic::operators;
 use f3_cells::cell::Flow;
 use f3_code::instruction::Way;
+use f3_heap::Blocks;
 use f3_places::source::Place;
 use f3_program::declarations::Constant;
 use f3_program::statement::Range;
 use f3_word_cells::cell::{Cell, Datum};
+use f3_word_cells::giving::let_go_datum;
 use f3_word_cells::state::{State, Stop};
 
 /// A statement begins.
@@ -105,6 +112,36 @@ pub fn meets(state: &mut State, range: Range) -> Result<(), Stop>
     let selected = state.here.selected.unwrap_or(Constant::Number(0));
     let is_met = operators::meets(range, selected);
     state.go_on_with(Cell::Datum(Datum::Scalar(Constant::Truth(is_met))));
+    Ok(())
+}
+
+/// What is selected by a value: no range asks for one that is no scalar.
+fn selected_by(datum: &Datum) -> Option<Constant>
+    ensures { (p : Program) (m : Live) (v : Value) → IsDatum p m datum.now v → IsSelected result v }
+{
+    match datum {
+        Datum::Scalar(scalar) => Some(*scalar),
+        Datum::Block(_) => None,
+    }
+}
+
+/// A SELECT CASE begins with a value (8.1.3).
+#[inline(never)]
+pub fn selecting<B: Blocks>(heap: &mut B, state: &mut State) -> Result<(), Stop>
+    requires pc { state.old.pc < 2 ^ 63 }
+    requires room { length state.old.cells.items.items < state.old.cells.room }
+    requires bottom { state.old.base ≤ length state.old.cells.items.items }
+    requires at { IsAtSome Selecting (B.blocks heap.old) state.old }
+    ensures does { DoesWith Selecting result (B.blocks heap.old) (B.blocks heap.new) state.old state.new }
+    ensures keeps { Keeps state.old state.new }
+{
+    let Some(datum) = pop_datum(state) else {
+        return Err(Stop::Lost);
+    };
+    let outer = state.here;
+    state.here.selected = selected_by(&datum);
+    let_go_datum(heap, datum);
+    state.go_on_with(Cell::Outside(outer));
     Ok(())
 }
 

@@ -1,11 +1,11 @@
 -- Areas that stand in rooms.
-use Rattle.std.proofs.Common.{◌≡◌, ◌≢◌, ◌∙◌, sym, ap, subst, refl, ℕ, zero, suc, ◌+◌, ◌*◌, ◌<◌, ◌≤◌, List, [], ◌∷◌, length, take, drop, map, arith}
-use Rattle.std.specs.Prelude.{ℤ, pos, ◌+ℤ◌, unsigned_abs}
+use Rattle.std.proofs.Common.{◌≡◌, ◌∙◌, sym, ap, subst, refl, ℕ, ◌*◌, ◌<◌, List, [], ◌∷◌, length, map, arith}
+use Rattle.std.specs.Prelude.{ℤ, pos, ◌+ℤ◌}
 use Rattle.std.specs.List.{AllZip}
 use Rattle.std.proofs.lemmas.Int.{ints}
 use Rattle.f3_program.specs.declared.program.Program.{Program}
-use Rattle.f3_live_blocks.specs.Blocks.{Live, IsLive, words_of}
-use Rattle.f3_meaning_whole.specs.Value.{Span, count}
+use Rattle.f3_live_blocks.specs.Blocks.{Live, IsLive}
+use Rattle.f3_meaning_whole.specs.Value.{count}
 use Rattle.f3_meaning_whole.specs.Shape.{Shape}
 use Rattle.f3_meaning_whole.specs.Store.{Path}
 use Rattle.f3_meaning_whole.specs.Reference.{Reach, One, Many, paths_by}
@@ -21,7 +21,7 @@ use Rattle.f3_rooms.proofs.Within.{store_owns}
 use Rattle.f3_room_arrays.specs.Elements.{StandsAt, Tells}
 use Rattle.f3_room_arrays.specs.Changes.{LieWithin}
 use Rattle.f3_room_arrays.proofs.Numbers.{places-many}
-use Rattle.f3_room_arrays.proofs.Objects.{zip-length, object-live, object-within, at-is}
+use Rattle.f3_room_arrays.proofs.Objects.{zip-length, object-live}
 use Rattle.f3_room_arrays.proofs.Told.{objects_lie_within}
 use Rattle.f3_word_cells.specs.declared.cell.Area.{Area}
 use Rattle.f3_word_cells.specs.Areas.{types_of, shape_for, spans_of, AreThere}

@@ -1,7 +1,6 @@
 -- A variable takes a value.
-use Rattle.std.proofs.Common.{◌≡◌, ◌∙◌, sym, ap, subst, refl, inl, inr, ℕ, ◌+◌, ◌<◌, ◌≤◌, Bool, true, false, List, [], ◌∷◌, ◌++◌, length, arith}
+use Rattle.std.proofs.Common.{◌≡◌, ◌∙◌, sym, ap, subst, refl, inl, inr, ℕ, ◌+◌, Bool, true, false, List, [], ◌∷◌, ◌++◌, length, arith}
 use Rattle.std.specs.Prelude.{⊤, ◌⊎◌, None, Some, Ok, Err, slice_get, if◌then◌else◌}
-use Rattle.f3_places.specs.declared.source.Place.{Place}
 use Rattle.f3_program.specs.declared.declarations.Base.{Base}
 use Rattle.f3_program.specs.declared.declarations.Kind.{Kind}
 use Rattle.f3_program.specs.declared.program.Program.{Program}
@@ -9,8 +8,8 @@ use Rattle.f3_live_blocks.specs.Blocks.{Live}
 use Rattle.f3_meaning_whole.specs.Value.{Value, spread}
 use Rattle.f3_meaning_whole.specs.Store.{Store, put_all}
 use Rattle.f3_meaning_whole.specs.Reference.{Reference, paths}
-use Rattle.f3_meaning_whole.specs.Ran.{World, Ran, Event, gives, fails, does, ◌>>=◌}
-use Rattle.f3_meaning_whole.specs.Act.{Here, claim_for, needs_storage, set, change}
+use Rattle.f3_meaning_whole.specs.Ran.{World, gives, fails, ◌>>=◌}
+use Rattle.f3_meaning_whole.specs.Act.{Here, claim_for, set, change}
 use Rattle.f3_meaning_whole.specs.Arithmetic.{converted, value_fits}
 use Rattle.f3_meaning_whole.specs.Formed.{takes}
 use Rattle.f3_meaning_whole.specs.declared.run_error.RunError.TheVariants.{Overflow}
@@ -26,9 +25,8 @@ use Rattle.f3_cell_kinds.specs.Effect as effect
 use Rattle.f3_cell_kinds.specs.Kinds.{Leads}
 use Rattle.f3_cell_kinds.specs.Holds.{IsOf, Refers}
 use Rattle.f3_cell_kinds.specs.Laws.{site_at}
-use Rattle.f3_rooms.specs.Held.{times}
 use Rattle.f3_rooms.specs.Laws.{without}
-use Rattle.f3_rooms.specs.Rooms.{Rooms, blocks_of, store_of}
+use Rattle.f3_rooms.specs.Rooms.{Rooms}
 use Rattle.f3_rooms.proofs.Framing.{times_append}
 use Rattle.f3_room_places.specs.declared.types.Types.{Types}
 use Rattle.f3_word_cells.specs.declared.cell.Area.{Area}
@@ -39,19 +37,18 @@ use Rattle.f3_word_cells.specs.declared.cell.Object.TheVariants as o
 use Rattle.f3_word_cells.specs.declared.cell.Cell.TheVariants as c
 use Rattle.f3_word_cells.specs.declared.state.State.{State}
 use Rattle.f3_word_cells.specs.declared.state.Stop.TheVariants as stop
-use Rattle.f3_word_cells.specs.Areas.{types_of, shape_for, IsDatum, IsObject}
+use Rattle.f3_word_cells.specs.Areas.{IsDatum, IsObject}
 use Rattle.f3_word_cells.specs.Scenes.{code_of}
-use Rattle.f3_word_cells.specs.States.{Stands, IsLaid, datum_blocks}
+use Rattle.f3_word_cells.specs.States.{Stands, datum_blocks}
 use Rattle.f3_word_cells.specs.Moves.{Moved, Popped}
 use Rattle.f3_word_cells.specs.Free.{AreFree}
-use Rattle.f3_word_cells.specs.Does.{DoesIn, GoesOn, IsAt, IsForbidden, IsTold, StopsSo, changes_top, stream}
+use Rattle.f3_word_cells.specs.Does.{DoesIn, GoesOn, IsAt, IsTold, StopsSo, changes_top, stream}
 use Rattle.f3_word_cells.proofs.OnTop.{line_kinds, two_on_top, of_datum, of_object}
 use Rattle.f3_word_cells.proofs.Moving.{moved_to}
 use Rattle.f3_word_cells.proofs.Amid.{Amid, amid_first, amid_last, amid_moved, amid_popped, amid_put}
 use Rattle.f3_word_cells.proofs.InHand.{hand_free, amid_without}
-use Rattle.f3_word_cells.proofs.Lines.{answering, with_stack, does_so, line_goes, line_stops, performs_does, first_gives, first_fails, first_granted, claim_for_block, claim_for_scalar}
+use Rattle.f3_word_cells.proofs.Lines.{answering, with_stack, line_goes, line_stops, performs_does, first_gives, first_fails, first_granted, claim_for_block, claim_for_scalar}
 use Rattle.f3_word_copies.specs.Taken.{TookObject, TookDatum}
-use Rattle.f3_word_copies.specs.Reads.{IsThere}
 use Rattle.f3_word_copies.specs.Puts.{CanTake, Takes}
 use Rattle.f3_word_copies.specs.Fits.{CanFit}
 use Rattle.f3_word_copies.proofs.Tops.{object-there, datum-there}
@@ -159,17 +156,19 @@ module _ (p : Program) (m : Live) (old mid low : State) (a : Area) (first : Popp
   ready t l x of y which told at act st =
       let on = on-assign p t l of y which told at act in
       let one = amid-object p m old mid (o.Stands a) first t x on st in
-      let two = amid_popped p t m old mid low x (cell.Datum on.other) on.rest (s.Datum on.value) on.below (t.world).store [] (c.Datum d) one.1 second tt in
-      (on, record {
-        can = record {
-          there = record { derived = derived; flat = told.plain.types; sound = st.sound; is = one.0 };
-          value = two.0;
-          agrees = kinds-agree p m a on.kind on.other d on.value (sym one.0.0 ∙ on.refers.0) on.takes two.0 on.is two.1;
-          apart = λ q some. let once = two.2.once q in let e = times_append q (datum_blocks d) [] in omega (arith, once, e, some);
-        };
-        fit = record { derived = derived; value = two.0; of = on.is };
-        amid = two.2;
-      })
+      let two = amid_popped p t m old mid low x (cell.Datum on.other) on.rest (s.Datum on.value) on.below (t.world).store [] (c.Datum d) one.1 second tt in (
+        on,
+        record {
+          can = record {
+            there = record { derived = derived; flat = told.plain.types; sound = st.sound; is = one.0 };
+            value = two.0;
+            agrees = kinds-agree p m a on.kind on.other d on.value (sym one.0.0 ∙ on.refers.0) on.takes two.0 on.is two.1;
+            apart = λ q some. let once = two.2.once q in let e = times_append q (datum_blocks d) [] in omega (arith, once, e, some);
+          };
+          fit = record { derived = derived; value = two.0; of = on.is };
+          amid = two.2;
+        },
+      )
 
   -- ---- the line
 

@@ -1,13 +1,13 @@
 -- Copies of objects in blocks of their own.
-use Rattle.std.proofs.Common.{◌≡◌, ◌≢◌, ◌∙◌, sym, ap, subst, refl, inl, inr, ℕ, zero, suc, ◌+◌, ◌*◌, ◌<◌, ◌≤◌, Bool, true, false, List, [], ◌∷◌, length, map, replicate, arith}
+use Rattle.std.proofs.Common.{◌≡◌, ◌≢◌, ◌∙◌, sym, ap, subst, refl, inl, inr, ℕ, zero, suc, ◌+◌, ◌*◌, ◌<◌, ◌≤◌, true, false, List, [], ◌∷◌, length, replicate, arith}
 use Rattle.std.specs.Prelude.{◌⊎◌, None, ℤ, pos, ◌*ℤ◌, unsigned_abs}
 use Rattle.std.specs.List.{AllZip}
 use Rattle.std.specs.FinMap.{get as find}
 use Rattle.std.proofs.lemmas.List.{length-replicate}
 use Rattle.f3_program.specs.declared.declarations.Base.{Base}
 use Rattle.f3_program.specs.declared.program.Program.{Program}
-use Rattle.f3_live_blocks.specs.Blocks.{Live, IsLive, words_of, pins_of, with_taken, with_words}
-use Rattle.f3_live_blocks.proofs.Laws.{get-insert_other, live-insert_same, words-insert_same, pins-insert_same, fresh-apart}
+use Rattle.f3_live_blocks.specs.Blocks.{Live, IsLive, words_of, with_taken, with_words}
+use Rattle.f3_live_blocks.proofs.Laws.{get-insert_other, live-insert_same, words-insert_same, fresh-apart}
 use Rattle.f3_meaning_whole.specs.Value.{Span, Value, count, shown}
 use Rattle.f3_meaning_whole.specs.Shape.{Shape, Whole, Logical, Record, shape_in, shapes_of}
 use Rattle.f3_meaning_whole.specs.Store.{Store, Path, get}

@@ -1,57 +1,48 @@
 -- The variable of a DO.
-use Rattle.std.proofs.Common.{◌≡◌, ◌∙◌, sym, ap, subst, refl, ℕ, ◌+◌, ◌<◌, ◌≤◌, Bool, true, false, List, [], ◌∷◌, ◌++◌, length, arith}
-use Rattle.std.specs.Prelude.{⊤, Option, None, Some, Ok, Err, slice_get, ℤ, ◌+ℤ◌, if◌then◌else◌}
+use Rattle.std.proofs.Common.{◌≡◌, ◌∙◌, sym, ap, subst, refl, ℕ, ◌+◌, true, List, [], ◌∷◌, ◌++◌, length, arith}
+use Rattle.std.specs.Prelude.{Option, None, Some, Ok, Err, slice_get, ℤ}
 use Rattle.f3_program.specs.declared.declarations.Base.{Base}
 use Rattle.f3_program.specs.declared.declarations.Constant.TheVariants as constant
 use Rattle.f3_program.specs.declared.declarations.Derived.{Derived}
 use Rattle.f3_program.specs.declared.declarations.Kind.{Kind}
 use Rattle.f3_program.specs.declared.program.Program.{Program}
-use Rattle.f3_live_blocks.specs.Blocks.{Live, IsLive, words_of}
+use Rattle.f3_live_blocks.specs.Blocks.{Live}
 use Rattle.f3_meaning_whole.specs.Value.{Value, Number, number_of, spread}
-use Rattle.f3_meaning_whole.specs.Store.{Store, get, put_all}
-use Rattle.f3_meaning_whole.specs.Reference.{Reach, One, Reference, paths, held_at}
-use Rattle.f3_meaning_whole.specs.Ran.{World, gives, fails, looks, ◌>>=◌}
-use Rattle.f3_meaning_whole.specs.Act.{Here, set, change}
-use Rattle.f3_meaning_whole.specs.Arithmetic.{converted, fits, value_fits, trips}
+use Rattle.f3_meaning_whole.specs.Store.{Store, put_all}
+use Rattle.f3_meaning_whole.specs.Reference.{Reference, paths}
+use Rattle.f3_meaning_whole.specs.Ran.{World}
+use Rattle.f3_meaning_whole.specs.Act.{change}
+use Rattle.f3_meaning_whole.specs.Arithmetic.{trips}
 use Rattle.f3_meaning_whole.specs.Formed.{of_kind, is_whole_number}
-use Rattle.f3_meaning_whole.specs.declared.run_error.RunError.TheVariants.{Overflow}
 use Rattle.f3_arithmetic.specs.Turns.{turns_of}
-use Rattle.f3_code.specs.declared.instruction.Instruction.{Instruction}
 use Rattle.f3_code.specs.declared.instruction.Instruction.TheVariants as i
 use Rattle.f3_code.specs.State.{Line, placed, Failed}
 use Rattle.f3_code.specs.State as s
-use Rattle.f3_code.specs.Machine.{performs, on}
-use Rattle.f3_code.specs.Heap.{with_answers}
+use Rattle.f3_code.specs.Machine.{on}
 use Rattle.f3_cell_kinds.specs.Types.{CellType, Site}
 use Rattle.f3_cell_kinds.specs.Types as cell
 use Rattle.f3_cell_kinds.specs.Holds.{IsOf, Refers}
 use Rattle.f3_cell_kinds.specs.Laws.{site_at}
-use Rattle.f3_rooms.specs.Held.{times}
-use Rattle.f3_rooms.specs.Places.{is_scalar_shape}
-use Rattle.f3_rooms.specs.Rooms.{Rooms, blocks_of, store_of}
-use Rattle.f3_rooms.specs.Values.{word}
+use Rattle.f3_rooms.specs.Rooms.{Rooms, store_of}
 use Rattle.f3_room_levels.specs.Initial as initial
 use Rattle.f3_room_places.specs.declared.types.Types.{Types}
-use Rattle.f3_room_arrays.proofs.Objects.{object-is}
 use Rattle.f3_word_cells.specs.declared.cell.Area.{Area}
-use Rattle.f3_word_cells.specs.declared.cell.Datum.{Datum}
 use Rattle.f3_word_cells.specs.declared.cell.Datum.TheVariants as datum
 use Rattle.f3_word_cells.specs.declared.cell.Object.{Object}
 use Rattle.f3_word_cells.specs.declared.cell.Object.TheVariants as o
-use Rattle.f3_word_cells.specs.declared.cell.Cell.{Cell}
 use Rattle.f3_word_cells.specs.declared.cell.Cell.TheVariants as c
 use Rattle.f3_word_cells.specs.declared.state.State.{State}
 use Rattle.f3_word_cells.specs.declared.state.Stop.TheVariants as stop
-use Rattle.f3_word_cells.specs.Areas.{types_of, shape_for, IsObject, AreThere}
+use Rattle.f3_word_cells.specs.Areas.{types_of, shape_for, IsObject}
 use Rattle.f3_word_cells.specs.Scenes.{code_of}
-use Rattle.f3_word_cells.specs.States.{Stands, own}
+use Rattle.f3_word_cells.specs.States.{Stands}
 use Rattle.f3_word_cells.specs.Moves.{Popped, Pushed}
-use Rattle.f3_word_cells.specs.Does.{DoesIn, GoesOn, IsTold, StopsSo, changes_top, stream}
-use Rattle.f3_word_cells.proofs.OnTop.{AreOf, line_kinds, cells_taken, two_on_top, of_datum, of_object, of_turns}
-use Rattle.f3_word_cells.proofs.Scalars.{number_datum, one_object, one_reached, shape_of_number, whole_number, whole_scalar}
+use Rattle.f3_word_cells.specs.Does.{DoesIn, IsTold, changes_top, stream}
+use Rattle.f3_word_cells.proofs.OnTop.{AreOf, line_kinds, cells_taken, of_datum, of_object}
+use Rattle.f3_word_cells.proofs.Scalars.{number_datum, shape_of_number, whole_number}
 use Rattle.f3_word_cells.proofs.Moving.{moved_to}
 use Rattle.f3_word_cells.proofs.Amid.{Amid, amid_first, amid_last, amid_popped, amid_pushed, amid_put}
-use Rattle.f3_word_cells.proofs.Lines.{answering, with_stack, line_goes, line_stops, performs_does, first_gives, first_fails, first_looks}
+use Rattle.f3_word_cells.proofs.Lines.{answering, line_goes, performs_does}
 use Rattle.f3_word_copies.specs.Taken.{TookObject, TookNumber}
 use Rattle.f3_word_copies.specs.Reads.{IsThere}
 use Rattle.f3_word_copies.specs.Puts.{CanTake, Takes}
@@ -220,9 +211,11 @@ module _ (p : Program) (m : Live) (old mid : State) (w : Object) (popped : Poppe
             → (on : OnBegin p t) × CanTake p types m x a on.reference (datum.Scalar (constant.Number z)) (Number first)
         begin-can z e t l x told at act st =
             let on = on-begin p t l told at act in
-            let is : IsObject p x (o.Stands a) on.reference = subst (λ v. IsObject p x v on.reference) stands (one-taken t x on st).0 in
-            (on, subst (λ y. CanTake p types m x a on.reference (datum.Scalar (constant.Number y)) (Number first)) (sym e)
-              (number-can p types m x a on.reference on.kind first (record { derived = derived; flat = told.plain.types; sound = st.sound; is = is }) (sym is.0 ∙ on.refers.0) on.whole))
+            let is : IsObject p x (o.Stands a) on.reference = subst (λ v. IsObject p x v on.reference) stands (one-taken t x on st).0 in (
+              on,
+              subst (λ y. CanTake p types m x a on.reference (datum.Scalar (constant.Number y)) (Number first)) (sym e)
+                  (number-can p types m x a on.reference on.kind first (record { derived = derived; flat = told.plain.types; sound = st.sound; is = is }) (sym is.0 ∙ on.refers.0) on.whole),
+            )
 
         pub begins : (n : Live) (z : ℤ) → z ≡ first → ((x : Rooms) (r : Reference) (v : Value) → CanTake p types m x a r (datum.Scalar (constant.Number z)) v → Takes p m n x r v)
             → (left : Option ℕ) (size : ℤ) → turns_of left ≡ trips first last step → size ≡ step → (new : State) → Pushed (c.Turns left size) (lowest.pc + 1) lowest new → DoesIn p i.CountBegin (Ok tt) m n old new

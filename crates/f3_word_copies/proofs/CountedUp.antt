@@ -1,6 +1,6 @@
 -- The variable of a DO goes on by the step.
-use Rattle.std.proofs.Common.{◌≡◌, ◌∙◌, sym, ap, subst, refl, ℕ, ◌+◌, ◌<◌, ◌≤◌, Bool, true, false, List, [], ◌∷◌, ◌++◌, length, arith}
-use Rattle.std.specs.Prelude.{⊤, Option, None, Some, Ok, Err, slice_get, ℤ, pos, ◌+ℤ◌, if◌then◌else◌, unsigned_abs}
+use Rattle.std.proofs.Common.{◌≡◌, ◌∙◌, sym, ap, subst, ℕ, ◌+◌, ◌<◌, true, false, List, [], ◌∷◌, length}
+use Rattle.std.specs.Prelude.{Option, None, Some, Ok, Err, slice_get, ℤ, pos, ◌+ℤ◌, if◌then◌else◌, unsigned_abs}
 use Rattle.f3_program.specs.declared.declarations.Base.{Base}
 use Rattle.f3_program.specs.declared.declarations.Constant.TheVariants as constant
 use Rattle.f3_program.specs.declared.declarations.Kind.{Kind}
@@ -10,7 +10,7 @@ use Rattle.f3_meaning_whole.specs.Value.{Value, Number, number_of, spread}
 use Rattle.f3_meaning_whole.specs.Store.{Store, get, put_all}
 use Rattle.f3_meaning_whole.specs.Shape.{Shape, Whole}
 use Rattle.f3_meaning_whole.specs.Reference.{Reference, paths}
-use Rattle.f3_meaning_whole.specs.Ran.{World, gives, fails, looks, ◌>>=◌}
+use Rattle.f3_meaning_whole.specs.Ran.{World, gives, fails, ◌>>=◌}
 use Rattle.f3_meaning_whole.specs.Act.{Here, set, change}
 use Rattle.f3_meaning_whole.specs.Arithmetic.{converted, fits}
 use Rattle.f3_meaning_whole.specs.Formed.{is_whole_number}
@@ -135,15 +135,17 @@ module _ (p : Program) (of : Base) (m : Live) (old mid : State) where
         let r = on.reference in
         let is = (up-taken (o.Stands a) popped t x on st).0 in
         let one = one_object p x on.kind a r (whole_scalar on.kind on.whole) on.refers is in
-        let whole : shape_for p a.of ≡ Whole = ap (shape_for p) one.2 ∙ shape_of_number p on.kind.of (whole_number on.kind on.whole) in
-        (on, record {
-          there = record { derived = derived; flat = told.plain.types; sound = st.sound; is = is };
-          typed = one.2;
-          live = one-live p m x st.sound a one.0 r.path r.reach is.1;
-          within = one-within p m x st.sound a one.0 (ap is_scalar_shape whole) r.path r.reach is.1;
-          value = ap number_of (object-is (types_of p) m x st.sound (a.elements).block (shape_for p a.of) (pos (a.elements).offset) r.path one.1
-              ∙ ap (λ (z : Shape). object m z (a.elements).block (unsigned_abs (pos (a.elements).offset)) _) whole);
-        })
+        let whole : shape_for p a.of ≡ Whole = ap (shape_for p) one.2 ∙ shape_of_number p on.kind.of (whole_number on.kind on.whole) in (
+          on,
+          record {
+            there = record { derived = derived; flat = told.plain.types; sound = st.sound; is = is };
+            typed = one.2;
+            live = one-live p m x st.sound a one.0 r.path r.reach is.1;
+            within = one-within p m x st.sound a one.0 (ap is_scalar_shape whole) r.path r.reach is.1;
+            value = ap number_of (object-is (types_of p) m x st.sound (a.elements).block (shape_for p a.of) (pos (a.elements).offset) r.path one.1
+                ∙ ap (λ (z : Shape). object m z (a.elements).block (unsigned_abs (pos (a.elements).offset)) one.1.part.held) whole);
+          },
+        )
 
     -- ---- the line
 
@@ -213,6 +215,7 @@ module _ (p : Program) (of : Base) (m : Live) (old mid : State) where
       pub ups : (n : Live) (number width next z : ℤ) → number ≡ word m (a.elements).block (a.elements).offset → width ≡ step → next ≡ number +ℤ width → fits of next ≡ true → z ≡ next
           → ((x : Rooms) (r : Reference) (v : Value) → CanTake p types m x a r (datum.Scalar (constant.Number z)) v → Takes p m n x r v)
           → (size : ℤ) → size ≡ step → (new : State) → Pushed (c.Turns left size) (low.pc + 1) low new → DoesIn p (i.CountUp of) (Ok tt) m n old new
+      unfolding up-stands up-can
       ups n number width next z e same sums fit zs takes size width_is new pushed t l x told at act st =
           let is = up-stands t l x told at act st in
           let on = is.0 in

@@ -1,9 +1,8 @@
 -- Numbers that are of a type, in values.
-use Rattle.std.proofs.Common.{◌≡◌, ◌≢◌, ◌∙◌, sym, ap, subst, refl, inl, inr, ℕ, zero, suc, ◌+◌, ◌*◌, ◌<◌, ◌≤◌, Bool, true, false, not, List, [], ◌∷◌, ◌++◌, length, take, drop, get_or, add-one, arith}
+use Rattle.std.proofs.Common.{◌≡◌, ◌≢◌, ◌∙◌, sym, ap, refl, inl, inr, ℕ, zero, suc, ◌+◌, ◌*◌, ◌<◌, ◌≤◌, Bool, true, false, not, List, [], ◌∷◌, ◌++◌, length, take, drop, get_or, add-one, arith}
 use Rattle.std.specs.Prelude.{◌⊎◌, ◌&&◌, ℤ, pos}
 use Rattle.std.specs.Bool.{◌==◌}
 use Rattle.std.proofs.Math.Seq.{take-suc, drop-cons}
-use Rattle.std.proofs.lemmas.Bool.{eqb-true}
 use Rattle.std.proofs.lemmas.List.{take_all}
 use Rattle.f3_program.specs.declared.declarations.Base.{Base}
 use Rattle.f3_program.specs.declared.declarations.Base.TheVariants as base
@@ -11,15 +10,15 @@ use Rattle.f3_program.specs.declared.declarations.Derived.{Derived}
 use Rattle.f3_program.specs.declared.declarations.Kind.{Kind}
 use Rattle.f3_program.specs.declared.program.Program.{Program}
 use Rattle.f3_live_blocks.specs.Blocks.{Live, words_of}
-use Rattle.f3_meaning_whole.specs.Value.{Span, Value, Number, Truth, Composite, Array, Unallocated, Allocated, Values, none, more, joined, count}
+use Rattle.f3_meaning_whole.specs.Value.{Value, Number, Truth, Composite, Array, Unallocated, Allocated, Values, none, more, joined, count}
 use Rattle.f3_meaning_whole.specs.Arithmetic.{fits, all_fit, value_fits}
 use Rattle.f3_meaning_whole.specs.Shape.{Shape, Whole, Logical, Record, shape_in}
 use Rattle.f3_cell_kinds.specs.Holds.{IsOf, AreElements}
 use Rattle.f3_desc.specs.declared.descriptor.Dim.{Dim}
 use Rattle.f3_desc.specs.Laws.{size_of}
-use Rattle.f3_rooms.specs.Held.{Empty, end}
+use Rattle.f3_rooms.specs.Held.{Empty}
 use Rattle.f3_rooms.specs.Forms.{words_for}
-use Rattle.f3_rooms.specs.Values.{word, elements, laid, object}
+use Rattle.f3_rooms.specs.Values.{word, laid, object}
 use Rattle.f3_rooms.specs.Places.{is_scalar_shape}
 use Rattle.f3_room_places.specs.declared.types.Types.{Types}
 use Rattle.f3_room_places.specs.Places.{HasTables, shapes}
@@ -27,7 +26,7 @@ use Rattle.f3_type_words.specs.Tables.{AreTables}
 use Rattle.f3_room_arrays.specs.Elements.{row}
 use Rattle.f3_word_cells.specs.declared.cell.Area.{Area}
 use Rattle.f3_word_cells.specs.declared.cell.Datum.TheVariants as datum
-use Rattle.f3_word_cells.specs.Areas.{types_of, shape_for, spans_of, value_in, IsBlock, IsDatum}
+use Rattle.f3_word_cells.specs.Areas.{types_of, shape_for, spans_of}
 use Rattle.f3_word_copies.specs.Fits.{CanFit, is_numbers, is_truth, words_fit}
 use Rattle.f3_word_copies.proofs.Areas.{count-size}
 use Rattle.f3_word_copies.proofs.Copying.{types-same}

@@ -1,5 +1,5 @@
 -- Types of which no component is allocatable.
-use Rattle.std.proofs.Common.{◌≡◌, ◌∙◌, zero, suc, ℕ, ◌<◌, ap, subst, refl, Bool, true, false, not, ◌&&◌, List, [], ◌∷◌, length, arith, get_or}
+use Rattle.std.proofs.Common.{◌≡◌, zero, suc, ℕ, refl, Bool, true, false, not, ◌&&◌, List, [], ◌∷◌, arith}
 use Rattle.std.specs.Prelude.{◌||◌, if◌then◌else◌, slice_index_or}
 use Rattle.std.specs.List.{All}
 use Rattle.f3_program.specs.declared.declarations.Base.{Base}

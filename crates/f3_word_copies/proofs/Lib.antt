@@ -18,3 +18,9 @@ pub mod Assigned
 pub mod Turns
 pub mod Counted
 pub mod CountedUp
+pub mod Cleared
+pub mod Begun
+pub mod Filling
+pub mod Typed
+pub mod Fresh
+pub mod Reset

@@ -1,6 +1,6 @@
 -- What an object holds is loaded.
-use Rattle.std.proofs.Common.{◌≡◌, ◌∙◌, sym, ap, subst, refl, ℕ, ◌+◌, Bool, true, false, List, [], ◌∷◌, ◌++◌, length}
-use Rattle.std.specs.Prelude.{⊤, None, Some, Ok, Err, slice_get}
+use Rattle.std.proofs.Common.{◌≡◌, ◌∙◌, sym, ap, subst, ℕ, ◌+◌, Bool, true, false, List, [], ◌∷◌, ◌++◌}
+use Rattle.std.specs.Prelude.{None, Some, Ok, Err, slice_get}
 use Rattle.f3_program.specs.declared.declarations.Base.{Base}
 use Rattle.f3_program.specs.declared.declarations.Constant.TheVariants as constant
 use Rattle.f3_program.specs.declared.declarations.Kind.{Kind}
@@ -9,7 +9,7 @@ use Rattle.f3_live_blocks.specs.Blocks.{Live}
 use Rattle.f3_meaning_whole.specs.Value.{Value}
 use Rattle.f3_meaning_whole.specs.Store.{Store}
 use Rattle.f3_meaning_whole.specs.Reference.{Reference, held_at}
-use Rattle.f3_meaning_whole.specs.Ran.{gives, looks, ◌>>=◌}
+use Rattle.f3_meaning_whole.specs.Ran.{gives, ◌>>=◌}
 use Rattle.f3_meaning_whole.specs.Act.{Here, claim_for, needs_storage, read}
 use Rattle.f3_meaning_whole.specs.Arithmetic.{constant_value}
 use Rattle.f3_meaning_whole.specs.declared.run_error.RunError.TheVariants.{HeapHasNoRoom}
@@ -21,7 +21,7 @@ use Rattle.f3_code.specs.Heap.{with_answers}
 use Rattle.f3_cell_kinds.specs.Types.{CellType, Site}
 use Rattle.f3_cell_kinds.specs.Types as cell
 use Rattle.f3_cell_kinds.specs.Laws.{site_at}
-use Rattle.f3_rooms.specs.Rooms.{Rooms, store_of}
+use Rattle.f3_rooms.specs.Rooms.{Rooms}
 use Rattle.f3_room_places.specs.declared.types.Types.{Types}
 use Rattle.f3_word_cells.specs.declared.cell.Datum.{Datum}
 use Rattle.f3_word_cells.specs.declared.cell.Datum.TheVariants as datum
@@ -30,16 +30,16 @@ use Rattle.f3_word_cells.specs.declared.cell.Cell.TheVariants as c
 use Rattle.f3_word_cells.specs.declared.state.State.{State}
 use Rattle.f3_word_cells.specs.declared.state.Stop.{Stop}
 use Rattle.f3_word_cells.specs.declared.state.Stop.TheVariants as stop
-use Rattle.f3_word_cells.specs.Areas.{types_of, shape_for, IsDatum}
+use Rattle.f3_word_cells.specs.Areas.{shape_for, IsDatum}
 use Rattle.f3_word_cells.specs.Scenes.{code_of}
 use Rattle.f3_word_cells.specs.States.{Stands, IsLaid, datum_blocks}
 use Rattle.f3_word_cells.specs.Moves.{Popped, Pushed}
-use Rattle.f3_word_cells.specs.Does.{Becomes, DoesIn, GoesOn, IsAt, IsTold, StopsSo, stream}
+use Rattle.f3_word_cells.specs.Does.{DoesIn, GoesOn, IsTold, StopsSo, stream}
 use Rattle.f3_word_cells.proofs.Scalars.{Large, IsComposite, IsArray, large_block}
 use Rattle.f3_word_cells.proofs.OnTop.{line_kinds}
 use Rattle.f3_word_cells.proofs.Moving.{moved_to}
 use Rattle.f3_word_cells.proofs.Amid.{Amid, amid_first, amid_last, amid_popped, amid_pushed, amid_taken, amid_written}
-use Rattle.f3_word_cells.proofs.Lines.{answering, with_stack, does_so, line_goes, line_stops, performs_gives, first_looks, first_gives, first_granted, first_refused, claim_for_block, claim_for_scalar}
+use Rattle.f3_word_cells.proofs.Lines.{answering, with_stack, line_goes, line_stops, performs_gives, first_looks, first_gives, first_granted, first_refused, claim_for_block, claim_for_scalar}
 use Rattle.f3_word_copies.specs.Taken.{TookObject}
 use Rattle.f3_word_copies.specs.Reads.{IsThere, IsOf, Gains, Reads}
 use Rattle.f3_word_copies.proofs.Tops.{ObjectOnTop, object-on-top, object-there}
@@ -111,21 +111,21 @@ module _ (p : Program) (t : s.State) (l : Line) (r : Reference) (below : List s.
   goes-scalar none = line_goes p l t i.Load (s.Object r ∷ below) next [] [] act stack (λ rest.
       reads-so (stream [] rest)
       ∙ ap (λ m. performs (m >>= λ done. gives value) (answering (t.world).store (stream [] rest)) (λ x. on (with_answers (stream [] rest) (with_stack (s.Object r ∷ below) t)) (s.Datum x ∷ below)))
-        (claim_for_scalar value here none)
+      (claim_for_scalar value here none)
       ∙ first_gives tt (λ done. gives value) _ _ ∙ performs_gives value _ _)
 
   pub goes-block : needs_storage value ≡ true → GoesOn p l t next []
   goes-block some = line_goes p l t i.Load (s.Object r ∷ below) next (false ∷ []) [] act stack (λ rest.
       reads-so (stream (false ∷ []) rest)
       ∙ ap (λ m. performs (m >>= λ done. gives value) (answering (t.world).store (stream (false ∷ []) rest)) (λ x. on (with_answers (stream (false ∷ []) rest) (with_stack (s.Object r ∷ below) t)) (s.Datum x ∷ below)))
-        (claim_for_block value here some)
+      (claim_for_block value here some)
       ∙ first_granted here (t.world).store [] rest (λ done. gives value) _ ∙ performs_gives value _ _)
 
   pub stops-full : needs_storage value ≡ true → StopsSo p l t (Failed HeapHasNoRoom here.place) []
   stops-full some = line_stops p l t i.Load (s.Object r ∷ below) (Failed HeapHasNoRoom here.place) (true ∷ []) act stack (λ rest.
       reads-so (stream (true ∷ []) rest)
       ∙ ap (λ m. performs (m >>= λ done. gives value) (answering (t.world).store (stream (true ∷ []) rest)) (λ x. on (with_answers (stream (true ∷ []) rest) (with_stack (s.Object r ∷ below) t)) (s.Datum x ∷ below)))
-        (claim_for_block value here some)
+      (claim_for_block value here some)
       ∙ first_refused here (t.world).store [] rest (λ done. gives value) _)
 
   goes-datum : (m : Live) (d : Datum) → IsDatum p m d value → GoesOn p l t next []

@@ -1,6 +1,6 @@
 -- Objects and values of kinds.
-use Rattle.std.proofs.Common.{◌≡◌, ◌≢◌, ◌∙◌, sym, ap, subst, refl, ℕ, ◌<◌, Bool, true, false, not, List, [], ◌∷◌, ◌++◌}
-use Rattle.std.specs.Prelude.{◌&&◌, ◌||◌, nat_eq}
+use Rattle.std.proofs.Common.{◌≡◌, ◌∙◌, sym, ap, subst, refl, Bool, true, false}
+use Rattle.std.specs.Prelude.{◌&&◌}
 use Rattle.std.proofs.lemmas.Bool.{eqb-true}
 use Rattle.f3_program.specs.declared.declarations.Base.{Base}
 use Rattle.f3_program.specs.declared.declarations.Base.TheVariants as base
@@ -10,10 +10,9 @@ use Rattle.f3_program.specs.declared.declarations.Kind.{Kind}
 use Rattle.f3_program.specs.declared.program.Program.{Program}
 use Rattle.f3_live_blocks.specs.Blocks.{Live}
 use Rattle.f3_meaning_whole.specs.Value.{Value, Number, Truth}
-use Rattle.f3_meaning_whole.specs.Shape.{Shape, Whole, Logical}
+use Rattle.f3_meaning_whole.specs.Shape.{Shape}
 use Rattle.f3_meaning_whole.specs.Arithmetic.{constant_value}
-use Rattle.f3_meaning_whole.specs.Formed.{alike, is_number, takes}
-use Rattle.f3_meaning_whole.specs.Permitted.{same_type}
+use Rattle.f3_meaning_whole.specs.Formed.{alike, takes}
 use Rattle.f3_cell_kinds.specs.Holds.{IsOf}
 use Rattle.f3_room_levels.specs.Initial as initial
 use Rattle.f3_word_cells.specs.declared.cell.Area.{Area}

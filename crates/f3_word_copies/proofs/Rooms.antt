@@ -1,5 +1,5 @@
 -- Stacks keep their room.
-use Rattle.std.proofs.Common.{◌≡◌, ◌∙◌, sym, ap, subst, refl, List, [], ◌∷◌}
+use Rattle.std.proofs.Common.{◌≡◌, ◌∙◌, sym, ap, List, [], ◌∷◌}
 use Rattle.std.specs.Prelude.{Option, None, Some}
 use Rattle.f3_word_cells.specs.declared.cell.Datum.{Datum}
 use Rattle.f3_word_cells.specs.declared.cell.Object.{Object}
@@ -7,7 +7,7 @@ use Rattle.f3_word_cells.specs.declared.cell.Cell.{Cell}
 use Rattle.f3_word_cells.specs.declared.cell.Cell.TheVariants as c
 use Rattle.f3_word_cells.specs.declared.state.State.{State}
 use Rattle.f3_word_cells.specs.States.{own}
-use Rattle.f3_word_cells.specs.Moves.{IsSame, Popped, PoppedOr, Pushed}
+use Rattle.f3_word_cells.specs.Moves.{IsSame, PoppedOr}
 use Rattle.f3_word_cells.specs.Does.{Keeps}
 use Rattle.f3_word_copies.specs.Taken.{TookObject, TookDatum}
 

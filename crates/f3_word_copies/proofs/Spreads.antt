@@ -1,7 +1,7 @@
 -- Words are spread over the objects of an area.
-use Rattle.std.proofs.Common.{◌≡◌, ◌≢◌, ◌∙◌, sym, ap, subst, refl, ℕ, zero, suc, ◌+◌, ◌*◌, ◌/◌, ◌%◌, ◌^◌, ◌<◌, ◌≤◌, List, [], ◌∷◌, ◌++◌, length, take, drop, set, arith, w64, FitsSigned}
-use Rattle.std.specs.Prelude.{⊤, ℤ, pos, neg_ℤ, ◌+ℤ◌, ◌*ℤ◌, ◌≤ℤ◌, unsigned_abs, map}
-use Rattle.std.specs.List.{All, flat_map}
+use Rattle.std.proofs.Common.{◌≡◌, ◌≢◌, ◌∙◌, sym, ap, subst, refl, ℕ, zero, suc, ◌+◌, ◌/◌, ◌%◌, ◌^◌, ◌<◌, ◌≤◌, List, [], ◌∷◌, ◌++◌, length, set, arith, w64, FitsSigned}
+use Rattle.std.specs.Prelude.{ℤ, pos, neg_ℤ, ◌+ℤ◌, ◌*ℤ◌, unsigned_abs}
+use Rattle.std.specs.List.{flat_map}
 use Rattle.std.specs.Int.{cast_unsigned}
 use Rattle.std.proofs.lemmas.Int.{ints}
 use Rattle.std.proofs.lemmas.List.{append_assoc, take_all}
@@ -14,11 +14,11 @@ use Rattle.f3_desc.proofs.Progressions.{step-more}
 use Rattle.f3_objects.specs.Holds.{with_words_at}
 use Rattle.f3_objects.proofs.Spans.{length-written, written_same}
 use Rattle.f3_objects.proofs.Writes.{words-with, with_words_same, with_words_again, set_written}
-use Rattle.f3_room_arrays.specs.Words.{words_at, copied, IsInside, AreInside, places_from}
+use Rattle.f3_room_arrays.specs.Words.{copied, IsInside, AreInside, places_from}
 use Rattle.f3_room_arrays.proofs.Numbers.{along, places-cons, bits-congruent}
 use Rattle.f3_room_arrays.proofs.Placing.{all-first, all-rest, all-front, all-back, all-more, all-none, inside-abs, inside-place}
 use Rattle.f3_word_copies.specs.declared.spreading.Source.{Source}
-use Rattle.f3_word_copies.specs.declared.spreading.Source.TheVariants.{Word, Block}
+use Rattle.f3_word_copies.specs.declared.spreading.Source.TheVariants.{Word, Block, Initial}
 use Rattle.f3_word_copies.specs.Spread.{source_words, IsSource, spread_over}
 
 -- ---- places by those of the dimensions before the last
@@ -114,9 +114,11 @@ module _ (old now : Live) (block : ℕ) (live : IsLive old block) (ws zs : List 
   pub source-stays : (source : Source) → IsSource old block source → source_words now source ≡ source_words old source
   source-stays (Word z) is = refl
   source-stays (Block b) is = spread-other old block live ws now zs so b is.1
+  source-stays (Initial types of) is = refl
 
   pub source-is : (source : Source) → IsSource old block source → IsSource now block source
   source-is (Word z) is = is
+  source-is (Initial types of) is = is
   source-is (Block b) is = (spread-live old block live ws now zs so b is.0, is.1)
 
 -- ---- one object

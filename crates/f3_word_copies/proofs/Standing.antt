@@ -1,7 +1,7 @@
 -- Scalars that stand in rooms, or are held.
-use Rattle.std.proofs.Common.{◌≡◌, ◌≢◌, ◌∙◌, sym, ap, subst, refl, ℕ, zero, suc, ◌+◌, ◌<◌, ◌≤◌, Bool, true, false, List, [], ◌∷◌, ◌++◌, length, map, get_or, arith}
-use Rattle.std.specs.Prelude.{Option, Some, ℤ, pos, slice_get, slice_index_or, unsigned_abs}
-use Rattle.std.proofs.lemmas.List.{get_or-append-add, length-append}
+use Rattle.std.proofs.Common.{◌≡◌, ◌≢◌, ◌∙◌, sym, ap, subst, refl, ℕ, zero, suc, ◌+◌, ◌<◌, ◌≤◌, true, false, List, [], ◌∷◌, ◌++◌, length, map, get_or, arith}
+use Rattle.std.specs.Prelude.{Some, pos, slice_get, slice_index_or}
+use Rattle.std.proofs.lemmas.List.{get_or-append-add}
 use Rattle.std.specs.Bool.{◌==◌}
 use Rattle.std.proofs.lemmas.Bool.{eqb-true, eqb-false}
 use Rattle.f3_desc.specs.declared.descriptor.Dim.{Dim}
@@ -13,10 +13,10 @@ use Rattle.f3_program.specs.declared.declarations.Derived.{Derived}
 use Rattle.f3_program.specs.declared.program.Program.{Program}
 use Rattle.f3_live_blocks.specs.Blocks.{Live, IsLive, words_of}
 use Rattle.f3_meaning_whole.specs.Value.{Value, Unallocated}
-use Rattle.f3_meaning_whole.specs.Store.{Store, Local, Path, at_root, get, part}
-use Rattle.f3_meaning_whole.specs.Reference.{Reach, One, Many, Reference, paths_by, held_at}
+use Rattle.f3_meaning_whole.specs.Store.{Path, at_root, get, part}
+use Rattle.f3_meaning_whole.specs.Reference.{Reach, One, Many, Reference, held_at}
 use Rattle.f3_meaning_whole.specs.Arithmetic.{constant_value}
-use Rattle.f3_meaning_whole.specs.Shape.{Shape, Whole, Logical, Record, shape_in, shapes_of}
+use Rattle.f3_meaning_whole.specs.Shape.{Shape, Whole, Logical, Record, shapes_of}
 use Rattle.f3_rooms.specs.Held.{Held, Row, others}
 use Rattle.f3_rooms.specs.Forms.{words_for, room}
 use Rattle.f3_rooms.specs.Values.{word, object, variables}
@@ -25,7 +25,7 @@ use Rattle.f3_rooms.specs.Ways.{numbers}
 use Rattle.f3_rooms.specs.Places.{is_scalar_shape}
 use Rattle.f3_rooms.specs.Sound.{IsSound}
 use Rattle.f3_room_places.specs.declared.types.Types.{Types}
-use Rattle.f3_room_places.specs.Places.{HasTables, shapes}
+use Rattle.f3_room_places.specs.Places.{HasTables}
 use Rattle.f3_type_words.specs.Tables.{AreTables}
 use Rattle.f3_room_arrays.specs.Elements.{StandsAt}
 use Rattle.f3_room_arrays.proofs.Objects.{object-is, object-live, object-within}

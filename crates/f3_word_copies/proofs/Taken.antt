@@ -1,6 +1,6 @@
 -- Objects have taken a value.
-use Rattle.std.proofs.Common.{◌≡◌, ◌≢◌, ◌∙◌, sym, ap, subst, refl, inl, inr, ℕ, zero, suc, ◌+◌, ◌*◌, ◌/◌, ◌<◌, ◌≤◌, Bool, true, false, List, [], ◌∷◌, ◌++◌, length, take, drop, get_or, arith, is_some, IsTrue}
-use Rattle.std.specs.Prelude.{◌⊎◌, ℤ, pos, ◌+ℤ◌, nat_lt, if◌then◌else◌, unsigned_abs}
+use Rattle.std.proofs.Common.{◌≡◌, ◌≢◌, ◌∙◌, sym, ap, subst, refl, inl, inr, ℕ, zero, suc, ◌+◌, ◌*◌, ◌<◌, ◌≤◌, Bool, true, false, List, [], ◌∷◌, length, take, get_or, arith, is_some, IsTrue}
+use Rattle.std.specs.Prelude.{ℤ, pos, nat_lt, if◌then◌else◌, unsigned_abs}
 use Rattle.std.specs.List.{AllZip}
 use Rattle.std.specs.FinMap.{get as find}
 use Rattle.std.proofs.lemmas.Bool.{cases_eq, ltb-true, ltb-false}
@@ -10,34 +10,31 @@ use Rattle.f3_program.specs.declared.declarations.Constant.TheVariants as consta
 use Rattle.f3_program.specs.declared.program.Program.{Program}
 use Rattle.f3_live_blocks.specs.Blocks.{Live, IsLive, words_of, pins_of, with_words}
 use Rattle.f3_live_blocks.proofs.Laws.{live-insert, get-insert_other, pins-insert_same, pins-insert_other}
-use Rattle.f3_meaning_whole.specs.Value.{Span, Value, Number, Truth, Composite, Array, Values, joined, listed, count, spread}
+use Rattle.f3_meaning_whole.specs.Value.{Span, Value, Number, Truth, Composite, Array, Values, joined, listed, spread}
 use Rattle.f3_meaning_whole.specs.Shape.{Shape, Whole, Logical, Record}
-use Rattle.f3_meaning_whole.specs.Store.{Store, Path, get, put, put_all}
-use Rattle.f3_meaning_whole.specs.Reference.{Reference, paths, paths_by}
+use Rattle.f3_meaning_whole.specs.Store.{Store, Path, put, put_all}
+use Rattle.f3_meaning_whole.specs.Reference.{Reference, paths}
 use Rattle.f3_meaning_whole.specs.Arithmetic.{constant_value}
-use Rattle.f3_desc.specs.declared.descriptor.Dim.{Dim}
-use Rattle.f3_desc.specs.Descriptor.{places, progression}
-use Rattle.f3_desc.specs.Laws.{size_of}
+use Rattle.f3_desc.specs.Descriptor.{progression}
 use Rattle.f3_objects.specs.Holds.{with_words_at}
 use Rattle.f3_objects.proofs.Spans.{written_same}
 use Rattle.f3_objects.proofs.Writes.{words-with, with_words_same, with_words_again}
-use Rattle.f3_rooms.specs.Held.{Held, Row, Empty, first, others, end, times}
+use Rattle.f3_rooms.specs.Held.{Held, Empty, times}
 use Rattle.f3_rooms.specs.Forms.{words_for}
-use Rattle.f3_rooms.specs.Values.{word, is_set, elements, laid, object}
+use Rattle.f3_rooms.specs.Values.{word, is_set, object}
 use Rattle.f3_rooms.specs.Rooms.{Rooms, blocks_of, store_of}
 use Rattle.f3_rooms.specs.Sound.{IsSound}
 use Rattle.f3_room_levels.specs.Initial.{IsOf, word_of, truth_word}
-use Rattle.f3_room_arrays.specs.Words.{copied, AreInside}
+use Rattle.f3_room_arrays.specs.Words.{copied}
 use Rattle.f3_room_arrays.specs.Elements.{IsFlat, StandsAt, row}
 use Rattle.f3_room_arrays.specs.Changes.{PutsAll}
-use Rattle.f3_room_arrays.proofs.Numbers.{places-many, progression-length}
+use Rattle.f3_room_arrays.proofs.Numbers.{progression-length}
 use Rattle.f3_room_arrays.proofs.Running.{line-inside}
-use Rattle.f3_room_arrays.proofs.Objects.{next, next-word, object-put, object-is, objects-put, row-values, puts-as, zip-length}
+use Rattle.f3_room_arrays.proofs.Objects.{next, next-word, object-put, objects-put, row-values, puts-as, zip-length}
 use Rattle.f3_room_arrays.proofs.Flat.{object_tell}
-use Rattle.f3_word_cells.specs.Areas.{types_of, shape_for, spans_of}
+use Rattle.f3_word_cells.specs.Areas.{types_of}
 use Rattle.f3_word_copies.specs.Spread.{spread_over, fewer_of}
 use Rattle.f3_word_copies.specs.Puts.{Takes}
-use Rattle.f3_word_copies.proofs.Areas.{count-size}
 
 -- ---- the same value for each
 

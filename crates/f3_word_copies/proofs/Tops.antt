@@ -1,5 +1,5 @@
 -- Objects and values on top.
-use Rattle.std.proofs.Common.{◌≡◌, ◌∙◌, sym, ap, subst, refl, List, [], ◌∷◌, ◌++◌, length}
+use Rattle.std.proofs.Common.{◌≡◌, ◌∙◌, ap, refl, List, [], ◌∷◌}
 use Rattle.std.specs.Prelude.{ℕ, ℤ, Option}
 use Rattle.f3_program.specs.declared.declarations.Kind.{Kind}
 use Rattle.f3_program.specs.declared.program.Program.{Program}
@@ -9,7 +9,7 @@ use Rattle.f3_meaning_whole.specs.Reference.{Reference}
 use Rattle.f3_code.specs.State as s
 use Rattle.f3_cell_kinds.specs.Types.{CellType}
 use Rattle.f3_cell_kinds.specs.Types as cell
-use Rattle.f3_cell_kinds.specs.Holds.{IsOf, Refers}
+use Rattle.f3_cell_kinds.specs.Holds.{Refers}
 use Rattle.f3_cell_kinds.specs.Laws.{site_at}
 use Rattle.f3_rooms.specs.Rooms.{Rooms}
 use Rattle.f3_word_cells.specs.declared.cell.Datum.{Datum}
@@ -19,7 +19,7 @@ use Rattle.f3_word_cells.specs.declared.cell.Here.{Here}
 use Rattle.f3_word_cells.specs.declared.cell.Cell.{Cell}
 use Rattle.f3_word_cells.specs.declared.cell.Cell.TheVariants as c
 use Rattle.f3_word_cells.specs.declared.state.Name.{Name}
-use Rattle.f3_word_cells.specs.Areas.{IsDatum}
+use Rattle.f3_word_cells.specs.Areas.{IsDatum, IsObject}
 use Rattle.f3_word_cells.specs.Cells.{AreCells}
 use Rattle.f3_word_cells.specs.Does.{IsTold}
 use Rattle.f3_word_cells.proofs.OnTop.{one_on_top, of_object}
@@ -39,9 +39,9 @@ object-on-top p t k rest told e =
 
 -- then so it is in memory
 pub object-there : (p : Program) (live : Live) (Rest : Rooms → List Name → Type 0) (x : Rooms) (ns : List Name) (h : Here) (here : m.Here) (cells : List Cell) (r : Reference) (below : List s.Cell) → AreCells p live Rest x ns h here cells (s.Object r ∷ below)
-    → (o : Object) × (rest : List Cell) × (cells ≡ c.Object o ∷ rest)
+    → (o : Object) × (rest : List Cell) × (cells ≡ c.Object o ∷ rest) × IsObject p x o r
 object-there p live Rest x ns h here [] r below are = absurd are
-object-there p live Rest x ns h here (c.Object o ∷ rest) r below are = (o, rest, refl)
+object-there p live Rest x ns h here (c.Object o ∷ rest) r below are = (o, rest, refl, are.0)
 object-there p live Rest x ns h here (c.Datum d ∷ rest) r below are = absurd are.0
 object-there p live Rest x ns h here (c.Argument a ∷ rest) r below are = absurd are.0
 object-there p live Rest x ns h here (c.Choice a ∷ rest) r below are = absurd are.0

@@ -1,12 +1,12 @@
 -- Objects take a value of their type.
-use Rattle.std.proofs.Common.{◌≡◌, ◌≢◌, ◌∙◌, sym, ap, subst, refl, inl, inr, ℕ, zero, suc, ◌+◌, ◌*◌, ◌/◌, ◌<◌, ◌≤◌, Bool, true, false, List, [], ◌∷◌, length, take, arith}
+use Rattle.std.proofs.Common.{◌≡◌, ◌≢◌, ◌∙◌, sym, ap, subst, refl, inl, inr, ℕ, zero, suc, ◌*◌, ◌/◌, ◌<◌, ◌≤◌, List, [], ◌∷◌, length, take, arith}
 use Rattle.std.specs.Prelude.{◌⊎◌, ℤ, pos}
 use Rattle.std.proofs.Math.Nat.{mul-div_cancel}
 use Rattle.f3_program.specs.declared.declarations.Constant.{Constant}
 use Rattle.f3_program.specs.declared.program.Program.{Program}
 use Rattle.f3_live_blocks.specs.Blocks.{Live, IsLive, words_of, with_words}
-use Rattle.f3_meaning_whole.specs.Value.{Span, Value, Array, Values, joined, listed, count, spread}
-use Rattle.f3_meaning_whole.specs.Shape.{Shape}
+use Rattle.f3_meaning_whole.specs.Value.{Value, joined, count, spread}
+use Rattle.f3_meaning_whole.specs.Shape.{Shape, initial_of}
 use Rattle.f3_meaning_whole.specs.Store.{Store, Path, put_all}
 use Rattle.f3_meaning_whole.specs.Reference.{Reference, paths}
 use Rattle.f3_meaning_whole.specs.Arithmetic.{constant_value}
@@ -20,22 +20,24 @@ use Rattle.f3_rooms.specs.Rooms.{Rooms, blocks_of, store_of}
 use Rattle.f3_rooms.specs.Sound.{IsSound}
 use Rattle.f3_rooms.proofs.Framing.{one_here}
 use Rattle.f3_room_places.specs.declared.types.Types.{Types}
-use Rattle.f3_room_levels.specs.Initial.{IsOf, word_of}
+use Rattle.f3_room_levels.specs.Initial.{IsOf, TypeCanBegin, word_of, object_words}
 use Rattle.f3_room_arrays.specs.Words.{copied}
-use Rattle.f3_room_arrays.specs.Elements.{IsFlat, StandsAt, Tells, row}
+use Rattle.f3_room_arrays.specs.Elements.{IsFlat, Tells, row}
 use Rattle.f3_room_arrays.specs.Changes.{LieWithin}
 use Rattle.f3_room_arrays.proofs.Numbers.{places-many}
 use Rattle.f3_word_cells.specs.declared.cell.Area.{Area}
 use Rattle.f3_word_cells.specs.declared.cell.Datum.{Datum}
 use Rattle.f3_word_cells.specs.declared.cell.Datum.TheVariants as datum
 use Rattle.f3_word_cells.specs.declared.cell.Object.TheVariants as o
-use Rattle.f3_word_cells.specs.Areas.{types_of, shape_for, spans_of, value_in}
+use Rattle.f3_word_cells.specs.Areas.{types_of, shape_for, spans_of}
+use Rattle.f3_room_levels.proofs.Widths.{object_many}
+use Rattle.f3_word_copies.proofs.Fresh.{shows-initial, repeat-initial}
 use Rattle.f3_word_copies.specs.Spread.{spread_over, fewer_of}
 use Rattle.f3_word_copies.specs.Reads.{IsThere}
 use Rattle.f3_word_copies.specs.Puts.{CanTake, Takes}
 use Rattle.f3_word_copies.proofs.Flatness.{flat_for}
 use Rattle.f3_word_copies.proofs.Fewer.{fewer-first, fewer-second, quotient-within}
-use Rattle.f3_word_copies.proofs.Areas.{tells-all, many-all, count-size, among, some-live, all-within}
+use Rattle.f3_word_copies.proofs.Areas.{tells-all, many-all, count-size, among, all-within}
 use Rattle.f3_word_copies.proofs.Taken.{repeat, Shows, repeat-constant, repeat-object, spread-array, listed-joined, shows-constant, constant-long, shows-block, spread-objects, none-put, put-both, own-put, takes-as, takes-none}
 
 pub same-block : (d : Datum) (a b : Area) → d ≡ datum.Block a → d ≡ datum.Block b → a ≡ b
@@ -114,6 +116,12 @@ module _ (p : Program) (types : Types) (m : Live) (x : Rooms) (a : Area) (r : Re
   pub scalar-within : (c : Constant) → IsOf s c → 0 < size → LieWithin m a.elements (length (word_of c ∷ []))
   scalar-within c of some = subst (LieWithin m a.elements) (sym (constant-long s c of)) (take-within some)
 
+  pub initial-takes : (n : Live) → TypeCanBegin s → (size ≡ 0 → n ≡ m) → (0 < size → n ≡ with_words m block (spread_over (words_of m block) (object_words s) (places a.elements))) → Takes p m n x r (initial_of s)
+  initial-takes n can none some = spread-takes n (object_words s) (object_many s can) (initial_of s) (shows-initial p.types.alloc s flat can) (repeat-initial (length ps) s) none some
+
+  pub initial-within : TypeCanBegin s → 0 < size → LieWithin m a.elements (length (object_words s))
+  initial-within can some = subst (LieWithin m a.elements) (sym (object_many s can)) (take-within some)
+
   module _ (b : Area) (v : Value) (can : CanTake p types m x a r (datum.Block b) v) where
     abbrev from : ℕ
     from = (b.elements).block
@@ -181,7 +189,7 @@ module _ (p : Program) (types : Types) (m : Live) (x : Rooms) (a : Area) (r : Re
               let both = put-both m s from size (length (words_of m from) / words_for s) ps (store_of ts m x) many in
               takes-as p m n x r v block _ (is-among lt) (live lt) is
               (ap (λ (k : Live). store_of ts k x) is ∙ puts.store ∙ both ∙ ap (λ (k : ℕ). put_all ps (row m s k from 0) (store_of ts m x)) quotient
-                ∙ sym (ap (λ vs. put_all ps vs (store_of ts m x)) values-are))
+              ∙ sym (ap (λ vs. put_all ps vs (store_of ts m x)) values-are))
               (subst (λ (k : Live). IsSound ts k x) (sym is) puts.sound)
             where
               divided : (l w t : ℕ) → 0 < w → l ≡ t * w → l / w ≡ t

@@ -1,5 +1,5 @@
 -- What it is for objects to take a value.
-use Rattle.std.specs.Prelude.{◌≡◌, ◌<◌, ℕ, List, length}
+use Rattle.std.specs.Prelude.{◌≡◌, ◌<◌, ℕ, length}
 use Rattle.std.specs.FinMap.{get as find}
 use Rattle.f3_program.specs.declared.program.Program.{Program}
 use Rattle.f3_live_blocks.specs.Blocks.{Live, IsLive, pins_of}
@@ -10,7 +10,7 @@ use Rattle.f3_rooms.specs.Held.{times}
 use Rattle.f3_rooms.specs.Rooms.{Rooms, blocks_of, store_of}
 use Rattle.f3_rooms.specs.Sound.{IsSound}
 use Rattle.f3_room_places.specs.declared.types.Types.{Types}
-use Rattle.f3_room_levels.specs.Initial.{IsOf}
+use Rattle.f3_room_levels.specs.Initial.{IsOf, TypeCanBegin}
 use Rattle.f3_word_cells.specs.declared.cell.Area.{Area}
 use Rattle.f3_word_cells.specs.declared.cell.Datum.{Datum}
 use Rattle.f3_word_cells.specs.declared.cell.Datum.TheVariants as datum
@@ -30,6 +30,11 @@ pub record CanTake (p : Program) (types : Types) (m : Live) (x : Rooms) (a : Are
   pub value : IsDatum p m d v
   pub agrees : Agrees p a d
   pub apart : (q : ℕ) → 0 < times q (datum_blocks d) → times q (blocks_of x) ≡ 0
+
+-- objects that stand there, and whose type can begin
+pub record CanBeginAt (p : Program) (types : Types) (m : Live) (x : Rooms) (a : Area) (r : Reference) : Type 0 where
+  pub there : IsThere p types m x (o.Stands a) r
+  pub can : TypeCanBegin (shape_for p a.of)
 
 -- They have taken it, and blocks of no room are as they were.
 pub record Takes (p : Program) (m n : Live) (x : Rooms) (r : Reference) (v : Value) : Type 0 where

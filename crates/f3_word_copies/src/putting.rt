@@ -5,21 +5,22 @@ ghost use Rattle.f3_live_blocks.specs.Blocks.{IsLive, words_of, with_words};
 ghost use Rattle.f3_program.specs.declared.program.Program.{Program};
 ghost use Rattle.f3_meaning_whole.specs.Value.{Value};
 ghost use Rattle.f3_meaning_whole.specs.Reference.{Reference};
+ghost use Rattle.f3_meaning_whole.specs.Shape.{initial_of};
+ghost use Rattle.f3_word_cells.specs.Areas.{shape_for};
 ghost use Rattle.f3_desc.specs.Descriptor.{places, progression};
 ghost use Rattle.f3_desc.specs.Laws.{size_of};
 ghost use Rattle.f3_rooms.specs.Rooms.{Rooms};
 ghost use Rattle.f3_room_places.specs.Places.{HasTables};
 ghost use Rattle.f3_room_arrays.specs.Words.{copied};
 ghost use Rattle.f3_room_arrays.specs.Changes.{LieWithin};
-ghost use Rattle.f3_room_levels.specs.Initial.{word_of};
 ghost use Rattle.f3_word_copies.specs.Spread.{IsSource, source_words, spread_over, fewer_of};
-ghost use Rattle.f3_word_copies.specs.Puts.{CanTake, Takes};
+ghost use Rattle.f3_word_copies.specs.Puts.{CanTake, CanBeginAt, Takes};
 
 use crate::elements::take_elements;
+use crate::initial::word_of;
 use crate::spreading::{Source, spread};
 use f3_desc::descriptor::{Descriptor, Dim};
 use f3_heap::{BlockId, Blocks};
-use f3_program::declarations::Constant;
 use f3_room_places::types::{Types, words};
 use f3_word_cells::cell::{Area, Datum};
 
@@ -34,18 +35,8 @@ fn has_elements(dims: &[Dim]) -> bool
     first.extent > 0 && has_elements(others)
 }
 
-/// The word of a constant: 1 is `.TRUE.`, 0 `.FALSE.` (own rule).
-fn word_of(constant: Constant) -> i64
-    ensures { result ≡ word_of constant }
-{
-    match constant {
-        Constant::Number(number) => number,
-        Constant::Truth(truth) => truth as i64,
-    }
-}
-
 /// All objects take the same words.
-fn take_source<B: Blocks>(heap: &mut B, elements: &Descriptor, source: &Source)
+fn take_source<B: Blocks>(heap: &mut B, elements: &Descriptor, source: &Source<'_>)
     requires within { 0 < size_of elements.now.dims.items → LieWithin (B.blocks heap.old) elements.now (length (source_words (B.blocks heap.old) source.now)) }
     requires source { 0 < size_of elements.now.dims.items → IsSource (B.blocks heap.old) elements.now.block source.now }
     ensures none { size_of elements.now.dims.items ≡ 0 → B.blocks heap.new ≡ B.blocks heap.old }
@@ -54,7 +45,13 @@ fn take_source<B: Blocks>(heap: &mut B, elements: &Descriptor, source: &Source)
         (spread_over (words_of (B.blocks heap.old) elements.now.block) (source_words (B.blocks heap.old) source.now) (places elements.now)) }
 {
     if has_elements(&elements.dims) {
-        spread(heap, source, elements.block, &elements.dims, elements.offset);
+        spread(
+            heap,
+            source,
+            elements.block,
+            &elements.dims,
+            elements.offset,
+        );
     }
 }
 
@@ -85,15 +82,20 @@ pub(crate) fn put<B: Blocks>(heap: &mut B, types: Types<'_>, area: &Area, datum:
             take_source(heap, &area.elements, &Source::Word(word_of(*constant)));
         }
         Datum::Block(value) if value.elements.dims.is_empty() => {
-            take_source(
-                heap,
-                &area.elements,
-                &Source::Block(value.elements.block),
-            );
+            take_source(heap, &area.elements, &Source::Block(value.elements.block));
         }
         Datum::Block(value) => {
             let size = words(types, area.of);
             take_array(heap, value.elements.block, &area.elements, size);
         }
     }
+}
+
+/// Each object of an area begins as one of its type does (12.4.1.7).
+pub(crate) fn begin<B: Blocks>(heap: &mut B, types: Types<'_>, area: &Area)
+    requires tables { HasTables types }
+    requires can { (p : Program) × (x : Rooms) × (r : Reference) × CanBeginAt p types (B.blocks heap.old) x area.now r }
+    ensures { (p : Program) (x : Rooms) (r : Reference) → CanBeginAt p types.entry (B.blocks heap.old) x area.now r → Takes p (B.blocks heap.old) (B.blocks heap.new) x r (initial_of (shape_for p area.now.of)) }
+{
+    take_source(heap, &area.elements, &Source::Initial(types, area.of));
 }

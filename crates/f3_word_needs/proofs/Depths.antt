@@ -2,6 +2,7 @@
 use Rattle.std.proofs.Common.{◌≡◌, ◌≤◌, ℕ, ◌+◌, ◌-◌, max, Bool, true, false, List, [], ◌∷◌, ◌++◌, length, Option, Some, None, refl, ap, ◌∙◌, arith, if◌then◌else◌}
 use Rattle.std.specs.Prelude.{nat_lt}
 use Rattle.f3_places.specs.declared.source.Place.{Place}
+use Rattle.f3_program.specs.declared.declarations.Kind.{Kind}
 use Rattle.f3_program.specs.declared.expression.Argument as a
 use Rattle.f3_program.specs.declared.expression.Designator as d
 use Rattle.f3_program.specs.declared.expression.Expression as e
@@ -15,7 +16,7 @@ use Rattle.f3_code.specs.Work as w
 use Rattle.f3_code.specs.Core as c
 use Rattle.f3_code.specs.State.{Line, line}
 use Rattle.f3_code.specs.declared.instruction.Instruction.TheVariants as i
-use Rattle.f3_code.specs.Code.{value_code, bounds_code, argument_code, arguments_code, locate_code, select_code, select_of_code, chosen_code, subscript_code, work_code, transfer_code, dimensions_code, allocate_code, free_code, deallocate_code, status_code, bytes_code, items_code, ranges_code, selectors_code, discards_code, leaving_code, departing_code, up_code, code_of, Ways, farther, looped, counting, scoped}
+use Rattle.f3_code.specs.Code.{value_code, bounds_code, argument_code, arguments_code, locate_code, select_code, select_of_code, chosen_code, subscript_code, work_code, transfer_code, dimensions_code, allocate_code, free_code, deallocate_code, status_code, bytes_code, items_code, ranges_code, selectors_code, discards_code, leaving_code, departing_code, up_code, if_code, case_code, while_code, turns_code, limits_code, code_of, Ways, farther, looped, counting, scoped}
 use Rattle.f3_word_needs.specs.Names.{after_line, deepest}
 
 -- how many are open behind a code
@@ -253,6 +254,29 @@ module _ (m : ℕ) where
         );
       }
 
+  if_deep : (o : Option Place) (test cx cy : List Line) (j k : ℕ) → Plain test → Deep cx j → Deep cy k → Deep (if_code o test cx cy) (max j k)
+  if_deep o test cx cy j k t x y = less (max j k) (max 0 (max j k)) (omega arith) (seq (flat t) (first (λ n. refl) (seq x (first (λ n. refl) y))))
+
+  case_deep : (o : Option Place) (rs : List Range) (cx cy : List Line) (j k : ℕ) → Deep cx j → Deep cy k → Deep (case_code o rs cx cy) (max j k)
+  case_deep o rs cx cy j k x y = less (max j k) (max 0 (max j k)) (omega arith) (seq (flat (ranges_plain o m rs)) (first (λ n. refl) (seq x (first (λ n. refl) y))))
+
+  while_deep : (o : Option Place) (test cx : List Line) (k : ℕ) → Plain test → Deep cx k → Deep (while_code o test cx) k
+  while_deep o test cx k t x = less k (max 0 (max k 0)) (omega arith) (seq (flat t) (first (λ n. refl) (seq x (flat (cons (λ n. refl) none)))))
+
+  select_deep : (o : Option Place) (test cx : List Line) (ws : Ways) (k : ℕ) → Plain test → Deep cx k →
+      Deep (test ++ (line o i.Selecting ∷ (cx ++ (leaving_code o ++ departing_code o ws)))) k
+  select_deep o test cx ws k t x = less k (max 0 (max k 0)) (omega arith)
+      (seq (flat t) (first (λ n. refl) (seq x (flat (on (leaving_plain o m) (departing_plain o m ws))))))
+
+  turns_deep : (o : Option Place) (cx up : List Line) (k : ℕ) → Deep cx k → Plain up → Deep (turns_code o cx up) (max k 0)
+  turns_deep o cx up k x u = first (λ n. refl) (seq x (flat (on u (cons (λ n. refl) (cons (λ n. refl) none)))))
+
+  count_deep : (o : Option Place) (j : Kind) (from to by : e.Expression) (d : d.Designator) (turns : List Line) (k : ℕ) → Deep turns k →
+      Deep (limits_code o j from to by (locate_code o d ++ (line o i.CountBegin ∷ turns))) k
+  count_deep o j from to by d turns k t = less k (max 0 (max 0 (max 0 (max 0 k)))) (omega arith)
+      (seq (flat (value_plain o from)) (first (λ n. refl) (seq (flat (value_plain o to)) (first (λ n. refl)
+      (seq (flat (value_plain o by)) (first (λ n. refl) (first (λ n. refl) (seq (flat (locate_plain o d)) (first (λ n. refl) t)))))))))
+
   pub statement_deep : (o : Option Place) (x : c.Core) (ws : Ways) → Deep (code_of m o x ws) (opened x)
   statement_deep o (c.At place true x) ws = first (λ n. refl) (statement_deep (Some place) x ws)
   statement_deep o (c.At place false x) ws = statement_deep (Some place) x ws
@@ -270,20 +294,13 @@ module _ (m : ℕ) where
   statement_deep o c.Return ws = flat (cons (λ n. refl) (cons (λ n. refl) (cons (λ n. refl) none)))
   statement_deep o c.Cycle ws = flat (cons (λ n. refl) none)
   statement_deep o c.Exit ws = flat (cons (λ n. refl) none)
-  statement_deep o (c.If e x y) ws = less (max (opened x) (opened y)) (max 0 (max (opened x) (opened y))) (omega arith)
-      (seq (flat (value_plain o e)) (first (λ n. refl)
-      (seq (statement_deep o x (farther (1 + length (code_of m o y ws)) ws)) (first (λ n. refl) (statement_deep o y ws)))))
-  statement_deep o (c.Select e x) ws = less (opened x) (max 0 (max (opened x) 0)) (omega arith)
-      (seq (flat (value_plain o e)) (first (λ n. refl) (seq (statement_deep o x scoped) (flat (on (leaving_plain o m) (departing_plain o m ws))))))
-  statement_deep o (c.Case rs x y) ws = less (max (opened x) (opened y)) (max 0 (max (opened x) (opened y))) (omega arith)
-      (seq (flat (ranges_plain o m rs)) (first (λ n. refl)
-      (seq (statement_deep o x (farther (1 + length (code_of m o y ws)) ws)) (first (λ n. refl) (statement_deep o y ws)))))
-  statement_deep o (c.While e x) ws = less (opened x) (max 0 (max (opened x) 0)) (omega arith)
-      (seq (flat (value_plain o e)) (first (λ n. refl) (seq (statement_deep o x (looped ws)) (flat (cons (λ n. refl) none)))))
+  statement_deep o (c.If e x y) ws = if_deep o (value_code o e) _ _ (opened x) (opened y) (value_plain o e)
+      (statement_deep o x (farther (1 + length (code_of m o y ws)) ws)) (statement_deep o y ws)
+  statement_deep o (c.Select e x) ws = select_deep o (value_code o e) _ ws (opened x) (value_plain o e) (statement_deep o x scoped)
+  statement_deep o (c.Case rs x y) ws =
+      case_deep o rs _ _ (opened x) (opened y) (statement_deep o x (farther (1 + length (code_of m o y ws)) ws)) (statement_deep o y ws)
+  statement_deep o (c.While e x) ws = while_deep o (value_code o e) _ (opened x) (value_plain o e) (statement_deep o x (looped ws))
   statement_deep o (c.Count d k from to by x) ws =
-      let up = up_plain o m d k in
-      let turns = seq (statement_deep o x (counting (length (up_code o d k)) ws)) (flat (on up (cons (λ n. refl) (cons (λ n. refl) none)))) in
-      less (opened x) (max 0 (max 0 (max 0 (max 0 (max (opened x) 0))))) (omega arith)
-      (seq (flat (value_plain o from)) (first (λ n. refl) (seq (flat (value_plain o to)) (first (λ n. refl)
-      (seq (flat (value_plain o by)) (first (λ n. refl) (first (λ n. refl) (seq (flat (locate_plain o d)) (first (λ n. refl) (first (λ n. refl) turns))))))))))
+      let t = turns_deep o (code_of m o x (counting (length (up_code o d k)) ws)) (up_code o d k) (opened x) (statement_deep o x (counting (length (up_code o d k)) ws)) (up_plain o m d k) in
+      less (opened x) (max (opened x) 0) (omega arith) (count_deep o k from to by d _ (max (opened x) 0) t)
   statement_deep o (c.Associate xs x) ws = associate_deep o ws xs (opened x) (code_of m o x scoped) (statement_deep o x scoped)

@@ -259,6 +259,18 @@ module _ (p : Program) (weigh : List Kind → ℕ) (b : ℕ) where
     limits_few h k from to by q t = on (value_few r s h from q) (cons q (on (value_few r s (cell.Datum k ∷ h) to q) (cons q
         (on (value_few r s (cell.Datum k ∷ cell.Datum k ∷ h) by q) (cons q (cons q t))))))
 
+-- an ASSOCIATE, by what is within it
+associate_few : (p : Program) (weigh : List Kind → ℕ) (b m : ℕ) (r : Kind) (s inner : Scope) (h : List CellType) (cells : ℕ) (xs : List c.Selector) (ks : List Kind)
+    (within : List Site) → weigh s.names + levels_in h ≤ b → weigh s.names + (length ks + levels_in h) ≤ b → weigh inner.names + (length ks + levels_in h) ≤ b →
+    AreFew weigh b within → AreFew weigh b (selectors_sites p m r s h xs ++ (at r s (selectors_on ks h) ∷ (within
+    ++ (leaving_sites p m r inner (cell.Outside s ∷ cell.Level ks ∷ h) ++ (at r s (cell.Going ∷ cell.Level ks ∷ h)
+    ∷ (discards_sites p m r s (cell.Going ∷ cell.Level ks ∷ h) ks xs
+    ++ (at r s (cell.Objects [] ∷ cell.Going ∷ cell.Level ks ∷ h) ∷ departing_sites p m r s h cells)))))))
+associate_few p weigh b m r s inner h cells xs ks within o o' i few =
+    on (selectors_few p weigh b m r s h xs o) (cons (omega (arith, o, selectors_levels ks h)) (on few
+    (on (leaving_few p weigh b m r inner (cell.Outside s ∷ cell.Level ks ∷ h) i) (cons o' (on (discards_few p weigh b m r s (cell.Going ∷ cell.Level ks ∷ h) ks xs o')
+    (cons o' (departing_few p weigh b m r s h cells o)))))))
+
 -- how names count, and how often a name of an ASSOCIATE does in all
 pub record Rule (weigh : List Kind → ℕ) (k : ℕ) : Type 0 where
   pub grow : (xs ys : List Kind) → weigh (xs ++ ys) + length ys ≤ weigh xs + k * length ys
@@ -331,9 +343,7 @@ module _ (p : Program) (weigh : List Kind → ℕ) (k : ℕ) (rule : Rule weigh 
       let o' : weigh s.names + (length ks + levels_in h) ≤ b = omega (arith, q', some) in
       let i : weigh (s.names ++ ks) + (length ks + levels_in h) + k * opened x ≤ b = omega (arith, q', more) in
       let i' : weigh (s.names ++ ks) + (length ks + levels_in h) ≤ b = omega (arith, i) in
-      on (selectors_few p weigh b m r s h xs o) (cons (omega (arith, o, selectors_levels ks h)) (on (code_few inner (cell.Outside s ∷ cell.Level ks ∷ h) 0 x i)
-      (on (leaving_few p weigh b m r inner (cell.Outside s ∷ cell.Level ks ∷ h) i') (cons o' (on (discards_few p weigh b m r s (cell.Going ∷ cell.Level ks ∷ h) ks xs o')
-      (cons o' (departing_few p weigh b m r s h cells o)))))))
+      associate_few p weigh b m r s inner h cells xs ks _ o o' i' (code_few inner (cell.Outside s ∷ cell.Level ks ∷ h) 0 x i)
 
 module _ (p : Program) (weigh : List Kind → ℕ) (b : ℕ) where
   each_few : (m : ℕ) (h : Site) (ks : List Kind) (xs : List w.Work) → IsFew weigh b h → AreFew weigh b (each_sites p m h ks xs)

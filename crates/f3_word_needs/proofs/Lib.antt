@@ -10,3 +10,4 @@ pub mod Cells
 pub mod Rows
 pub mod Emitted
 pub mod Memory
+pub mod Blocks

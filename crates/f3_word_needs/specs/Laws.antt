@@ -16,6 +16,7 @@ use Rattle.f3_word_cells.specs.Does.{stream, IsTold, GoesOn}
 use Rattle.f3_word_needs.specs.Counts.{all_levels, all_names, all_selectors, kept_names}
 use Rattle.f3_word_needs.specs.Names.{most_dummies, most_names, most_open}
 use Rattle.f3_word_needs.specs.Room.{HasRoom}
+use Rattle.f3_word_needs.specs.Rooms.{HasFewRooms}
 
 -- A program begins in a state with room, whatever the heap answers after it gave some answers.
 abbrev pub StartHasRoom : Type 0
@@ -59,3 +60,9 @@ abbrev pub MemoryIsAsLarge : Type 0
 MemoryIsAsLarge = (p : Program) (live : Live) (w : word.State) (x : Rooms) (t : State) → Stands p live w x t →
     (length w.cells.items.items ≡ all_cells t) × (length w.callers.items.items ≡ length t.frames) × (length w.levels.items.items ≡ all_levels t)
     × (kept_names w.cells.items.items ≡ all_selectors t)
+
+-- Where rooms are for variables and held values alone, there are no more blocks of rooms than activations, dummies of procedures that were
+-- called, and names of ASSOCIATEs that are open.
+abbrev pub BlocksAreFew : Type 0
+BlocksAreFew = (p : Program) (live : Live) (w : word.State) (x : Rooms) (t : State) (dummies : ℕ) → Stands p live w x t → HasRoom p t → HasFewRooms dummies x t →
+    length w.blocks.items.items ≤ 1 + length t.frames + (length t.frames * dummies + all_selectors t)

@@ -11,7 +11,7 @@ use Rattle.f3_gen_values.specs.declared.line.Line as emitted
 use Rattle.f3_sizes.specs.Parts.{first_of, behind_main}
 
 -- How many names of ASSOCIATEs are open behind a line, where so many are before it: as an ASSOCIATE begins it opens those of its
--- selectors, and at its end it looks at these one by one.
+-- selectors, and at its end it looks at these one by one. As a procedure begins it looks at its dummies so, where none is open.
 abbrev pub after_line : ℕ → Instruction → ℕ
 after_line n (i.Associate k) = n + k
 after_line n (i.NextObject d) = n - 1

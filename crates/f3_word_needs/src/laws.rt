@@ -1,6 +1,6 @@
 //! Laws of how much room stacks want.
 
-ghost use Rattle.f3_word_needs.specs.Laws.{CallersAreFew, CellsAreFew, DummiesAreFew, LevelsAreFew, LinesKeepRoom, MemoryIsAsLarge, NamesAreFew, SelectorsAreFew, StartHasRoom};
+ghost use Rattle.f3_word_needs.specs.Laws.{BlocksAreFew, CallersAreFew, CellsAreFew, DummiesAreFew, LevelsAreFew, LinesKeepRoom, MemoryIsAsLarge, NamesAreFew, SelectorsAreFew, StartHasRoom};
 
 /// A program begins in a state with room (own rule).
 pub fn start_has_room()
@@ -46,4 +46,10 @@ pub fn levels_are_few()
 /// What stands in memory for a state has as many cells, callers and levels, and keeps as many names of ASSOCIATEs (own rule).
 pub fn memory_is_as_large()
     ensures { MemoryIsAsLarge }
+{}
+
+/// There are no more blocks of rooms than activations, dummies of procedures that were called, and names of ASSOCIATEs that are open, where
+/// rooms are for variables and held values alone (own rule).
+pub fn blocks_are_few()
+    ensures { BlocksAreFew }
 {}

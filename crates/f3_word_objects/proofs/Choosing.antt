@@ -1,7 +1,6 @@
 -- What is selected in dimensions stands above an array.
-use Rattle.std.proofs.Common.{◌≡◌, ◌∙◌, ℕ, zero, suc, ◌+◌, ◌≤◌, Bool, List, [], ◌∷◌, ◌++◌, length, map, reverse, refl, sym, ap, subst, arith, append_assoc}
-use Rattle.std.specs.Prelude.{⊤, None, Some, Option, slice_get}
-use Rattle.std.proofs.lemmas.List.{reverse-append, append-nil}
+use Rattle.std.proofs.Common.{◌≡◌, ◌∙◌, ℕ, zero, suc, Bool, List, [], ◌∷◌, ◌++◌, length, map, reverse, refl, sym, ap, subst, arith, append_assoc}
+use Rattle.std.proofs.lemmas.List.{reverse-append}
 use Rattle.f3_program.specs.declared.declarations.Derived.{Derived}
 use Rattle.f3_program.specs.declared.declarations.Kind.{Kind}
 use Rattle.f3_program.specs.declared.program.Program.{Program}
@@ -26,11 +25,10 @@ use Rattle.f3_word_cells.specs.declared.cell.Object.{Object}
 use Rattle.f3_word_cells.specs.declared.state.Name.{Name}
 use Rattle.f3_word_cells.specs.declared.state.State.{State}
 use Rattle.f3_word_cells.specs.Areas.{IsObject}
-use Rattle.f3_word_cells.specs.Cells.{AreCells, IsCell}
+use Rattle.f3_word_cells.specs.Cells.{AreCells}
 use Rattle.f3_word_cells.specs.Does.{IsTold}
-use Rattle.f3_word_cells.specs.Moves.{Popped}
 use Rattle.f3_word_cells.proofs.Amid.{Amid, amid_popped}
-use Rattle.f3_word_cells.proofs.OnTop.{AreOf, AreOnTop, cells_taken, of_object, of_choice}
+use Rattle.f3_word_cells.proofs.OnTop.{AreOf, cells_taken, of_object, of_choice}
 use Rattle.f3_word_objects.specs.Taken.{PoppedAll}
 
 -- ---- kinds

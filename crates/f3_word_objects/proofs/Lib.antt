@@ -7,5 +7,7 @@ mod Popping
 mod Choosing
 mod Sectioning
 mod Reaching
+mod Beside
+mod Around
 mod Named
 mod Referring

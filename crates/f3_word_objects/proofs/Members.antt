@@ -1,22 +1,20 @@
 -- Components of objects stand where they are located.
-use Rattle.std.proofs.Common.{◌≡◌, ◌∙◌, ℕ, zero, suc, ◌+◌, ◌<◌, ◌^◌, Bool, true, false, List, [], ◌∷◌, ◌++◌, length, take, refl, sym, ap, subst, arith, get_or}
-use Rattle.std.specs.Prelude.{⊤, Ok, Err, None, Some, Option, slice_get, slice_index_or, not, ◌&&◌, nat_eq, nat_lt, if◌then◌else◌, map}
+use Rattle.std.proofs.Common.{◌≡◌, ◌∙◌, ℕ, zero, suc, ◌<◌, Bool, true, false, List, [], ◌∷◌, ◌++◌, length, take, refl, sym, ap, subst, arith}
+use Rattle.std.specs.Prelude.{None, Some, Option, slice_get, not, ◌&&◌, nat_eq, nat_lt, if◌then◌else◌}
 use Rattle.std.specs.List.{All}
 use Rattle.std.proofs.lemmas.Bool.{eqb-true, ne_eqb}
 use Rattle.std.proofs.lemmas.Option.{slice_get_within}
 use Rattle.f3_program.specs.declared.declarations.Base.{Base}
 use Rattle.f3_program.specs.declared.declarations.Base.TheVariants as base
 use Rattle.f3_program.specs.declared.declarations.Component as component
-use Rattle.f3_program.specs.declared.declarations.Derived.{Derived}
 use Rattle.f3_program.specs.declared.declarations.Kind.{Kind}
 use Rattle.f3_program.specs.declared.program.Program.{Program}
-use Rattle.f3_live_blocks.specs.Blocks.{Live, words_of}
-use Rattle.f3_meaning_whole.specs.Act.{Here, component_of, component_type, component_reach, component_path, base_of}
+use Rattle.f3_live_blocks.specs.Blocks.{Live}
+use Rattle.f3_meaning_whole.specs.Act.{component_of, component_type, component_reach, component_path, base_of}
 use Rattle.f3_meaning_whole.specs.Formed.{IsWellFormed, is_scalar, only}
-use Rattle.f3_meaning_whole.specs.Reference.{Reference, Reach, One, Many, reach_of, Maker, Made}
-use Rattle.f3_meaning_whole.specs.Shape.{Shape, Whole, Record, Parts, parts_in, shape_in, shapes_of}
-use Rattle.f3_meaning_whole.specs.Store.{Store, Component, Path, within, get}
-use Rattle.f3_meaning_whole.specs.Value.{Span, from_one, count}
+use Rattle.f3_meaning_whole.specs.Reference.{Reference, Reach, One, Many, Maker}
+use Rattle.f3_meaning_whole.specs.Shape.{Shape, Whole, Record, parts_in, shape_in, shapes_of}
+use Rattle.f3_meaning_whole.specs.Store.{Store, Path}
 use Rattle.f3_cell_kinds.specs.Effect.{part_kind}
 use Rattle.f3_cell_kinds.specs.Holds.{Refers, Reaches}
 use Rattle.f3_rooms.specs.Flat.{is_flat, are_flat}
@@ -27,7 +25,6 @@ use Rattle.f3_rooms.specs.Places.{is_scalar_shape}
 use Rattle.f3_rooms.specs.Ways.{settled}
 use Rattle.f3_room_places.specs.declared.types.Types.{Types}
 use Rattle.f3_room_places.specs.Components.{offset_at}
-use Rattle.f3_room_places.specs.Places.{shapes}
 use Rattle.f3_room_places.proofs.Components.{type_is}
 use Rattle.f3_room_places.proofs.Trees.{as_many}
 use Rattle.f3_word_cells.specs.declared.cell.Area.{Area}
@@ -35,7 +32,7 @@ use Rattle.f3_word_cells.specs.declared.cell.Object.{Object}
 use Rattle.f3_word_cells.specs.declared.cell.Object.TheVariants as o
 use Rattle.f3_word_cells.specs.Areas.{AreThere, IsObject, shape_for, types_of}
 use Rattle.f3_word_areas.specs.Parts.{IsPartOf}
-use Rattle.f3_word_areas.proofs.Types.{Known, known}
+use Rattle.f3_word_areas.proofs.Types.{known}
 use Rattle.f3_word_areas.proofs.Further.{one-component, each-component}
 use Rattle.f3_word_objects.specs.Parts.{IsComponent, Located}
 use Rattle.f3_word_objects.specs.Ranks.{AreShort}

@@ -1,40 +1,34 @@
 -- What names mean stands where it is located.
-use Rattle.std.proofs.Common.{◌≡◌, ◌∙◌, ℕ, zero, suc, ◌+◌, ◌<◌, ◌^◌, ◌≤◌, Bool, true, false, List, [], ◌∷◌, ◌++◌, length, take, drop, refl, sym, ap, subst, arith, get_or}
-use Rattle.std.specs.Prelude.{⊤, Ok, Err, None, Some, Option, slice_get, slice_index_or, ◌&&◌, map}
+use Rattle.std.proofs.Common.{◌≡◌, ◌∙◌, ℕ, zero, suc, ◌+◌, ◌<◌, ◌^◌, ◌≤◌, Bool, true, false, List, [], ◌∷◌, ◌++◌, length, refl, sym, ap, subst, arith, get_or}
+use Rattle.std.specs.Prelude.{None, Some, Option, slice_get, slice_index_or, ◌&&◌}
 use Rattle.std.specs.List.{All}
 use Rattle.std.specs.Option.{option_map}
 use Rattle.std.proofs.lemmas.Option.{slice_get_within, slice_get-get_or}
-use Rattle.std.proofs.lemmas.List.{length-append}
 use Rattle.f3_program.specs.declared.declarations.Declared.{Declared}
 use Rattle.f3_program.specs.declared.declarations.Kind.{Kind}
-use Rattle.f3_program.specs.declared.expression.Name as n
-use Rattle.f3_program.specs.declared.expression.Name.TheVariants as name
 use Rattle.f3_program.specs.declared.program.Procedure.{Procedure}
 use Rattle.f3_program.specs.declared.program.Program.{Program}
 use Rattle.f3_program.specs.declared.program.Static as static
 use Rattle.f3_live_blocks.specs.Blocks.{Live}
-use Rattle.f3_meaning_whole.specs.Act as act
 use Rattle.f3_meaning_whole.specs.Act.{to_root, static_type, type_of, right_to, whole}
 use Rattle.f3_meaning_whole.specs.Exec.{declared_in}
-use Rattle.f3_meaning_whole.specs.Formed.{IsWellFormed, all, are_types, is_declared, are_declared, found, kind_of_name}
+use Rattle.f3_meaning_whole.specs.Formed.{IsWellFormed, all, are_types, is_declared, are_declared}
 use Rattle.f3_meaning_whole.specs.Reference.{Reference, Define, reach_of}
 use Rattle.f3_meaning_whole.specs.Store.{Store, Root, Static, Local, get}
 use Rattle.f3_code.specs.State as s
 use Rattle.f3_cell_kinds.specs.Holds.{AllRefer}
 use Rattle.f3_cells.specs.Cells.{variables_of, declared_by}
-use Rattle.f3_rooms.specs.Forms.{room, total}
+use Rattle.f3_rooms.specs.Forms.{room}
 use Rattle.f3_rooms.specs.Rooms.{Room, Rooms, Slot, Known, store_of}
 use Rattle.f3_rooms.specs.Rooms as slot
 use Rattle.f3_rooms.specs.Places as places
 use Rattle.f3_rooms.specs.Ways.{offset, variable_in}
 use Rattle.f3_rooms.proofs.Whole.{statics_stand, locals_stand}
-use Rattle.f3_room_places.specs.Starts.{starts_from}
 use Rattle.f3_word_areas.specs.Parts.{IsLaid}
 use Rattle.f3_word_areas.proofs.Types.{all-at, declared-rank}
 use Rattle.f3_word_areas.proofs.Variables.{begins-there, ends-within, variable-there}
 use Rattle.f3_word_cells.specs.declared.cell.Area.{Area}
 use Rattle.f3_word_cells.specs.declared.cell.Object.{Object}
-use Rattle.f3_word_cells.specs.declared.cell.Object.TheVariants as o
 use Rattle.f3_word_cells.specs.declared.scene.Frame.{Frame}
 use Rattle.f3_word_cells.specs.declared.scene.Scene.{Scene}
 use Rattle.f3_word_cells.specs.declared.state.Name.{Name}
@@ -44,7 +38,7 @@ use Rattle.f3_word_cells.specs.Cells.{AreNames, IsHere, names_in}
 use Rattle.f3_word_cells.specs.Plain.{ArePlain, IsPlain}
 use Rattle.f3_word_cells.specs.Scenes.{IsFrame, IsScene}
 use Rattle.f3_word_cells.specs.States.{Stands, level_rooms, levels_rooms, starts_of, statics_of}
-use Rattle.f3_word_objects.specs.Variables.{IsBlockOf, IsLent, IsLocal, IsLocalArea, IsNamed, IsProcedure, IsStatic, IsVariable}
+use Rattle.f3_word_objects.specs.Variables.{IsBlockOf, IsLent, IsLocal, IsStatic, IsVariable}
 use Rattle.f3_word_objects.proofs.Lists.{get-mapped}
 
 both : (a b : Bool) → (a && b) ≡ true → (a ≡ true) × (b ≡ true)
@@ -103,9 +97,9 @@ module _ (x : Scene) (scene : IsScene x) (m : Live) (w : State) (rooms : Rooms) 
       let same : v.declared ≡ y.declared = (let r : Some v.declared ≡ Some y.declared = sym v.is ∙ static-at i y e in cc) in
       let alloc : v.declared.kind.is_allocatable ≡ false = at-each (λ (d : Declared). d.kind.is_allocatable ≡ false) (statics_of q) i v.declared plain.statics v.is in
       let ranked : length v.declared.dimensions.items ≡ v.declared.kind.rank = subst (λ (d : Declared). length d.dimensions.items ≡ d.kind.rank) (sym same)
-          (static-ranked i y e (ap (λ (d : Declared). d.kind.is_allocatable) (sym same) ∙ alloc)) in
+      (static-ranked i y e (ap (λ (d : Declared). d.kind.is_allocatable) (sym same) ∙ alloc)) in
       let there = frame-variable x rooms m (Static i) rooms.statics (statics_of q) x.statics.now w.statics i a v scene.statics st.declared (sym st.statics) alloc ranked
-          (λ d at. statics_stand (types_of q) rooms i d at) in
+      (λ d at. statics_stand (types_of q) rooms i d at) in
       let of : static_type (slice_get q.statics.items i) ≡ a.of = ap static_type e ∙ ap (λ (d : Declared). d.kind.of) (sym same) ∙ sym v.laid.of in
       subst (λ (y : Object). IsObject q rooms y (to_root (Static i) (static_type (slice_get q.statics.items i)) (right_to unit (slice_get q.statics.items i)) unit (get stored (whole (Static i)))))
       (sym h.1) (of, there)
@@ -185,8 +179,8 @@ module _ (x : Scene) (scene : IsScene x) (m : Live) (w : State) (rooms : Rooms) 
         let level : w.here.level ≡ t.here.level = sym here.level in
         let number : 0 + i ≡ i = omega arith in
         let there = frame-variable x rooms m (Local t.here.level i) here.room (declared_in g.procedure) g.frame g.block i a v g.of.framed (here.declared ∙ these) (own-block g.block g.there) alloc ranked
-            (λ d at. ap (λ (l : ℕ). places.found (types_of q) rooms (Local l i) []) (sym level) ∙ ap (λ (k : ℕ). places.found (types_of q) rooms (Local w.here.level k) []) (sym number)
-                ∙ locals_stand (types_of q) rooms w.here.level [] [] here.room here.stands i d at) in
+        (λ d at. ap (λ (l : ℕ). places.found (types_of q) rooms (Local l i) []) (sym level) ∙ ap (λ (k : ℕ). places.found (types_of q) rooms (Local w.here.level k) []) (sym number)
+        ∙ locals_stand (types_of q) rooms w.here.level [] [] here.room here.stands i d at) in
         let of : type_of (slice_get t.here.variables i) ≡ a.of = ap type_of e ∙ ap (λ (d : Declared). d.kind.of) (sym same) ∙ sym v.laid.of in
         subst (λ (y : Object). IsObject q rooms y (to_root (Local t.here.level i) (type_of (slice_get t.here.variables i)) Define unit (get stored (whole (Local t.here.level i))))) (sym h.1) (of, there)
 

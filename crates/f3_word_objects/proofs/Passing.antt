@@ -1,6 +1,6 @@
 -- Objects are passed on, or asked for their bounds.
 use Rattle.std.proofs.Common.{◌≡◌, ◌∙◌, ℕ, ◌+◌, List, [], ◌∷◌, ◌++◌, refl, sym, ap, subst}
-use Rattle.std.specs.Prelude.{⊤, Ok, Err, None, Some, slice_get}
+use Rattle.std.specs.Prelude.{Ok, Err, None, Some, slice_get}
 use Rattle.f3_program.specs.declared.declarations.Kind.{Kind}
 use Rattle.f3_program.specs.declared.program.Program.{Program}
 use Rattle.f3_live_blocks.specs.Blocks.{Live}
@@ -8,14 +8,12 @@ use Rattle.f3_meaning_whole.specs.Value.{shown}
 use Rattle.f3_meaning_whole.specs.Reference.{Reference, Reach, One, Many, spans}
 use Rattle.f3_meaning_whole.specs.Act.{Lent}
 use Rattle.f3_meaning_whole.specs.Exec.{Means}
-use Rattle.f3_desc.specs.declared.descriptor.Dim.{Dim}
 use Rattle.f3_code.specs.declared.instruction.Instruction.{Instruction}
 use Rattle.f3_code.specs.declared.instruction.Instruction.TheVariants as i
 use Rattle.f3_code.specs.State.{Line}
 use Rattle.f3_code.specs.State as s
 use Rattle.f3_cell_kinds.specs.Types.{CellType}
 use Rattle.f3_cell_kinds.specs.Types as cell
-use Rattle.f3_cell_kinds.specs.Kinds.{Leads}
 use Rattle.f3_cell_kinds.specs.Effect.{on}
 use Rattle.f3_cell_kinds.specs.Laws.{site_at}
 use Rattle.f3_rooms.specs.Rooms.{Rooms}
@@ -62,7 +60,7 @@ module _ (p : Program) (m : Live) (old : State) where
         → Becomes p l t (Ok tt) m new
     replaced t l x told st k rest to b kinds next flat known taken is goes =
         let amid = amid_pushed p t m old mid new x to rest b taken.below (t.world).store [] a (mid.pc + 1)
-            (subst (λ bs. Amid p t m old mid x rest taken.below (t.world).store (bs ++ [])) (sym none) taken.amid) pushed flat is known in
+        (subst (λ bs. Amid p t m old mid x rest taken.below (t.world).store (bs ++ [])) (sym none) taken.amid) pushed flat is known in
         goes-on p t m old x told st l new (to ∷ rest) (b ∷ taken.below) amid next (pushed.pc ∙ ap (λ n. n + 1) popped.pc) goes
 
 -- ---- arguments and associate names
@@ -94,7 +92,6 @@ selects p m old mid new z popped pushed t l x told there is st =
 
 pub on-bounds : (p : Program) (m : Live) (old : State) → OnObject p m old i.BoundsOfVariable
 on-bounds p m old t l told there is = let lead = line_kinds p t l i.BoundsOfVariable told there is in (lead.0, lead.2.rest, lead.2.before)
-
 
 there-spans : (p : Program) (x : Rooms) (a : Area) (q : _) (reach : Reach) → AreThere p x a q reach → spans reach ≡ spans_of (a.elements).dims.items
 there-spans p x a q One h = ap spans_of (sym h.0)

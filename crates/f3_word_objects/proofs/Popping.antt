@@ -15,6 +15,9 @@ pub popped-own : (zs : List Cell) (old new : State) → PoppedAll zs old new →
 popped-own [] old new h = ap own (sym h)
 popped-own (a ∷ zs) old new h = h.1.cells ∙ ap (λ l. a ∷ l) (popped-own zs h.0 new h.2)
 
+abbrev pub choice-cells : List Chosen → List Cell
+choice-cells cs = map c.Choice cs
+
 pub popped-pc : (zs : List Cell) (old new : State) → PoppedAll zs old new → new.pc ≡ old.pc
 popped-pc [] old new h = ap (λ (w : State). w.pc) h
 popped-pc (a ∷ zs) old new h = popped-pc zs h.0 new h.2 ∙ h.1.pc
@@ -73,9 +76,9 @@ taking-more n i cs x old mid new lt h popped keeps =
     let here : suc j ≡ n - i = omega arith in
     let rest : List Chosen = drop (n - i) (take n cs) in
     let set : drop (n - (i + 1)) (take n (slice_set cs j x)) ≡ x ∷ rest =
-        ap (λ k. drop k (take n (slice_set cs j x))) next ∙ taken-set j n cs x (omega arith) h.within ∙ ap (λ k. x ∷ drop k (take n cs)) here in
+    ap (λ k. drop k (take n (slice_set cs j x))) next ∙ taken-set j n cs x (omega arith) h.within ∙ ap (λ k. x ∷ drop k (take n cs)) here in
     let cells : map c.Choice (reverse (drop (n - (i + 1)) (take n (slice_set cs j x)))) ≡ map c.Choice (reverse rest) ++ c.Choice x ∷ [] =
-        ap (λ l. map c.Choice (reverse l)) set ∙ ap (map c.Choice) (reverse-append (x ∷ []) rest) ∙ mapped-append (reverse rest) (x ∷ []) in
+    ap (λ l. map c.Choice (reverse l)) set ∙ ap (map c.Choice) (reverse-append (x ∷ []) rest) ∙ mapped-append (reverse rest) (x ∷ []) in
     record {
       within = let e = set-many cs j x in let w = h.within in omega arith;
       popped = subst (λ (zs : List Cell). PoppedAll zs old new) (sym cells) (popped-more (map c.Choice (reverse rest)) (c.Choice x) old mid new h.popped popped);

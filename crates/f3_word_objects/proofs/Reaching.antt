@@ -1,35 +1,28 @@
 -- The line of a component.
-use Rattle.std.proofs.Common.{◌≡◌, ◌∙◌, ℕ, ◌+◌, List, [], ◌∷◌, ◌++◌, refl, sym, ap, subst}
-use Rattle.std.specs.Prelude.{⊤, Ok, Err, None, Some, Option, slice_get}
+use Rattle.std.proofs.Common.{◌≡◌, ℕ, ◌+◌, [], ◌∷◌, refl, sym, ap, subst}
+use Rattle.std.specs.Prelude.{Ok, Err, None, Some}
 use Rattle.f3_program.specs.declared.program.Program.{Program}
 use Rattle.f3_live_blocks.specs.Blocks.{Live}
-use Rattle.f3_meaning_whole.specs.Act.{Here}
 use Rattle.f3_meaning_whole.specs.Reference.{Reference, Selected}
 use Rattle.f3_meaning_whole.specs.Store.{Store}
 use Rattle.f3_code.specs.declared.instruction.Instruction.TheVariants as i
 use Rattle.f3_code.specs.State.{Line, placed}
 use Rattle.f3_code.specs.State as s
-use Rattle.f3_cell_kinds.specs.Types.{CellType}
-use Rattle.f3_cell_kinds.specs.Types as cell
-use Rattle.f3_rooms.specs.Rooms.{Rooms, store_of}
 use Rattle.f3_room_places.specs.declared.types.Types.{Types}
 use Rattle.f3_word_cells.specs.declared.cell.Cell.TheVariants as c
 use Rattle.f3_word_cells.specs.declared.cell.Object.{Object}
 use Rattle.f3_word_cells.specs.declared.state.State.{State}
 use Rattle.f3_word_cells.specs.declared.state.Stop.TheVariants as stop
-use Rattle.f3_word_cells.specs.Areas.{IsObject, types_of}
-use Rattle.f3_word_cells.specs.Does.{DoesIn, GoesOn, IsTold, stream}
+use Rattle.f3_word_cells.specs.Areas.{IsObject}
+use Rattle.f3_word_cells.specs.Does.{DoesIn}
 use Rattle.f3_word_cells.specs.Moves.{Popped, Pushed}
-use Rattle.f3_word_cells.specs.Scenes.{code_of}
-use Rattle.f3_word_cells.specs.States.{Stands}
 use Rattle.f3_word_cells.proofs.Lines.{line_goes, performs_looks}
-use Rattle.f3_word_cells.proofs.Moving.{moved_to}
 use Rattle.f3_word_cells.proofs.OnTop.{line_kinds}
 use Rattle.f3_word_objects.specs.Parts.{Located}
 use Rattle.f3_word_objects.specs.Ranks.{AreShort}
 use Rattle.f3_word_objects.proofs.Members.{component-of, component-stands, some-component}
 use Rattle.f3_word_objects.proofs.Passing.{OnObject, replaced}
-use Rattle.f3_word_objects.proofs.Tops.{Taken, object-taken, goes-on}
+use Rattle.f3_word_objects.proofs.Tops.{object-taken}
 
 pub on-component : (p : Program) (m : Live) (old : State) (n : ℕ) → OnObject p m old (i.Component n)
 on-component p m old n t l told there is = let lead = line_kinds p t l (i.Component n) told there is in (lead.0, lead.6.rest, lead.6.before)

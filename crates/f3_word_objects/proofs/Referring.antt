@@ -1,13 +1,11 @@
 -- The line of a name.
-use Rattle.std.proofs.Common.{◌≡◌, ◌∙◌, ℕ, ◌+◌, List, [], ◌∷◌, ◌++◌, refl, sym, ap, subst}
-use Rattle.std.specs.Prelude.{⊤, Ok, Err, None, Some, Option, slice_get, slice_index_or}
+use Rattle.std.proofs.Common.{◌≡◌, ◌∙◌, ◌+◌, List, [], ◌∷◌, refl, sym, ap, subst}
+use Rattle.std.specs.Prelude.{Ok, Err, None, Some, Option, slice_get, slice_index_or}
 use Rattle.f3_program.specs.declared.declarations.Base.TheVariants as base
-use Rattle.f3_program.specs.declared.declarations.Declared.{Declared}
 use Rattle.f3_program.specs.declared.declarations.Kind.{Kind}
 use Rattle.f3_program.specs.declared.expression.Name as n
 use Rattle.f3_program.specs.declared.expression.Name.TheVariants as name
 use Rattle.f3_program.specs.declared.program.Program.{Program}
-use Rattle.f3_program.specs.declared.program.Static as static
 use Rattle.f3_live_blocks.specs.Blocks.{Live}
 use Rattle.f3_meaning_whole.specs.Act.{Here, to_root, static_type, type_of, right_to, whole}
 use Rattle.f3_meaning_whole.specs.Formed.{found, kind_of_name}
@@ -17,14 +15,11 @@ use Rattle.f3_meaning_whole.specs.Value.{Unallocated}
 use Rattle.f3_code.specs.declared.instruction.Instruction.TheVariants as i
 use Rattle.f3_code.specs.State.{Line, placed}
 use Rattle.f3_code.specs.State as s
-use Rattle.f3_cell_kinds.specs.Effect.{In, on}
 use Rattle.f3_cell_kinds.specs.Holds.{AllRefer, InScope, Knows}
-use Rattle.f3_cell_kinds.specs.Kinds.{Leads}
 use Rattle.f3_cell_kinds.specs.Laws.{site_at}
 use Rattle.f3_cell_kinds.specs.Types.{CellType, Scope, Told}
 use Rattle.f3_cell_kinds.specs.Types as cell
 use Rattle.f3_cell_kinds.proofs.Standing.{in_is}
-use Rattle.f3_cells.specs.Cells.{variables_of}
 use Rattle.f3_rooms.specs.Rooms.{Rooms, store_of}
 use Rattle.f3_word_cells.specs.declared.cell.Cell.TheVariants as c
 use Rattle.f3_word_cells.specs.declared.cell.Object.{Object}
@@ -37,13 +32,12 @@ use Rattle.f3_word_cells.specs.Does.{DoesIn, GoesOn, IsTold}
 use Rattle.f3_word_cells.specs.Moves.{Pushed}
 use Rattle.f3_word_cells.specs.Scenes.{IsScene, code_of}
 use Rattle.f3_word_cells.specs.States.{Stands, statics_of}
-use Rattle.f3_word_cells.proofs.Amid.{Amid, amid_first, amid_pushed}
+use Rattle.f3_word_cells.proofs.Amid.{amid_first, amid_pushed}
 use Rattle.f3_word_cells.proofs.Lines.{line_goes, performs_gives, performs_looks}
 use Rattle.f3_word_cells.proofs.Moving.{moved_to}
 use Rattle.f3_word_cells.proofs.OnTop.{line_kinds}
 use Rattle.f3_word_cells.proofs.Within.{here_stands}
-use Rattle.f3_word_objects.specs.Variables.{IsLent, IsLocal, IsNamed, IsStatic}
-use Rattle.f3_word_objects.proofs.Lists.{get-mapped}
+use Rattle.f3_word_objects.specs.Variables.{IsNamed}
 use Rattle.f3_word_objects.proofs.Named.{static-at, static-stands, local-stands, lent-stands, lent-there, block-there}
 use Rattle.f3_word_objects.proofs.Tops.{goes-on}
 

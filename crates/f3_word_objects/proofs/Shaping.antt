@@ -1,12 +1,10 @@
 -- Shapes are tested.
-use Rattle.std.proofs.Common.{◌≡◌, ◌∙◌, ℕ, ◌+◌, Bool, true, false, List, [], ◌∷◌, ◌++◌, length, refl, sym, ap, subst}
-use Rattle.std.specs.Prelude.{⊤, Ok, Err, None, Some, slice_get}
-use Rattle.f3_program.specs.declared.declarations.Constant.{Constant}
+use Rattle.std.proofs.Common.{◌≡◌, ◌∙◌, ℕ, ◌+◌, Bool, true, false, List, [], ◌∷◌, ◌++◌, length, refl, ap}
+use Rattle.std.specs.Prelude.{Ok, Err, None, Some, slice_get}
 use Rattle.f3_program.specs.declared.declarations.Constant.TheVariants as constant
 use Rattle.f3_program.specs.declared.program.Program.{Program}
 use Rattle.f3_live_blocks.specs.Blocks.{Live}
 use Rattle.f3_meaning_whole.specs.Value.{Span, Value, conforms}
-use Rattle.f3_meaning_whole.specs.Arithmetic.{constant_value}
 use Rattle.f3_meaning_whole.specs.Shape.{Shape, Whole, Logical, Record}
 use Rattle.f3_meaning_whole.specs.Reference.{Reference, spans}
 use Rattle.f3_meaning_whole.specs.declared.run_error.RunError.TheVariants.{ShapesDiffer}
@@ -33,7 +31,7 @@ use Rattle.f3_word_cells.specs.declared.state.State.{State}
 use Rattle.f3_word_cells.specs.declared.state.Stop.TheVariants as stop
 use Rattle.f3_word_cells.specs.Areas.{IsDatum, IsObject, shape_for, spans_of}
 use Rattle.f3_word_cells.specs.Cells.{IsCell}
-use Rattle.f3_word_cells.specs.Does.{DoesIn, GoesOn, IsTold, StopsSo, stream}
+use Rattle.f3_word_cells.specs.Does.{DoesIn, GoesOn, IsTold, StopsSo}
 use Rattle.f3_word_cells.specs.Moves.{Popped, Pushed}
 use Rattle.f3_word_cells.specs.Scenes.{code_of}
 use Rattle.f3_word_cells.specs.States.{Stands, datum_blocks, own, IsKnown}
@@ -44,7 +42,7 @@ use Rattle.f3_word_cells.proofs.OnTop.{line_kinds, two_on_top, of_datum, of_obje
 use Rattle.f3_word_objects.specs.Shapes.{conforms_to, dims_of, fits_to}
 use Rattle.f3_word_objects.specs.Taken.{Took}
 use Rattle.f3_word_objects.proofs.Passing.{OnObject, object-spans}
-use Rattle.f3_word_objects.proofs.Tops.{Taken, object-taken, goes-on, top-cell}
+use Rattle.f3_word_objects.proofs.Tops.{goes-on, top-cell}
 
 -- ---- values
 

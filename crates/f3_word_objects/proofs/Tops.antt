@@ -1,6 +1,6 @@
 -- Objects on top.
-use Rattle.std.proofs.Common.{◌≡◌, ◌∙◌, ℕ, ◌+◌, List, [], ◌∷◌, ◌++◌, refl, sym, ap, subst}
-use Rattle.std.specs.Prelude.{⊤, Ok, None, Some, slice_get}
+use Rattle.std.proofs.Common.{◌≡◌, ◌∙◌, ◌+◌, List, [], ◌∷◌, refl, sym, ap}
+use Rattle.std.specs.Prelude.{Ok, None}
 use Rattle.f3_program.specs.declared.declarations.Kind.{Kind}
 use Rattle.f3_program.specs.declared.program.Program.{Program}
 use Rattle.f3_live_blocks.specs.Blocks.{Live}
@@ -22,9 +22,9 @@ use Rattle.f3_word_cells.specs.declared.state.State.{State}
 use Rattle.f3_word_cells.specs.Areas.{IsObject}
 use Rattle.f3_word_cells.specs.Cells.{AreCells, IsCell}
 use Rattle.f3_word_cells.specs.Does.{Becomes, GoesOn, IsTold}
-use Rattle.f3_word_cells.specs.Moves.{Popped, Pushed}
-use Rattle.f3_word_cells.specs.States.{Stands, cell_blocks, own}
-use Rattle.f3_word_cells.proofs.Amid.{Amid, amid_first, amid_last, amid_popped, amid_pushed}
+use Rattle.f3_word_cells.specs.Moves.{Popped}
+use Rattle.f3_word_cells.specs.States.{Stands, own}
+use Rattle.f3_word_cells.proofs.Amid.{Amid, amid_first, amid_last, amid_popped}
 use Rattle.f3_word_cells.proofs.Moving.{moved_to}
 use Rattle.f3_word_cells.proofs.OnTop.{one_on_top, of_object}
 use Rattle.f3_word_objects.specs.Taken.{Took}
@@ -35,7 +35,7 @@ pub top-cell : (p : Program) (m : Live) (Rest : Rooms → List Name → Type 0) 
 top-cell p m Rest x ns h here [] b bs are = absurd are
 top-cell p m Rest x ns h here (a ∷ zs) b bs are = (a, zs, refl, are.0)
 
-object-cell : (p : Program) (m : Live) (x : Rooms) (ns : List Name) (a : Cell) (r : Reference) → IsCell p x m ns a (s.Object r) → (o : Object) × (a ≡ c.Object o)
+pub object-cell : (p : Program) (m : Live) (x : Rooms) (ns : List Name) (a : Cell) (r : Reference) → IsCell p x m ns a (s.Object r) → (o : Object) × (a ≡ c.Object o)
 object-cell p m x ns (c.Object o) r is = (o, refl)
 object-cell p m x ns a r is = absurd is
 

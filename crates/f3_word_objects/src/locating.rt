@@ -6,6 +6,7 @@ ghost use Rattle.f3_live_blocks.specs.Blocks.{Live};
 ghost use Rattle.f3_room_places.specs.Places.{HasTables};
 ghost use Rattle.f3_word_cells.specs.Does.{DoesIn, Keeps};
 ghost use Rattle.f3_word_cells.specs.Scenes.{IsScene};
+ghost use Rattle.f3_word_objects.specs.Ones.{AreOfOne};
 ghost use Rattle.f3_word_objects.specs.Parts.{Located};
 ghost use Rattle.f3_word_objects.specs.Ranks.{AreRanked, AreShort, ComponentsHaveRanks};
 
@@ -48,6 +49,28 @@ pub fn component(scene: Scene<'_>, state: &mut State, number: usize) -> Result<(
     let Some(part) = located(scene.types, &object, number) else {
         return Err(Stop::Lost);
     };
+    state.go_on_with(Cell::Object(part));
+    Ok(())
+}
+
+/// The component of a number, and the object stays beneath. So far for single objects.
+#[inline(never)]
+pub fn component_beside(scene: Scene<'_>, state: &mut State, number: usize) -> Result<(), Stop>
+    requires scene { IsScene scene }
+    requires ranks { AreRanked scene.program.now }
+    requires pc { state.old.pc < 2 ^ 63 }
+    requires room { length state.old.cells.items.items < state.old.cells.room }
+    requires bottom { state.old.base ≤ length state.old.cells.items.items }
+    ensures does { (live : Live) → AreShort live → AreOfOne scene.entry.program.now → DoesIn scene.entry.program.now (i.ComponentOf number) result live live state.old state.new }
+    ensures keeps { Keeps state.old state.new }
+{
+    let Some(object) = pop_object(state) else {
+        return Err(Stop::Lost);
+    };
+    let Some(part) = located(scene.types, &object, number) else {
+        return Err(Stop::Lost);
+    };
+    state.push(Cell::Object(object));
     state.go_on_with(Cell::Object(part));
     Ok(())
 }

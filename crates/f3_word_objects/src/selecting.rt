@@ -9,6 +9,7 @@ ghost use Rattle.f3_word_cells.specs.declared.cell.Cell as cell;
 ghost use Rattle.f3_word_cells.specs.declared.cell.Cell.TheVariants as c;
 ghost use Rattle.f3_word_cells.specs.declared.cell.Object as o;
 ghost use Rattle.f3_word_cells.specs.Does.{DoesIn, Keeps};
+ghost use Rattle.f3_word_objects.specs.Ones.{AreOfOne};
 ghost use Rattle.f3_word_objects.specs.Picks.{Picks};
 ghost use Rattle.f3_word_objects.specs.Ranks.{AreShort};
 ghost use Rattle.f3_word_objects.specs.Shapes.{dims_of};
@@ -77,6 +78,47 @@ pub fn select(state: &mut State, is_opened: bool, count: usize) -> Result<(), St
     let Some(object) = pop_object(state) else {
         return Err(Stop::Lost);
     };
+    match picked(&object, &chosen[..count]) {
+        Ok(part) => {
+            state.go_on_with(Cell::Object(part));
+            Ok(())
+        }
+        Err(stop) => Err(stop),
+    }
+}
+
+/// Elements of a component by so many subscripts and triplets, and the object of which it is a component is beneath. So far for components of single objects.
+#[inline(never)]
+pub fn select_of(
+    state: &mut State,
+    is_opened: bool,
+    number: usize,
+    count: usize,
+) -> Result<(), Stop>
+    requires pc { state.old.pc < 2 ^ 63 }
+    requires room { length state.old.cells.items.items < state.old.cells.room }
+    requires bottom { state.old.base ≤ length state.old.cells.items.items }
+    ensures does { (p : program.Program) (live : Live) → AreShort live → AreOfOne p → DoesIn p (i.SelectOf is_opened number count) result live live state.old state.new }
+    ensures keeps { Keeps state.old state.new }
+{
+    let Some(rank) = rank_beneath(state.cells.items.as_slice(), count) else {
+        return Err(Stop::Lost);
+    };
+    if is_opened || rank != count {
+        return Err(Stop::Lost);
+    }
+    let Some(chosen) = pop_choices(state, count) else {
+        return Err(Stop::Lost);
+    };
+    let Some(object) = pop_object(state) else {
+        return Err(Stop::Lost);
+    };
+    let Some(whole) = pop_object(state) else {
+        return Err(Stop::Lost);
+    };
+    if dims_of(&whole).len() > 0 {
+        return Err(Stop::Lost);
+    }
     match picked(&object, &chosen[..count]) {
         Ok(part) => {
             state.go_on_with(Cell::Object(part));

@@ -44,8 +44,7 @@ fn conforms(object: &Object, datum: &Datum) -> bool
     let Datum::Block(area) = datum else {
         return true;
     };
-    area.elements.dims.is_empty()
-        || same_extents(dims_of(object), area.elements.dims.as_slice())
+    area.elements.dims.is_empty() || same_extents(dims_of(object), area.elements.dims.as_slice())
 }
 
 /// An error where a value has another shape than the object on top (own rule for 7.4.1.2).

@@ -211,7 +211,7 @@ module _ (p : Program) (mid k : Live) (us vs : List Declared) (x y a b : ℕ) (s
           level = refl;
           variables = refl;
           names = record { names = tt; count = refl; within = omega arith };
-          selected = refl;
+          selected = (refl, refl);
           room = begun b main_declared;
           stands = refl;
           declared = refl;

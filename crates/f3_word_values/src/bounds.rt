@@ -100,7 +100,7 @@ fn begin_at_one(dims: &mut [Dim])
 }
 
 /// The value of an expression that is no variable: its bounds are from 1 on.
-pub(crate) fn plain(datum: Datum) -> Datum
+pub fn plain(datum: Datum) -> Datum
     ensures value { (p : Program) (live : Live) (v : m.Value) → IsDatum p live datum v → IsDatum p live result (m.plain v) }
     ensures kind { (p : Program) (k : Kind) → IsLaid p k datum → IsLaid p k result }
     ensures blocks { datum_blocks result ≡ datum_blocks datum }

@@ -1,7 +1,7 @@
 //! Instructions over words that make values of values.
 #![tactic(auto)]
 
-mod bounds;
+pub mod bounds;
 mod finish;
 pub mod operations;
 pub mod queries;

@@ -1,4 +1,4 @@
-use Rattle.std.proofs.Common.{◌≡◌, ◌∙◌, sym, ap, subst, refl, ◌∷◌, List, length, drop, arith, rules, w64, FitsSigned, to_z, of_z, add-one, get_or, drop-cons, ◌+◌, suc, ◌*◌, ◌%◌, ◌^◌}
+use Rattle.std.proofs.Common.{◌≡◌, ◌∙◌, sym, ap, subst, ◌∷◌, List, drop, arith, rules, w64, FitsSigned, to_z, of_z, add-one, get_or, drop-cons, ◌+◌, ◌*◌, ◌%◌, ◌^◌}
 use Rattle.std.specs.Prelude.{ℤ, pos}
 use Rattle.std.proofs.lemmas.Int.{to_z-of_z}
 use Rattle.f3_desc.specs.declared.descriptor.Dim.{Dim}
@@ -34,5 +34,5 @@ loop-dimension-preserved c =
 pub returns : goal.returns
 returns c =
     let all = laying-all c.args.dimensions.now c.args.words c.loop-dimension.dims.items c.loop-dimension.stride
-        (subst (λ (r : List Dimension). Laying c.args.dimensions.now c.args.words c.loop-dimension.dims.items c.loop-dimension.stride r) (drop_all c.loop-dimension.dimension-index c.args.dimensions.now (omega arith)) c.loop-dimension.invariant) in
+    (subst (λ (r : List Dimension). Laying c.args.dimensions.now c.args.words c.loop-dimension.dims.items c.loop-dimension.stride r) (drop_all c.loop-dimension.dimension-index c.args.dimensions.now (omega arith)) c.loop-dimension.invariant) in
     record { spans = all.0; apart = all.1 }

@@ -1,4 +1,4 @@
-use Rattle.std.proofs.Common.{take, drop}
+use Rattle.std.proofs.Common.{drop}
 use Rattle.f3_word_areas.proofs.Laying.{Laying}
 use Rattle.f3_word_areas.proofs.bounds.dims_of.Given as goal
 

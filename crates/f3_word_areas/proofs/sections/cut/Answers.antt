@@ -19,7 +19,7 @@ returns-in_err-extent-in-Range-clause-ok c =
     let b : FitsSigned w128 c.end_of.result = search rules in
     let s : FitsSigned w64 c.in-Range.step = search rules in
     let from : to_z w64 (of_z w64 c.unwrap_or-from.result) ≡ unwrap_or c.in-Range.lower d.lower =
-        to_z-of_z w64 c.unwrap_or-from.result a ∙ c.unwrap_or-from.ensures ∙ ap (unwrap_or c.in-Range.lower) (to_z-of_z w64 d.lower l) in
+    to_z-of_z w64 c.unwrap_or-from.result a ∙ c.unwrap_or-from.ensures ∙ ap (unwrap_or c.in-Range.lower) (to_z-of_z w64 d.lower l) in
     let to : to_z w128 (of_z w128 c.end_of.result) ≡ unwrap_or c.in-Range.upper (last_of d) = to_z-of_z w128 c.end_of.result b ∙ c.end_of.ensures.value in
     let step = to_z-of_z w64 c.in-Range.step s in
     let same : progression (unwrap_or c.in-Range.lower d.lower) c.in-Range.step (count (unwrap_or c.in-Range.lower d.lower) (unwrap_or c.in-Range.upper (last_of d)) c.in-Range.step) ≡ progression (to_z w64 (of_z w64 c.unwrap_or-from.result)) (to_z w64 (of_z w64 c.in-Range.step)) (count (to_z w64 (of_z w64 c.unwrap_or-from.result)) (to_z w128 (of_z w128 c.end_of.result)) (to_z w64 (of_z w64 c.in-Range.step))) =
@@ -34,7 +34,7 @@ returns-in_ok-extent-in-Range-clause-value c =
     let b : FitsSigned w128 c.end_of.result = search rules in
     let s : FitsSigned w64 c.in-Range.step = search rules in
     let from : to_z w64 (of_z w64 c.unwrap_or-from.result) ≡ unwrap_or c.in-Range.lower d.lower =
-        to_z-of_z w64 c.unwrap_or-from.result a ∙ c.unwrap_or-from.ensures ∙ ap (unwrap_or c.in-Range.lower) (to_z-of_z w64 d.lower l) in
+    to_z-of_z w64 c.unwrap_or-from.result a ∙ c.unwrap_or-from.ensures ∙ ap (unwrap_or c.in-Range.lower) (to_z-of_z w64 d.lower l) in
     let to : to_z w128 (of_z w128 c.end_of.result) ≡ unwrap_or c.in-Range.upper (last_of d) = to_z-of_z w128 c.end_of.result b ∙ c.end_of.ensures.value in
     let wrapped : to_z w64 ((of_z w64 d.stride * of_z w64 c.in-Range.step) % 2 ^ 64) ≡ int_wrap w64 (d.stride *ℤ c.in-Range.step) = search (rules, wraps) in
     let extent : c.in_ok-extent-in-Range.extent ≡ count (unwrap_or c.in-Range.lower d.lower) (unwrap_or c.in-Range.upper (last_of d)) c.in-Range.step =

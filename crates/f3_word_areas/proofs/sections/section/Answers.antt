@@ -34,7 +34,7 @@ pub returns-in_default : goal.returns-in_default
 returns-in_default c =
     let s = c.in-Some.ensures.steps in
     let next : triplets_of c.loop-dim.dim-iterator.a.rest.now (map chosen_of c.loop-dim.dim-iterator.b.rest.now) ≡ triplet_of c.in-Some.dim.now (chosen_of c.in-Some.choice.now) ∷ triplets_of c.next.new.self.a.rest.now (map chosen_of c.next.new.self.b.rest.now) =
-        (λ i. triplets_of (s.0 i) (map chosen_of (s.1 i))) in
+    (λ i. triplets_of (s.0 i) (map chosen_of (s.1 i))) in
     let out = cutting-out _ _ _ _ _ _ _ _ _ _ s.0 next c.loop-dim.invariant in
     (sym c.some_step_is_zero.ensures ∙ c.if-some_step_is_zero.false, λ h. false≢true (c.in_default.ensures.ok.1 (out h)))
 
@@ -42,21 +42,21 @@ pub push-requires : goal.push-requires
 push-requires c =
     let s = c.in-Some.ensures.steps in
     let next : triplets_of c.loop-dim.dim-iterator.a.rest.now (map chosen_of c.loop-dim.dim-iterator.b.rest.now) ≡ triplet_of c.in-Some.dim.now (chosen_of c.in-Some.choice.now) ∷ triplets_of c.next.new.self.a.rest.now (map chosen_of c.next.new.self.b.rest.now) =
-        (λ i. triplets_of (s.0 i) (map chosen_of (s.1 i))) in
+    (λ i. triplets_of (s.0 i) (map chosen_of (s.1 i))) in
     (omega arith, cutting-room _ _ _ _ _ _ _ _ _ _ s.0 next c.loop-dim.invariant)
 
 pub cut-requires : goal.cut-requires
 cut-requires c =
     let s = c.in-Some.ensures.steps in
     let next : triplets_of c.loop-dim.dim-iterator.a.rest.now (map chosen_of c.loop-dim.dim-iterator.b.rest.now) ≡ triplet_of c.in-Some.dim.now (chosen_of c.in-Some.choice.now) ∷ triplets_of c.next.new.self.a.rest.now (map chosen_of c.next.new.self.b.rest.now) =
-        (λ i. triplets_of (s.0 i) (map chosen_of (s.1 i))) in
+    (λ i. triplets_of (s.0 i) (map chosen_of (s.1 i))) in
     All-head (λ t. ¬ (IsStepZero t)) _ _ (subst (λ (ts : List Triplet). All (λ t. ¬ (IsStepZero t)) ts) next c.loop-dim.invariant.stepping)
 
 pub loop-dim-preserved-in-Some-left : goal.loop-dim-preserved-in-Some-left
 loop-dim-preserved-in-Some-left c =
     let s = c.in-Some.ensures.steps in
     let next : triplets_of c.loop-dim.dim-iterator.a.rest.now (map chosen_of c.loop-dim.dim-iterator.b.rest.now) ≡ triplet_of c.in-Some.dim.now (chosen_of c.in-Some.choice.now) ∷ triplets_of c.next.new.self.a.rest.now (map chosen_of c.next.new.self.b.rest.now) =
-        (λ i. triplets_of (s.0 i) (map chosen_of (s.1 i))) in
+    (λ i. triplets_of (s.0 i) (map chosen_of (s.1 i))) in
     let t : Triplet = triplet_of c.in-Some.dim.now (chosen_of c.in-Some.choice.now) in
     let fits : FitsSigned w64 c.first.result = search rules in
     let first : to_z w64 (of_z w64 c.first.result) ≡ first_of t = to_z-of_z w64 c.first.result fits ∙ c.first.ensures in
@@ -68,7 +68,7 @@ pub loop-dim-preserved : goal.loop-dim-preserved
 loop-dim-preserved c =
     let s = c.in-Some.ensures.steps in
     let next : triplets_of c.loop-dim.dim-iterator.a.rest.now (map chosen_of c.loop-dim.dim-iterator.b.rest.now) ≡ triplet_of c.in-Some.dim.now (chosen_of c.in-Some.choice.now) ∷ triplets_of c.next.new.self.a.rest.now (map chosen_of c.next.new.self.b.rest.now) =
-        (λ i. triplets_of (s.0 i) (map chosen_of (s.1 i))) in
+    (λ i. triplets_of (s.0 i) (map chosen_of (s.1 i))) in
     let t : Triplet = triplet_of c.in-Some.dim.now (chosen_of c.in-Some.choice.now) in
     let fits : FitsSigned w64 c.first.result = search rules in
     let first : to_z w64 (of_z w64 c.first.result) ≡ first_of t = to_z-of_z w64 c.first.result fits ∙ c.first.ensures in

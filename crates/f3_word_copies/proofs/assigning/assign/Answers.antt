@@ -1,4 +1,4 @@
-use Rattle.std.proofs.Common.{◌≡◌, ◌∙◌, sym, ap, subst, refl, inl, inr}
+use Rattle.std.proofs.Common.{subst, refl, inl, inr}
 use Rattle.f3_word_cells.specs.declared.cell.Object.{Object}
 use Rattle.f3_word_cells.specs.declared.cell.Cell.TheVariants as cell
 use Rattle.f3_word_cells.specs.Moves.{Popped}

@@ -1,10 +1,9 @@
-use Rattle.std.proofs.Common.{◌≡◌, ◌∙◌, sym, ap, subst, refl, ℕ, ◌+◌, ◌*◌, ◌/◌, ◌≤◌, List, length, take, arith}
+use Rattle.std.proofs.Common.{◌≡◌, ◌∙◌, sym, ap, subst, refl, ℕ, ◌*◌, ◌/◌, ◌≤◌, List, length, arith}
 use Rattle.std.specs.Prelude.{pos}
-use Rattle.f3_live_blocks.specs.Blocks.{words_of, with_words}
+use Rattle.f3_live_blocks.specs.Blocks.{words_of}
 use Rattle.f3_desc.specs.declared.descriptor.Dim.{Dim}
-use Rattle.f3_desc.specs.Descriptor.{places, progression}
+use Rattle.f3_desc.specs.Descriptor.{places}
 use Rattle.f3_desc.specs.Laws.{size_of}
-use Rattle.f3_room_arrays.specs.Words.{copied}
 use Rattle.f3_room_arrays.proofs.Numbers.{places-many}
 use Rattle.f3_word_copies.specs.Spread.{fewer_of}
 use Rattle.f3_word_copies.proofs.Fewer.{fewer-second, quotient-within, all-copied}

@@ -1,4 +1,4 @@
-use Rattle.std.proofs.Common.{◌≡◌, ◌∙◌, sym, ap, subst, refl, ◌<◌, length, true, rules, w64, FitsSigned, arith}
+use Rattle.std.proofs.Common.{◌∙◌, sym, ◌<◌, length, rules, w64, FitsSigned, arith}
 use Rattle.std.proofs.lemmas.Int.{to_z-of_z}
 use Rattle.f3_live_blocks.specs.Blocks.{words_of}
 use Rattle.f3_word_copies.proofs.Fitted.{fit-more, unfit}

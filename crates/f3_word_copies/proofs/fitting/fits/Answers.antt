@@ -1,4 +1,4 @@
-use Rattle.std.proofs.Common.{◌≡◌, ◌∙◌, sym, ap, subst, refl, not}
+use Rattle.std.proofs.Common.{◌∙◌, sym, ap, subst, not}
 use Rattle.f3_program.specs.declared.declarations.Base.{Base}
 use Rattle.f3_meaning_whole.specs.Arithmetic.{value_fits}
 use Rattle.f3_word_cells.specs.declared.cell.Datum.{Datum}

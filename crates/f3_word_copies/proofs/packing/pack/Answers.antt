@@ -1,4 +1,4 @@
-use Rattle.std.proofs.Common.{◌≡◌, ◌∙◌, ◌<◌, length, arith, rules, w64, FitsSigned}
+use Rattle.std.proofs.Common.{◌≡◌, ◌∙◌, length, arith, rules, w64, FitsSigned}
 use Rattle.std.specs.Prelude.{pos}
 use Rattle.std.proofs.lemmas.Int.{to_z-of_z}
 use Rattle.f3_word_copies.proofs.Strides.{packed-next, stride-next, packed-few}

@@ -1,4 +1,4 @@
-use Rattle.std.proofs.Common.{◌≡◌, ◌≢◌, ◌∙◌, sym, ap, subst, refl, ℕ, ◌*◌, ◌/◌, ◌<◌, List, [], ◌∷◌, length, take, rules, w64, FitsSigned}
+use Rattle.std.proofs.Common.{◌≢◌, ◌∙◌, sym, ap, subst, ℕ, ◌*◌, ◌/◌, ◌<◌, [], ◌∷◌, length, take, rules, w64, FitsSigned}
 use Rattle.std.specs.Prelude.{ℤ, pos}
 use Rattle.std.proofs.lemmas.Int.{to_z-of_z}
 use Rattle.f3_live_blocks.specs.Blocks.{words_of, with_words}
@@ -67,7 +67,7 @@ returns-in-Scalar g c p x r v is =
     let word = to_z-of_z w64 c.word_of.result fits ∙ c.word_of.ensures in
     scalar-takes p c.args.types old x a r can.there _ c.in-Scalar.constant v can.value can.agrees c.take_source.ensures.none
     (λ some. c.take_source.ensures.some some
-      ∙ ap (λ (z : ℤ). with_words old a.elements.block (spread_over (words_of old a.elements.block) (z ∷ []) (places a.elements))) word)
+    ∙ ap (λ (z : ℤ). with_words old a.elements.block (spread_over (words_of old a.elements.block) (z ∷ []) (places a.elements))) word)
 
 pub returns-in-Block : goal.returns-in-Block
 returns-in-Block g c p x r v is =
@@ -88,6 +88,6 @@ returns-in-Block-2 g c p x r v is =
     array-takes p c.args.types old x a r can.there c.in-Block-2.value v can array _
     (λ none. c.take_array.ensures.none (ap (λ (w : ℕ). size_of a.elements.dims.items * w) size ∙ none))
     (λ some words. c.take_array.ensures.some some (subst (λ (w : ℕ). 0 < w) (sym size) words)
-      ∙ ap (λ (w : ℕ). with_words old a.elements.block (copied w (words_of old a.elements.block) (words_of old from)
-        (take (fewer_of (size_of a.elements.dims.items) (length (words_of old from) / w)) (places a.elements))
-        (progression (pos 0) (pos w) (fewer_of (size_of a.elements.dims.items) (length (words_of old from) / w))))) size)
+    ∙ ap (λ (w : ℕ). with_words old a.elements.block (copied w (words_of old a.elements.block) (words_of old from)
+    (take (fewer_of (size_of a.elements.dims.items) (length (words_of old from) / w)) (places a.elements))
+    (progression (pos 0) (pos w) (fewer_of (size_of a.elements.dims.items) (length (words_of old from) / w))))) size)

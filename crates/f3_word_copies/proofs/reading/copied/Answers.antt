@@ -1,8 +1,7 @@
-use Rattle.std.proofs.Common.{◌≡◌, ◌∙◌, sym, ap, subst, refl, ℕ, ◌+◌, ◌*◌, ◌<◌, ◌≤◌, length, arith}
-use Rattle.std.specs.Prelude.{ℤ, pos}
-use Rattle.f3_live_blocks.specs.Blocks.{Live, words_of, with_words}
+use Rattle.std.proofs.Common.{◌≡◌, ◌∙◌, sym, ap, subst, refl, ℕ, ◌+◌, ◌*◌, ◌≤◌, length, arith}
+use Rattle.std.specs.Prelude.{pos}
+use Rattle.f3_live_blocks.specs.Blocks.{words_of, with_words}
 use Rattle.f3_desc.specs.Descriptor.{places}
-use Rattle.f3_desc.specs.Laws.{size_of}
 use Rattle.f3_room_arrays.specs.Changes.{LieWithin}
 use Rattle.f3_room_arrays.specs.Words.{copied}
 use Rattle.f3_desc.specs.Descriptor.{progression}
@@ -59,12 +58,12 @@ returns g c p x r there =
     let dims = c.in-Some.ensures.dims ∙ ap (packed_from (pos c.words-size.result)) c.deref.ensures.0 ∙ ap (λ (w : ℕ). packed_from (pos w) a.elements.dims.items) size in
     elim c.if-packed-gt0.branch [
       | then-packed-gt0 w ↦
-        let source = ap (λ (n : ℕ). with_words mid c.in-Ok.block (copied n (words_of mid c.in-Ok.block) (words_of mid a.elements.block) (progression (pos 0) (pos n) k) (places a.elements))) size in
-        was-read p c.args.types old x a r there c.in-Ok.block c.in-Ok.ensures.fresh c.in-Some.packed.words total mid c.in-Ok.ensures.taken _ _
-        (ap (λ h. g.B.Blocks.blocks h) w.heap-is ∙ w.gather.ensures.written ∙ source) refl large _ dims refl refl refl
+          let source = ap (λ (n : ℕ). with_words mid c.in-Ok.block (copied n (words_of mid c.in-Ok.block) (words_of mid a.elements.block) (progression (pos 0) (pos n) k) (places a.elements))) size in
+          was-read p c.args.types old x a r there c.in-Ok.block c.in-Ok.ensures.fresh c.in-Some.packed.words total mid c.in-Ok.ensures.taken _ _
+          (ap (λ h. g.B.Blocks.blocks h) w.heap-is ∙ w.gather.ensures.written ∙ source) refl large _ dims refl refl refl
       | else-packed-gt0 w ↦
-        let none : c.in-Some.packed.words ≡ 0 = omega arith in
-        was-read p c.args.types old x a r there c.in-Ok.block c.in-Ok.ensures.fresh c.in-Some.packed.words total mid c.in-Ok.ensures.taken _ _
-        (ap (λ h. g.B.Blocks.blocks h) w.heap-is ∙ none-written p c.args.types old x a r there c.in-Ok.block c.in-Ok.ensures.fresh c.in-Some.packed.words total mid c.in-Ok.ensures.taken)
-        (none-copied p c.args.types old x a r there c.in-Ok.block c.in-Ok.ensures.fresh c.in-Some.packed.words total mid c.in-Ok.ensures.taken none) large _ dims refl refl refl
+          let none : c.in-Some.packed.words ≡ 0 = omega arith in
+          was-read p c.args.types old x a r there c.in-Ok.block c.in-Ok.ensures.fresh c.in-Some.packed.words total mid c.in-Ok.ensures.taken _ _
+          (ap (λ h. g.B.Blocks.blocks h) w.heap-is ∙ none-written p c.args.types old x a r there c.in-Ok.block c.in-Ok.ensures.fresh c.in-Some.packed.words total mid c.in-Ok.ensures.taken)
+          (none-copied p c.args.types old x a r there c.in-Ok.block c.in-Ok.ensures.fresh c.in-Some.packed.words total mid c.in-Ok.ensures.taken none) large _ dims refl refl refl
     ]

@@ -1,9 +1,9 @@
-use Rattle.std.proofs.Common.{◌≡◌, ◌∙◌, sym, ap, subst, refl, inl, inr, rules, w64, FitsSigned}
+use Rattle.std.proofs.Common.{◌∙◌, sym, ap, subst, refl, inl, inr, rules, w64, FitsSigned}
 use Rattle.std.proofs.lemmas.Int.{to_z-of_z}
 use Rattle.f3_word_copies.specs.Scalars.{scalar_of}
 use Rattle.f3_meaning_whole.specs.Shape.{shape_in}
 use Rattle.f3_rooms.specs.Places.{is_scalar_shape}
-use Rattle.f3_word_copies.specs.Reads.{IsThere, Reads}
+use Rattle.f3_word_copies.specs.Reads.{IsThere}
 use Rattle.f3_word_copies.proofs.Copying.{types-same}
 use Rattle.f3_word_copies.proofs.Standing.{constant-held, tables-for, one-live, one-within, one-value, no-dims, some-dims}
 use Rattle.f3_word_copies.proofs.reading.held.Goals as goal

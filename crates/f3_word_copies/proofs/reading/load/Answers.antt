@@ -1,4 +1,3 @@
-use Rattle.std.proofs.Common.{◌≡◌, ◌∙◌, sym, ap, subst, refl}
 use Rattle.f3_word_copies.proofs.Rooms.{keeps-same, keeps-then, keeps-took}
 use Rattle.f3_word_copies.proofs.Loading.{lost-load, there-load, does-load, fails-load}
 use Rattle.f3_word_copies.proofs.reading.load.Goals as goal

@@ -1,4 +1,4 @@
-use Rattle.std.proofs.Common.{◌≡◌, ◌∙◌, sym, ap, subst, refl, ℕ, ◌<◌, ◌+◌, ◌≤◌, length, arith, rules, w64, FitsSigned}
+use Rattle.std.proofs.Common.{◌≡◌, ◌∙◌, ap, subst, length, arith, rules, w64, FitsSigned}
 use Rattle.std.specs.Prelude.{ℤ, pos, ◌+ℤ◌, ◌*ℤ◌}
 use Rattle.std.proofs.lemmas.Int.{to_z-of_z}
 use Rattle.f3_word_copies.specs.Spread.{source_words}

@@ -1,4 +1,4 @@
-use Rattle.std.proofs.Common.{◌≡◌, ◌∷◌, length}
+use Rattle.std.proofs.Common.{length}
 use Rattle.std.specs.Prelude.{ℤ, pos, ◌+ℤ◌, ◌*ℤ◌}
 use Rattle.f3_live_blocks.specs.Blocks.{words_of}
 use Rattle.f3_desc.specs.Inner.Congruent.{IsCongruent}

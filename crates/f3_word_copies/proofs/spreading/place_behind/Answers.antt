@@ -1,8 +1,6 @@
-use Rattle.std.proofs.Common.{◌≡◌, ◌∙◌, ap, subst, rules, w64, FitsSigned}
-use Rattle.std.specs.Prelude.{ℤ, pos, ◌+ℤ◌}
+use Rattle.std.proofs.Common.{◌∙◌, ap, rules, w64, FitsSigned}
 use Rattle.std.specs.Int.{cast_unsigned}
 use Rattle.std.proofs.lemmas.Int.{to_z-of_z}
-use Rattle.f3_desc.specs.Inner.Congruent.{IsCongruent}
 use Rattle.f3_word_copies.proofs.Spreads.{congruent-behind}
 use Rattle.f3_word_copies.proofs.spreading.place_behind.Goals as goal
 

@@ -1,4 +1,4 @@
-use Rattle.std.proofs.Common.{◌≡◌, ◌∙◌, sym, ap, subst, refl, ℕ}
+use Rattle.std.proofs.Common.{subst, refl, ℕ}
 use Rattle.f3_program.specs.declared.declarations.Declared.{Declared}
 use Rattle.f3_meaning_whole.specs.Shape.{shape_in}
 use Rattle.f3_room_places.specs.Components.{offset_at}

@@ -12,5 +12,5 @@ returns c =
     let i = c.args.number in
     let n = c.index-all-names.result in
     let at : slice_get ns (h.from + i) ≡ Some n = subst (λ (xs : List Name). slice_get xs (h.from + i) ≡ Some n) c.as_slice-all.ensures.value
-        (slice_get_read c.as_slice-all.result.now (length c.as_slice-all.result.now) (h.from + i) n refl (omega arith) c.index-all-names.is) in
+    (slice_get_read c.as_slice-all.result.now (length c.as_slice-all.result.now) (h.from + i) n refl (omega arith) c.index-all-names.is) in
     (n, get-taken h.count i (drop h.from ns) (omega arith) ∙ get-dropped h.from i ns ∙ at, c.copied_object.ensures ∙ ap (λ (y : Name). y.object) (sym c.index-all-names.is))

@@ -1,4 +1,4 @@
-use Rattle.std.proofs.Common.{◌≡◌, ◌∙◌, sym, ap, subst, refl, ◌+◌}
+use Rattle.std.proofs.Common.{◌≡◌, ◌∙◌, ap, refl, ◌+◌}
 use Rattle.std.specs.Prelude.{slice_get, None, Some}
 use Rattle.f3_meaning_whole.specs.Exec.{declared_in}
 use Rattle.f3_rooms.specs.Ways.{offset}
@@ -7,14 +7,18 @@ use Rattle.f3_word_cells.specs.Areas.{types_of}
 use Rattle.f3_word_objects.proofs.naming.local_object.Goals as goal
 
 pub returns-in-Some-variable : goal.returns-in-Some-variable
-returns-in-Some-variable c = (c.in-Some-variable.area, refl, record {
-  procedure = c.in-Some.procedure.now;
-  frame = c.in-Some.frame.now;
-  block = c.in-Some-block_of.block;
-  of = c.in-Some.ensures;
-  there = let b = c.in-Some-block_of.ensures in record { first = b.0; level_is = b.1; block_is = b.2 };
-  variable = c.in-Some-variable.ensures (declared_in c.in-Some.procedure.now) c.in-Some-declared_of.ensures;
-})
+returns-in-Some-variable c = (
+  c.in-Some-variable.area,
+  refl,
+  record {
+    procedure = c.in-Some.procedure.now;
+    frame = c.in-Some.frame.now;
+    block = c.in-Some-block_of.block;
+    of = c.in-Some.ensures;
+    there = let b = c.in-Some-block_of.ensures in record { first = b.0; level_is = b.1; block_is = b.2 };
+    variable = c.in-Some-variable.ensures (declared_in c.in-Some.procedure.now) c.in-Some-declared_of.ensures;
+  },
+)
 
 pub returns-in-None : goal.returns-in-None
 returns-in-None c = λ d b is there.
@@ -24,5 +28,5 @@ returns-in-None c = λ d b is there.
     let e : slice_get (declared_in q) i ≡ Some c.in-Some-declared_of.declared.now = c.in-Some-declared_of.ensures in
     let none : slice_get c.in-Some.frame.now.starts.items i ≡ None = c.in-None.ensures (declared_in q) e in
     let some : slice_get c.in-Some.frame.now.starts.items i ≡ Some (0 + offset (types_of p) (declared_in q) i) =
-        ap (λ xs. slice_get xs i) c.in-Some.ensures.framed.starts ∙ begins-there (types_of p) (declared_in q) 0 i c.in-Some-declared_of.declared.now e in
+    ap (λ xs. slice_get xs i) c.in-Some.ensures.framed.starts ∙ begins-there (types_of p) (declared_in q) 0 i c.in-Some-declared_of.declared.now e in
     absurd cc

@@ -1,4 +1,4 @@
-use Rattle.std.proofs.Common.{◌≡◌, ◌∙◌, ap, refl, ℕ, ◌+◌}
+use Rattle.std.proofs.Common.{◌≡◌, ◌∙◌, ap, refl, ◌+◌}
 use Rattle.std.specs.Prelude.{slice_get, None, Some}
 use Rattle.std.specs.Option.{option_map}
 use Rattle.f3_program.specs.declared.program.Static.{Static}
@@ -33,5 +33,5 @@ returns-in-None c =
     let is : slice_get (statics_of p) i ≡ Some c.in-Some.found.now.declared = get-mapped (λ (y : Static). y.declared) p.statics.items i ∙ ap (option_map (λ (y : Static). y.declared)) at in
     let none : slice_get c.args.scene.statics.now.starts.items i ≡ None = c.in-None.ensures (statics_of p) is in
     let some : slice_get c.args.scene.statics.now.starts.items i ≡ Some (0 + offset (types_of p) (statics_of p) i) =
-        ap (λ xs. slice_get xs i) c.requires.scene.statics.starts ∙ begins-there (types_of p) (statics_of p) 0 i c.in-Some.found.now.declared is in
+    ap (λ xs. slice_get xs i) c.requires.scene.statics.starts ∙ begins-there (types_of p) (statics_of p) 0 i c.in-Some.found.now.declared is in
     absurd cc

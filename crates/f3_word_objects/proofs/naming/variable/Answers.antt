@@ -1,5 +1,4 @@
-use Rattle.std.proofs.Common.{◌≡◌, ◌∙◌, sym, ap, subst, refl, rules, Some}
-use Rattle.std.specs.Prelude.{slice_get}
+use Rattle.std.proofs.Common.{subst}
 use Rattle.f3_meaning_whole.specs.Shape.{shapes_of}
 use Rattle.f3_word_areas.specs.Parts.{IsLaid}
 use Rattle.f3_word_objects.proofs.Lists.{found}

@@ -1,4 +1,4 @@
-use Rattle.std.proofs.Common.{◌≡◌, ◌∙◌, sym, ap}
+use Rattle.std.proofs.Common.{◌∙◌, sym}
 use Rattle.f3_code.specs.declared.instruction.Instruction.TheVariants as i
 use Rattle.f3_word_objects.proofs.Passing.{lost}
 use Rattle.f3_word_objects.proofs.Shaping.{on-shape, datum-lost, shape-fails, shape-passes}
