@@ -20,7 +20,7 @@ use Rattle.f3_word_cells.specs.declared.scene.Scene.{Scene}
 use Rattle.f3_word_cells.specs.declared.state.State.{State}
 use Rattle.f3_word_cells.specs.declared.state.Stop.{Stop}
 use Rattle.f3_word_cells.specs.declared.state.Stop.TheVariants as stop
-use Rattle.f3_word_cells.specs.Plain.{is_plain_act}
+use Rattle.f3_word_machine.specs.Simple.{IsSimple, is_simple_act}
 use Rattle.f3_word_cells.specs.Scenes.{IsScene, code_of}
 use Rattle.f3_word_cells.specs.States.{Stands}
 use Rattle.f3_word_cells.specs.Does.{IsTold, IsAt, Becomes, Does, DoesIn, DoesAt}
@@ -68,12 +68,12 @@ lines_are x scene k is = ?
 pub all_short : (m : Live) (n : ℕ) → used_by m < n → n ≤ 2 ^ 63 → AreShort m
 all_short m n few most q = ?
 
--- no such instruction is in a program without allocatables
-pub not_plain : (p : Program) (act : Instruction) (m n : Live) (old new : State) (place : Place) (r : Result ⊤ Stop) (a b : o.State) → is_plain_act act ≡ false
-    → IsAt p act m old → PrintsAt p place act r m n old new a b
-not_plain p act m n old new place r a b no at =
-    let yes = ((at.told).plain).lines (at.state).pc at.line at.there in
-    absurd (true_is_false (sym yes ∙ (ap is_plain_act at.act ∙ no)))
+-- no other instruction is in such a program
+pub not_simple : (p : Program) (act : Instruction) (m n : Live) (old new : State) (place : Place) (r : Result ⊤ Stop) (a b : o.State) → IsSimple p → is_simple_act act ≡ false
+    → PrintsAt p place act r m n old new a b
+not_simple p act m n old new place r a b simple no = λ t l x told there acts at stands.
+    let yes = simple.lines t.pc l there in
+    absurd (true_not_false (sym yes ∙ (ap is_simple_act acts ∙ no)))
 
 -- ---- steps
 

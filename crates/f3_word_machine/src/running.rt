@@ -2,7 +2,7 @@
 
 ghost use Rattle.f3_output.specs.Output.{state_of};
 ghost use Rattle.f3_word_cells.specs.Scenes.{IsScene};
-ghost use Rattle.f3_word_objects.specs.Ranks.{AreRanked};
+ghost use Rattle.f3_word_machine.specs.Simple.{IsSimple};
 ghost use Rattle.f3_word_machine.specs.Runs.{RunsFrom};
 ghost use Rattle.f3_word_machine.specs.Steps.{IsReady};
 
@@ -23,7 +23,7 @@ pub fn run<B: Blocks, W: Write>(
     output: &mut Output<W>,
 ) -> Ended
     requires scene { IsScene scene }
-    requires ranks { AreRanked scene.program.now }
+    requires simple { IsSimple scene.program.now }
     requires ready { IsReady scene.program.now (B.blocks heap.old) state.old }
     ensures { RunsFrom scene.entry.program.now steps (B.blocks heap.old) state.old (state_of W.contents output.old) (state_of W.contents output.new) result }
 {

@@ -3,7 +3,7 @@
 ghost use Rattle.std.specs.Prelude.{◌≡◌};
 ghost use Rattle.f3_output.specs.Output.{state_of};
 ghost use Rattle.f3_word_cells.specs.Scenes.{IsScene};
-ghost use Rattle.f3_word_objects.specs.Ranks.{AreRanked};
+ghost use Rattle.f3_word_machine.specs.Simple.{IsSimple};
 ghost use Rattle.f3_word_machine.specs.Steps.{IsReady, StepsFrom, ended_by};
 
 use crate::ended::Ended;
@@ -41,7 +41,7 @@ pub(crate) fn step<B: Blocks, W: Write>(
     output: &mut Output<W>,
 ) -> Result<(), Ended>
     requires scene { IsScene scene }
-    requires ranks { AreRanked scene.program.now }
+    requires simple { IsSimple scene.program.now }
     requires ready { IsReady scene.program.now (B.blocks heap.old) state.old }
     ensures { StepsFrom scene.entry.program.now result (B.blocks heap.old) (B.blocks heap.new) state.old state.new
         (state_of W.contents output.old) (state_of W.contents output.new) }

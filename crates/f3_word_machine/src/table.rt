@@ -5,6 +5,7 @@ ghost use Rattle.f3_output.specs.Output.{state_of};
 ghost use Rattle.f3_word_cells.specs.Does.{IsAt};
 ghost use Rattle.f3_word_cells.specs.Scenes.{IsScene};
 ghost use Rattle.f3_word_objects.specs.Ranks.{AreRanked, AreShort};
+ghost use Rattle.f3_word_machine.specs.Simple.{IsSimple};
 ghost use Rattle.f3_word_machine.specs.Steps.{PrintsAt};
 
 use f3_code::instruction::Instruction;
@@ -15,7 +16,7 @@ use f3_word_calls::{associates, dummies, returns};
 use f3_word_cells::scene::Scene;
 use f3_word_cells::state::{State, Stop};
 use f3_word_control::{constructs, dropping, jumps, printing};
-use f3_word_copies::{assigning, counting, reading};
+use f3_word_copies::{assigning, clearing, counting, reading, setting};
 use f3_word_objects::{asking, locating, naming, selecting, shapes};
 use f3_word_values::{operations, queries, values};
 use std::io::Write;
@@ -30,6 +31,7 @@ pub(crate) fn perform<B: Blocks, W: Write>(
     output: &mut Output<W>,
 ) -> Result<(), Stop>
     requires scene { IsScene scene }
+    requires simple { IsSimple scene.program.now }
     requires ranks { AreRanked scene.program.now }
     requires short { AreShort (B.blocks heap.old) }
     requires pc { state.old.pc < 2 ^ 63 }
@@ -55,6 +57,12 @@ pub(crate) fn perform<B: Blocks, W: Write>(
         Instruction::Refer(a0) => naming::refer(scene, state, a0),
         Instruction::Component(a0) => locating::component(scene, state, a0),
         Instruction::Select(a0, a1) => selecting::select(state, a0, a1),
+        Instruction::ComponentOf(a0) => locating::component_beside(scene, state, a0),
+        Instruction::SelectOf(a0, a1, a2) => selecting::select_of(state, a0, a1, a2),
+        Instruction::Result => returns::result(state),
+        Instruction::Selecting => constructs::selecting(heap, state),
+        Instruction::Clear => clearing::clear(state),
+        Instruction::Set => setting::set(scene, heap, state),
         Instruction::Subscript => values::subscript(state),
         Instruction::Limit => values::limit(state),
         Instruction::NoLimit => values::no_limit(state),

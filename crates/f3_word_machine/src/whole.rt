@@ -8,7 +8,7 @@ ghost use Rattle.f3_cell_kinds.specs.Sense.{MakesSense};
 ghost use Rattle.f3_output.specs.Output.{state_of};
 ghost use Rattle.f3_word_cells.specs.Plain.{IsPlain};
 ghost use Rattle.f3_word_cells.specs.Scenes.{IsScene, code_of};
-ghost use Rattle.f3_word_objects.specs.Ranks.{AreRanked};
+ghost use Rattle.f3_word_machine.specs.Simple.{IsSimple};
 ghost use Rattle.f3_word_machine.specs.Whole.{RunsWhole};
 
 use crate::ended::Ended;
@@ -33,7 +33,7 @@ pub fn run_program<B: Blocks, W: Write>(
     output: &mut Output<W>,
 ) -> Ended
     requires scene { IsScene scene }
-    requires ranks { AreRanked scene.program.now }
+    requires simple { IsSimple scene.program.now }
     requires plain { IsPlain scene.program.now }
     requires formed { IsWellFormed scene.program.now }
     requires sense { MakesSense scene.program.now }
