@@ -25,6 +25,8 @@ use Rattle.f3_word_cells.specs.Scenes.{code_of}
 use Rattle.f3_word_cells.specs.States.{Stands}
 use Rattle.f3_word_cells.specs.Does.{IsTold, stream}
 use Rattle.f3_word_laws.proofs.Telling.{start_is_told}
+use Rattle.f3_word_needs.specs.Room.{HasRoom}
+use Rattle.f3_word_needs.proofs.Keeping.{start_has_room}
 use Rattle.f3_word_start.specs.Begins.{Begins, IsRefused, first_state, first_events}
 use Rattle.f3_word_machine.specs.declared.ended.Ended.{Ended}
 use Rattle.f3_word_machine.specs.declared.ended.Ended.TheVariants as end
@@ -75,9 +77,12 @@ module _ (p : Program) where
   pub first_told : (live : Live) (w : State) → IsPlain p → IsWellFormed p → MakesSense p → Begins p live w → IsTold p first
   first_told live w plain formed sense begins = start_is_told p plain formed sense (granted none_more) first (begins.begins (granted none_more) refl) live w begins.rooms (begins.stands none_more)
 
+  first_roomy : (live : Live) (w : State) → Begins p live w → HasRoom p first
+  first_roomy live w begins = start_has_room p first (false ∷ []) (λ rest. begins.begins (granted rest) refl)
+
   pub first_ready : (live : Live) (w : State) → IsPlain p → IsWellFormed p → MakesSense p → Begins p live w → IsReady p live w
   first_ready live w plain formed sense begins =
-      record { state = first; rooms = begins.rooms; told = first_told live w plain formed sense begins; stands = begins.stands none_more }
+      record { state = first; rooms = begins.rooms; told = first_told live w plain formed sense begins; stands = begins.stands none_more; roomy = first_roomy live w begins }
 
   module _ (live : Live) (w : State) (begins : Begins p live w) (steps less : ℕ) (a b : o.State) (more : steps ≡ suc less) where
     answered : (e : machine.Ended) → Answered (course_from p first) less a b e → Answered (course_of p) steps a b e

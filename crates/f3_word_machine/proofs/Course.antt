@@ -26,6 +26,8 @@ use Rattle.f3_word_cells.specs.Does.{IsTold, GoesOn, StopsSo, stream}
 use Rattle.f3_word_laws.specs.Comes.{Comes}
 use Rattle.f3_word_laws.proofs.Coming.{runs_go_on}
 use Rattle.f3_word_laws.proofs.Telling.{runs_are_told}
+use Rattle.f3_word_needs.specs.Room.{HasRoom}
+use Rattle.f3_word_needs.proofs.Keeping.{lines_keep_room}
 use Rattle.f3_word_machine.specs.Steps.{Went, Ends, Refuses, Strays, Steps}
 use Rattle.f3_word_machine.specs.Runs.{course_from, Answered, Strayed, AnswersSo}
 
@@ -42,6 +44,7 @@ module _ (p : Program) (t : s.State) where
     pub told : IsTold p to
     pub stands : Stands p live w rooms to
     pub wrote : Wrote a b bytes
+    pub roomy : HasRoom p t → HasRoom p to
 
   pub begun : (live : Live) (w : State) (x : Rooms) (a : o.State) → IsTold p t → Stands p live w x t → Reached 0 live w a a
   begun live w x a told stands = record {
@@ -52,6 +55,7 @@ module _ (p : Program) (t : s.State) where
     told = told;
     stands = stands;
     wrote = wrote_none;
+    roomy = λ h. h;
   }
 
   module _ (done : ℕ) (m : Live) (old : State) (a b : o.State) (r : Reached done m old a b) where
@@ -64,6 +68,8 @@ module _ (p : Program) (t : s.State) where
       told = runs_are_told p r.to w.next w.line w.bytes r.told w.there w.goes n new w.rooms w.stands;
       stands = w.stands;
       wrote = wrote_more r.wrote w.wrote;
+      roomy = λ h. lines_keep_room p r.to w.next w.line w.bytes r.told w.there w.goes
+          (runs_are_told p r.to w.next w.line w.bytes r.told w.there w.goes n new w.rooms w.stands) (r.roomy h);
     }
 
     -- what the machine does next, with these answers of the heap

@@ -1,16 +1,20 @@
 -- What an instruction does, by what its call says.
-use Rattle.std.proofs.Common.{◌≡◌, ◌≤◌, ◌<◌, ◌^◌, ℕ, Bool, false, true, [], length, sym, ◌∙◌, subst, ap, vec_len, arith}
-use Rattle.std.specs.Prelude.{⊤, ◌⊎◌, Result, Ok, Err, Some, None, slice_get, unwrap_or, Vec}
+use Rattle.std.proofs.Common.{◌≡◌, ◌≤◌, ◌<◌, ◌^◌, ℕ, Bool, false, true, [], length, refl, sym, ◌∙◌, subst, ap, inl, inr, vec_len, arith}
+use Rattle.std.specs.Prelude.{⊤, ◌⊎◌, Result, Ok, Err, Option, Some, None, slice_get, unwrap_or, Vec, IsTrue, is_some, nat_cmp}
 use Rattle.std.specs.declared.alloc.Global.{Global}
 use Rattle.std.proofs.lemmas.List.{length-map}
+use Rattle.std.proofs.lemmas.Bool.{true≢false}
 use Rattle.f3_places.specs.declared.source.Place.{Place}
 use Rattle.f3_program.specs.declared.program.Program.{Program}
-use Rattle.f3_live_blocks.specs.Blocks.{Live, IsLive, words_of}
+use Rattle.f3_live_blocks.specs.Blocks.{Live, Block, IsLive, words_of, words_in}
+use Rattle.std.specs.FinMap.{get}
+use Rattle.f3_heap_laws.proofs.Segs.{r-above}
 use Rattle.f3_heap_laws.specs.Account.{used_by}
 use Rattle.f3_heap_laws.proofs.Answers.{used-removed}
 use Rattle.f3_code.specs.declared.instruction.Instruction.{Instruction}
 use Rattle.f3_code.specs.State as s
-use Rattle.f3_code.specs.State.{Line}
+use Rattle.f3_code.specs.State.{Line, Code, Failed, placed}
+use Rattle.f3_meaning_whole.specs.Act.{Here}
 use Rattle.f3_gen_values.specs.Emission.{code_in}
 use Rattle.f3_output.specs.Output as o
 use Rattle.f3_output.specs.Output.{Wrote}
@@ -23,7 +27,7 @@ use Rattle.f3_word_cells.specs.declared.state.Stop.TheVariants as stop
 use Rattle.f3_word_machine.specs.Simple.{IsSimple, is_simple_act}
 use Rattle.f3_word_cells.specs.Scenes.{IsScene, code_of}
 use Rattle.f3_word_cells.specs.States.{Stands}
-use Rattle.f3_word_cells.specs.Does.{IsTold, IsAt, Becomes, Does, DoesIn, DoesAt}
+use Rattle.f3_word_cells.specs.Does.{IsTold, IsAt, Becomes, Does, DoesIn, DoesAt, StopsSo}
 use Rattle.f3_word_control.specs.Doing.{DoesAmong, DoesThere, DoesWith, DoesPrint, Prints}
 use Rattle.f3_word_objects.specs.Ranks.{AreShort}
 use Rattle.f3_word_machine.specs.declared.ended.Ended.{Ended}
@@ -62,20 +66,31 @@ module _ (p : Program) (act : Instruction) (place : Place) (old new : State) (r 
 
 -- how many lines there are
 pub lines_are : (x : Scene) → IsScene x → (k : ℕ) → k ≡ vec_len x.emission.now.lines → length (code_of x.program.now).lines ≡ k
-lines_are x scene k is = ?
+lines_are x scene k is = ap (λ (c : Code). length c.lines) (sym scene.code) ∙ (length-map x.emission.now.lines.items _ ∙ (let few = x.emission.now.lines.ok.0 in omega (arith, is, few)))
 
 -- a block has no more words than are in use
 pub all_short : (m : Live) (n : ℕ) → used_by m < n → n ≤ 2 ^ 63 → AreShort m
-all_short m n few most q = ?
+all_short m n few most q = by_block (get m q) refl where
+  by_block : (o : Option Block) → get m q ≡ o → length (words_of m q) < 2 ^ 63
+  by_block None is = subst (λ (o : Option Block). length (words_in o) < 2 ^ 63) (sym is) (omega (arith))
+  by_block (Some b) is =
+      let live : IsLive m q = subst (λ (o : Option Block). IsTrue (is_some o)) (sym is) tt in
+      let one = used-removed m q live in
+      let long = r-above (length (words_of m q)) in
+      omega (arith, one, long, few, most)
 
 -- no other instruction is in such a program
 pub not_simple : (p : Program) (act : Instruction) (m n : Live) (old new : State) (place : Place) (r : Result ⊤ Stop) (a b : o.State) → IsSimple p → is_simple_act act ≡ false
     → PrintsAt p place act r m n old new a b
 not_simple p act m n old new place r a b simple no = λ t l x told there acts at stands.
     let yes = simple.lines t.pc l there in
-    absurd (true_not_false (sym yes ∙ (ap is_simple_act acts ∙ no)))
+    absurd (true≢false (sym yes ∙ (ap is_simple_act acts ∙ no)))
 
 -- ---- steps
+
+place_is : (o : Option Place) (h : Here) → (placed o h).place ≡ unwrap_or o h.place
+place_is None h = refl
+place_is (Some q) h = refl
 
 module _ (p : Program) (t : s.State) (l : Line) (there : slice_get (code_of p).lines t.pc ≡ Some l) (place : Place) (at : unwrap_or l.place (t.here).place ≡ place) (n : Live) (new : State) (a b : o.State) where
   pub steps : Prints p l t (Ok tt) n new a b → Steps p t (Ok tt) n new a b
@@ -84,7 +99,13 @@ module _ (p : Program) (t : s.State) (l : Line) (there : slice_get (code_of p).l
   pub stops : (e : Stop) → Prints p l t (Err e) n new a b → Steps p t (Err (ended_by e place)) n new a b
   stops stop.Done f = record { line = l; there = there; bytes = []; stops = f.0; wrote = f.1 }
   stops (stop.Stopped number) f = record { line = l; there = there; bytes = []; stops = f.0; wrote = f.1 }
-  stops (stop.Failed error) f = record { line = l; there = there; bytes = []; stops = ?; wrote = f.1 }
+  stops (stop.Failed error) f = record {
+    line = l;
+    there = there;
+    bytes = [];
+    stops = subst (λ (z : Place). StopsSo p l t (Failed error z) []) (place_is l.place t.here ∙ at) f.0;
+    wrote = f.1;
+  }
   stops stop.Lost f = inr (record { line = l; there = there; how = inl f.0 })
   stops stop.Forbidden f = inr (record { line = l; there = there; how = inr f.0 })
   stops stop.Refused (to, bytes, goes, faulted) = record { line = l; there = there; next = to; bytes = bytes; goes = goes; faulted = faulted }

@@ -4,7 +4,7 @@ ghost use Rattle.f3_output.specs.Output.{state_of};
 ghost use Rattle.f3_word_cells.specs.Scenes.{IsScene};
 ghost use Rattle.f3_word_machine.specs.Simple.{IsSimple};
 ghost use Rattle.f3_word_machine.specs.Runs.{RunsFrom};
-ghost use Rattle.f3_word_machine.specs.Steps.{IsReady};
+ghost use Rattle.f3_word_machine.specs.Steps.{HasCells, IsReady};
 
 use crate::ended::Ended;
 use crate::step::step;
@@ -24,6 +24,7 @@ pub fn run<B: Blocks, W: Write>(
 ) -> Ended
     requires scene { IsScene scene }
     requires simple { IsSimple scene.program.now }
+    requires cells { HasCells scene.program.now state.old.cells.room }
     requires ready { IsReady scene.program.now (B.blocks heap.old) state.old }
     ensures { RunsFrom scene.entry.program.now steps (B.blocks heap.old) state.old (state_of W.contents output.old) (state_of W.contents output.new) result }
 {

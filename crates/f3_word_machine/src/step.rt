@@ -4,7 +4,7 @@ ghost use Rattle.std.specs.Prelude.{◌≡◌};
 ghost use Rattle.f3_output.specs.Output.{state_of};
 ghost use Rattle.f3_word_cells.specs.Scenes.{IsScene};
 ghost use Rattle.f3_word_machine.specs.Simple.{IsSimple};
-ghost use Rattle.f3_word_machine.specs.Steps.{IsReady, StepsFrom, ended_by};
+ghost use Rattle.f3_word_machine.specs.Steps.{HasCells, IsReady, StepsFrom, ended_by};
 
 use crate::ended::Ended;
 use crate::table::perform;
@@ -42,14 +42,16 @@ pub(crate) fn step<B: Blocks, W: Write>(
 ) -> Result<(), Ended>
     requires scene { IsScene scene }
     requires simple { IsSimple scene.program.now }
+    requires cells { HasCells scene.program.now state.old.cells.room }
     requires ready { IsReady scene.program.now (B.blocks heap.old) state.old }
-    ensures { StepsFrom scene.entry.program.now result (B.blocks heap.old) (B.blocks heap.new) state.old state.new
+    ensures cells { state.new.cells.room ≡ state.old.cells.room }
+    ensures does { StepsFrom scene.entry.program.now result (B.blocks heap.old) (B.blocks heap.new) state.old state.new
         (state_of W.contents output.old) (state_of W.contents output.new) }
 {
     let Some(line) = scene.emission.lines.get(state.pc) else {
         return Err(Ended::Strayed);
     };
-    if state.cells.items.len() >= state.cells.room || heap.used() >= MOST {
+    if heap.used() >= MOST {
         return Err(Ended::NoRoom);
     }
     let place = line.place.unwrap_or(state.here.place);

@@ -38,7 +38,8 @@ pub(crate) fn perform<B: Blocks, W: Write>(
     requires room { length state.old.cells.items.items < state.old.cells.room }
     requires bottom { state.old.base ≤ length state.old.cells.items.items }
     requires at { IsAt scene.program.now act (B.blocks heap.old) state.old }
-    ensures { PrintsAt scene.entry.program.now place act result (B.blocks heap.old) (B.blocks heap.new) state.old state.new
+    ensures cells { state.new.cells.room ≡ state.old.cells.room }
+    ensures does { PrintsAt scene.entry.program.now place act result (B.blocks heap.old) (B.blocks heap.new) state.old state.new
         (state_of W.contents output.old) (state_of W.contents output.new) }
 {
     let total = scene.emission.lines.len();

@@ -9,6 +9,7 @@ ghost use Rattle.f3_output.specs.Output.{state_of};
 ghost use Rattle.f3_word_cells.specs.Plain.{IsPlain};
 ghost use Rattle.f3_word_cells.specs.Scenes.{IsScene, code_of};
 ghost use Rattle.f3_word_machine.specs.Simple.{IsSimple};
+ghost use Rattle.f3_word_machine.specs.Steps.{HasCells};
 ghost use Rattle.f3_word_machine.specs.Whole.{RunsWhole};
 
 use crate::ended::Ended;
@@ -37,6 +38,7 @@ pub fn run_program<B: Blocks, W: Write>(
     requires plain { IsPlain scene.program.now }
     requires formed { IsWellFormed scene.program.now }
     requires sense { MakesSense scene.program.now }
+    requires cells { HasCells scene.program.now room.cells }
     requires empty { B.blocks heap.old ≡ empty }
     ensures { RunsWhole scene.entry.program.now steps (state_of W.contents output.old) (state_of W.contents output.new) result }
 {
