@@ -87,7 +87,7 @@ module _ (p : Program) (t : s.State) where
     halts steps halt c left e =
         let at = next (e.stops).given e.line (Stays (e.stops).out halt) e.there ((e.stops).stops none_more) in
         let printed : output ((r.comes).out ++ (e.stops).out) ≡ r.bytes ++ e.bytes =
-            output_both (r.comes).out (e.stops).out ∙ ap (λ y. y ++ output (e.stops).out) (r.comes).printed ∙ ap (λ y. r.bytes ++ y) (e.stops).printed in
+        output_both (r.comes).out (e.stops).out ∙ ap (λ y. y ++ output (e.stops).out) (r.comes).printed ∙ ap (λ y. r.bytes ++ y) (e.stops).printed in
         record {
           last = done + 1;
           within = omega arith;
@@ -116,8 +116,8 @@ module _ (p : Program) (t : s.State) where
     stops n new c steps end.WriteFault left e =
         let at = next (e.goes).given e.line (Goes (e.goes).out (with_answers none_more e.next)) e.there ((e.goes).goes none_more) in
         let printed : output ((r.comes).out ++ ((e.goes).out ++ [])) ≡ r.bytes ++ e.bytes =
-            output_both (r.comes).out ((e.goes).out ++ []) ∙ ap (λ y. y ++ output ((e.goes).out ++ [])) (r.comes).printed
-            ∙ ap (λ y. r.bytes ++ output y) (append-nil (e.goes).out) ∙ ap (λ y. r.bytes ++ y) (e.goes).printed in
+        output_both (r.comes).out ((e.goes).out ++ []) ∙ ap (λ y. y ++ output ((e.goes).out ++ [])) (r.comes).printed
+        ∙ ap (λ y. r.bytes ++ output y) (append-nil (e.goes).out) ∙ ap (λ y. r.bytes ++ y) (e.goes).printed in
         record {
           answers = stream (r.comes).given (stream (e.goes).given none_more);
           so = (done + 1, omega arith, subst (λ bytes. Faulted a c bytes) (sym (ap (λ (y : Course). output y.out) at ∙ printed)) (faulted_behind r.wrote e.faulted));

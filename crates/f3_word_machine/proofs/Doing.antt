@@ -1,6 +1,6 @@
 -- What an instruction does, by what its call says.
-use Rattle.std.proofs.Common.{◌≡◌, ◌≤◌, ◌<◌, ◌^◌, ℕ, Bool, false, true, [], length, refl, sym, ◌∙◌, subst, ap, inl, inr, vec_len, arith}
-use Rattle.std.specs.Prelude.{⊤, ◌⊎◌, Result, Ok, Err, Option, Some, None, slice_get, unwrap_or, Vec, IsTrue, is_some, nat_cmp}
+use Rattle.std.proofs.Common.{◌≡◌, ◌≤◌, ◌<◌, ◌^◌, ℕ, Bool, false, true, [], length, refl, sym, ◌∙◌, subst, ap, inl, inr, reverse, vec_len, nat_cmp, arith}
+use Rattle.std.specs.Prelude.{⊤, ◌⊎◌, Result, Ok, Err, Option, Some, None, slice_get, unwrap_or, Vec, IsTrue, is_some}
 use Rattle.std.specs.declared.alloc.Global.{Global}
 use Rattle.std.proofs.lemmas.List.{length-map}
 use Rattle.std.proofs.lemmas.Bool.{true≢false}
@@ -16,6 +16,12 @@ use Rattle.f3_code.specs.State as s
 use Rattle.f3_code.specs.State.{Line, Code, Failed, placed}
 use Rattle.f3_meaning_whole.specs.Act.{Here}
 use Rattle.f3_gen_values.specs.Emission.{code_in}
+use Rattle.f3_gen_values.specs.Emitted.{line_in}
+use Rattle.f3_gen_values.specs.declared.line.Line as emitted
+use Rattle.f3_meaning_whole.specs.Run.{setting_of}
+use Rattle.std.specs.Option.{option_map}
+use Rattle.std.proofs.lemmas.Option.{slice_get-map}
+use Rattle.f3_word_cells.proofs.Within.{here_stands}
 use Rattle.f3_output.specs.Output as o
 use Rattle.f3_output.specs.Output.{Wrote}
 use Rattle.f3_output.proofs.Outputs.{wrote_none}
@@ -26,7 +32,7 @@ use Rattle.f3_word_cells.specs.declared.state.Stop.{Stop}
 use Rattle.f3_word_cells.specs.declared.state.Stop.TheVariants as stop
 use Rattle.f3_word_machine.specs.Simple.{IsSimple, is_simple_act}
 use Rattle.f3_word_cells.specs.Scenes.{IsScene, code_of}
-use Rattle.f3_word_cells.specs.States.{Stands}
+use Rattle.f3_word_cells.specs.States.{Stands, AreCallers, beneath, own}
 use Rattle.f3_word_cells.specs.Does.{IsTold, IsAt, Becomes, Does, DoesIn, DoesAt, StopsSo}
 use Rattle.f3_word_control.specs.Doing.{DoesAmong, DoesThere, DoesWith, DoesPrint, Prints}
 use Rattle.f3_word_objects.specs.Ranks.{AreShort}
@@ -74,7 +80,7 @@ all_short m n few most q = by_block (get m q) refl where
   by_block : (o : Option Block) → get m q ≡ o → length (words_of m q) < 2 ^ 63
   by_block None is = subst (λ (o : Option Block). length (words_in o) < 2 ^ 63) (sym is) (omega (arith))
   by_block (Some b) is =
-      let live : IsLive m q = subst (λ (o : Option Block). IsTrue (is_some o)) (sym is) tt in
+      let live : IsLive m q = subst (λ (o : Option Block). IsTrue (is_some o)) (sym is) refl in
       let one = used-removed m q live in
       let long = r-above (length (words_of m q)) in
       omega (arith, one, long, few, most)
@@ -82,9 +88,9 @@ all_short m n few most q = by_block (get m q) refl where
 -- no other instruction is in such a program
 pub not_simple : (p : Program) (act : Instruction) (m n : Live) (old new : State) (place : Place) (r : Result ⊤ Stop) (a b : o.State) → IsSimple p → is_simple_act act ≡ false
     → PrintsAt p place act r m n old new a b
-not_simple p act m n old new place r a b simple no = λ t l x told there acts at stands.
+not_simple p act m n old new place r a b simple other = λ t l x told there acts at stands.
     let yes = simple.lines t.pc l there in
-    absurd (true≢false (sym yes ∙ (ap is_simple_act acts ∙ no)))
+    absurd (true≢false (sym yes ∙ (ap is_simple_act acts ∙ other)))
 
 -- ---- steps
 
@@ -110,3 +116,21 @@ module _ (p : Program) (t : s.State) (l : Line) (there : slice_get (code_of p).l
   stops stop.Forbidden f = inr (record { line = l; there = there; how = inr f.0 })
   stops stop.Refused (to, bytes, goes, faulted) = record { line = l; there = there; next = to; bytes = bytes; goes = goes; faulted = faulted }
   stops stop.Memory f = f.1
+
+-- the line of the code that was emitted as this one
+pub line_of : (x : Scene) → IsScene x → (l : emitted.Line) (pc : ℕ) → Some l ≡ slice_get x.emission.now.lines.items pc
+    → (y : Line) × (slice_get (code_of x.program.now).lines pc ≡ Some y) × (y.act ≡ l.act) × (y.place ≡ l.place)
+line_of x scene l pc is = (
+  line_in (setting_of x.program.now) l,
+  ap (λ (c : Code). slice_get c.lines pc) (sym scene.code)
+      ∙ (slice_get-map (line_in (setting_of x.program.now)) x.emission.now.lines.items pc ∙ ap (option_map (line_in (setting_of x.program.now))) (sym is)),
+  refl,
+  refl,
+)
+
+-- the place at which a line is done
+pub at_place : (p : Program) (m : Live) (w : State) (x : Rooms) (t : s.State) → Stands p m w x t → (y z : Option Place) → y ≡ z → (r : Place)
+    → r ≡ unwrap_or z w.here.place → unwrap_or y (t.here).place ≡ r
+at_place p m w x t st y z same r is =
+    let here = here_stands p m (AreCallers p m (beneath w) (reverse w.callers.items.items) t.frames) x w.names.items.items w.here t.here (own w) t.stack st.stack in
+    ap (λ o. unwrap_or o (t.here).place) same ∙ (ap (λ h. unwrap_or z h) here.place ∙ sym is)

@@ -1,6 +1,6 @@
 //! One instruction.
 
-ghost use Rattle.std.specs.Prelude.{◌≡◌};
+ghost use Rattle.std.specs.Prelude.{◌≡◌, Some, None, MatchOption, slice_get};
 ghost use Rattle.f3_output.specs.Output.{state_of};
 ghost use Rattle.f3_word_cells.specs.Scenes.{IsScene};
 ghost use Rattle.f3_word_machine.specs.Simple.{IsSimple};
@@ -8,6 +8,7 @@ ghost use Rattle.f3_word_machine.specs.Steps.{HasCells, IsReady, StepsFrom, ende
 
 use crate::ended::Ended;
 use crate::table::perform;
+use f3_gen_values::line::Line;
 use f3_heap::Blocks;
 use f3_output::output::Output;
 use f3_places::source::Place;
@@ -33,6 +34,16 @@ fn end_of(stop: Stop, place: Place) -> Ended
     }
 }
 
+/// The line of a number.
+fn line_at(lines: &[Line], pc: usize) -> Option<&Line>
+    ensures { MatchOption result (slice_get lines.now pc ≡ None) (λ l. slice_get lines.now pc ≡ Some l.now) }
+{
+    match lines.get(pc) {
+        Some(line) => Some(line),
+        None => None,
+    }
+}
+
 /// The next instruction.
 pub(crate) fn step<B: Blocks, W: Write>(
     scene: Scene<'_>,
@@ -48,7 +59,7 @@ pub(crate) fn step<B: Blocks, W: Write>(
     ensures does { StepsFrom scene.entry.program.now result (B.blocks heap.old) (B.blocks heap.new) state.old state.new
         (state_of W.contents output.old) (state_of W.contents output.new) }
 {
-    let Some(line) = scene.emission.lines.get(state.pc) else {
+    let Some(line) = line_at(&scene.emission.lines, state.pc) else {
         return Err(Ended::Strayed);
     };
     if heap.used() >= MOST {

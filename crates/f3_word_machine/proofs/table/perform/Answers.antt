@@ -1,4 +1,7 @@
-use Rattle.std.proofs.Common.{subst, refl}
+use Rattle.std.proofs.Common.{◌≡◌, false, subst, refl, Err}
+use Rattle.f3_word_cells.specs.declared.state.Stop.TheVariants as stop
+use Rattle.f3_code.specs.declared.instruction.Instruction.{Instruction}
+use Rattle.f3_word_machine.specs.Simple.{is_simple_act}
 use Rattle.f3_output.specs.Output.{state_of}
 use Rattle.f3_code.specs.declared.instruction.Instruction.TheVariants as i
 use Rattle.f3_word_cells.specs.Does.{IsAt}
@@ -132,31 +135,31 @@ pub returns-in-PrintByte-clause-does : goal.returns-in-PrintByte-clause-does
 returns-in-PrintByte-clause-does g c = by_prints c.args.scene.program.now c.args.act c.args.place c.args.state.now c.print_byte.new.state c.print_byte.result (g.B.Blocks.blocks c.args.heap.now) (g.B.Blocks.blocks c.args.heap.now) (state_of g.W.Write.contents c.args.output.now) (state_of g.W.Write.contents c.print_byte.new.output) (i.PrintByte c.in-PrintByte.a0) c.in-PrintByte.is (c.print_byte.ensures.does (g.B.Blocks.blocks c.args.heap.now))
 
 pub returns-in-Stop-clause-does : goal.returns-in-Stop-clause-does
-returns-in-Stop-clause-does g c = by_does c.args.scene.program.now c.args.act c.args.place c.args.state.now c.stop.new.state c.stop.result (g.B.Blocks.blocks c.args.heap.now) (g.B.Blocks.blocks c.args.heap.now) (state_of g.W.Write.contents c.args.output.now) (i.Stop c.in-Stop.a0) c.in-Stop.is c.stop.ensures.does
+returns-in-Stop-clause-does g c = by_does c.args.scene.program.now c.args.act c.args.place c.args.state.now c.stop.new._state c.stop.result (g.B.Blocks.blocks c.args.heap.now) (g.B.Blocks.blocks c.args.heap.now) (state_of g.W.Write.contents c.args.output.now) (i.Stop c.in-Stop.a0) c.in-Stop.is c.stop.ensures.does
 
 pub returns-in-SetPlace-clause-does : goal.returns-in-SetPlace-clause-does
 returns-in-SetPlace-clause-does g c = by_there c.args.scene.program.now c.args.act c.args.place c.args.state.now c.set_place.new.state c.set_place.result (g.B.Blocks.blocks c.args.heap.now) (g.B.Blocks.blocks c.args.heap.now) (state_of g.W.Write.contents c.args.output.now) i.SetPlace c.in-SetPlace.is c.set_place.ensures.does
 
 pub returns-in-GoOn-clause-does : goal.returns-in-GoOn-clause-does
-returns-in-GoOn-clause-does g c = by_among c.args.scene.program.now c.args.act c.args.place c.args.state.now c.go_on.new.state c.go_on.result (g.B.Blocks.blocks c.args.heap.now) (g.B.Blocks.blocks c.args.heap.now) (state_of g.W.Write.contents c.args.output.now) (i.GoOn c.in-GoOn.a0) c.total.result c.in-GoOn.is (lines_are c.args.scene c.requires.scene c.total.result c.len) c.go_on.ensures.does
+returns-in-GoOn-clause-does g c = by_among c.args.scene.program.now c.args.act c.args.place c.args.state.now c.go_on.new.state c.go_on.result (g.B.Blocks.blocks c.args.heap.now) (g.B.Blocks.blocks c.args.heap.now) (state_of g.W.Write.contents c.args.output.now) (i.GoOn c.in-GoOn.a0) c.len-total.result c.in-GoOn.is (lines_are c.args.scene c.requires.scene c.len-total.result c.len-total.ensures) c.go_on.ensures.does
 
 pub returns-in-GoBack-clause-does : goal.returns-in-GoBack-clause-does
 returns-in-GoBack-clause-does g c = by_does c.args.scene.program.now c.args.act c.args.place c.args.state.now c.go_back.new.state c.go_back.result (g.B.Blocks.blocks c.args.heap.now) (g.B.Blocks.blocks c.args.heap.now) (state_of g.W.Write.contents c.args.output.now) (i.GoBack c.in-GoBack.a0) c.in-GoBack.is c.go_back.ensures.does
 
 pub returns-in-SkipIfFalse-clause-does : goal.returns-in-SkipIfFalse-clause-does
-returns-in-SkipIfFalse-clause-does g c = by_among c.args.scene.program.now c.args.act c.args.place c.args.state.now c.skip_if_false.new.state c.skip_if_false.result (g.B.Blocks.blocks c.args.heap.now) (g.B.Blocks.blocks c.args.heap.now) (state_of g.W.Write.contents c.args.output.now) (i.SkipIfFalse c.in-SkipIfFalse.a0) c.total.result c.in-SkipIfFalse.is (lines_are c.args.scene c.requires.scene c.total.result c.len) c.skip_if_false.ensures.does
+returns-in-SkipIfFalse-clause-does g c = by_among c.args.scene.program.now c.args.act c.args.place c.args.state.now c.skip_if_false.new.state c.skip_if_false.result (g.B.Blocks.blocks c.args.heap.now) (g.B.Blocks.blocks c.args.heap.now) (state_of g.W.Write.contents c.args.output.now) (i.SkipIfFalse c.in-SkipIfFalse.a0) c.len-total.result c.in-SkipIfFalse.is (lines_are c.args.scene c.requires.scene c.len-total.result c.len-total.ensures) c.skip_if_false.ensures.does
 
 pub returns-in-SkipIfTrue-clause-does : goal.returns-in-SkipIfTrue-clause-does
-returns-in-SkipIfTrue-clause-does g c = by_among c.args.scene.program.now c.args.act c.args.place c.args.state.now c.skip_if_true.new.state c.skip_if_true.result (g.B.Blocks.blocks c.args.heap.now) (g.B.Blocks.blocks c.args.heap.now) (state_of g.W.Write.contents c.args.output.now) (i.SkipIfTrue c.in-SkipIfTrue.a0) c.total.result c.in-SkipIfTrue.is (lines_are c.args.scene c.requires.scene c.total.result c.len) c.skip_if_true.ensures.does
+returns-in-SkipIfTrue-clause-does g c = by_among c.args.scene.program.now c.args.act c.args.place c.args.state.now c.skip_if_true.new.state c.skip_if_true.result (g.B.Blocks.blocks c.args.heap.now) (g.B.Blocks.blocks c.args.heap.now) (state_of g.W.Write.contents c.args.output.now) (i.SkipIfTrue c.in-SkipIfTrue.a0) c.len-total.result c.in-SkipIfTrue.is (lines_are c.args.scene c.requires.scene c.len-total.result c.len-total.ensures) c.skip_if_true.ensures.does
 
 pub returns-in-Meets-clause-does : goal.returns-in-Meets-clause-does
 returns-in-Meets-clause-does g c = by_does c.args.scene.program.now c.args.act c.args.place c.args.state.now c.meets.new.state c.meets.result (g.B.Blocks.blocks c.args.heap.now) (g.B.Blocks.blocks c.args.heap.now) (state_of g.W.Write.contents c.args.output.now) (i.Meets c.in-Meets.a0) c.in-Meets.is c.meets.ensures.does
 
 pub returns-in-Leave-clause-does : goal.returns-in-Leave-clause-does
-returns-in-Leave-clause-does g c = by_among c.args.scene.program.now c.args.act c.args.place c.args.state.now c.leave.new.state c.leave.result (g.B.Blocks.blocks c.args.heap.now) (g.B.Blocks.blocks c.args.heap.now) (state_of g.W.Write.contents c.args.output.now) (i.Leave c.in-Leave.a0 c.in-Leave.a1) c.total.result c.in-Leave.is (lines_are c.args.scene c.requires.scene c.total.result c.len) c.leave.ensures.does
+returns-in-Leave-clause-does g c = by_among c.args.scene.program.now c.args.act c.args.place c.args.state.now c.leave.new.state c.leave.result (g.B.Blocks.blocks c.args.heap.now) (g.B.Blocks.blocks c.args.heap.now) (state_of g.W.Write.contents c.args.output.now) (i.Leave c.in-Leave.a0 c.in-Leave.a1) c.len-total.result c.in-Leave.is (lines_are c.args.scene c.requires.scene c.len-total.result c.len-total.ensures) c.leave.ensures.does
 
 pub returns-in-Depart-clause-does : goal.returns-in-Depart-clause-does
-returns-in-Depart-clause-does g c = by_among c.args.scene.program.now c.args.act c.args.place c.args.state.now c.depart.new.state c.depart.result (g.B.Blocks.blocks c.args.heap.now) (g.B.Blocks.blocks c.args.heap.now) (state_of g.W.Write.contents c.args.output.now) (i.Depart c.in-Depart.a0 c.in-Depart.a1) c.total.result c.in-Depart.is (lines_are c.args.scene c.requires.scene c.total.result c.len) c.depart.ensures.does
+returns-in-Depart-clause-does g c = by_among c.args.scene.program.now c.args.act c.args.place c.args.state.now c.depart.new.state c.depart.result (g.B.Blocks.blocks c.args.heap.now) (g.B.Blocks.blocks c.args.heap.now) (state_of g.W.Write.contents c.args.output.now) (i.Depart c.in-Depart.a0 c.in-Depart.a1) c.len-total.result c.in-Depart.is (lines_are c.args.scene c.requires.scene c.len-total.result c.len-total.ensures) c.depart.ensures.does
 
 pub returns-in-SelectVariable-clause-does : goal.returns-in-SelectVariable-clause-does
 returns-in-SelectVariable-clause-does g c = by_does c.args.scene.program.now c.args.act c.args.place c.args.state.now c.select_variable.new.state c.select_variable.result (g.B.Blocks.blocks c.args.heap.now) (g.B.Blocks.blocks c.args.heap.now) (state_of g.W.Write.contents c.args.output.now) i.SelectVariable c.in-SelectVariable.is c.select_variable.ensures.does
@@ -168,7 +171,7 @@ pub returns-in-Associated-clause-does : goal.returns-in-Associated-clause-does
 returns-in-Associated-clause-does g c = by_does c.args.scene.program.now c.args.act c.args.place c.args.state.now c.associated.new.state c.associated.result (g.B.Blocks.blocks c.args.heap.now) (g.B.Blocks.blocks c.args.heap.now) (state_of g.W.Write.contents c.args.output.now) i.Associated c.in-Associated.is c.associated.ensures.does
 
 pub returns-in-NextObject-clause-does : goal.returns-in-NextObject-clause-does
-returns-in-NextObject-clause-does g c = by_among c.args.scene.program.now c.args.act c.args.place c.args.state.now c.next_object.new.state c.next_object.result (g.B.Blocks.blocks c.args.heap.now) (g.B.Blocks.blocks c.args.heap.now) (state_of g.W.Write.contents c.args.output.now) (i.NextObject c.in-NextObject.a0) c.total.result c.in-NextObject.is (lines_are c.args.scene c.requires.scene c.total.result c.len) c.next_object.ensures.does
+returns-in-NextObject-clause-does g c = by_among c.args.scene.program.now c.args.act c.args.place c.args.state.now c.next_object.new.state c.next_object.result (g.B.Blocks.blocks c.args.heap.now) (g.B.Blocks.blocks c.args.heap.now) (state_of g.W.Write.contents c.args.output.now) (i.NextObject c.in-NextObject.a0) c.len-total.result c.in-NextObject.is (lines_are c.args.scene c.requires.scene c.len-total.result c.len-total.ensures) c.next_object.ensures.does
 
 pub returns-in-EndAssociate-clause-does : goal.returns-in-EndAssociate-clause-does
 returns-in-EndAssociate-clause-does g c = by_with c.args.scene.program.now c.args.act c.args.place c.args.state.now c.end_associate.new.state c.end_associate.result (g.B.Blocks.blocks c.args.heap.now) (g.B.Blocks.blocks c.end_associate.new.heap) (state_of g.W.Write.contents c.args.output.now) i.EndAssociate c.in-EndAssociate.is c.end_associate.ensures.does
@@ -189,7 +192,7 @@ pub count_begin-requires-clause-at : goal.count_begin-requires-clause-at
 count_begin-requires-clause-at g c = subst (λ x. IsAt c.args.scene.program.now x (g.B.Blocks.blocks c.args.heap.now) c.args.state.now) c.in-CountBegin.is c.requires.at
 
 pub returns-in-CountNext-clause-does : goal.returns-in-CountNext-clause-does
-returns-in-CountNext-clause-does g c = by_among c.args.scene.program.now c.args.act c.args.place c.args.state.now c.count_next.new.state c.count_next.result (g.B.Blocks.blocks c.args.heap.now) (g.B.Blocks.blocks c.args.heap.now) (state_of g.W.Write.contents c.args.output.now) (i.CountNext c.in-CountNext.a0) c.total.result c.in-CountNext.is (lines_are c.args.scene c.requires.scene c.total.result c.len) c.count_next.ensures.does
+returns-in-CountNext-clause-does g c = by_among c.args.scene.program.now c.args.act c.args.place c.args.state.now c.count_next.new.state c.count_next.result (g.B.Blocks.blocks c.args.heap.now) (g.B.Blocks.blocks c.args.heap.now) (state_of g.W.Write.contents c.args.output.now) (i.CountNext c.in-CountNext.a0) c.len-total.result c.in-CountNext.is (lines_are c.args.scene c.requires.scene c.len-total.result c.len-total.ensures) c.count_next.ensures.does
 
 pub returns-in-CountUp-clause-does : goal.returns-in-CountUp-clause-does
 returns-in-CountUp-clause-does g c = by_in c.args.scene.program.now c.args.act c.args.place c.args.state.now c.count_up.new.state c.count_up.result (g.B.Blocks.blocks c.args.heap.now) (g.B.Blocks.blocks c.count_up.new.heap) (state_of g.W.Write.contents c.args.output.now) (i.CountUp c.in-CountUp.a0) c.in-CountUp.is c.count_up.ensures.does
@@ -213,7 +216,7 @@ pub returns-in-Outward-clause-does : goal.returns-in-Outward-clause-does
 returns-in-Outward-clause-does g c = by_does c.args.scene.program.now c.args.act c.args.place c.args.state.now c.outward.new.state c.outward.result (g.B.Blocks.blocks c.args.heap.now) (g.B.Blocks.blocks c.args.heap.now) (state_of g.W.Write.contents c.args.output.now) i.Outward c.in-Outward.is c.outward.ensures.does
 
 pub returns-in-NextArgument-clause-does : goal.returns-in-NextArgument-clause-does
-returns-in-NextArgument-clause-does g c = by_among c.args.scene.program.now c.args.act c.args.place c.args.state.now c.next_argument.new.state c.next_argument.result (g.B.Blocks.blocks c.args.heap.now) (g.B.Blocks.blocks c.args.heap.now) (state_of g.W.Write.contents c.args.output.now) (i.NextArgument c.in-NextArgument.a0 c.in-NextArgument.a1) c.total.result c.in-NextArgument.is (lines_are c.args.scene c.requires.scene c.total.result c.len) c.next_argument.ensures.does
+returns-in-NextArgument-clause-does g c = by_among c.args.scene.program.now c.args.act c.args.place c.args.state.now c.next_argument.new.state c.next_argument.result (g.B.Blocks.blocks c.args.heap.now) (g.B.Blocks.blocks c.args.heap.now) (state_of g.W.Write.contents c.args.output.now) (i.NextArgument c.in-NextArgument.a0 c.in-NextArgument.a1) c.len-total.result c.in-NextArgument.is (lines_are c.args.scene c.requires.scene c.len-total.result c.len-total.ensures) c.next_argument.ensures.does
 
 pub returns-in-Return-clause-does : goal.returns-in-Return-clause-does
 returns-in-Return-clause-does g c = by_with c.args.scene.program.now c.args.act c.args.place c.args.state.now c.return_to_caller.new.state c.return_to_caller.result (g.B.Blocks.blocks c.args.heap.now) (g.B.Blocks.blocks c.return_to_caller.new.heap) (state_of g.W.Write.contents c.args.output.now) i.Return c.in-Return.is c.return_to_caller.ensures.does
@@ -222,4 +225,99 @@ pub return_to_caller-requires-clause-at : goal.return_to_caller-requires-clause-
 return_to_caller-requires-clause-at g c = (c.args.scene.program.now, subst (λ x. IsAt c.args.scene.program.now x (g.B.Blocks.blocks c.args.heap.now) c.args.state.now) c.in-Return.is c.requires.at)
 
 pub returns-in-Finish-clause-does : goal.returns-in-Finish-clause-does
-returns-in-Finish-clause-does g c = by_does c.args.scene.program.now c.args.act c.args.place c.args.state.now c.finish.new.state c.finish.result (g.B.Blocks.blocks c.args.heap.now) (g.B.Blocks.blocks c.args.heap.now) (state_of g.W.Write.contents c.args.output.now) i.Finish c.in-Finish.is c.finish.ensures.does
+returns-in-Finish-clause-does g c = by_does c.args.scene.program.now c.args.act c.args.place c.args.state.now c.finish.new._state c.finish.result (g.B.Blocks.blocks c.args.heap.now) (g.B.Blocks.blocks c.args.heap.now) (state_of g.W.Write.contents c.args.output.now) i.Finish c.in-Finish.is c.finish.ensures.does
+
+pub returns-in_default-clause-does : goal.returns-in_default-clause-does
+returns-in_default-clause-does g c =
+    not_simple c.args.scene.program.now c.args.act (g.B.Blocks.blocks c.args.heap.now) (g.B.Blocks.blocks c.args.heap.now) c.args.state.now c.args.state.now c.args.place (Err stop.Lost)
+    (state_of g.W.Write.contents c.args.output.now) (state_of g.W.Write.contents c.args.output.now) c.requires.simple (go c.args.act refl) where
+      go : (x : Instruction) → c.args.act ≡ x → is_simple_act x ≡ false
+      go (i.Push a0) e = absurd (c.in_default.not-Push a0 e)
+      go i.Plain e = absurd (c.in_default.not-Plain e)
+      go (i.Unary a0 a1) e = absurd (c.in_default.not-Unary a0 a1 e)
+      go (i.Binary a0 a1) e = absurd (c.in_default.not-Binary a0 a1 e)
+      go (i.Array a0) e = refl
+      go (i.Structure a0 a1) e = refl
+      go (i.Call a0 a1) e = refl
+      go i.Result e = absurd (c.in_default.not-Result e)
+      go i.IsAllocated e = refl
+      go i.BoundsOfValue e = absurd (c.in_default.not-BoundsOfValue e)
+      go i.BoundsOfVariable e = absurd (c.in_default.not-BoundsOfVariable e)
+      go i.Size e = absurd (c.in_default.not-Size e)
+      go (i.Bound a0) e = absurd (c.in_default.not-Bound a0 e)
+      go i.Load e = absurd (c.in_default.not-Load e)
+      go (i.PassValue a0) e = absurd (c.in_default.not-PassValue a0 e)
+      go (i.PassVariable a0) e = absurd (c.in_default.not-PassVariable a0 e)
+      go (i.Refer a0) e = absurd (c.in_default.not-Refer a0 e)
+      go (i.Component a0) e = absurd (c.in_default.not-Component a0 e)
+      go (i.ComponentOf a0) e = absurd (c.in_default.not-ComponentOf a0 e)
+      go i.Contents e = refl
+      go (i.Select a0 a1) e = absurd (c.in_default.not-Select a0 a1 e)
+      go (i.SelectOf a0 a1 a2) e = absurd (c.in_default.not-SelectOf a0 a1 a2 e)
+      go i.Subscript e = absurd (c.in_default.not-Subscript e)
+      go i.Limit e = absurd (c.in_default.not-Limit e)
+      go i.NoLimit e = absurd (c.in_default.not-NoLimit e)
+      go i.Triplet e = absurd (c.in_default.not-Triplet e)
+      go i.TestShape e = absurd (c.in_default.not-TestShape e)
+      go (i.ByState a0 a1) e = refl
+      go (i.TestRank a0) e = refl
+      go (i.New a0) e = refl
+      go (i.Take a0) e = absurd (c.in_default.not-Take a0 e)
+      go (i.Fill a0) e = absurd (c.in_default.not-Fill a0 e)
+      go i.Begin e = absurd (c.in_default.not-Begin e)
+      go i.Drop e = absurd (c.in_default.not-Drop e)
+      go (i.Unwind a0) e = absurd (c.in_default.not-Unwind a0 e)
+      go i.Swap e = absurd (c.in_default.not-Swap e)
+      go i.LendBoth e = refl
+      go i.TakeOver e = refl
+      go i.Dimension e = refl
+      go (i.Allocate a0 a1) e = refl
+      go (i.TestFree a0) e = refl
+      go i.NoError e = refl
+      go (i.SkipIfFailed a0) e = refl
+      go i.Check e = refl
+      go i.StoreStatus e = refl
+      go i.PrintValue e = absurd (c.in_default.not-PrintValue e)
+      go (i.PrintByte a0) e = absurd (c.in_default.not-PrintByte a0 e)
+      go (i.Stop a0) e = absurd (c.in_default.not-Stop a0 e)
+      go i.SetPlace e = absurd (c.in_default.not-SetPlace e)
+      go (i.GoOn a0) e = absurd (c.in_default.not-GoOn a0 e)
+      go (i.GoBack a0) e = absurd (c.in_default.not-GoBack a0 e)
+      go (i.SkipIfFalse a0) e = absurd (c.in_default.not-SkipIfFalse a0 e)
+      go (i.SkipIfTrue a0) e = absurd (c.in_default.not-SkipIfTrue a0 e)
+      go (i.Meets a0) e = absurd (c.in_default.not-Meets a0 e)
+      go i.Selecting e = absurd (c.in_default.not-Selecting e)
+      go (i.Leave a0 a1) e = absurd (c.in_default.not-Leave a0 a1 e)
+      go (i.Depart a0 a1) e = absurd (c.in_default.not-Depart a0 a1 e)
+      go i.SelectVariable e = absurd (c.in_default.not-SelectVariable e)
+      go (i.SelectValue a0) e = absurd (c.in_default.not-SelectValue a0 e)
+      go (i.Associate a0) e = refl
+      go i.Associated e = absurd (c.in_default.not-Associated e)
+      go (i.NextObject a0) e = absurd (c.in_default.not-NextObject a0 e)
+      go i.EndAssociate e = absurd (c.in_default.not-EndAssociate e)
+      go (i.Convert a0) e = absurd (c.in_default.not-Convert a0 e)
+      go i.TestStep e = absurd (c.in_default.not-TestStep e)
+      go i.CountBegin e = absurd (c.in_default.not-CountBegin e)
+      go (i.CountNext a0) e = absurd (c.in_default.not-CountNext a0 e)
+      go (i.CountUp a0) e = absurd (c.in_default.not-CountUp a0 e)
+      go i.Lend e = absurd (c.in_default.not-Lend e)
+      go i.Unlend e = absurd (c.in_default.not-Unlend e)
+      go (i.SkipUnlessRank a0 a1) e = refl
+      go i.PassObject e = refl
+      go (i.Routine a0) e = refl
+      go i.Back e = refl
+      go (i.WorkComponent a0) e = refl
+      go i.WalkBegin e = refl
+      go (i.WalkNext a0) e = refl
+      go (i.SkipUnlessAllocated a0) e = refl
+      go i.OpenContents e = refl
+      go i.Free e = refl
+      go i.Clear e = absurd (c.in_default.not-Clear e)
+      go i.Set e = absurd (c.in_default.not-Set e)
+      go i.Discard e = absurd (c.in_default.not-Discard e)
+      go i.Dummies e = absurd (c.in_default.not-Dummies e)
+      go (i.ResultOf a0) e = refl
+      go i.Outward e = absurd (c.in_default.not-Outward e)
+      go (i.NextArgument a0 a1) e = absurd (c.in_default.not-NextArgument a0 a1 e)
+      go i.Return e = absurd (c.in_default.not-Return e)
+      go i.Finish e = absurd (c.in_default.not-Finish e)
