@@ -1,0 +1,131 @@
+-- The course of the machine, instruction by instruction.
+use Rattle.std.proofs.Common.{◌≡◌, ◌≤◌, ◌<◌, ℕ, false, zero, suc, ◌+◌, Bool, List, [], ◌∷◌, ◌++◌, refl, sym, ap, ◌∙◌, subst, append-nil, append_assoc, arith}
+use Rattle.std.specs.Prelude.{Ok, Err, Some, slice_get}
+use Rattle.f3_program.specs.declared.program.Program.{Program}
+use Rattle.f3_live_blocks.specs.Blocks.{Live}
+use Rattle.f3_meaning_whole.specs.Ran.{Event}
+use Rattle.f3_meaning_whole.specs.Run.{output}
+use Rattle.f3_code.specs.State as s
+use Rattle.f3_code.specs.State.{Line, Goes, Stays, Next, Halt, Running, Course}
+use Rattle.f3_code.specs.Machine as machine
+use Rattle.f3_code.specs.Machine.{before, advance, run}
+use Rattle.f3_code.specs.Heap.{with_answers}
+use Rattle.f3_cells.specs.States.{setting}
+use Rattle.f3_courses.proofs.Coming.{output_both}
+use Rattle.f3_output.specs.Output as o
+use Rattle.f3_output.specs.Output.{Wrote, Faulted}
+use Rattle.f3_output.proofs.Outputs.{wrote_none, wrote_more, faulted_behind}
+use Rattle.f3_word_machine.specs.declared.ended.Ended.{Ended}
+use Rattle.f3_word_machine.specs.declared.ended.Ended.TheVariants as end
+use Rattle.f3_machine_laws.specs.Answers.{EndsSo, GoesOnAfter, AnswersFor}
+use Rattle.f3_rooms.specs.Rooms.{Rooms}
+use Rattle.f3_word_cells.specs.declared.state.State.{State}
+use Rattle.f3_word_cells.specs.Scenes.{code_of}
+use Rattle.f3_word_cells.specs.States.{Stands}
+use Rattle.f3_word_cells.specs.Does.{IsTold, GoesOn, StopsSo, stream}
+use Rattle.f3_word_laws.specs.Comes.{Comes}
+use Rattle.f3_word_laws.proofs.Coming.{runs_go_on}
+use Rattle.f3_word_laws.proofs.Telling.{runs_are_told}
+use Rattle.f3_word_needs.specs.Room.{HasRoom}
+use Rattle.f3_word_needs.proofs.Keeping.{lines_keep_room}
+use Rattle.f3_word_machine.specs.Steps.{Went, Ends, Refuses, Strays, Steps}
+use Rattle.f3_word_machine.specs.Runs.{course_from, Answered, Strayed, AnswersSo}
+
+abbrev pub none_more : ℕ → Bool
+none_more n = false
+
+module _ (p : Program) (t : s.State) where
+  -- after so many instructions blocks and a state in memory stand for a state, and all that was printed until then was written
+  pub record Reached (done : ℕ) (live : Live) (w : State) (a b : o.State) : Type 0 where
+    pub to : s.State
+    pub rooms : Rooms
+    pub bytes : List ℕ
+    pub comes : Comes p t to done bytes
+    pub told : IsTold p to
+    pub stands : Stands p live w rooms to
+    pub wrote : Wrote a b bytes
+    pub roomy : HasRoom p t → HasRoom p to
+
+  pub begun : (live : Live) (w : State) (x : Rooms) (a : o.State) → IsTold p t → Stands p live w x t → Reached 0 live w a a
+  begun live w x a told stands = record {
+    to = t;
+    rooms = x;
+    bytes = [];
+    comes = (runs_go_on).0 p t;
+    told = told;
+    stands = stands;
+    wrote = wrote_none;
+    roomy = λ h. h;
+  }
+
+  module _ (done : ℕ) (m : Live) (old : State) (a b : o.State) (r : Reached done m old a b) where
+    pub goes_on : (n : Live) (new : State) (c : o.State) → Steps p r.to (Ok tt) n new b c → Reached (done + 1) n new a c
+    goes_on n new c w = record {
+      to = w.next;
+      rooms = w.rooms;
+      bytes = r.bytes ++ w.bytes;
+      comes = (runs_go_on).1 p t r.to w.next w.line done r.bytes w.bytes r.comes w.there w.goes;
+      told = runs_are_told p r.to w.next w.line w.bytes r.told w.there w.goes n new w.rooms w.stands;
+      stands = w.stands;
+      wrote = wrote_more r.wrote w.wrote;
+      roomy = λ h. lines_keep_room p r.to w.next w.line w.bytes r.told w.there w.goes
+          (runs_are_told p r.to w.next w.line w.bytes r.told w.there w.goes n new w.rooms w.stands) (r.roomy h);
+    }
+
+    -- what the machine does next, with these answers of the heap
+    next : (given : List Bool) (l : Line) (y : Next) → slice_get (code_of p).lines (r.to).pc ≡ Some l
+        → machine.act 1000 (setting p) (code_of p) l.act l.value (s.placed l.place (r.to).here) (with_answers (stream given none_more) r.to) ≡ y
+        → course_from p t (stream (r.comes).given (stream given none_more)) (done + 1)
+        ≡ before (r.comes).out (advance 1000 (setting p) (code_of p) y (run 1000 (setting p) (code_of p) 0))
+    next given l y there is =
+        (r.comes).comes (stream given none_more) 1
+        ∙ ap (λ z. before (r.comes).out (advance 1000 (setting p) (code_of p) z (run 1000 (setting p) (code_of p) 0)))
+        (ap (λ z. machine.does_line 1000 (setting p) (code_of p) z (with_answers (stream given none_more) r.to)) there ∙ is)
+
+    halts : (steps : ℕ) (halt : Halt) (c : o.State) → done < steps → (e : Ends p r.to halt b c)
+        → EndsSo (course_from p t (stream (r.comes).given (stream (e.stops).given none_more))) steps a c halt
+    halts steps halt c left e =
+        let at = next (e.stops).given e.line (Stays (e.stops).out halt) e.there ((e.stops).stops none_more) in
+        let printed : output ((r.comes).out ++ (e.stops).out) ≡ r.bytes ++ e.bytes =
+        output_both (r.comes).out (e.stops).out ∙ ap (λ y. y ++ output (e.stops).out) (r.comes).printed ∙ ap (λ y. r.bytes ++ y) (e.stops).printed in
+        record {
+          last = done + 1;
+          within = omega arith;
+          ends = ap (λ (y : Course). y.halt) at;
+          wrote = subst (λ bytes. Wrote a c bytes) (sym (ap (λ (y : Course). output y.out) at ∙ printed)) (wrote_more r.wrote e.wrote);
+        }
+
+    so_far : course_from p t (stream (r.comes).given none_more) done ≡ record { out = (r.comes).out ++ []; halt = Running }
+    so_far = let e : done ≡ done + 0 = omega arith in
+        ap (course_from p t (stream (r.comes).given none_more)) e ∙ (r.comes).comes none_more 0
+
+    until : (c : o.State) → Wrote b c [] → GoesOnAfter (course_from p t (stream (r.comes).given none_more)) done a c
+    until c more = record {
+      goes_on = ap (λ (y : Course). y.halt) so_far;
+      wrote = subst (λ bytes. Wrote a c bytes)
+          (sym (ap (λ (y : Course). output y.out) so_far ∙ ap output (append-nil (r.comes).out) ∙ (r.comes).printed ∙ sym (append-nil r.bytes))) (wrote_more r.wrote more);
+    }
+
+    pub stops : (n : Live) (new : State) (c : o.State) (steps : ℕ) (e : Ended) → done < steps → Steps p r.to (Err e) n new b c → AnswersSo p t steps a c e
+    stops n new c steps end.Done left e = record { answers = stream (r.comes).given (stream (e.stops).given none_more); so = halts steps s.Done c left e }
+    stops n new c steps (end.Stopped number) left e =
+        record { answers = stream (r.comes).given (stream (e.stops).given none_more); so = halts steps (s.Stopped number) c left e }
+    stops n new c steps (end.Failed error place) left e =
+        record { answers = stream (r.comes).given (stream (e.stops).given none_more); so = halts steps (s.Failed error place) c left e }
+    stops n new c steps end.StepLimit left e = absurd e
+    stops n new c steps end.WriteFault left e =
+        let at = next (e.goes).given e.line (Goes (e.goes).out (with_answers none_more e.next)) e.there ((e.goes).goes none_more) in
+        let printed : output ((r.comes).out ++ ((e.goes).out ++ [])) ≡ r.bytes ++ e.bytes =
+        output_both (r.comes).out ((e.goes).out ++ []) ∙ ap (λ y. y ++ output ((e.goes).out ++ [])) (r.comes).printed
+        ∙ ap (λ y. r.bytes ++ output y) (append-nil (e.goes).out) ∙ ap (λ y. r.bytes ++ y) (e.goes).printed in
+        record {
+          answers = stream (r.comes).given (stream (e.goes).given none_more);
+          so = (done + 1, omega arith, subst (λ bytes. Faulted a c bytes) (sym (ap (λ (y : Course). output y.out) at ∙ printed)) (faulted_behind r.wrote e.faulted));
+        }
+    stops n new c steps end.Memory left e = record { answers = stream (r.comes).given none_more; so = (done, omega arith, until c e) }
+    stops n new c steps end.NoRoom left e = record { answers = stream (r.comes).given none_more; so = (done, omega arith, until c e) }
+    stops n new c steps end.Strayed left e =
+        record { to = r.to; count = done; within = omega arith; bytes = r.bytes; comes = r.comes; strays = e }
+
+  pub at_limit : (steps : ℕ) (m : Live) (old : State) (a b : o.State) → Reached steps m old a b → AnswersSo p t steps a b end.StepLimit
+  at_limit steps m old a b r = record { answers = stream (r.comes).given none_more; so = until steps m old a b r b wrote_none }

@@ -1,0 +1,136 @@
+-- What an instruction does, by what its call says.
+use Rattle.std.proofs.Common.{◌≡◌, ◌≤◌, ◌<◌, ◌^◌, ℕ, Bool, false, true, [], length, refl, sym, ◌∙◌, subst, ap, inl, inr, reverse, vec_len, nat_cmp, arith}
+use Rattle.std.specs.Prelude.{⊤, ◌⊎◌, Result, Ok, Err, Option, Some, None, slice_get, unwrap_or, Vec, IsTrue, is_some}
+use Rattle.std.specs.declared.alloc.Global.{Global}
+use Rattle.std.proofs.lemmas.List.{length-map}
+use Rattle.std.proofs.lemmas.Bool.{true≢false}
+use Rattle.f3_places.specs.declared.source.Place.{Place}
+use Rattle.f3_program.specs.declared.program.Program.{Program}
+use Rattle.f3_live_blocks.specs.Blocks.{Live, Block, IsLive, words_of, words_in}
+use Rattle.std.specs.FinMap.{get}
+use Rattle.f3_heap_laws.proofs.Segs.{r-above}
+use Rattle.f3_heap_laws.specs.Account.{used_by}
+use Rattle.f3_heap_laws.proofs.Answers.{used-removed}
+use Rattle.f3_code.specs.declared.instruction.Instruction.{Instruction}
+use Rattle.f3_code.specs.State as s
+use Rattle.f3_code.specs.State.{Line, Code, Failed, placed}
+use Rattle.f3_meaning_whole.specs.Act.{Here}
+use Rattle.f3_gen_values.specs.Emission.{code_in}
+use Rattle.f3_gen_values.specs.Emitted.{line_in}
+use Rattle.f3_gen_values.specs.declared.line.Line as emitted
+use Rattle.f3_meaning_whole.specs.Run.{setting_of}
+use Rattle.std.specs.Option.{option_map}
+use Rattle.std.proofs.lemmas.Option.{slice_get-map}
+use Rattle.f3_word_cells.proofs.Within.{here_stands}
+use Rattle.f3_output.specs.Output as o
+use Rattle.f3_output.specs.Output.{Wrote}
+use Rattle.f3_output.proofs.Outputs.{wrote_none}
+use Rattle.f3_rooms.specs.Rooms.{Rooms}
+use Rattle.f3_word_cells.specs.declared.scene.Scene.{Scene}
+use Rattle.f3_word_cells.specs.declared.state.State.{State}
+use Rattle.f3_word_cells.specs.declared.state.Stop.{Stop}
+use Rattle.f3_word_cells.specs.declared.state.Stop.TheVariants as stop
+use Rattle.f3_word_machine.specs.Simple.{IsSimple, is_simple_act}
+use Rattle.f3_word_cells.specs.Scenes.{IsScene, code_of}
+use Rattle.f3_word_cells.specs.States.{Stands, AreCallers, beneath, own}
+use Rattle.f3_word_cells.specs.Does.{IsTold, IsAt, Becomes, Does, DoesIn, DoesAt, StopsSo}
+use Rattle.f3_word_control.specs.Doing.{DoesAmong, DoesThere, DoesWith, DoesPrint, Prints}
+use Rattle.f3_word_objects.specs.Ranks.{AreShort}
+use Rattle.f3_word_machine.specs.declared.ended.Ended.{Ended}
+use Rattle.f3_word_machine.specs.declared.ended.Ended.TheVariants as end
+use Rattle.f3_word_machine.specs.Steps.{PrintsAt, Steps, Strays, ended_by}
+
+module _ (p : Program) (act : Instruction) (place : Place) (old new : State) (r : Result ⊤ Stop) (m n : Live) (a : o.State) where
+  silent : (t : s.State) (l : Line) (z : Result ⊤ Stop) → Becomes p l t z n new → Prints p l t z n new a a
+  silent t l (Ok done) f = ([], f, wrote_none)
+  silent t l (Err stop.Done) f = (f, wrote_none)
+  silent t l (Err (stop.Stopped number)) f = (f, wrote_none)
+  silent t l (Err (stop.Failed error)) f = (f, wrote_none)
+  silent t l (Err stop.Lost) f = (f, wrote_none)
+  silent t l (Err stop.Forbidden) f = (f, wrote_none)
+  silent t l (Err stop.Refused) f = absurd f
+  silent t l (Err stop.Memory) f = (tt, wrote_none)
+
+  pub by_in : (i : Instruction) → act ≡ i → DoesIn p i r m n old new → PrintsAt p place act r m n old new a a
+  by_in i is d = λ t l x told there acts at stands. silent t l r (d t l x told there (acts ∙ is) stands)
+
+  pub by_with : (i : Instruction) → act ≡ i → DoesWith i r m n old new → PrintsAt p place act r m n old new a a
+  by_with i is d = by_in i is (d p)
+
+  pub by_prints : (b : o.State) (i : Instruction) → act ≡ i → DoesPrint i r m n old new a b → PrintsAt p place act r m n old new a b
+  by_prints b i is d = λ t l x told there acts at stands. d p t l x told there (acts ∙ is) stands
+
+module _ (p : Program) (act : Instruction) (place : Place) (old new : State) (r : Result ⊤ Stop) (m : Live) (k : Live) (a : o.State) where
+  pub by_does : (i : Instruction) → act ≡ i → Does i r old new → PrintsAt p place act r m m old new a a
+  by_does i is d = by_in p act place old new r m m a i is (d p m)
+
+  pub by_there : (i : Instruction) → act ≡ i → DoesThere place i r old new → PrintsAt p place act r m m old new a a
+  by_there i is d = λ t l x told there acts at stands. silent p act place old new r m m a t l r (d p m t l x told there (acts ∙ is) at stands)
+
+  pub by_among : (i : Instruction) (total : ℕ) → act ≡ i → length (code_of p).lines ≡ total → DoesAmong total i r old new → PrintsAt p place act r m m old new a a
+  by_among i total is lines d = by_in p act place old new r m m a i is (d p m lines)
+
+-- how many lines there are
+pub lines_are : (x : Scene) → IsScene x → (k : ℕ) → k ≡ vec_len x.emission.now.lines → length (code_of x.program.now).lines ≡ k
+lines_are x scene k is = ap (λ (c : Code). length c.lines) (sym scene.code) ∙ (length-map x.emission.now.lines.items _ ∙ (let few = x.emission.now.lines.ok.0 in omega (arith, is, few)))
+
+-- a block has no more words than are in use
+pub all_short : (m : Live) (n : ℕ) → used_by m < n → n ≤ 2 ^ 63 → AreShort m
+all_short m n few most q = by_block (get m q) refl where
+  by_block : (o : Option Block) → get m q ≡ o → length (words_of m q) < 2 ^ 63
+  by_block None is = subst (λ (o : Option Block). length (words_in o) < 2 ^ 63) (sym is) (omega (arith))
+  by_block (Some b) is =
+      let live : IsLive m q = subst (λ (o : Option Block). IsTrue (is_some o)) (sym is) refl in
+      let one = used-removed m q live in
+      let long = r-above (length (words_of m q)) in
+      omega (arith, one, long, few, most)
+
+-- no other instruction is in such a program
+pub not_simple : (p : Program) (act : Instruction) (m n : Live) (old new : State) (place : Place) (r : Result ⊤ Stop) (a b : o.State) → IsSimple p → is_simple_act act ≡ false
+    → PrintsAt p place act r m n old new a b
+not_simple p act m n old new place r a b simple other = λ t l x told there acts at stands.
+    let yes = simple.lines t.pc l there in
+    absurd (true≢false (sym yes ∙ (ap is_simple_act acts ∙ other)))
+
+-- ---- steps
+
+place_is : (o : Option Place) (h : Here) → (placed o h).place ≡ unwrap_or o h.place
+place_is None h = refl
+place_is (Some q) h = refl
+
+module _ (p : Program) (t : s.State) (l : Line) (there : slice_get (code_of p).lines t.pc ≡ Some l) (place : Place) (at : unwrap_or l.place (t.here).place ≡ place) (n : Live) (new : State) (a b : o.State) where
+  pub steps : Prints p l t (Ok tt) n new a b → Steps p t (Ok tt) n new a b
+  steps (bytes, f, wrote) = record { line = l; there = there; next = f.next; rooms = f.rooms; bytes = bytes; goes = f.goes; stands = f.stands; wrote = wrote }
+
+  pub stops : (e : Stop) → Prints p l t (Err e) n new a b → Steps p t (Err (ended_by e place)) n new a b
+  stops stop.Done f = record { line = l; there = there; bytes = []; stops = f.0; wrote = f.1 }
+  stops (stop.Stopped number) f = record { line = l; there = there; bytes = []; stops = f.0; wrote = f.1 }
+  stops (stop.Failed error) f = record {
+    line = l;
+    there = there;
+    bytes = [];
+    stops = subst (λ (z : Place). StopsSo p l t (Failed error z) []) (place_is l.place t.here ∙ at) f.0;
+    wrote = f.1;
+  }
+  stops stop.Lost f = inr (record { line = l; there = there; how = inl f.0 })
+  stops stop.Forbidden f = inr (record { line = l; there = there; how = inr f.0 })
+  stops stop.Refused (to, bytes, goes, faulted) = record { line = l; there = there; next = to; bytes = bytes; goes = goes; faulted = faulted }
+  stops stop.Memory f = f.1
+
+-- the line of the code that was emitted as this one
+pub line_of : (x : Scene) → IsScene x → (l : emitted.Line) (pc : ℕ) → Some l ≡ slice_get x.emission.now.lines.items pc
+    → (y : Line) × (slice_get (code_of x.program.now).lines pc ≡ Some y) × (y.act ≡ l.act) × (y.place ≡ l.place)
+line_of x scene l pc is = (
+  line_in (setting_of x.program.now) l,
+  ap (λ (c : Code). slice_get c.lines pc) (sym scene.code)
+      ∙ (slice_get-map (line_in (setting_of x.program.now)) x.emission.now.lines.items pc ∙ ap (option_map (line_in (setting_of x.program.now))) (sym is)),
+  refl,
+  refl,
+)
+
+-- the place at which a line is done
+pub at_place : (p : Program) (m : Live) (w : State) (x : Rooms) (t : s.State) → Stands p m w x t → (y z : Option Place) → y ≡ z → (r : Place)
+    → r ≡ unwrap_or z w.here.place → unwrap_or y (t.here).place ≡ r
+at_place p m w x t st y z same r is =
+    let here = here_stands p m (AreCallers p m (beneath w) (reverse w.callers.items.items) t.frames) x w.names.items.items w.here t.here (own w) t.stack st.stack in
+    ap (λ o. unwrap_or o (t.here).place) same ∙ (ap (λ h. unwrap_or z h) here.place ∙ sym is)

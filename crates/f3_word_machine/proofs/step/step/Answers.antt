@@ -1,0 +1,60 @@
+use Rattle.std.proofs.Common.{◌≡◌, ◌<◌, ◌^◌, ℕ, Some, Ok, Err, sym, ◌∙◌, subst, ap, length, arith}
+use Rattle.std.specs.Prelude.{slice_get, unwrap_or}
+use Rattle.f3_code.specs.State.{Line}
+use Rattle.f3_output.specs.Output.{state_of}
+use Rattle.f3_word_needs.proofs.Memory.{memory_is_as_large}
+use Rattle.f3_word_machine.specs.Steps.{Steps}
+use Rattle.f3_word_control.specs.Doing.{Prints}
+use Rattle.f3_word_machine.proofs.Doing.{all_short, steps, stops, line_of, at_place}
+use Rattle.f3_word_machine.proofs.step.step.Goals as goal
+
+pub perform-requires-clause-short : goal.perform-requires-clause-short
+perform-requires-clause-short g c =
+    let e = c.used.ensures in
+    let few = c.if-used-ge-MOST.false in
+    all_short (g.B.Blocks.blocks c.args.heap.now) (2 ^ 63) (omega (arith, e, few)) (omega arith)
+
+pub perform-requires-clause-room : goal.perform-requires-clause-room
+perform-requires-clause-room g c =
+    let r = c.requires.ready in
+    let large = (memory_is_as_large c.args.scene.program.now (g.B.Blocks.blocks c.args.heap.now) c.args.state.now r.rooms r.state r.stands).0 in
+    let few = (c.requires.cells.enough r.state r.told r.roomy).cells in
+    let more = c.requires.cells.fewer in
+    omega (arith, large, few, more)
+
+pub perform-requires-clause-at : goal.perform-requires-clause-at
+perform-requires-clause-at g c =
+    let r = c.requires.ready in
+    let there = line_of c.args.scene c.requires.scene c.in-Some.line.now c.args.state.now.pc (sym (rw c.deref.ensures.value at c.in-Some.ensures)) in
+    record {
+      state = r.state;
+      line = there.0;
+      rooms = r.rooms;
+      told = r.told;
+      there = ap (slice_get _) (r.stands).pc ∙ there.1;
+      act = there.2;
+      stands = r.stands;
+    }
+
+pub returns-in-Ok-clause-does : goal.returns-in-Ok-clause-does
+returns-in-Ok-clause-does g c = λ t x told stands.
+    let p = c.args.scene.program.now in
+    let there = line_of c.args.scene c.requires.scene c.in-Some.line.now c.args.state.now.pc (sym (rw c.deref.ensures.value at c.in-Some.ensures)) in
+    let line = ap (slice_get _) stands.pc ∙ there.1 in
+    let place = at_place p (g.B.Blocks.blocks c.args.heap.now) c.args.state.now x t stands (there.0).place c.in-Some.line.now.place there.3 c.unwrap_or-place.result
+    c.unwrap_or-place.ensures in
+    steps p t there.0 line c.unwrap_or-place.result place (g.B.Blocks.blocks c.perform.new.heap) c.perform.new.state
+    (state_of g.W.Write.contents c.args.output.now) (state_of g.W.Write.contents c.perform.new.output)
+    (c.in-Ok.ensures.does t there.0 x told line there.2 place stands)
+
+pub returns-in-Err-clause-does : goal.returns-in-Err-clause-does
+returns-in-Err-clause-does g c = λ t x told stands.
+    let p = c.args.scene.program.now in
+    let there = line_of c.args.scene c.requires.scene c.in-Some.line.now c.args.state.now.pc (sym (rw c.deref.ensures.value at c.in-Some.ensures)) in
+    let line = ap (slice_get _) stands.pc ∙ there.1 in
+    let place = at_place p (g.B.Blocks.blocks c.args.heap.now) c.args.state.now x t stands (there.0).place c.in-Some.line.now.place there.3 c.unwrap_or-place.result
+    c.unwrap_or-place.ensures in
+    rw c.end_of.ensures
+    (stops p t there.0 line c.unwrap_or-place.result place (g.B.Blocks.blocks c.perform.new.heap) c.perform.new.state
+    (state_of g.W.Write.contents c.args.output.now) (state_of g.W.Write.contents c.perform.new.output) c.in-Err.stop
+    (c.in-Err.ensures.does t there.0 x told line there.2 place stands))

@@ -1,0 +1,38 @@
+//! Runs.
+
+ghost use Rattle.f3_output.specs.Output.{state_of};
+ghost use Rattle.f3_word_cells.specs.Scenes.{IsScene};
+ghost use Rattle.f3_word_machine.specs.Simple.{IsSimple};
+ghost use Rattle.f3_word_machine.specs.Runs.{RunsFrom};
+ghost use Rattle.f3_word_machine.specs.Steps.{HasCells, IsReady};
+
+use crate::ended::Ended;
+use crate::step::step;
+use f3_heap::Blocks;
+use f3_output::output::Output;
+use f3_word_cells::scene::Scene;
+use f3_word_cells::state::State;
+use std::io::Write;
+
+/// The machine from a state on, for so many instructions at most, over a heap.
+pub fn run<B: Blocks, W: Write>(
+    scene: Scene<'_>,
+    heap: &mut B,
+    state: &mut State,
+    steps: u64,
+    output: &mut Output<W>,
+) -> Ended
+    requires scene { IsScene scene }
+    requires simple { IsSimple scene.program.now }
+    requires cells { HasCells scene.program.now state.old.cells.room }
+    requires ready { IsReady scene.program.now (B.blocks heap.old) state.old }
+    ensures { RunsFrom scene.entry.program.now steps (B.blocks heap.old) state.old (state_of W.contents output.old) (state_of W.contents output.new) result }
+{
+    for _done in 0..steps {
+        match step(scene, heap, state, output) {
+            Ok(()) => (),
+            Err(end) => return end,
+        }
+    }
+    Ended::StepLimit
+}
