@@ -1,10 +1,11 @@
 -- The line of an array constructor.
-use Rattle.std.proofs.Common.{◌≡◌, ◌∙◌, ℕ, zero, suc, ◌+◌, ◌-◌, ◌*◌, ◌<◌, ◌≤◌, Bool, true, false, List, [], ◌∷◌, ◌++◌, length, map, reverse, refl, sym, ap, subst, arith, append_assoc}
+use Rattle.std.proofs.Common.{◌≡◌, ◌∙◌, ℕ, zero, suc, ◌+◌, ◌-◌, ◌*◌, ◌^◌, ◌<◌, ◌≤◌, Bool, true, false, List, [], ◌∷◌, ◌++◌, length, map, reverse, refl, sym, ap, subst, arith, append_assoc}
 use Rattle.std.specs.Prelude.{Option, None, Some, Ok, Err, slice_get, pos}
 use Rattle.std.specs.FinMap.{get as find}
 use Rattle.std.proofs.lemmas.List.{reverse-append, append-nil}
 use Rattle.f3_program.specs.declared.declarations.Base.{Base}
 use Rattle.f3_program.specs.declared.program.Program.{Program}
+use Rattle.f3_heap_laws.specs.Answers.{Answer, Sizes}
 use Rattle.f3_live_blocks.specs.Blocks.{Live, IsLive, words_of, with_taken, with_words}
 use Rattle.f3_meaning_whole.specs.Act as m
 use Rattle.f3_meaning_whole.specs.Act.{Here, claim_for, given}
@@ -47,6 +48,7 @@ use Rattle.f3_word_cells.proofs.Amid.{Amid, amid_last, amid_pushed}
 use Rattle.f3_word_cells.proofs.Lines.{answering, claim_for_block, does_so, first_granted, first_refused, line_goes, line_stops, performs_gives, with_stack}
 use Rattle.f3_word_cells.proofs.Moving.{moved_to}
 use Rattle.f3_word_arrays.specs.Items.{IsApart, TookItem, base_of, datum_words}
+use Rattle.f3_word_arrays.specs.Room.{TookRoom}
 use Rattle.f3_word_arrays.specs.Rows.{IsRow}
 use Rattle.f3_word_arrays.proofs.Given.{OnArray, on-array}
 use Rattle.f3_word_arrays.proofs.Collecting.{Collected, Taken, collected-none, collected-more, item-apart, item-free, item-live, item-within, taken-one, top-there}
@@ -95,6 +97,12 @@ module _ (p : Program) (t : s.State) (l : Line) (n : ℕ) (h : OnArray p t n) (a
   array-full = line_stops p l t (i.Array n) stack (Failed HeapHasNoRoom here.place) (true ∷ []) act h.split (λ rest.
       builds-so (true ∷ []) rest ∙ first_refused here (t.world).store [] rest (λ done. gives value) _)
 
+-- ---- sizes
+
+pub array-short : (n size : ℕ) → 0 < n → n * size < 2 ^ 63 → size < 2 ^ 63
+array-short zero size some short = absurd (omega arith)
+array-short (suc n) size some short = omega arith
+
 -- ---- stacks keep their room
 
 pub keeps-same : (old new : State) → IsSame old new → Keeps old new
@@ -112,8 +120,8 @@ keeps-then old mid new a b = record {
 -- ---- amid the line
 
 -- a type that the value on top tells of, as a body has found it
-abbrev pub TellsOf : State → Option Base → Type 0
-TellsOf w of = (front : List Cell) (number : ℕ) (d : Datum) → w.cells.items.items ≡ front ++ c.Argument (passed.Given number d) ∷ [] → of ≡ Some (base_of d)
+abbrev pub TellsOf : List Cell → Option Base → Type 0
+TellsOf zs of = (front : List Cell) (number : ℕ) (d : Datum) → zs ≡ front ++ c.Argument (passed.Given number d) ∷ [] → of ≡ Some (base_of d)
 
 module _ (p : Program) (m : Live) (old : State) (n : ℕ) where
   -- so many values were taken
@@ -134,16 +142,16 @@ module _ (p : Program) (m : Live) (old : State) (n : ℕ) where
   none-some b e = cc
 
   -- no value is on top
-  pub array-untyped : (live : Live) (new : State) → TellsOf old None → DoesIn p (i.Array n) (Err stop.Lost) m live old new
-  array-untyped live new none t l x told there act st =
+  pub array-untyped : (zs : List Cell) → zs ≡ old.cells.items.items → (live : Live) (new : State) → TellsOf zs None → DoesIn p (i.Array n) (Err stop.Lost) m live old new
+  array-untyped zs same live new none t l x told there act st =
       let top = first-there p t n (on-array p t l n told there act) old x m st in
-      absurd (none-some _ (none top.2 top.0 top.1 top.3))
+      absurd (none-some _ (none top.2 top.0 top.1 (same ∙ top.3)))
 
-  pub array-shape : (of : Base) → TellsOf old (Some of) → (t : s.State) (l : Line) (x : Rooms) (told : IsTold p t) (there : slice_get (code_of p).lines t.pc ≡ Some l) (act : l.act ≡ i.Array n)
+  pub array-shape : (zs : List Cell) → zs ≡ old.cells.items.items → (of : Base) → TellsOf zs (Some of) → (t : s.State) (l : Line) (x : Rooms) (told : IsTold p t) (there : slice_get (code_of p).lines t.pc ≡ Some l) (act : l.act ≡ i.Array n)
       → Stands p m old x t → shape_for p of ≡ shape_for p (on-array p t l n told there act).of
-  array-shape of some t l x told there act st =
+  array-shape zs same of some t l x told there act st =
       let top = first-there p t n (on-array p t l n told there act) old x m st in
-      ap (shape_for p) (some-same of (base_of top.1) (some top.2 top.0 top.1 top.3)) ∙ top.4
+      ap (shape_for p) (some-same of (base_of top.1) (some top.2 top.0 top.1 (same ∙ top.3))) ∙ top.4
 
   -- how many words an element has
   pub array-size : (types : Types) → types.derived.now ≡ p.types.items → (of : Base) (size : ℕ) → size ≡ words_for (shape_in (shapes types) of) → size ≡ words_for (shape_for p of)
@@ -155,17 +163,17 @@ module _ (p : Program) (m : Live) (old : State) (n : ℕ) where
         (there : slice_get (code_of p).lines t.pc ≡ Some l) (act : l.act ≡ i.Array n) → Stands p m old x t → size ≡ words_for (shape_for p (on-array p t l n told there act).of)
     size-for live now number g t l x told there act st = is-size ∙ ap words_for (g.shape t l x told there act st)
 
-    pub gathering-none : (live : Live) → TellsOf old (Some of) → find m block ≡ None → live ≡ with_taken m block (n * size) → old.base ≤ length old.cells.items.items
+    pub gathering-none : (zs : List Cell) → zs ≡ old.cells.items.items → (live : Live) → TellsOf zs (Some of) → find m block ≡ None → live ≡ with_taken m block (n * size) → old.base ≤ length old.cells.items.items
         → Gathering of size block live old 0
-    gathering-none live some fresh is bottom = record {
+    gathering-none zs same live some fresh is bottom = record {
       keeps = record { cells = refl; names = refl; callers = refl; blocks = refl; levels = refl };
       pc = refl;
       fewer = omega arith;
       bottom = bottom;
-      shape = array-shape of some;
+      shape = array-shape zs same of some;
       so = λ t l x told there act st.
           collected-none p t n (on-array p t l n told there act) old x block m live st fresh
-          (is ∙ ap (λ k. with_taken m block (n * k)) (is-size ∙ ap words_for (array-shape of some t l x told there act st)));
+          (is ∙ ap (λ k. with_taken m block (n * k)) (is-size ∙ ap words_for (array-shape zs same of some t l x told there act st)));
     }
 
     module _ (live : Live) (now : State) (number : ℕ) (g : Gathering of size block live now number) (lt : number < n) where
@@ -236,3 +244,9 @@ module _ (p : Program) (m : Live) (old : State) (n : ℕ) where
   -- no block was taken
   pub array-refused : (live : Live) (new : State) → DoesIn p (i.Array n) (Err (stop.Failed HeapHasNoRoom)) m live old new
   array-refused live new t l x told there act st = array-full p t l n (on-array p t l n told there act) act
+
+  pub array-failed : {H R : Type 0} (has_room : H → ℕ → Bool) (allows : R → Sizes → ℕ → Answer → Type 0) (heap : H) (kept : R) (words : ℕ) (live : Live) (e : Stop)
+      → TookRoom has_room allows heap kept m live words (Err e) → (new : State) → DoesIn p (i.Array n) (Err e) m live old new
+  array-failed has_room allows heap kept words live (stop.Failed HeapHasNoRoom) took new t l x told there act st = array-refused live new t l x told there act st
+  array-failed has_room allows heap kept words live stop.Memory took new t l x told there act st = tt
+  array-failed has_room allows heap kept words live e took new t l x told there act st = absurd took
