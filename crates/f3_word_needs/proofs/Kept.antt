@@ -87,6 +87,7 @@ module _ (p : Program) where
   cells_keep Rest calls names g ls n (c.Selector d ∷ zs) are = cells_keep Rest calls names g ls n zs are
   cells_keep Rest calls names g ls n (c.Outside d ∷ zs) are = cells_keep Rest calls names g ls n zs are
   cells_keep Rest calls names g ls n (c.Going d ∷ zs) are = cells_keep Rest calls names g ls n zs are
+  cells_keep Rest calls names g ls n (c.Each a k ∷ zs) are = cells_keep Rest calls names g ls n zs are
 
   callers_keep : (zs : List Cell) (fs : List Caller) (ls : List (List Slot)) (n : ℕ) → AreCalled p zs fs ls n → Kept ls n (length fs) (kept_names zs)
   callers_keep zs [] ls n are =
