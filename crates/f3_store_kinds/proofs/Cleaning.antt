@@ -24,7 +24,8 @@ use Rattle.f3_sorts.specs.Effect as sort
 use Rattle.f3_sorts.specs.Program.{allocate_sorts, argument_sorts, arguments_sorts, body_sorts, bounds_sorts, bytes_sorts, case_sorts, chosen_sorts, code_sorts, deallocate_sorts, departing_sorts, dimensions_sorts, discards_sorts, each_sorts, finish_sorts, free_sorts, if_sorts, items_sorts, last_sorts, leaving_sorts, limits_sorts, locate_sorts, main_sorts, procedures_sorts, program_sorts, ranges_sorts, routines_sorts, select_of_sorts, select_sorts, selectors_sorts, status_sorts, subscript_sorts, transfer_sorts, turns_sorts, up_sorts, value_sorts, while_sorts, work_sorts}
 use Rattle.f3_cell_kinds.specs.Laws.{site_at}
 use Rattle.f3_cell_kinds.proofs.Sorting.{kinds_have_sorts}
-use Rattle.f3_store_kinds.specs.Clean.{ArePlain, IsClean, AreClean}
+use Rattle.f3_sorts.specs.Effect.{times}
+use Rattle.f3_store_kinds.specs.Clean.{ArePlain, IsAmid, IsClean, AreClean}
 
 -- lines with the sorts of the cells that stand there
 AllClean : List Line → List (List Sort) → Type 0
@@ -210,31 +211,35 @@ limits_clean o h k from to by r = on (value_clean o h from) (cons tt (on (value_
 
 -- ---- statements: what goes at a RETURN are the turns of DO constructs
 
-code_clean : (m : ℕ) (o : Option Place) (h : List Sort) (x : c.Core) (ws : Ways) → ArePlain ws.cells h → Clean (code_of m o x ws) (code_sorts m h ws.cells x)
-code_clean m o h (c.At place true x) ws e = cons tt (code_clean m (Some place) h x ws e)
-code_clean m o h (c.At place false x) ws e = code_clean m (Some place) h x ws e
-code_clean m o h c.Skip ws e = none
-code_clean m o h (c.Then x y) ws e = on (code_clean m o h x (farther (length (code_of m o y ws)) ws) e) (code_clean m o h y ws e)
-code_clean m o h (c.Assign d x v) ws e = on (value_clean o h v) (on (locate_clean o (sort.Datum ∷ h) d) (transfer_clean m o h x))
-code_clean m o h (c.Call v) ws e = on (value_clean o h v) (cons (tt, tt) none)
-code_clean m o h (c.Move true x d v) ws e = on (locate_clean o h d) (on (locate_clean o (sort.Object ∷ h) v) (cons tt (on (work_clean m o (sort.Object ∷ h) x) (cons tt none))))
-code_clean m o h (c.Move false x d v) ws e =
+amid_selectors : (n : ℕ) (h : List Sort) → IsAmid h → IsAmid (times n sort.Selector ++ h)
+amid_selectors zero h a = a
+amid_selectors (suc n) h a = amid_selectors n h a
+
+code_clean : (m : ℕ) (o : Option Place) (h : List Sort) (x : c.Core) (ws : Ways) → IsAmid h → ArePlain ws.cells h → Clean (code_of m o x ws) (code_sorts m h ws.cells x)
+code_clean m o h (c.At place true x) ws k e = cons tt (code_clean m (Some place) h x ws k e)
+code_clean m o h (c.At place false x) ws k e = code_clean m (Some place) h x ws k e
+code_clean m o h c.Skip ws k e = none
+code_clean m o h (c.Then x y) ws k e = on (code_clean m o h x (farther (length (code_of m o y ws)) ws) k e) (code_clean m o h y ws k e)
+code_clean m o h (c.Assign d x v) ws k e = on (value_clean o h v) (on (locate_clean o (sort.Datum ∷ h) d) (transfer_clean m o h x))
+code_clean m o h (c.Call v) ws k e = on (value_clean o h v) (cons (tt, tt) none)
+code_clean m o h (c.Move true x d v) ws k e = on (locate_clean o h d) (on (locate_clean o (sort.Object ∷ h) v) (cons tt (on (work_clean m o (sort.Object ∷ h) x) (cons tt none))))
+code_clean m o h (c.Move false x d v) ws k e =
     on (locate_clean o h d) (on (locate_clean o (sort.Object ∷ h) v) (cons (tt, (tt, tt)) (cons tt (on (work_clean m o (sort.Object ∷ h) x) (cons tt none)))))
-code_clean m o h (c.Allocate xs stat) ws e = on (allocate_clean o h xs) (status_clean o h stat)
-code_clean m o h (c.Deallocate xs stat) ws e = on (deallocate_clean m o h xs) (status_clean o h stat)
-code_clean m o h (c.Print xs) ws e = items_clean o h xs
-code_clean m o h (c.Stop number) ws e = cons tt none
-code_clean m o h c.Return ws e = cons tt (cons e (cons tt none))
-code_clean m o h c.Cycle ws e = cons tt none
-code_clean m o h c.Exit ws e = cons tt none
-code_clean m o h (c.If v x y) ws e = if_clean o h (value_clean o h v) (code_clean m o h x (farther (1 + length (code_of m o y ws)) ws) e) (code_clean m o h y ws e)
-code_clean m o h (c.Select v x) ws e = on (value_clean o h v) (cons tt (on (code_clean m o (sort.Outside ∷ h) x scoped tt)
+code_clean m o h (c.Allocate xs stat) ws k e = on (allocate_clean o h xs) (status_clean o h stat)
+code_clean m o h (c.Deallocate xs stat) ws k e = on (deallocate_clean m o h xs) (status_clean o h stat)
+code_clean m o h (c.Print xs) ws k e = items_clean o h xs
+code_clean m o h (c.Stop number) ws k e = cons tt none
+code_clean m o h c.Return ws k e = cons tt (cons e (cons tt none))
+code_clean m o h c.Cycle ws k e = cons tt none
+code_clean m o h c.Exit ws k e = cons tt none
+code_clean m o h (c.If v x y) ws k e = if_clean o h (value_clean o h v) (code_clean m o h x (farther (1 + length (code_of m o y ws)) ws) k e) (code_clean m o h y ws k e)
+code_clean m o h (c.Select v x) ws k e = on (value_clean o h v) (cons k (on (code_clean m o (sort.Outside ∷ h) x scoped tt tt)
     (on (leaving_clean o (sort.Outside ∷ h)) (departing_clean o h ws e))))
-code_clean m o h (c.Case rs x y) ws e = case_clean o h rs (code_clean m o h x (farther (1 + length (code_of m o y ws)) ws) e) (code_clean m o h y ws e)
-code_clean m o h (c.While v x) ws e = while_clean o h (value_clean o h v) (code_clean m o h x (looped ws) e)
-code_clean m o h (c.Count d k from to by x) ws e = limits_clean o h k from to by (on (locate_clean o (sort.Datum ∷ sort.Datum ∷ sort.Datum ∷ h) d)
-    (cons tt (turns_clean o h (code_clean m o (sort.Turns ∷ h) x (counting (length (up_code o d k)) ws) (tt, e)) (up_clean o h d k))))
-code_clean m o h (c.Associate xs x) ws e = on (selectors_clean o h xs) (cons tt (on (code_clean m o (sort.Outside ∷ sort.Level ∷ h) x scoped tt)
+code_clean m o h (c.Case rs x y) ws k e = case_clean o h rs (code_clean m o h x (farther (1 + length (code_of m o y ws)) ws) k e) (code_clean m o h y ws k e)
+code_clean m o h (c.While v x) ws k e = while_clean o h (value_clean o h v) (code_clean m o h x (looped ws) k e)
+code_clean m o h (c.Count d k from to by x) ws j e = limits_clean o h k from to by (on (locate_clean o (sort.Datum ∷ sort.Datum ∷ sort.Datum ∷ h) d)
+    (cons tt (turns_clean o h (code_clean m o (sort.Turns ∷ h) x (counting (length (up_code o d k)) ws) j (tt, e)) (up_clean o h d k))))
+code_clean m o h (c.Associate xs x) ws k e = on (selectors_clean o h xs) (cons (amid_selectors (length xs) h k) (on (code_clean m o (sort.Outside ∷ sort.Level ∷ h) x scoped tt tt)
     (on (leaving_clean o (sort.Outside ∷ sort.Level ∷ h)) (cons tt (on (discards_clean m o (sort.Going ∷ sort.Level ∷ h) xs) (cons tt (departing_clean o h ws e)))))))
 
 -- ---- procedures
@@ -255,10 +260,10 @@ last_clean : (m : ℕ) (x : c.Procedure) → Clean (last_code m x) (last_sorts m
 last_clean m p = on (finish_clean m 0 p.finish) (cons tt (cons tt (on (discard_clean m 0 (sort.Datum ∷ []) p.discard) (cons tt none))))
 
 body_clean : (m : ℕ) (x : c.Procedure) → Clean (body_code m x) (body_sorts m x)
-body_clean m p = cons tt (on (begin_clean m [] p.begin) (cons (tt, tt) (on (code_clean m None [] p.body body_ways tt) (cons tt (cons tt (last_clean m p))))))
+body_clean m p = cons tt (on (begin_clean m [] p.begin) (cons (tt, tt) (on (code_clean m None [] p.body body_ways tt tt) (cons tt (cons tt (last_clean m p))))))
 
 main_clean : (m : ℕ) (x : c.Procedure) → Clean (main_code m x) (main_sorts m x)
-main_clean m p = on (code_clean m None [] p.body main_ways tt) (cons tt (cons tt none))
+main_clean m p = on (code_clean m None [] p.body main_ways tt tt) (cons tt (cons tt none))
 
 procedures_clean : (m : ℕ) (x : List c.Procedure) → Clean (procedures_code m x) (procedures_sorts m x)
 procedures_clean m [] = none

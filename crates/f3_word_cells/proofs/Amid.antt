@@ -1,5 +1,5 @@
 -- Amid an instruction: some cells were taken, others put on top, and blocks of values are in hand.
-use Rattle.std.proofs.Common.{◌≡◌, ◌≢◌, ◌∙◌, inl, inr, ℕ, ◌+◌, ◌<◌, ◌≤◌, ℤ, List, [], ◌∷◌, ◌++◌, drop, reverse, is_some, refl, sym, ap, subst, arith}
+use Rattle.std.proofs.Common.{◌≡◌, ◌≢◌, ◌∙◌, inl, inr, ℕ, ◌+◌, ◌<◌, ◌≤◌, ℤ, List, [], ◌∷◌, ◌++◌, length, drop, reverse, is_some, refl, sym, ap, subst, arith}
 use Rattle.std.specs.Prelude.{None}
 use Rattle.std.specs.FinMap.{get as find, remove}
 use Rattle.std.proofs.lemmas.Bool.{cases_eq, cases_lt, ne_eqb, eq-eqb}
@@ -24,13 +24,14 @@ use Rattle.f3_word_cells.specs.declared.state.Name.{Name}
 use Rattle.f3_word_cells.specs.declared.state.State.{State}
 use Rattle.f3_word_cells.specs.Areas.{types_of}
 use Rattle.f3_word_cells.specs.Cells.{AreCells, IsCell, IsHere}
-use Rattle.f3_word_cells.specs.States.{AreKnown, IsKnown, Stands, beneath, cell_blocks, cells_blocks, loose_blocks, own}
+use Rattle.f3_word_cells.specs.States.{AreAtHand, AreCalled, AreKnown, AreTight, IsKnown, IsOrderly, Stands, beneath, cell_blocks, cells_blocks, loose_blocks, own}
 use Rattle.f3_word_cells.specs.Moves.{IsSame, Moved, Popped, Pushed}
 use Rattle.f3_word_cells.proofs.Stacks.{cells_blocks_reverse, cells_blocks_split}
 use Rattle.f3_word_cells.proofs.Within.{rehere}
 use Rattle.f3_word_cells.proofs.Known.{known_popped, known_pushed}
 use Rattle.f3_word_cells.proofs.Flat.{IsFlat, flat_above, flat_under}
 use Rattle.f3_word_cells.proofs.Staying.{callers_stay, cells_stay}
+use Rattle.f3_word_cells.proofs.Orderly.{IsAfter, IsFlatCell, flat_cell, hand_flat, hand_named, in_scope, orderly_so, tight_flat}
 use Rattle.f3_word_cells.proofs.Moving.{Beneath, IsSameElse, moved_to, stands_so}
 
 -- how often a block is one of a value on a stack
@@ -47,6 +48,8 @@ pub record Amid (p : Program) (t : s.State) (n : Live) (old now : State) (x : Ro
   pub is : store ≡ store_of (types_of p) n x
   pub known : AreKnown p ks (own now)
   pub cells : AreCells p n (Beneath p n old t.frames) x old.names.items.items old.here t.here (own now) stack
+  pub orderly : IsOrderly p t.pc (length old.names.items.items) old.here (own now)
+  pub tight : AreTight (AreCalled p (beneath old) (reverse old.callers.items.items)) x.levels (length old.names.items.items) (own now)
   pub once : (q : ℕ) → times q (blocks_of x) + (uses now q + times q hand) ≤ 1
   pub all : (q : ℕ) → IsLive n q → 0 < times q (blocks_of x) + (uses now q + times q hand)
   pub live : (q : ℕ) → 0 < uses now q + times q hand → IsLive n q
@@ -67,6 +70,8 @@ amid_first p t m old x ks stack st kinds e = record {
   is = st.store;
   known = subst (λ (ts : List CellType). AreKnown p ts (own old)) kinds st.known;
   cells = subst (λ (bs : List s.Cell). AreCells p m (Beneath p m old t.frames) x old.names.items.items old.here t.here (own old) bs) e st.stack;
+  orderly = subst (λ (k : ℕ). IsOrderly p k (length old.names.items.items) old.here (own old)) refl st.orderly;
+  tight = st.tight;
   once = λ q. let one = st.once q in let e = uses_is x old q in omega (arith, one, e);
   all = λ q alive. let some = st.all q alive in let e = uses_is x old q in omega (arith, some, e);
   live = λ q some. st.live q (omega (arith, some));
@@ -75,10 +80,10 @@ amid_first p t m old x ks stack st kinds e = record {
 
 -- all blocks in hand are on a stack again, or gone; the line and the activation may be others, of the same scope
 pub amid_last_in : (p : Program) (t : s.State) (m n : Live) (old now : State) (x : Rooms) (ks : List CellType) (pc : ℕ) (stack : List s.Cell) (here : act.Here)
-    (world : World) → Stands p m old x t → Amid p t n old now x ks stack world.store [] → (site_at p pc).cells ≡ ks
-    → (h : Here) → ((y : Rooms) (ms : List Name) → IsHere p y ms old.here t.here → IsHere p y ms h here)
+    (world : World) → Stands p m old x t → Amid p t n old now x ks stack world.store [] → IsAfter p t.pc pc ks
+    → (h : Here) → h.names ≡ old.here.names → ((y : Rooms) (ms : List Name) → IsHere p y ms old.here t.here → IsHere p y ms h here)
     → Stands p n (record now { pc = pc; here = h }) x (moved_to t pc stack here world)
-amid_last_in p t m n old now x ks pc stack here world st amid kinds h there =
+amid_last_in p t m n old now x ks pc stack here world st amid after h named there =
     let same = amid.same in
     stands_so p m n old (record now { pc = pc; here = h }) x t pc stack here world st (record {
       same = record {
@@ -93,8 +98,11 @@ amid_last_in p t m n old now x ks pc stack here world st amid kinds h there =
       line = refl;
       sound = amid.sound;
       store = amid.is;
-      known = subst (λ (ts : List CellType). AreKnown p ts (own now)) (sym kinds) amid.known;
+      known = subst (λ (ts : List CellType). AreKnown p ts (own now)) (sym after.cells) amid.known;
       cells = rehere p n (Beneath p n old t.frames) old.here h t.here here there x old.names.items.items (own now) stack amid.cells;
+      orderly = orderly_so p t.pc pc (length old.names.items.items) old.here h (own now) (own now) ks after
+          (hand_named (length old.names.items.items) old.here h (own now) named) amid.orderly;
+      tight = amid.tight;
       once = λ q. let one = amid.once q in let e = uses_is x now q in omega (arith, one, e);
       all = λ q alive. let some = amid.all q alive in let e = uses_is x now q in omega (arith, some, e);
       live = λ q some. amid.live q (omega (arith, some));
@@ -102,16 +110,19 @@ amid_last_in p t m n old now x ks pc stack here world st amid kinds h there =
     })
 
 pub amid_last : (p : Program) (t : s.State) (m n : Live) (old now : State) (x : Rooms) (ks : List CellType) (pc : ℕ) (stack : List s.Cell) (world : World)
-    → Stands p m old x t → Amid p t n old now x ks stack world.store [] → (site_at p pc).cells ≡ ks → pc ≡ now.pc
+    → Stands p m old x t → Amid p t n old now x ks stack world.store [] → IsAfter p t.pc pc ks → pc ≡ now.pc
     → Stands p n now x (moved_to t pc stack t.here world)
-amid_last p t m n old now x ks pc stack world st amid kinds line =
+amid_last p t m n old now x ks pc stack world st amid after line =
     stands_so p m n old now x t pc stack t.here world st (record {
       same = amid.same;
       line = line;
       sound = amid.sound;
       store = amid.is;
-      known = subst (λ (ts : List CellType). AreKnown p ts (own now)) (sym kinds) amid.known;
+      known = subst (λ (ts : List CellType). AreKnown p ts (own now)) (sym after.cells) amid.known;
       cells = subst (λ (h : Here). AreCells p n (Beneath p n old t.frames) x old.names.items.items h t.here (own now) stack) (sym amid.here) amid.cells;
+      orderly = subst (λ (h : Here). IsOrderly p pc (length old.names.items.items) h (own now)) (sym amid.here)
+          (orderly_so p t.pc pc (length old.names.items.items) old.here old.here (own now) (own now) ks after (λ a. a) amid.orderly);
+      tight = amid.tight;
       once = λ q. let one = amid.once q in let e = uses_is x now q in omega (arith, one, e);
       all = λ q alive. let some = amid.all q alive in let e = uses_is x now q in omega (arith, some, e);
       live = λ q some. amid.live q (omega (arith, some));
@@ -119,6 +130,27 @@ amid_last p t m n old now x ks pc stack world st amid kinds line =
     })
 
 -- ---- cells
+
+-- a cell of no construct went, or came
+beneath_flat : (p : Program) (pc : ℕ) (old mid now : State) (c : Cell) → IsFlatCell c → own mid ≡ c ∷ own now
+    → IsOrderly p pc (length old.names.items.items) old.here (own mid) → IsOrderly p pc (length old.names.items.items) old.here (own now)
+beneath_flat p pc old mid now c level e are =
+    let n = length old.names.items.items in
+    let them = subst (λ (cs : List Cell). IsOrderly p pc n old.here cs) e are in (
+      them.0,
+      in_scope p.types.items (λ o. AreAtHand n old.here (c ∷ own now)) (λ o. AreAtHand n old.here (own now)) (site_at p pc).scope
+          (λ o. subst (λ (A : Type 0). A) (hand_flat n old.here c (own now) level)) them.1,
+    )
+
+above_flat : (p : Program) (pc : ℕ) (old mid now : State) (c : Cell) → IsFlatCell c → own now ≡ c ∷ own mid
+    → IsOrderly p pc (length old.names.items.items) old.here (own mid) → IsOrderly p pc (length old.names.items.items) old.here (own now)
+above_flat p pc old mid now c level e are =
+    let n = length old.names.items.items in
+    subst (λ (cs : List Cell). IsOrderly p pc n old.here cs) (sym e) (
+      are.0,
+      in_scope p.types.items (λ o. AreAtHand n old.here (own mid)) (λ o. AreAtHand n old.here (c ∷ own mid)) (site_at p pc).scope
+          (λ o. subst (λ (A : Type 0). A) (sym (hand_flat n old.here c (own mid) level))) are.1,
+    )
 
 same_then : {a b c : State} → IsSameElse a b → IsSame b c → IsSameElse a c
 same_then g h = record {
@@ -145,7 +177,8 @@ amid_popped p t n old mid now x k ks b below store hand c amid popped flat =
     let Rest : Rooms → List Name → Type 0 = Beneath p n old t.frames in
     let cells : AreCells p n Rest x old.names.items.items old.here t.here (c ∷ own now) (b ∷ below) =
     subst (λ (cs : List Cell). AreCells p n Rest x old.names.items.items old.here t.here cs (b ∷ below)) popped.cells amid.cells in
-    let known = known_popped p k ks c mid now amid.known popped in (
+    let known = known_popped p k ks c mid now amid.known popped in
+    let level = flat_cell p x n old.names.items.items c b cells.0 flat in (
       cells.0,
       known.0,
       record {
@@ -155,6 +188,9 @@ amid_popped p t n old mid now x k ks b below store hand c amid popped flat =
         is = amid.is;
         known = known.1;
         cells = flat_under p n (λ y ms h here. AreCells p n Rest y ms h here (own now) below) x old.names.items.items old.here t.here c b cells.0 flat cells.2;
+        orderly = beneath_flat p t.pc old mid now c level popped.cells amid.orderly;
+        tight = subst (λ (A : Type 0). A) (tight_flat (AreCalled p (beneath old) (reverse old.callers.items.items)) x.levels (length old.names.items.items) c (own now) level)
+            (subst (λ (cs : List Cell). AreTight (AreCalled p (beneath old) (reverse old.callers.items.items)) x.levels (length old.names.items.items) cs) popped.cells amid.tight);
         once = λ q. let one = amid.once q in let e = popped.blocks q in let g = times_append q (cell_blocks c) hand in omega (arith, one, e, g);
         all = λ q alive. let some = amid.all q alive in let e = popped.blocks q in let g = times_append q (cell_blocks c) hand in omega (arith, some, e, g);
         live = λ q some. amid.live q (let e = popped.blocks q in let g = times_append q (cell_blocks c) hand in omega (arith, some, e, g));
@@ -169,6 +205,7 @@ pub amid_pushed : (p : Program) (t : s.State) (n : Live) (old mid now : State) (
 amid_pushed p t n old mid now x k ks b below store hand c to amid pushed flat is shape =
     let Rest : Rooms → List Name → Type 0 = Beneath p n old t.frames in
     let above = flat_above p n (λ y ms h here. AreCells p n Rest y ms h here (own mid) below) x old.names.items.items old.here t.here c b is flat in
+    let level = flat_cell p x n old.names.items.items c b is flat in
     record {
       same = same_then amid.same pushed.same;
       here = pushed.same.here ∙ amid.here;
@@ -177,6 +214,9 @@ amid_pushed p t n old mid now x k ks b below store hand c to amid pushed flat is
       known = known_pushed p k ks c to mid now amid.known pushed shape;
       cells = subst (λ (cs : List Cell). AreCells p n Rest x old.names.items.items old.here t.here cs (b ∷ below)) (sym pushed.cells)
           (is, above.0, above.1 amid.cells);
+      orderly = above_flat p t.pc old mid now c level pushed.cells amid.orderly;
+      tight = subst (λ (cs : List Cell). AreTight (AreCalled p (beneath old) (reverse old.callers.items.items)) x.levels (length old.names.items.items) cs) (sym pushed.cells)
+          (subst (λ (A : Type 0). A) (sym (tight_flat (AreCalled p (beneath old) (reverse old.callers.items.items)) x.levels (length old.names.items.items) c (own mid) level)) amid.tight);
       once = λ q. let one = amid.once q in let e = pushed.blocks q in let g = times_append q (cell_blocks c) hand in omega (arith, one, e, g);
       all = λ q alive. let some = amid.all q alive in let e = pushed.blocks q in let g = times_append q (cell_blocks c) hand in omega (arith, some, e, g);
       live = λ q some. amid.live q (let e = pushed.blocks q in let g = times_append q (cell_blocks c) hand in omega (arith, some, e, g));
@@ -203,6 +243,8 @@ amid_line p t n old now x ks stack store hand pc amid =
       is = amid.is;
       known = amid.known;
       cells = amid.cells;
+      orderly = amid.orderly;
+      tight = amid.tight;
       once = amid.once;
       all = amid.all;
       live = amid.live;
@@ -251,6 +293,8 @@ module _ (p : Program) (t : s.State) (n : Live) (old now : State) (x : Rooms) (k
     cells = cells_stay p n o (Beneath p n old t.frames) (Beneath p o old t.frames)
         (callers_stay p n o (beneath old) (reverse old.callers.items.items) t.frames (λ q some. kept q (let e = under q in omega (arith, e, some))))
         x old.names.items.items old.here t.here (own now) stack (λ q some. kept q (let e = above q in omega (arith, e, some))) amid.cells;
+    orderly = amid.orderly;
+    tight = amid.tight;
     once = once;
     all = all;
     live = live;

@@ -19,7 +19,6 @@ use Rattle.f3_code.specs.Machine.{act, performs}
 use Rattle.f3_code.specs.Heap.{with_answers}
 use Rattle.f3_cells.specs.States.{setting}
 use Rattle.f3_cell_kinds.specs.Types.{CellType}
-use Rattle.f3_cell_kinds.specs.Laws.{site_at}
 use Rattle.f3_rooms.specs.Rooms.{Rooms}
 use Rattle.f3_word_cells.specs.declared.state.State.{State}
 use Rattle.f3_word_cells.specs.declared.state.Stop.{Stop}
@@ -27,9 +26,10 @@ use Rattle.f3_word_cells.specs.declared.state.Stop.TheVariants as stop
 use Rattle.f3_word_cells.specs.Scenes.{code_of}
 use Rattle.f3_word_cells.specs.Moves.{WentAhead}
 use Rattle.f3_word_cells.specs.States.{Stands}
-use Rattle.f3_word_cells.specs.Does.{Becomes, GoesOn, IsLost, StopsSo, stream}
+use Rattle.f3_word_cells.specs.Does.{AreGranted, Becomes, GoesOn, IsLost, RefusedAt, StopsSo, stream}
 use Rattle.f3_word_cells.proofs.Amid.{Amid, amid_last, amid_moved}
 use Rattle.f3_word_cells.proofs.Moving.{moved_to}
+use Rattle.f3_word_cells.proofs.Orderly.{IsAfter}
 
 -- ---- an instruction with these cells
 
@@ -49,17 +49,22 @@ line_is p l t x stack given rest e f =
     ∙ ap (λ (bs : List s.Cell). does_so p l t x bs given rest) f
 
 -- the line leads there
-pub line_goes : (p : Program) (l : Line) (t : s.State) (x : Instruction) (stack : List s.Cell) (u : s.State) (given : List Bool) (out : List Event)
-    → l.act ≡ x → t.stack ≡ stack → ((rest : ℕ → Bool) → does_so p l t x stack given rest ≡ Goes out (with_answers rest u))
+pub line_goes : (p : Program) (l : Line) (t : s.State) (x : Instruction) (stack : List s.Cell) (u : s.State) (given : List Bool)
+    → AreGranted given → (out : List Event) → l.act ≡ x → t.stack ≡ stack → ((rest : ℕ → Bool) → does_so p l t x stack given rest ≡ Goes out (with_answers rest u))
     → GoesOn p l t u (output out)
-line_goes p l t x stack u given out e f h =
-    record { out = out; given = given; printed = refl; goes = λ rest. line_is p l t x stack given rest e f ∙ h rest }
+line_goes p l t x stack u given granted out e f h =
+    record { out = out; given = given; granted = granted; printed = refl; goes = λ rest. line_is p l t x stack given rest e f ∙ h rest }
 
 -- the machine stops there, and prints nothing
 pub line_stops : (p : Program) (l : Line) (t : s.State) (x : Instruction) (stack : List s.Cell) (halt : Halt) (given : List Bool)
-    → l.act ≡ x → t.stack ≡ stack → ((rest : ℕ → Bool) → does_so p l t x stack given rest ≡ Stays [] halt) → StopsSo p l t halt []
-line_stops p l t x stack halt given e f h =
-    record { out = []; given = given; printed = refl; stops = λ rest. line_is p l t x stack given rest e f ∙ h rest }
+    → AreGranted given → l.act ≡ x → t.stack ≡ stack → ((rest : ℕ → Bool) → does_so p l t x stack given rest ≡ Stays [] halt) → StopsSo p l t halt []
+line_stops p l t x stack halt given granted e f h =
+    record { out = []; given = given; granted = granted; printed = refl; stops = λ rest. line_is p l t x stack given rest e f ∙ h rest }
+
+-- its first request is refused
+pub line_refused : (p : Program) (l : Line) (t : s.State) (x : Instruction) (stack : List s.Cell) → l.act ≡ x → t.stack ≡ stack
+    → ((rest : ℕ → Bool) → does_so p l t x stack (true ∷ []) rest ≡ Stays [] (Failed HeapHasNoRoom (placed l.place t.here).place)) → RefusedAt p l t
+line_refused p l t x stack e f h = record { stops = λ rest. line_is p l t x stack (true ∷ []) rest e f ∙ h rest }
 
 -- ---- parts of runs
 
@@ -141,7 +146,7 @@ lost_ahead p l t to goes past = record { to = to; goes = goes; nowhere = slice_g
 -- so far on from the next line, where the cells are these
 pub becomes_ahead : (p : Program) (m n : Live) (old mid new : State) (x : Rooms) (ks : List CellType) (t : s.State) (l : Line) (stack : List s.Cell)
     (d total : ℕ) (result : Result ⊤ Stop) → Stands p m old x t → Amid p t n old mid x ks stack t.world.store [] → mid.pc ≡ old.pc
-    → (site_at p (t.pc + 1 + d)).cells ≡ ks → length (code_of p).lines ≡ total → WentAhead d total result mid new → GoesOn p l t (moved_to t (t.pc + 1 + d) stack t.here t.world) []
+    → IsAfter p t.pc (t.pc + 1 + d) ks → length (code_of p).lines ≡ total → WentAhead d total result mid new → GoesOn p l t (moved_to t (t.pc + 1 + d) stack t.here t.world) []
     → Becomes p l t result n new
 becomes_ahead p m n old mid new x ks t l stack d total (Ok done) st amid line kinds size went goes =
     let far : t.pc ≡ mid.pc = st.pc ∙ sym line in

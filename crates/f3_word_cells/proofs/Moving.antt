@@ -17,7 +17,7 @@ use Rattle.f3_word_cells.specs.declared.state.State.{State}
 use Rattle.f3_cell_kinds.specs.Laws.{site_at}
 use Rattle.f3_word_cells.specs.Areas.{types_of}
 use Rattle.f3_word_cells.specs.Cells.{AreCells}
-use Rattle.f3_word_cells.specs.States.{AreCallers, AreKnown, Stands, beneath, cells_blocks, loose_blocks, own}
+use Rattle.f3_word_cells.specs.States.{AreCalled, AreCallers, AreKnown, AreTight, IsOrderly, Stands, beneath, cells_blocks, loose_blocks, own}
 use Rattle.f3_word_cells.specs.Moves.{IsSame}
 
 -- all but the line, the activation and its cells
@@ -56,6 +56,8 @@ pub record StandsSo (p : Program) (n : Live) (old new : State) (x : Rooms) (t : 
   pub store : world.store ≡ store_of (types_of p) n x
   pub known : AreKnown p (site_at p pc).cells (own new)
   pub cells : AreCells p n (Beneath p n old t.frames) x old.names.items.items new.here here (own new) stack
+  pub orderly : IsOrderly p pc (length old.names.items.items) new.here (own new)
+  pub tight : AreTight (AreCalled p (beneath old) (reverse old.callers.items.items)) x.levels (length old.names.items.items) (own new)
   pub once : (q : ℕ) → times q (blocks_of x ++ loose_blocks new) ≤ 1
   pub all : (q : ℕ) → IsLive n q → 0 < times q (blocks_of x ++ loose_blocks new)
   pub live : (q : ℕ) → 0 < times q (loose_blocks new) → IsLive n q
@@ -89,6 +91,10 @@ stands_so p m n old new x t pc stack here world st so =
       known = so.known;
       stack = subst (λ (cs : List Cell). AreCells p n (Rest cs (reverse new.callers.items.items)) x new.names.items.items new.here here (own new) stack)
           (sym same.beneath) called;
+      orderly = subst (λ (ns : List Name). IsOrderly p pc (length ns) new.here (own new)) names so.orderly;
+      tight = subst (λ (cs : List Cell). AreTight (AreCalled p cs (reverse new.callers.items.items)) x.levels (length new.names.items.items) (own new)) (sym same.beneath)
+          (subst (λ (fs : List Caller). AreTight (AreCalled p (beneath old) fs) x.levels (length new.names.items.items) (own new)) callers
+          (subst (λ (ns : List Name). AreTight (AreCalled p (beneath old) (reverse old.callers.items.items)) x.levels (length ns) (own new)) names so.tight));
       once = so.once;
       all = so.all;
       live = so.live;
@@ -109,15 +115,19 @@ blocks_moved q old new bs cells =
 pub stands_at : (p : Program) (live : Live) (old new : State) (x : Rooms) (t : s.State) (pc : ℕ) (stack : List s.Cell) (here : act.Here)
     → Stands p live old x t → IsSameElse old new → pc ≡ new.pc → AreKnown p (site_at p pc).cells (own new)
     → AreCells p live (Beneath p live old t.frames) x old.names.items.items new.here here (own new) stack
+    → IsOrderly p pc (length old.names.items.items) new.here (own new)
+    → AreTight (AreCalled p (beneath old) (reverse old.callers.items.items)) x.levels (length old.names.items.items) (own new)
     → ((q : ℕ) → times q (cells_blocks new.cells.items.items) ≡ times q (cells_blocks old.cells.items.items))
     → Stands p live new x (moved_to t pc stack here t.world)
-stands_at p live old new x t pc stack here st same at known cells blocks = stands_so p live live old new x t pc stack here t.world st (record {
+stands_at p live old new x t pc stack here st same at known cells orderly tight blocks = stands_so p live live old new x t pc stack here t.world st (record {
   same = same;
   line = at;
   sound = st.sound;
   store = st.store;
   known = known;
   cells = cells;
+  orderly = orderly;
+  tight = tight;
   once = λ q. subst (λ (k : ℕ). k ≤ 1) (sym (blocks_moved q old new (blocks_of x) (blocks q))) (st.once q);
   all = λ q alive. subst (λ (k : ℕ). 0 < k) (sym (blocks_moved q old new (blocks_of x) (blocks q))) (st.all q alive);
   live = λ q some. st.live q (subst (λ (k : ℕ). 0 < k) (blocks q) some);
@@ -128,9 +138,12 @@ stands_at p live old new x t pc stack here st same at known cells blocks = stand
 pub stands_moved : (p : Program) (live : Live) (old new : State) (x : Rooms) (t : s.State) (pc : ℕ) (stack : List s.Cell)
     → Stands p live old x t → IsSame old new → pc ≡ new.pc → AreKnown p (site_at p pc).cells (own new)
     → AreCells p live (Beneath p live old t.frames) x old.names.items.items old.here t.here (own new) stack
+    → IsOrderly p pc (length old.names.items.items) old.here (own new)
+    → AreTight (AreCalled p (beneath old) (reverse old.callers.items.items)) x.levels (length old.names.items.items) (own new)
     → ((q : ℕ) → times q (cells_blocks new.cells.items.items) ≡ times q (cells_blocks old.cells.items.items))
     → Stands p live new x (moved_to t pc stack t.here t.world)
-stands_moved p live old new x t pc stack st same at known cells blocks =
+stands_moved p live old new x t pc stack st same at known cells orderly tight blocks =
     stands_at p live old new x t pc stack t.here st (same_else same) at known
     (subst (λ (h : Here). AreCells p live (Beneath p live old t.frames) x old.names.items.items h t.here (own new) stack) (sym same.here) cells)
+    (subst (λ (h : Here). IsOrderly p pc (length old.names.items.items) h (own new)) (sym same.here) orderly) tight
     blocks

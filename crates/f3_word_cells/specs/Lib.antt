@@ -1,3 +1,4 @@
+pub mod Scalars
 pub mod Areas
 pub mod Cells
 pub mod States
