@@ -18,7 +18,7 @@ use Rattle.f3_meaning_whole.specs.declared.run_error.RunError.TheVariants.{HeapH
 use Rattle.f3_code.specs.declared.instruction.Instruction.TheVariants as i
 use Rattle.f3_code.specs.Heap.{with_answers}
 use Rattle.f3_code.specs.Machine.{argument_of, on, on_many, performs}
-use Rattle.f3_code.specs.State.{Line, placed, Next, Failed}
+use Rattle.f3_code.specs.State.{Line, placed, Next}
 use Rattle.f3_code.specs.State as s
 use Rattle.f3_cell_kinds.specs.Laws.{site_at}
 use Rattle.f3_cell_kinds.specs.Types.{CellType}
@@ -39,13 +39,13 @@ use Rattle.f3_word_cells.specs.declared.state.State.{State}
 use Rattle.f3_word_cells.specs.declared.state.Stop.{Stop}
 use Rattle.f3_word_cells.specs.declared.state.Stop.TheVariants as stop
 use Rattle.f3_word_cells.specs.Areas.{shape_for}
-use Rattle.f3_word_cells.specs.Does.{DoesIn, GoesOn, IsTold, Keeps, StopsSo, stream}
+use Rattle.f3_word_cells.specs.Does.{DoesOver, GoesOn, HasNoMemory, HasNoRoom, IsTold, Keeps, RefusedAt, stream}
 use Rattle.f3_word_cells.specs.Moves.{IsSame, Popped, Pushed}
 use Rattle.f3_word_cells.specs.Scenes.{code_of}
 use Rattle.f3_word_cells.specs.Free.{AreFree}
 use Rattle.f3_word_cells.specs.States.{Stands, datum_blocks}
 use Rattle.f3_word_cells.proofs.Amid.{Amid, amid_last, amid_pushed}
-use Rattle.f3_word_cells.proofs.Lines.{answering, claim_for_block, does_so, first_granted, first_refused, line_goes, line_stops, performs_gives, with_stack}
+use Rattle.f3_word_cells.proofs.Lines.{answering, claim_for_block, does_so, first_granted, first_refused, line_goes, line_refused, performs_gives, with_stack}
 use Rattle.f3_word_cells.proofs.Moving.{moved_to}
 use Rattle.f3_word_arrays.specs.Items.{IsApart, TookItem, base_of, datum_words}
 use Rattle.f3_word_arrays.specs.Room.{TookRoom}
@@ -90,11 +90,11 @@ module _ (p : Program) (t : s.State) (l : Line) (n : ℕ) (h : OnArray p t n) (a
       ∙ ap (λ r. performs (r >>= λ done. gives value) (answering (t.world).store (stream given rest)) (λ x. on (with_answers (stream given rest) (with_stack stack t)) (s.Datum x ∷ h.below))) (claim_for_block value here refl)
 
   pub array-goes : GoesOn p l t next []
-  array-goes = line_goes p l t (i.Array n) stack next (false ∷ []) [] act h.split (λ rest.
+  array-goes = line_goes p l t (i.Array n) stack next (false ∷ []) tt [] act h.split (λ rest.
       builds-so (false ∷ []) rest ∙ first_granted here (t.world).store [] rest (λ done. gives value) _ ∙ performs_gives value _ _)
 
-  pub array-full : StopsSo p l t (Failed HeapHasNoRoom here.place) []
-  array-full = line_stops p l t (i.Array n) stack (Failed HeapHasNoRoom here.place) (true ∷ []) act h.split (λ rest.
+  pub array-full : RefusedAt p l t
+  array-full = line_refused p l t (i.Array n) stack act h.split (λ rest.
       builds-so (true ∷ []) rest ∙ first_refused here (t.world).store [] rest (λ done. gives value) _)
 
 -- ---- sizes
@@ -142,8 +142,8 @@ module _ (p : Program) (m : Live) (old : State) (n : ℕ) where
   none-some b e = cc
 
   -- no value is on top
-  pub array-untyped : (zs : List Cell) → zs ≡ old.cells.items.items → (live : Live) (new : State) → TellsOf zs None → DoesIn p (i.Array n) (Err stop.Lost) m live old new
-  array-untyped zs same live new none t l x told there act st =
+  pub array-untyped : (Full Spent : Type 0) → (zs : List Cell) → zs ≡ old.cells.items.items → (live : Live) (new : State) → TellsOf zs None → DoesOver Full Spent p (i.Array n) (Err stop.Lost) m live old new
+  array-untyped Full Spent zs same live new none t l x told there act st =
       let top = first-there p t n (on-array p t l n told there act) old x m st in
       absurd (none-some _ (none top.2 top.0 top.1 (same ∙ top.3)))
 
@@ -177,8 +177,8 @@ module _ (p : Program) (m : Live) (old : State) (n : ℕ) where
     }
 
     module _ (live : Live) (now : State) (number : ℕ) (g : Gathering of size block live now number) (lt : number < n) where
-      pub array-lost : (new : Live) (mid last : State) → TookItem None now mid → DoesIn p (i.Array n) (Err stop.Lost) m new old last
-      array-lost new mid last none t l x told there act st =
+      pub array-lost : (Full Spent : Type 0) → (new : Live) (mid last : State) → TookItem None now mid → DoesOver Full Spent p (i.Array n) (Err stop.Lost) m new old last
+      array-lost Full Spent new mid last none t l x told there act st =
           let top = top-there p t n (on-array p t l n told there act) old x block live now number (g.so t l x told there act st) lt in
           absurd (none top.0 top.1 top.2 top.3)
 
@@ -222,9 +222,9 @@ module _ (p : Program) (m : Live) (old : State) (n : ℕ) where
             }
 
     -- all are taken, and the array stands on top
-    pub array-made : (live : Live) (now new : State) (a : Area) → Gathering of size block live now n → IsRow a block n size of → Pushed (c.Datum (datum.Block a)) (now.pc + 1) now new
-        → DoesIn p (i.Array n) (Ok tt) m live old new
-    array-made live now new a g is pushed t l x told there act st =
+    pub array-made : (Full Spent : Type 0) → (live : Live) (now new : State) (a : Area) → Gathering of size block live now n → IsRow a block n size of → Pushed (c.Datum (datum.Block a)) (now.pc + 1) now new
+        → DoesOver Full Spent p (i.Array n) (Ok tt) m live old new
+    array-made Full Spent live now new a g is pushed t l x told there act st =
         let h : OnArray p t n = on-array p t l n told there act in
         let col = g.so t l x told there act st in
         let shape = g.shape t l x told there act st in
@@ -242,11 +242,8 @@ module _ (p : Program) (m : Live) (old : State) (n : ℕ) where
         }
 
   -- no block was taken
-  pub array-refused : (live : Live) (new : State) → DoesIn p (i.Array n) (Err (stop.Failed HeapHasNoRoom)) m live old new
-  array-refused live new t l x told there act st = array-full p t l n (on-array p t l n told there act) act
-
   pub array-failed : {H R : Type 0} (has_room : H → ℕ → Bool) (allows : R → Sizes → ℕ → Answer → Type 0) (heap : H) (kept : R) (words : ℕ) (live : Live) (e : Stop)
-      → TookRoom has_room allows heap kept m live words (Err e) → (new : State) → DoesIn p (i.Array n) (Err e) m live old new
-  array-failed has_room allows heap kept words live (stop.Failed HeapHasNoRoom) took new t l x told there act st = array-refused live new t l x told there act st
-  array-failed has_room allows heap kept words live stop.Memory took new t l x told there act st = tt
+      → TookRoom has_room allows heap kept m live words (Err e) → (new : State) → DoesOver (HasNoRoom has_room heap) (HasNoMemory allows kept m) p (i.Array n) (Err e) m live old new
+  array-failed has_room allows heap kept words live (stop.Failed HeapHasNoRoom) took new t l x told there act st = (array-full p t l n (on-array p t l n told there act) act, took)
+  array-failed has_room allows heap kept words live stop.Memory took new t l x told there act st = took
   array-failed has_room allows heap kept words live e took new t l x told there act st = absurd took

@@ -18,13 +18,14 @@ use Rattle.f3_code.specs.State as s
 use Rattle.f3_cell_kinds.specs.Effect.{are_values}
 use Rattle.f3_cell_kinds.specs.Holds.{IsOf, IsPassed}
 use Rattle.f3_cell_kinds.specs.Laws.{site_at}
-use Rattle.f3_cell_kinds.specs.Types.{CellType, Site, arguments_on}
+use Rattle.f3_cell_kinds.specs.Types.{CellType, arguments_on}
 use Rattle.f3_cell_kinds.specs.Types as cell
 use Rattle.f3_cell_kinds.proofs.Asked.{and_is, not_is, only_is}
 use Rattle.f3_word_cells.specs.Areas.{shape_for}
 use Rattle.f3_word_cells.specs.Does.{IsTold}
 use Rattle.f3_word_cells.specs.Scenes.{code_of}
 use Rattle.f3_word_cells.proofs.OnTop.{AreOf, cells_taken, line_kinds, of_argument}
+use Rattle.f3_word_cells.proofs.Orderly.{IsAfter, after_cells, after_way}
 
 -- ---- kinds
 
@@ -112,7 +113,7 @@ pub record OnArray (p : Program) (t : s.State) (n : ℕ) : Type 0 where
   pub givens : List formed.Given
   pub rest : List CellType
   pub kinds : (site_at p t.pc).cells ≡ map cell.Argument givens ++ rest
-  pub next : (site_at p (t.pc + 1)).cells ≡ cell.Datum (of_kind of 1) ∷ rest
+  pub next : IsAfter p t.pc (t.pc + 1) (cell.Datum (of_kind of 1) ∷ rest)
   pub items : List m.Passed
   pub below : List s.Cell
   pub split : t.stack ≡ map s.Argument items ++ below
@@ -155,7 +156,7 @@ on-array p t l n told there is =
       givens = reverse gs;
       rest = leads.rest;
       kinds = kinds;
-      next = ap (λ (y : Site). y.cells) leads.next ∙ ap (λ (k : Kind). cell.Datum k ∷ leads.rest) first.1;
+      next = after_cells (after_way p t.pc (t.pc + 1) (cell.Datum lead.1 ∷ []) leads.rest leads.next) (ap (λ (k : Kind). cell.Datum k ∷ leads.rest) first.1);
       items = items.0;
       below = top.below;
       split = top.split ∙ ap (λ l. l ++ top.below) items.1;
