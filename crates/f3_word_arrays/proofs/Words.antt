@@ -1,10 +1,11 @@
 -- Words that were written, and objects of such words.
-use Rattle.std.proofs.Common.{◌≡◌, ◌∙◌, sym, ap, refl, inl, inr, Bool, true, false, ℕ, zero, suc, ◌+◌, ◌*◌, ◌<◌, ◌≤◌, List, [], ◌∷◌, ◌++◌, length, take, drop, set, get_or, arith}
+use Rattle.std.proofs.Common.{◌≡◌, ◌∙◌, sym, ap, refl, inl, inr, Bool, true, false, ℕ, zero, suc, ◌+◌, ◌-◌, ◌*◌, ◌^◌, ◌<◌, ◌≤◌, List, [], ◌∷◌, ◌++◌, length, take, drop, set, get_or, min, arith}
 use Rattle.std.specs.Prelude.{ℤ, pos}
-use Rattle.std.proofs.lemmas.List.{length-take-le, get_or_append_left, get_or-append-add}
+use Rattle.std.proofs.lemmas.List.{length-replicate, length-take-le, get_or_append_left, get_or-append-add}
 use Rattle.f3_program.specs.declared.declarations.Constant.{Constant}
 use Rattle.f3_program.specs.declared.declarations.Constant.TheVariants as constant
-use Rattle.f3_live_blocks.specs.Blocks.{Live, words_of}
+use Rattle.f3_live_blocks.specs.Blocks.{Live, words_of, with_taken}
+use Rattle.f3_live_blocks.proofs.Laws.{words-insert_same}
 use Rattle.f3_meaning_whole.specs.Value.{Value, Number, Truth, Composite, Array, more, joined, count}
 use Rattle.f3_meaning_whole.specs.Shape.{Shape, Whole, Logical, Record, Parts, nothing, and}
 use Rattle.f3_meaning_whole.specs.Arithmetic.{constant_value}
@@ -16,6 +17,15 @@ use Rattle.f3_rooms.specs.Forms.{Form, Laid, Allocatable, form_of, form_words, w
 use Rattle.f3_rooms.specs.Values.{word, is_set, elements, formed, object, components}
 use Rattle.f3_rooms.proofs.Framing.{Reading}
 use Rattle.f3_room_levels.specs.Initial.{IsOf, word_of, truth_word}
+
+-- ---- words that were taken
+
+pub taken-long : (m : Live) (b n : ℕ) → length (words_of (with_taken m b n) b) ≡ n
+taken-long m b n = ap length (words-insert_same m b _) ∙ length-replicate n (pos 0)
+
+-- what is below 2 ^ 63 is no limit of 64 bits
+pub least-is : (n k : ℕ) → k ≡ min n (2 ^ 64 - 1) → k < 2 ^ 63 → k ≡ n
+least-is n k e short = omega arith
 
 -- ---- words that were written
 

@@ -1,6 +1,6 @@
 //! Values are written into a block.
 
-ghost use Rattle.std.specs.Prelude.{◌≡◌, ◌≢◌, ◌+◌, ◌*◌, ◌≤◌, ◌<◌, ◌^◌, ℕ, false, length};
+ghost use Rattle.std.specs.Prelude.{◌≡◌, ◌≢◌, ◌+◌, ◌*◌, ◌≤◌, length};
 ghost use Rattle.f3_live_blocks.specs.Blocks.{IsLive, words_of, with_words};
 ghost use Rattle.f3_objects.specs.Holds.{with_words_at};
 ghost use Rattle.f3_room_levels.specs.Initial.{word_of};
@@ -13,7 +13,7 @@ use f3_program::declarations::Constant;
 use f3_word_cells::cell::Datum;
 use f3_word_cells::state::Stop;
 
-/// A new block for so many elements, each of so many words. No heap has room for 2 to the 63 words.
+/// A new block for so many elements, each of so many words. No heap has one of 2 to the 63 words or more.
 ///
 /// `Stop::Failed` where the heap has no room, `Stop::Memory` where the host refused memory for it.
 pub(crate) fn take_room<B: Blocks>(
@@ -21,11 +21,13 @@ pub(crate) fn take_room<B: Blocks>(
     count: usize,
     words: usize,
 ) -> Result<BlockId, Stop>
-    requires short { (n : ℕ) → 2 ^ 63 ≤ n → B.has_room heap.old n ≡ false }
     ensures { TookRoom B.has_room B.allows heap.old (B.kept heap.old) (B.blocks heap.old) (B.blocks heap.new) (count * words) result }
 {
     match heap.take(count.saturating_mul(words)) {
-        Ok(block) => Ok(block),
+        Ok(block) => {
+            heap.blocks_are_short();
+            Ok(block)
+        }
         Err(TakeFault::Full) => Err(Stop::Failed(RunError::HeapHasNoRoom)),
         Err(TakeFault::Memory) => Err(Stop::Memory),
     }

@@ -1,6 +1,7 @@
 use Rattle.std.proofs.Common.{◌≡◌, ◌∙◌, ◌-◌, ◌*◌, refl, sym, ap, subst, arith}
 use Rattle.f3_live_blocks.specs.Blocks.{Live}
 use Rattle.f3_rooms.specs.Laws.{without}
+use Rattle.f3_word_cells.specs.Does.{HasNoMemory, HasNoRoom}
 use Rattle.f3_word_cells.specs.Free.{AreFree}
 use Rattle.f3_word_cells.specs.States.{datum_blocks}
 use Rattle.f3_word_arrays.proofs.Given.{on-array}
@@ -9,11 +10,12 @@ use Rattle.f3_word_arrays.proofs.building.array.Goals as goal
 
 pub returns-in_default-clause-does : goal.returns-in_default-clause-does
 returns-in_default-clause-does g c =
-    let m = g.B.Blocks.blocks c.args.heap.now in array-untyped c.args.scene.program.now m c.args.state.now c.args.count c.as_slice.result.now c.as_slice.ensures.value m c.args.state.now c.in_default.ensures
+    let m = g.B.Blocks.blocks c.args.heap.now in 
+    array-untyped c.args.scene.program.now m c.args.state.now c.args.count (HasNoRoom g.B.Blocks.has_room c.args.heap.now) (HasNoMemory g.B.Blocks.allows (g.B.Blocks.kept c.args.heap.now) m) c.as_slice.result.now c.as_slice.ensures.value m c.args.state.now c.in_default.ensures
 
 pub returns-in-Err-clause-does : goal.returns-in-Err-clause-does
 returns-in-Err-clause-does g c =
-    array-failed c.args.scene.program.now (g.B.Blocks.blocks c.args.heap.now) c.args.state.now c.args.count g.B.Blocks.has_room g.B.Blocks.allows c.args.heap.now _ (c.args.count * c.words-size.result) (g.B.Blocks.blocks c.take_room.new.heap) c.in-Err.stop c.in-Err.ensures c.args.state.now
+    array-failed c.args.scene.program.now (g.B.Blocks.blocks c.args.heap.now) c.args.state.now c.args.count g.B.Blocks.has_room g.B.Blocks.allows c.args.heap.now (g.B.Blocks.kept c.args.heap.now) (c.args.count * c.words-size.result) (g.B.Blocks.blocks c.take_room.new.heap) c.in-Err.stop c.in-Err.ensures c.args.state.now
 
 pub loop-number-init : goal.loop-number-init
 loop-number-init g c =
@@ -27,7 +29,8 @@ returns-in_default-pop_item-clause-does g c =
     let p = c.args.scene.program.now in
     let m = g.B.Blocks.blocks c.args.heap.now in
     array-lost p m c.args.state.now c.args.count c.in-Some.of c.words-size.result (array-size p m c.args.state.now c.args.count c.args.scene.types c.requires.scene.types c.in-Some.of c.words-size.result c.words-size.ensures)
-    c.in-Ok.block _ c.loop-number.state c.loop-number.number c.loop-number.invariant c.loop-number-test.true (g.B.Blocks.blocks c.loop-number.heap) c.pop_item.new.state c.pop_item.new.state c.in_default-pop_item.ensures.taken
+    c.in-Ok.block _ c.loop-number.state c.loop-number.number c.loop-number.invariant c.loop-number-test.true
+    (HasNoRoom g.B.Blocks.has_room c.args.heap.now) (HasNoMemory g.B.Blocks.allows (g.B.Blocks.kept c.args.heap.now) m) (g.B.Blocks.blocks c.loop-number.heap) c.pop_item.new.state c.pop_item.new.state c.in_default-pop_item.ensures.taken
 
 pub write_item-requires-clause-live : goal.write_item-requires-clause-live
 write_item-requires-clause-live g c =
@@ -85,6 +88,7 @@ returns-clause-does g c =
     let m = g.B.Blocks.blocks c.args.heap.now in
     let size = array-size p m c.args.state.now c.args.count c.args.scene.types c.requires.scene.types c.in-Some.of c.words-size.result c.words-size.ensures in
     let all : c.args.count ≡ c.loop-number.number = omega (arith, c.loop-number-test.false, c.loop-number.auto.number-end) in
-    array-made p m c.args.state.now c.args.count c.in-Some.of c.words-size.result size c.in-Ok.block (g.B.Blocks.blocks c.loop-number.heap) c.loop-number.state c.go_on_with.new.self c.row_in.result
+    array-made p m c.args.state.now c.args.count c.in-Some.of c.words-size.result size c.in-Ok.block
+    (HasNoRoom g.B.Blocks.has_room c.args.heap.now) (HasNoMemory g.B.Blocks.allows (g.B.Blocks.kept c.args.heap.now) m) (g.B.Blocks.blocks c.loop-number.heap) c.loop-number.state c.go_on_with.new.self c.row_in.result
     (subst (Gathering p m c.args.state.now c.args.count c.in-Some.of c.words-size.result c.in-Ok.block (g.B.Blocks.blocks c.loop-number.heap) c.loop-number.state) (sym all) c.loop-number.invariant)
     c.row_in.ensures c.go_on_with.ensures
