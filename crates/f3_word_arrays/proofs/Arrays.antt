@@ -20,7 +20,6 @@ use Rattle.f3_code.specs.Heap.{with_answers}
 use Rattle.f3_code.specs.Machine.{argument_of, on, on_many, performs}
 use Rattle.f3_code.specs.State.{Line, placed, Next}
 use Rattle.f3_code.specs.State as s
-use Rattle.f3_cell_kinds.specs.Laws.{site_at}
 use Rattle.f3_cell_kinds.specs.Types.{CellType}
 use Rattle.f3_cell_kinds.specs.Types as cell
 use Rattle.f3_objects.specs.Holds.{with_words_at}
@@ -40,7 +39,7 @@ use Rattle.f3_word_cells.specs.declared.state.Stop.{Stop}
 use Rattle.f3_word_cells.specs.declared.state.Stop.TheVariants as stop
 use Rattle.f3_word_cells.specs.Areas.{shape_for}
 use Rattle.f3_word_cells.specs.Does.{DoesOver, GoesOn, HasNoMemory, HasNoRoom, IsTold, Keeps, RefusedAt, stream}
-use Rattle.f3_word_cells.specs.Moves.{IsSame, Popped, Pushed}
+use Rattle.f3_word_cells.specs.Moves.{IsSame, Pushed}
 use Rattle.f3_word_cells.specs.Scenes.{code_of}
 use Rattle.f3_word_cells.specs.Free.{AreFree}
 use Rattle.f3_word_cells.specs.States.{Stands, datum_blocks}

@@ -1,6 +1,6 @@
 -- The array of the values that were taken.
-use Rattle.std.proofs.Common.{◌≡◌, ◌≢◌, ◌∙◌, ℕ, zero, suc, ◌+◌, ◌*◌, ◌<◌, List, [], ◌∷◌, ◌++◌, length, map, reverse, take, drop, refl, sym, ap, subst, inl, arith, append_assoc}
-use Rattle.std.specs.Prelude.{pos, Some}
+use Rattle.std.proofs.Common.{◌≡◌, ◌≢◌, ◌∙◌, ℕ, zero, suc, ◌+◌, ◌*◌, List, [], ◌∷◌, ◌++◌, length, map, reverse, take, drop, refl, sym, ap, subst, inl, arith, append_assoc}
+use Rattle.std.specs.Prelude.{pos}
 use Rattle.std.proofs.lemmas.List.{reverse-append, reverse-reverse, take-append-drop}
 use Rattle.f3_program.specs.declared.declarations.Base.{Base}
 use Rattle.f3_program.specs.declared.program.Program.{Program}
@@ -9,13 +9,13 @@ use Rattle.f3_meaning_whole.specs.Act as m
 use Rattle.f3_meaning_whole.specs.Act.{given}
 use Rattle.f3_meaning_whole.specs.Formed as formed
 use Rattle.f3_meaning_whole.specs.Shape.{Shape}
-use Rattle.f3_meaning_whole.specs.Value.{Span, Value, Array, joined}
+use Rattle.f3_meaning_whole.specs.Value.{Value, Array, joined}
 use Rattle.f3_code.specs.State as s
 use Rattle.f3_cell_kinds.specs.Types.{CellType}
 use Rattle.f3_cell_kinds.specs.Types as cell
 use Rattle.f3_desc.specs.declared.descriptor.Dim.{Dim}
 use Rattle.f3_desc.specs.Laws.{IsContiguous, size_of}
-use Rattle.f3_rooms.specs.Held.{Held, Row, Empty, end, others}
+use Rattle.f3_rooms.specs.Held.{Row, Empty, end, others}
 use Rattle.f3_rooms.specs.Forms.{words_for}
 use Rattle.f3_rooms.specs.Rooms.{Rooms}
 use Rattle.f3_rooms.specs.Values.{elements, laid, object}

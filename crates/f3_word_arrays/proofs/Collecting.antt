@@ -1,7 +1,7 @@
 -- Values are taken from the top, the last one first, and stand in a new block.
-use Rattle.std.proofs.Common.{◌≡◌, ◌≢◌, ◌∙◌, ℕ, zero, suc, ◌+◌, ◌*◌, ◌<◌, ◌≤◌, List, [], ◌∷◌, ◌++◌, length, map, reverse, replicate, get_or, refl, sym, ap, subst, arith, append_assoc, is_some}
+use Rattle.std.proofs.Common.{◌≡◌, ◌∙◌, ℕ, suc, ◌+◌, ◌*◌, ◌<◌, ◌≤◌, List, [], ◌∷◌, ◌++◌, length, map, reverse, get_or, refl, sym, ap, subst, arith, append_assoc}
 use Rattle.std.specs.Prelude.{None, pos}
-use Rattle.std.specs.FinMap.{get as find, remove}
+use Rattle.std.specs.FinMap.{get as find}
 use Rattle.std.proofs.lemmas.List.{reverse-append, append-nil, length-replicate}
 use Rattle.f3_program.specs.declared.program.Program.{Program}
 use Rattle.f3_live_blocks.specs.Blocks.{Live, IsLive, words_in, words_of, with_taken, with_words}
@@ -21,8 +21,8 @@ use Rattle.f3_objects.proofs.Writes.{words-with}
 use Rattle.f3_rooms.specs.Held.{Empty, times}
 use Rattle.f3_rooms.specs.Forms.{words_for}
 use Rattle.f3_rooms.specs.Laws.{without}
-use Rattle.f3_rooms.specs.Rooms.{Rooms, blocks_of}
-use Rattle.f3_rooms.specs.Values.{word, object}
+use Rattle.f3_rooms.specs.Rooms.{Rooms}
+use Rattle.f3_rooms.specs.Values.{object}
 use Rattle.f3_rooms.proofs.Framing.{one_here}
 use Rattle.f3_rooms.proofs.Keeping.{as_it_was}
 use Rattle.f3_room_arrays.specs.Elements.{row}
@@ -34,16 +34,16 @@ use Rattle.f3_word_cells.specs.declared.cell.Passed.TheVariants as passed
 use Rattle.f3_word_cells.specs.declared.cell.Here.{Here}
 use Rattle.f3_word_cells.specs.declared.state.Name.{Name}
 use Rattle.f3_word_cells.specs.declared.state.State.{State}
-use Rattle.f3_word_cells.specs.Areas.{IsDatum, shape_for}
+use Rattle.f3_word_cells.specs.Areas.{shape_for}
 use Rattle.f3_word_cells.specs.Cells.{AreCells}
 use Rattle.f3_word_cells.specs.Free.{AreFree}
 use Rattle.f3_word_cells.specs.Moves.{Popped}
-use Rattle.f3_word_cells.specs.States.{IsLaid, Stands, datum_blocks, own}
-use Rattle.f3_word_cells.proofs.Amid.{Amid, amid_first, amid_popped, amid_so, amid_taken, amid_written, hand_alone, hand_live, uses}
+use Rattle.f3_word_cells.specs.States.{Stands, datum_blocks, own}
+use Rattle.f3_word_cells.proofs.Amid.{Amid, amid_first, amid_popped, amid_so, amid_taken, amid_written, hand_alone, hand_live}
 use Rattle.f3_word_cells.proofs.InHand.{amid_without, hand_free}
 use Rattle.f3_word_arrays.specs.Items.{IsApart, datum_words}
 use Rattle.f3_word_arrays.proofs.Elements.{HasWords, argument-cell, has-words}
-use Rattle.f3_word_arrays.proofs.Given.{AreItems, IsItem, OnArray}
+use Rattle.f3_word_arrays.proofs.Given.{AreItems, OnArray}
 use Rattle.f3_word_arrays.proofs.Words.{elements-tell, object-tells, word-behind, written-word}
 
 -- ---- blocks in hand

@@ -1,22 +1,19 @@
 -- Words that were written, and objects of such words.
-use Rattle.std.proofs.Common.{◌≡◌, ◌∙◌, sym, ap, refl, inl, inr, Bool, true, false, ℕ, zero, suc, ◌+◌, ◌-◌, ◌*◌, ◌^◌, ◌<◌, ◌≤◌, List, [], ◌∷◌, ◌++◌, length, take, drop, set, get_or, min, arith}
+use Rattle.std.proofs.Common.{◌≡◌, ◌∙◌, sym, ap, refl, inr, Bool, true, false, ℕ, zero, suc, ◌+◌, ◌-◌, ◌*◌, ◌^◌, ◌<◌, ◌≤◌, List, [], ◌∷◌, ◌++◌, length, take, drop, set, get_or, min, arith}
 use Rattle.std.specs.Prelude.{ℤ, pos}
 use Rattle.std.proofs.lemmas.List.{length-replicate, length-take-le, get_or_append_left, get_or-append-add}
-use Rattle.f3_program.specs.declared.declarations.Constant.{Constant}
-use Rattle.f3_program.specs.declared.declarations.Constant.TheVariants as constant
 use Rattle.f3_live_blocks.specs.Blocks.{Live, words_of, with_taken}
 use Rattle.f3_live_blocks.proofs.Laws.{words-insert_same}
 use Rattle.f3_meaning_whole.specs.Value.{Value, Number, Truth, Composite, Array, more, joined, count}
 use Rattle.f3_meaning_whole.specs.Shape.{Shape, Whole, Logical, Record, Parts, nothing, and}
-use Rattle.f3_meaning_whole.specs.Arithmetic.{constant_value}
 use Rattle.f3_objects.specs.Holds.{with_words_at}
 use Rattle.f3_objects.proofs.Spans.{read_outside, written_same}
 use Rattle.f3_objects.proofs.Writes.{set_written}
-use Rattle.f3_rooms.specs.Held.{Held, Empty, end}
+use Rattle.f3_rooms.specs.Held.{Empty, end}
 use Rattle.f3_rooms.specs.Forms.{Form, Laid, Allocatable, form_of, form_words, words_for, words_for_parts}
 use Rattle.f3_rooms.specs.Values.{word, is_set, elements, formed, object, components}
 use Rattle.f3_rooms.proofs.Framing.{Reading}
-use Rattle.f3_room_levels.specs.Initial.{IsOf, word_of, truth_word}
+use Rattle.f3_room_levels.specs.Initial.{truth_word}
 
 -- ---- words that were taken
 

@@ -1,4 +1,4 @@
-use Rattle.std.proofs.Common.{◌≡◌, ◌∙◌, sym, ap, subst, ℕ, ◌*◌, ◌<◌, ◌^◌, length, arith}
+use Rattle.std.proofs.Common.{◌≡◌, ◌∙◌, ap, subst, ℕ, ◌*◌, ◌<◌, ◌^◌, length}
 use Rattle.f3_live_blocks.specs.Blocks.{with_taken, words_of}
 use Rattle.f3_word_arrays.proofs.Words.{taken-long, least-is}
 use Rattle.f3_word_arrays.proofs.writing.take_room.Goals as goal
