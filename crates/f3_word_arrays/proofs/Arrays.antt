@@ -5,7 +5,6 @@ use Rattle.std.specs.FinMap.{get as find}
 use Rattle.std.proofs.lemmas.List.{reverse-append, append-nil}
 use Rattle.f3_program.specs.declared.declarations.Base.{Base}
 use Rattle.f3_program.specs.declared.program.Program.{Program}
-use Rattle.f3_heap_laws.specs.Answers.{Answer, Sizes}
 use Rattle.f3_live_blocks.specs.Blocks.{Live, IsLive, words_of, with_taken, with_words}
 use Rattle.f3_meaning_whole.specs.Act as m
 use Rattle.f3_meaning_whole.specs.Act.{Here, claim_for, given}
@@ -38,7 +37,7 @@ use Rattle.f3_word_cells.specs.declared.state.State.{State}
 use Rattle.f3_word_cells.specs.declared.state.Stop.{Stop}
 use Rattle.f3_word_cells.specs.declared.state.Stop.TheVariants as stop
 use Rattle.f3_word_cells.specs.Areas.{shape_for}
-use Rattle.f3_word_cells.specs.Does.{DoesOver, GoesOn, HasNoMemory, HasNoRoom, IsTold, Keeps, RefusedAt, stream}
+use Rattle.f3_word_cells.specs.Does.{DoesOver, GoesOn, IsTold, Keeps, RefusedAt, stream}
 use Rattle.f3_word_cells.specs.Moves.{IsSame, Pushed}
 use Rattle.f3_word_cells.specs.Scenes.{code_of}
 use Rattle.f3_word_cells.specs.Free.{AreFree}
@@ -241,8 +240,7 @@ module _ (p : Program) (m : Live) (old : State) (n : ℕ) where
         }
 
   -- no block was taken
-  pub array-failed : {H R : Type 0} (has_room : H → ℕ → Bool) (allows : R → Sizes → ℕ → Answer → Type 0) (heap : H) (kept : R) (words : ℕ) (live : Live) (e : Stop)
-      → TookRoom has_room allows heap kept m live words (Err e) → (new : State) → DoesOver (HasNoRoom has_room heap) (HasNoMemory allows kept m) p (i.Array n) (Err e) m live old new
-  array-failed has_room allows heap kept words live (stop.Failed HeapHasNoRoom) took new t l x told there act st = (array-full p t l n (on-array p t l n told there act) act, took)
-  array-failed has_room allows heap kept words live stop.Memory took new t l x told there act st = took
-  array-failed has_room allows heap kept words live e took new t l x told there act st = absurd took
+  pub array-failed : (Full Spent : Type 0) (words : ℕ) (live : Live) (e : Stop) (new : State) → TookRoom Full Spent m live words (Err e) → DoesOver Full Spent p (i.Array n) (Err e) m live old new
+  array-failed Full Spent words live (stop.Failed HeapHasNoRoom) new took t l x told there act st = (array-full p t l n (on-array p t l n told there act) act, took)
+  array-failed Full Spent words live stop.Memory new took t l x told there act st = took
+  array-failed Full Spent words live e new took t l x told there act st = absurd took

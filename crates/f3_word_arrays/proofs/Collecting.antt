@@ -236,8 +236,8 @@ module _ (p : Program) (t : s.State) (n : ℕ) (h : OnArray p t n) (old : State)
       others-are =
           let there : at + size ≡ (length one.items + 1) * size = omega arith in
           elements-tell live new number size (object live shape) (object new shape) (object-tells live new shape) block (at + size) block (at + size) (λ j lt.
-              ap (λ ws. get_or ws (at + size + j) (pos 0)) words-are
-              ∙ word-behind (words_of live block) at (at + size + j) (datum_words live d) item-within (let e = one.words.long in omega arith))
+          ap (λ ws. get_or ws (at + size + j) (pos 0)) words-are
+          ∙ word-behind (words_of live block) at (at + size + j) (datum_words live d) item-within (let e = one.words.long in omega arith))
           ∙ ap (λ o. row live shape number block o) there ∙ one.there
 
       pub collected-more : Collected new now (number + 1)

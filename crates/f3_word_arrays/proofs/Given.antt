@@ -132,11 +132,12 @@ items-there p of (g ∷ gs) [] suit are = absurd are
 items-there p of (g ∷ gs) (c ∷ tops) suit are =
     let top = of_argument p.types.items g c are.0 in
     let item = one-item p of g top.0 suit.0 top.2 in
-    let more = items-there p of gs tops suit.1 are.1 in
-    (m.Given item.0 item.1 ∷ more.0,
-     ap (λ (y : s.Cell). y ∷ tops) (top.1 ∙ ap s.Argument item.2) ∙ ap (λ l. s.Argument (m.Given item.0 item.1) ∷ l) more.1,
-     (item.3, more.2),
-     ap suc more.3)
+    let more = items-there p of gs tops suit.1 are.1 in (
+      m.Given item.0 item.1 ∷ more.0,
+      ap (λ (y : s.Cell). y ∷ tops) (top.1 ∙ ap s.Argument item.2) ∙ ap (λ l. s.Argument (m.Given item.0 item.1) ∷ l) more.1,
+      (item.3, more.2),
+      ap suc more.3,
+    )
 
 pub on-array : (p : Program) (t : s.State) (l : Line) (n : ℕ) → IsTold p t → slice_get (code_of p).lines t.pc ≡ Some l → l.act ≡ i.Array n → OnArray p t n
 on-array p t l n told there is =

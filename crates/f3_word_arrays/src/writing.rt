@@ -4,6 +4,7 @@ ghost use Rattle.std.specs.Prelude.{◌≡◌, ◌≢◌, ◌+◌, ◌*◌, ◌�
 ghost use Rattle.f3_live_blocks.specs.Blocks.{IsLive, words_of, with_words};
 ghost use Rattle.f3_objects.specs.Holds.{with_words_at};
 ghost use Rattle.f3_room_levels.specs.Initial.{word_of};
+ghost use Rattle.f3_word_cells.specs.Does.{HasNoMemory, HasNoRoom};
 ghost use Rattle.f3_word_arrays.specs.Items.{IsApart, datum_words};
 ghost use Rattle.f3_word_arrays.specs.Room.{TookRoom};
 
@@ -21,7 +22,7 @@ pub(crate) fn take_room<B: Blocks>(
     count: usize,
     words: usize,
 ) -> Result<BlockId, Stop>
-    ensures { TookRoom B.has_room B.allows heap.old (B.kept heap.old) (B.blocks heap.old) (B.blocks heap.new) (count * words) result }
+    ensures { TookRoom (HasNoRoom B.has_room heap.old) (HasNoMemory B.allows (B.kept heap.old) (B.blocks heap.old)) (B.blocks heap.old) (B.blocks heap.new) (count * words) result }
 {
     match heap.take(count.saturating_mul(words)) {
         Ok(block) => {

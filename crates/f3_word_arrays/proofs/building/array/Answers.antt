@@ -10,12 +10,14 @@ use Rattle.f3_word_arrays.proofs.building.array.Goals as goal
 
 pub returns-in_default-clause-does : goal.returns-in_default-clause-does
 returns-in_default-clause-does g c =
-    let m = g.B.Blocks.blocks c.args.heap.now in 
+    let m = g.B.Blocks.blocks c.args.heap.now in
     array-untyped c.args.scene.program.now m c.args.state.now c.args.count (HasNoRoom g.B.Blocks.has_room c.args.heap.now) (HasNoMemory g.B.Blocks.allows (g.B.Blocks.kept c.args.heap.now) m) c.as_slice.result.now c.as_slice.ensures.value m c.args.state.now c.in_default.ensures
 
 pub returns-in-Err-clause-does : goal.returns-in-Err-clause-does
 returns-in-Err-clause-does g c =
-    array-failed c.args.scene.program.now (g.B.Blocks.blocks c.args.heap.now) c.args.state.now c.args.count g.B.Blocks.has_room g.B.Blocks.allows c.args.heap.now (g.B.Blocks.kept c.args.heap.now) (c.args.count * c.words-size.result) (g.B.Blocks.blocks c.take_room.new.heap) c.in-Err.stop c.in-Err.ensures c.args.state.now
+    let m = g.B.Blocks.blocks c.args.heap.now in
+    array-failed c.args.scene.program.now m c.args.state.now c.args.count (HasNoRoom g.B.Blocks.has_room c.args.heap.now) (HasNoMemory g.B.Blocks.allows (g.B.Blocks.kept c.args.heap.now) m)
+    (c.args.count * c.words-size.result) (g.B.Blocks.blocks c.take_room.new.heap) c.in-Err.stop c.args.state.now c.in-Err.ensures
 
 pub loop-number-init : goal.loop-number-init
 loop-number-init g c =
