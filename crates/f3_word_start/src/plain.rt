@@ -102,7 +102,8 @@ fn is_plain_act(act: Instruction) -> bool
     ensures { result ≡ is_plain_act act }
 {
     match act {
-        Instruction::Select(is_opened, _) | Instruction::SelectOf(is_opened, _, _) => !is_opened,
+        Instruction::Select(is_opened, _) => !is_opened,
+        Instruction::SelectOf(is_opened, _, count) => !is_opened && count > 0,
         Instruction::Structure(_, _)
         | Instruction::IsAllocated
         | Instruction::Contents
