@@ -38,7 +38,7 @@ use Rattle.f3_word_cells.specs.declared.state.Stop.{Stop}
 use Rattle.f3_word_cells.specs.declared.state.Stop.TheVariants as stop
 use Rattle.f3_word_cells.specs.Areas.{shape_for}
 use Rattle.f3_word_cells.specs.Does.{DoesOver, GoesOn, IsTold, Keeps, RefusedAt, stream}
-use Rattle.f3_word_cells.specs.Moves.{IsSame, Pushed}
+use Rattle.f3_word_cells.specs.Moves.{Pushed}
 use Rattle.f3_word_cells.specs.Scenes.{code_of}
 use Rattle.f3_word_cells.specs.Free.{AreFree}
 use Rattle.f3_word_cells.specs.States.{Stands, datum_blocks}
@@ -103,10 +103,7 @@ array-short (suc n) size some short = omega arith
 
 -- ---- stacks keep their room
 
-pub keeps-same : (old new : State) → IsSame old new → Keeps old new
-keeps-same old new is = record { cells = is.room; names = is.names; callers = is.callers; blocks = is.blocks; levels = is.levels }
-
-pub keeps-then : (old mid new : State) → Keeps old mid → Keeps mid new → Keeps old new
+keeps-then : (old mid new : State) → Keeps old mid → Keeps mid new → Keeps old new
 keeps-then old mid new a b = record {
   cells = b.cells ∙ a.cells;
   names = b.names ∙ a.names;

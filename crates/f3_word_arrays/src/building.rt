@@ -39,7 +39,10 @@ fn row_in(block: BlockId, count: usize, size: usize, of: Base) -> Area
     }
 }
 
-/// The array of so many values, the last one on top.
+/// The array of so many values that stand on top as arguments, the last one on top. Its elements are in a new block, and the blocks of
+/// the values are given back.
+///
+/// `Stop::Failed` where the heap has no room for it, `Stop::Memory` where the host refused memory for it.
 #[inline(never)]
 pub fn array<B: Blocks>(
     scene: Scene<'_>,
