@@ -5,9 +5,9 @@ mod Shaping
 mod Members
 mod Popping
 mod Choosing
+mod Picked
+mod Above
 mod Sectioning
 mod Reaching
-mod Beside
-mod Around
 mod Named
 mod Referring
