@@ -84,6 +84,10 @@ above types k (b ∷ bs) (a ∷ tops) of are =
     let rest = above types k bs tops of are.1 in
     (h.0 ∷ rest.0, rest.1, ap (λ (y : s.Cell). y ∷ tops) h.1 ∙ ap (λ l. s.Choice h.0 ∷ l) rest.2, (let e = rest.3 in omega arith), rest.4, (h.2, rest.5))
 
+above-is : (stack tops below : List s.Cell) (hs : List act.Chosen) (r : Reference) → stack ≡ tops ++ below → tops ≡ map s.Choice hs ++ s.Object r ∷ []
+    → stack ≡ map s.Choice hs ++ s.Object r ∷ below
+above-is stack tops below hs r e f = e ∙ ap (λ l. l ++ below) f ∙ append_assoc (map s.Choice hs) (s.Object r ∷ []) below
+
 pub choices-on-top : (p : Program) (t : s.State) (n : ℕ) (k : CellType) (bs : List Bool) (rest : List CellType) → OfObject p.types.items k → IsTold p t → length bs ≡ n
     → (site_at p t.pc).cells ≡ map cell.Choice bs ++ (k ∷ rest) → ChoicesOnTop p t n k rest
 choices-on-top p t n k bs rest of told many e =
@@ -95,7 +99,7 @@ choices-on-top p t n k bs rest of told many e =
       choices = h.0;
       reference = h.1;
       below = top.below;
-      split = top.split ∙ ap (λ l. l ++ top.below) h.2 ∙ append_assoc (map s.Choice h.0) (s.Object h.1 ∷ []) top.below;
+      split = above-is t.stack top.tops top.below h.0 h.1 top.split h.2;
       count = h.3 ∙ many;
       many = many;
       is = h.4;

@@ -9,5 +9,6 @@ mod Picked
 mod Above
 mod Sectioning
 mod Reaching
+mod Beside
 mod Named
 mod Referring

@@ -66,7 +66,7 @@ Why ss hs (stop.Failed StepIsZero) = some_zero_step hs ≡ true
 Why ss hs (stop.Failed SubscriptOutOfBounds) = (some_zero_step hs ≡ false) × (all_inside ss hs ≡ false)
 Why ss hs e = ⊥
 
-spans-many : (ds : _) → length (spans_of ds) ≡ length ds
+pub spans-many : (ds : _) → length (spans_of ds) ≡ length ds
 spans-many [] = refl
 spans-many (d ∷ ds) = let e = spans-many ds in omega arith
 
