@@ -52,7 +52,7 @@ each-cell k n j e = ap (λ b. if b then cell.Object j else cell.Each k n j) e
 one-kind : (k j : Kind) → nat_eq k.rank 0 ≡ true → part_kind k j ≡ Some j
 one-kind k j e = ap (λ b. if b then Some j else only (is_scalar j) (of_kind j.of k.rank)) e
 
-either-not : (a b : Bool) → a ≡ false → (a || b) ≡ true → b ≡ true
+pub either-not : (a b : Bool) → a ≡ false → (a || b) ≡ true → b ≡ true
 either-not true b e f = absurd cc
 either-not false b e f = f
 

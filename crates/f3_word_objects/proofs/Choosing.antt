@@ -89,11 +89,11 @@ above-is : (stack tops below : List s.Cell) (hs : List act.Chosen) (r : Referenc
 above-is stack tops below hs r e f = e ∙ ap (λ l. l ++ below) f ∙ append_assoc (map s.Choice hs) (s.Object r ∷ []) below
 
 pub choices-on-top : (p : Program) (t : s.State) (n : ℕ) (k : CellType) (bs : List Bool) (rest : List CellType) → OfObject p.types.items k → IsTold p t → length bs ≡ n
-    → (site_at p t.pc).cells ≡ map cell.Choice bs ++ (k ∷ rest) → ChoicesOnTop p t n k rest
+    → (site_at p t.pc).cells ≡ map cell.Choice bs ++ (k ∷ rest) → (h : ChoicesOnTop p t n k rest) × (h.triplets ≡ bs)
 choices-on-top p t n k bs rest of told many e =
     let top = cells_taken p t (map cell.Choice bs ++ k ∷ []) rest told (e ∙ sym (append_assoc (map cell.Choice bs) (k ∷ []) rest)) in
     let h = above p.types.items k bs top.tops of top.are in
-    record {
+    (record {
       triplets = bs;
       before = e;
       choices = h.0;
@@ -104,7 +104,7 @@ choices-on-top p t n k bs rest of told many e =
       many = many;
       is = h.4;
       chosen = h.5;
-    }
+    }, refl)
 
 -- ---- cells in memory
 

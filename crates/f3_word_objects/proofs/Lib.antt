@@ -8,6 +8,9 @@ mod Choosing
 mod Picked
 mod Above
 mod Sectioning
+mod Single
+mod Each
+mod Around
 mod Reaching
 mod Beside
 mod Named

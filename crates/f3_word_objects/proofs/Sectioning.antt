@@ -119,7 +119,7 @@ array-on-top p t l is_opened n told there is =
     let rest = lead.5.rest in
     let kinds : (site_at p t.pc).cells ≡ map cell.Choice (reverse bs) ++ (cell.Object k ∷ rest) =
     lead.5.before ∙ ap (λ ks. ks ++ rest) (choices-on-is bs (cell.Object k ∷ [])) ∙ append_assoc (map cell.Choice (reverse bs)) (cell.Object k ∷ []) rest in
-    let top = choices-on-top p t n (cell.Object k) (reverse bs) rest (object-type p.types.items k) told (length-reverse bs ∙ lead.3) kinds in
+    let top = (choices-on-top p t n (cell.Object k) (reverse bs) rest (object-type p.types.items k) told (length-reverse bs ∙ lead.3) kinds).0 in
     (closed, record {
       kind = k;
       after = lead.2;

@@ -1,5 +1,5 @@
 -- Components of each element of an array in words, and elements of these (ISO/IEC 1539-1:2004, 6.1.2).
-use Rattle.std.specs.Prelude.{⊤, ◌≡◌, ◌≢◌, ℕ, ℤ, nat_abs, ◌-ℤ◌, ◌+◌, ◌*◌, ◌%◌, ◌^◌, true, false, List, [], ◌∷◌, Option, None, Some, Result, Ok, Err}
+use Rattle.std.specs.Prelude.{⊤, ◌≡◌, ◌≢◌, ℕ, nat_abs, ◌-ℤ◌, ◌+◌, ◌*◌, ◌%◌, ◌^◌, true, false, List, [], ◌∷◌, Option, None, Some, Result, Ok, Err}
 use Rattle.f3_program.specs.declared.declarations.Component.{Component}
 use Rattle.f3_program.specs.declared.declarations.Dimension.{Dimension}
 use Rattle.f3_meaning_whole.specs.Act.{Chosen, At, Range, all_inside, component_of, is_inside, places_in}
@@ -39,10 +39,11 @@ AreSingle (Range lower upper step ∷ cs) = ⊥
 abbrev pub span_declared : Dimension → Span
 span_declared d = record { lower = d.lower; extent = d.extent }
 
--- the place of a subscript among those of a dimension, counted from 0, or it is out of bounds
-abbrev pub IsPlaceIn : Span → ℤ → Option ℕ → Type 0
-IsPlaceIn s z None = is_inside s (z ∷ []) ≡ false
-IsPlaceIn s z (Some k) = (is_inside s (z ∷ []) ≡ true) × (k ≡ nat_abs (z -ℤ s.lower))
+-- the place of a subscript among those of a dimension, counted from 0, or it is out of bounds; a triplet has none
+abbrev pub IsPlaceIn : Span → Chosen → Option ℕ → Type 0
+IsPlaceIn s (At z) None = is_inside s (z ∷ []) ≡ false
+IsPlaceIn s (At z) (Some k) = (is_inside s (z ∷ []) ≡ true) × (k ≡ nat_abs (z -ℤ s.lower))
+IsPlaceIn s (Range lower upper step) k = k ≡ None
 
 -- The number of the element with such subscripts, up to a multiple of 2 ^ 64, or one of them is out of bounds (6.2.2.2).
 abbrev pub IsNumber : List Span → List Chosen → Option ℕ → Type 0

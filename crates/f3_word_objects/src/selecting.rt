@@ -31,9 +31,12 @@ use f3_word_cells::scene::Scene;
 use f3_word_cells::state::{State, Stop};
 
 /// The place of a subscript among those of a dimension, counted from 0.
-fn place_in(dimension: Dimension, subscript: i64) -> Option<usize>
-    ensures { IsPlaceIn (span_declared dimension) subscript result }
+fn place_in(dimension: Dimension, choice: Chosen) -> Option<usize>
+    ensures { IsPlaceIn (span_declared dimension) (chosen_of choice) result }
 {
+    let Chosen::At(subscript) = choice else {
+        return None;
+    };
     let from = dimension.lower as i128;
     let place = subscript as i128 - from;
     if place < 0 || place >= dimension.extent as i128 {
@@ -117,10 +120,7 @@ fn number_of(dimensions: &[Dimension], chosen: &[Chosen]) -> Option<usize>
     let Some((choice, rest)) = chosen.split_first() else {
         return Some(0);
     };
-    let Chosen::At(subscript) = choice else {
-        return None;
-    };
-    let place = place_in(*dimension, *subscript)?;
+    let place = place_in(*dimension, *choice)?;
     let behind = number_of(others, rest)?;
     Some(place.wrapping_add((dimension.extent as usize).wrapping_mul(behind)))
 }
