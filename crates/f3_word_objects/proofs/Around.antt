@@ -1,7 +1,7 @@
 -- The line of elements of a component.
 use Rattle.std.proofs.Common.{◌≡◌, ◌∙◌, ℕ, zero, suc, ◌+◌, ◌≤◌, Bool, true, false, List, [], ◌∷◌, ◌++◌, length, map, reverse, take, refl, sym, ap, subst, arith, append_assoc}
 use Rattle.std.specs.Prelude.{Ok, Err, None, Some, Option, slice_get, ◌&&◌, not, nat_eq, nat_lt, if◌then◌else◌}
-use Rattle.std.proofs.lemmas.Bool.{eqb-true, ne_eqb}
+use Rattle.std.proofs.lemmas.Bool.{eqb-true}
 use Rattle.std.proofs.lemmas.List.{length-reverse}
 use Rattle.f3_program.specs.declared.declarations.Component as component
 use Rattle.f3_program.specs.declared.declarations.Derived.{Derived}
@@ -56,7 +56,7 @@ use Rattle.f3_word_objects.specs.Each.{AreSingle, PicksIn, PicksOfEach}
 use Rattle.f3_word_objects.specs.Picks.{Picks}
 use Rattle.f3_word_objects.specs.Ranks.{AreRanked, AreShort}
 use Rattle.f3_word_objects.specs.Taken.{PoppedAll, Took}
-use Rattle.f3_word_objects.proofs.Above.{afterwards, cell-beneath, in-order, stack, taken, taken-many}
+use Rattle.f3_word_objects.proofs.Above.{afterwards, cell-beneath, in-order, taken, taken-many}
 use Rattle.f3_word_objects.proofs.Beside.{either-not, one-cell, reaches-one}
 use Rattle.f3_word_objects.proofs.Choosing.{AreChosen, ChoicesOnTop, OfObject, choices-on-is, choices-on-top, each-type, object-type, takes-choices}
 use Rattle.f3_word_objects.proofs.Each.{each-picked}

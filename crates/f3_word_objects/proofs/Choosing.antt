@@ -22,7 +22,6 @@ use Rattle.f3_rooms.specs.Rooms.{Rooms}
 use Rattle.f3_word_cells.specs.declared.cell.Cell.{Cell}
 use Rattle.f3_word_cells.specs.declared.cell.Cell.TheVariants as c
 use Rattle.f3_word_cells.specs.declared.cell.Here.{Here}
-use Rattle.f3_word_cells.specs.declared.cell.Object.{Object}
 use Rattle.f3_word_cells.specs.declared.state.Name.{Name}
 use Rattle.f3_word_cells.specs.declared.state.State.{State}
 use Rattle.f3_word_cells.specs.Cells.{AreCells, IsCell}
@@ -92,19 +91,21 @@ pub choices-on-top : (p : Program) (t : s.State) (n : ℕ) (k : CellType) (bs : 
     → (site_at p t.pc).cells ≡ map cell.Choice bs ++ (k ∷ rest) → (h : ChoicesOnTop p t n k rest) × (h.triplets ≡ bs)
 choices-on-top p t n k bs rest of told many e =
     let top = cells_taken p t (map cell.Choice bs ++ k ∷ []) rest told (e ∙ sym (append_assoc (map cell.Choice bs) (k ∷ []) rest)) in
-    let h = above p.types.items k bs top.tops of top.are in
-    (record {
-      triplets = bs;
-      before = e;
-      choices = h.0;
-      reference = h.1;
-      below = top.below;
-      split = above-is t.stack top.tops top.below h.0 h.1 top.split h.2;
-      count = h.3 ∙ many;
-      many = many;
-      is = h.4;
-      chosen = h.5;
-    }, refl)
+    let h = above p.types.items k bs top.tops of top.are in (
+      record {
+        triplets = bs;
+        before = e;
+        choices = h.0;
+        reference = h.1;
+        below = top.below;
+        split = above-is t.stack top.tops top.below h.0 h.1 top.split h.2;
+        count = h.3 ∙ many;
+        many = many;
+        is = h.4;
+        chosen = h.5;
+      },
+      refl,
+    )
 
 -- ---- cells in memory
 

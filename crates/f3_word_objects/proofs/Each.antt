@@ -1,6 +1,6 @@
 -- An element of the component of each element of an array stands there.
-use Rattle.std.proofs.Common.{◌≡◌, ◌∙◌, ℕ, zero, suc, ◌+◌, ◌*◌, ◌<◌, ◌≤◌, Bool, true, false, List, [], ◌∷◌, ◌++◌, length, map, refl, sym, ap, subst, arith, append_assoc}
-use Rattle.std.specs.Prelude.{None, Some, ◌≢◌, ◌%◌, ◌^◌, nat_lt, if◌then◌else◌}
+use Rattle.std.proofs.Common.{◌≡◌, ◌∙◌, ℕ, suc, ◌+◌, ◌*◌, ◌<◌, ◌≤◌, true, false, List, [], ◌∷◌, ◌++◌, length, map, refl, sym, ap, subst, arith, append_assoc}
+use Rattle.std.specs.Prelude.{None, Some, ◌≢◌, ◌%◌, ◌^◌, if◌then◌else◌}
 use Rattle.std.specs.List.{All}
 use Rattle.std.proofs.Math.Nat.{mul-le-mul_right}
 use Rattle.std.proofs.lemmas.Bool.{lt-ltb}
@@ -31,7 +31,7 @@ use Rattle.f3_room_places.proofs.Ways.{further_onward, object_whole, onward}
 use Rattle.f3_word_cells.specs.declared.cell.Area.{Area}
 use Rattle.f3_word_cells.specs.declared.cell.Object.{Object}
 use Rattle.f3_word_cells.specs.declared.cell.Object.TheVariants as o
-use Rattle.f3_word_cells.specs.Areas.{AreOfEach, AreThere, IsObject, shape_for, spans_of, types_of}
+use Rattle.f3_word_cells.specs.Areas.{AreOfEach, AreThere, IsObject, shape_for, types_of}
 use Rattle.f3_word_areas.specs.Dims.{dims_from_one}
 use Rattle.f3_word_areas.specs.Parts.{IsPartOf, moved_from_one}
 use Rattle.f3_word_areas.proofs.Components.{component-found, component-within, part-is}
@@ -130,11 +130,14 @@ module _ (p : Program) (m : Live) (x : Rooms) (sound : IsSound (types_of p) m x)
       let form = form-is c.declared rank (plain-component p a.of k c plain is) ranked in
       let b = moved_from_one (offset_at (shape_for p a.of) k + i * words_for (shape_for p c.declared.kind.of)) c.declared.kind.of a in
       let told = told-further (types_of p) m x sound (shape_for p a.of) (shape_for p c.declared.kind.of) (Component k ∷ Element i ∷ []) (further-by p a.of k c formed is rank form i lt)
-      (leads-there p a.of k c formed is rank form i lt) (leads-within p a.of k c formed is rank form i lt) a c.declared.kind.of h.paths (short _) array-there.2 in
-      (h.of ∙ ap (λ (y : Base). component_type p.types.items y k) of.stands.0 ∙ ap base_of is,
-      subst (λ (y : Reach). AreThere p x b q.path (in_each y (i ∷ []))) (sym h.reach)
-      (some-dims (a.elements).dims.items each-array, ap from_one array-there.1 ∙ sym (spans-from-one (a.elements).dims.items),
-      subst (λ (qs : List Path). Tells (types_of p) x b.elements (shape_for p b.of) qs) (sym (two-steps k i h.paths)) told))
+      (leads-there p a.of k c formed is rank form i lt) (leads-within p a.of k c formed is rank form i lt) a c.declared.kind.of h.paths (short _) array-there.2 in (
+        h.of ∙ ap (λ (y : Base). component_type p.types.items y k) of.stands.0 ∙ ap base_of is,
+        subst (λ (y : Reach). AreThere p x b q.path (in_each y (i ∷ []))) (sym h.reach) (
+          some-dims (a.elements).dims.items each-array,
+          ap from_one array-there.1 ∙ sym (spans-from-one (a.elements).dims.items),
+          subst (λ (qs : List Path). Tells (types_of p) x b.elements (shape_for p b.of) qs) (sym (two-steps k i h.paths)) told,
+        ),
+      )
 
   -- what is picked
   pub each-picked : (z : Object) → IsInEach types a k cs z → IsObject p x z (after (places_in (spans_declared c.declared.dimensions.items) cs)) × (all_inside (spans_declared c.declared.dimensions.items) cs ≡ true)
@@ -151,10 +154,12 @@ module _ (p : Program) (m : Live) (x : Rooms) (sound : IsSound (types_of p) m x)
           let sel-c : places_in (spans_declared c.declared.dimensions.items) cs ≡ h.number ∷ [] = subst (λ (y : component.Component). places_in (spans_declared y.declared.dimensions.items) cs ≡ h.number ∷ []) e selected in
           let area : z ≡ o.Stands (moved_from_one (offset_at (shape_for p a.of) k + h.number * words_for (shape_for p c.declared.kind.of)) c.declared.kind.of a) =
           subst (λ (ts : _). z ≡ o.Stands (moved_from_one (offset_at (shape_in (shapes_of ts) a.of) k + h.number * words_for (shape_in (shapes_of ts) c.declared.kind.of)) c.declared.kind.of a)) derived
-          (subst (λ (y : component.Component). z ≡ o.Stands (moved_from_one (offset_at (shape_in (shapes_of types.derived.now) a.of) k + h.number * words_for (shape_in (shapes_of types.derived.now) y.declared.kind.of)) y.declared.kind.of a)) e stands) in
-          (subst (λ (y : Object). IsObject p x y (after (places_in (spans_declared c.declared.dimensions.items) cs))) (sym area)
-          (subst (λ (ks : List ℕ). IsObject p x (o.Stands (moved_from_one (offset_at (shape_for p a.of) k + h.number * words_for (shape_for p c.declared.kind.of)) c.declared.kind.of a)) (after ks)) (sym sel-c)
-          (element-there h.number in-c sel-c)), in-c)
+          (subst (λ (y : component.Component). z ≡ o.Stands (moved_from_one (offset_at (shape_in (shapes_of types.derived.now) a.of) k + h.number * words_for (shape_in (shapes_of types.derived.now) y.declared.kind.of)) y.declared.kind.of a)) e stands) in (
+            subst (λ (y : Object). IsObject p x y (after (places_in (spans_declared c.declared.dimensions.items) cs))) (sym area)
+                (subst (λ (ks : List ℕ). IsObject p x (o.Stands (moved_from_one (offset_at (shape_for p a.of) k + h.number * words_for (shape_for p c.declared.kind.of)) c.declared.kind.of a)) (after ks)) (sym sel-c)
+                (element-there h.number in-c sel-c)),
+            in-c,
+          )
 
 -- ---- how it is located
 

@@ -119,15 +119,17 @@ array-on-top p t l is_opened n told there is =
     let rest = lead.5.rest in
     let kinds : (site_at p t.pc).cells ≡ map cell.Choice (reverse bs) ++ (cell.Object k ∷ rest) =
     lead.5.before ∙ ap (λ ks. ks ++ rest) (choices-on-is bs (cell.Object k ∷ [])) ∙ append_assoc (map cell.Choice (reverse bs)) (cell.Object k ∷ []) rest in
-    let top = (choices-on-top p t n (cell.Object k) (reverse bs) rest (object-type p.types.items k) told (length-reverse bs ∙ lead.3) kinds).0 in
-    (closed, record {
-      kind = k;
-      after = lead.2;
-      rest = rest;
-      top = top;
-      array = (array-of is_opened bs k lead.2 n top.reference.reach closed lead.3 lead.4 top.is.1).1;
-      next = after-at lead.5.next refl refl;
-    })
+    let top = (choices-on-top p t n (cell.Object k) (reverse bs) rest (object-type p.types.items k) told (length-reverse bs ∙ lead.3) kinds).0 in (
+      closed,
+      record {
+        kind = k;
+        after = lead.2;
+        rest = rest;
+        top = top;
+        array = (array-of is_opened bs k lead.2 n top.reference.reach closed lead.3 lead.4 top.is.1).1;
+        next = after-at lead.5.next refl refl;
+      },
+    )
 
 -- ---- cells in memory
 

@@ -17,7 +17,6 @@ use Rattle.f3_code.specs.State as s
 use Rattle.f3_program.specs.declared.declarations.Kind.{Kind}
 use Rattle.f3_cell_kinds.specs.Types.{CellType}
 use Rattle.f3_cell_kinds.specs.Types as cell
-use Rattle.f3_cell_kinds.specs.Laws.{site_at}
 use Rattle.f3_word_cells.specs.declared.cell.Cell.{Cell}
 use Rattle.f3_rooms.specs.Forms.{words_for}
 use Rattle.f3_rooms.specs.Held.{Held, Empty}

@@ -1,17 +1,16 @@
 -- Single subscripts, and the number of the element that they select.
-use Rattle.std.proofs.Common.{◌≡◌, ◌∙◌, ℕ, zero, suc, ◌+◌, ◌*◌, ◌<◌, ◌≤◌, Bool, true, false, List, [], ◌∷◌, ◌++◌, length, map, reverse, refl, sym, ap, subst, arith, T}
-use Rattle.std.specs.Prelude.{⊤, ℤ, pos, negsuc, nat_abs, ◌+ℤ◌, ◌-ℤ◌, ◌≤ℤ◌, ◌<ℤ◌, ◌%◌, ◌^◌, ◌&&◌, int_le, int_lt, Some, None}
+use Rattle.std.proofs.Common.{◌≡◌, ◌∙◌, ℕ, ◌+◌, ◌*◌, ◌<◌, ◌≤◌, Bool, true, false, List, [], ◌∷◌, ◌++◌, length, map, reverse, refl, sym, ap, subst, arith, T}
+use Rattle.std.specs.Prelude.{⊤, ℤ, pos, negsuc, nat_abs, ◌-ℤ◌, ◌≤ℤ◌, ◌<ℤ◌, ◌%◌, ◌^◌, ◌&&◌, int_le, int_lt, Some}
 use Rattle.std.specs.List.{flat_map}
 use Rattle.std.proofs.Math.Nat.{add-mod-mod, mul-le-mul_left}
 use Rattle.std.proofs.lemmas.Nat.{mul-mod_first, mul-mod_second}
 use Rattle.std.proofs.lemmas.Int.{ints}
 use Rattle.std.proofs.lemmas.List.{reverse-append}
 use Rattle.f3_program.specs.declared.declarations.Dimension.{Dimension}
-use Rattle.f3_meaning_whole.specs.Act.{Chosen, At, Range, all_inside, end_of, is_inside, places_in, some_zero_step, subscripts_in}
+use Rattle.f3_meaning_whole.specs.Act.{Chosen, At, Range, all_inside, end_of, is_inside, places_in, some_zero_step}
 use Rattle.f3_meaning_whole.specs.Formed.{count_ranges}
 use Rattle.f3_meaning_whole.specs.Shape.{spans_declared}
 use Rattle.f3_meaning_whole.specs.Value.{Span, count}
-use Rattle.f3_cell_kinds.specs.Holds.{IsChoice}
 use Rattle.f3_cells.specs.declared.cell.Chosen as cell
 use Rattle.f3_cells.specs.declared.cell.Chosen.TheVariants as chosen
 use Rattle.f3_cells.specs.Cells.{chosen_of}

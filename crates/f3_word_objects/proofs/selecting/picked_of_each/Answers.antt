@@ -1,4 +1,4 @@
-use Rattle.std.proofs.Common.{◌∙◌, sym, ap, refl, subst}
+use Rattle.std.proofs.Common.{◌∙◌, sym, ap, refl}
 use Rattle.f3_cells.specs.Cells.{chosen_of}
 use Rattle.std.specs.Prelude.{map}
 use Rattle.f3_meaning_whole.specs.Act.{all_inside}

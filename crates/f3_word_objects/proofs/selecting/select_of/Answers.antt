@@ -1,4 +1,4 @@
-use Rattle.std.proofs.Common.{◌≡◌, ◌∙◌, ◌∷◌, ℕ, sym, ap, true, false, reverse, take, ⊎_elim, arith}
+use Rattle.std.proofs.Common.{◌≡◌, ◌∙◌, ◌∷◌, sym, ap, true, false, reverse, take, arith}
 use Rattle.f3_code.specs.declared.instruction.Instruction.TheVariants as i
 use Rattle.f3_cell_kinds.specs.Effect.{part_cell}
 use Rattle.f3_cell_kinds.specs.Types as cell
@@ -58,4 +58,4 @@ returns-in-Err-clause-does c = λ live short t l x told there is st.
     let line : l.act ≡ i.SelectOf false c.args.number c.args.count = is ∙ ap (λ b. i.SelectOf b c.args.number c.args.count) found.0 in
     let taken = c.in-Some.ensures.taken in
     elements-fail c.args.scene.program.now live short c.args.scene.types c.requires.scene.types c.args.state.now c.pop_choices.new.state c.pop.new.self c.pop_object.new.state c.args.number c.args.count c.in-Some.chosen
-    taken.0 taken.1 c.in-Some-pop_object._whole c.in-Some-pop_object.ensures.taken t l x told st line found.1 c.in-Some-pop.part c.in-Err.stop _ c.in-Some-pop.ensures c.in-Err.ensures
+    taken.0 taken.1 c.in-Some-pop_object._whole c.in-Some-pop_object.ensures.taken t l x told st line found.1 c.in-Some-pop.part c.in-Err.stop c.pop_object.new.state c.in-Some-pop.ensures c.in-Err.ensures
