@@ -31,7 +31,7 @@ use Rattle.f3_word_start.specs.Begins.{Begins, IsRefused, first_state, first_eve
 use Rattle.f3_word_machine.specs.declared.ended.Ended.{Ended}
 use Rattle.f3_word_machine.specs.declared.ended.Ended.TheVariants as end
 use Rattle.f3_word_machine.specs.Steps.{IsReady}
-use Rattle.f3_word_machine.specs.Runs.{course_from, Answered, Strayed, AnswersSo, RunsFrom}
+use Rattle.f3_word_machine.specs.Runs.{course_from, Answered, AnswersSo, RunsFrom}
 use Rattle.f3_word_machine.specs.Whole.{course_of, RunsWhole}
 use Rattle.f3_word_machine.proofs.Course.{none_more}
 
@@ -99,8 +99,6 @@ module _ (p : Program) where
     whole end.StepLimit m = answered ends.StepLimit m
     whole end.WriteFault m = answered ends.WriteFault m
     whole end.Memory m = answered ends.Memory m
-    whole end.NoRoom m = answered ends.Memory m
-    whole end.Strayed m = record { answers = none_more; left = less; fewer = omega (arith, more); strays = m }
 
   -- ---- no line is done
 

@@ -28,8 +28,8 @@ use Rattle.f3_word_laws.proofs.Coming.{runs_go_on}
 use Rattle.f3_word_laws.proofs.Telling.{runs_are_told}
 use Rattle.f3_word_needs.specs.Room.{HasRoom}
 use Rattle.f3_word_needs.proofs.Keeping.{lines_keep_room}
-use Rattle.f3_word_machine.specs.Steps.{Went, Ends, Refuses, Strays, Steps}
-use Rattle.f3_word_machine.specs.Runs.{course_from, Answered, Strayed, AnswersSo}
+use Rattle.f3_word_machine.specs.Steps.{Went, Ends, Refuses, Steps}
+use Rattle.f3_word_machine.specs.Runs.{course_from, Answered, AnswersSo}
 
 abbrev pub none_more : ℕ → Bool
 none_more n = false
@@ -123,9 +123,6 @@ module _ (p : Program) (t : s.State) where
           so = (done + 1, omega arith, subst (λ bytes. Faulted a c bytes) (sym (ap (λ (y : Course). output y.out) at ∙ printed)) (faulted_behind r.wrote e.faulted));
         }
     stops n new c steps end.Memory left e = record { answers = stream (r.comes).given none_more; so = (done, omega arith, until c e) }
-    stops n new c steps end.NoRoom left e = record { answers = stream (r.comes).given none_more; so = (done, omega arith, until c e) }
-    stops n new c steps end.Strayed left e =
-        record { to = r.to; count = done; within = omega arith; bytes = r.bytes; comes = r.comes; strays = e }
 
   pub at_limit : (steps : ℕ) (m : Live) (old : State) (a b : o.State) → Reached steps m old a b → AnswersSo p t steps a b end.StepLimit
   at_limit steps m old a b r = record { answers = stream (r.comes).given none_more; so = until steps m old a b r b wrote_none }

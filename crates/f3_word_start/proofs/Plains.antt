@@ -23,7 +23,8 @@ use Rattle.f3_gen_values.specs.declared.emission.Emission.{Emission}
 use Rattle.f3_gen_values.specs.declared.line.Line.{Line}
 use Rattle.f3_gen_values.specs.Emitted.{line_in}
 use Rattle.f3_gen_values.specs.Emission.{code_in}
-use Rattle.f3_word_cells.specs.Plain.{ArePlain, IsPlain, is_plain_act, is_plain_scalar}
+use Rattle.f3_word_cells.specs.Plain.{ArePlain, IsPlain, is_plain_act}
+use Rattle.f3_word_cells.specs.Scalars.{is_plain_scalar}
 use Rattle.f3_word_cells.specs.Scenes.{code_of}
 use Rattle.f3_word_start.specs.Inner.Declared.{IsDeclaredPlain}
 
