@@ -4,4 +4,4 @@ pub mod Shapes
 pub mod Parts
 pub mod Variables
 pub mod Picks
-pub mod Ones
+pub mod Each
