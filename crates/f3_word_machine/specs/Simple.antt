@@ -7,7 +7,7 @@ use Rattle.f3_code.specs.State.{Line}
 use Rattle.f3_word_cells.specs.Plain.{is_plain_act}
 use Rattle.f3_word_cells.specs.Scenes.{code_of}
 use Rattle.f3_word_objects.specs.Ones.{AreOfOne}
-use Rattle.f3_word_objects.specs.Ranks.{AreRanked}
+use Rattle.f3_word_cells.specs.Ranks.{AreRanked}
 
 -- instructions but those that call a procedure, begin an ASSOCIATE, or make an array of values
 abbrev pub is_simple_act : Instruction → Bool

@@ -4,7 +4,7 @@ ghost use Rattle.std.specs.Prelude.{◌≡◌, ◌<◌, ◌≤◌, ◌^◌, leng
 ghost use Rattle.f3_output.specs.Output.{state_of};
 ghost use Rattle.f3_word_cells.specs.Does.{IsAt};
 ghost use Rattle.f3_word_cells.specs.Scenes.{IsScene};
-ghost use Rattle.f3_word_objects.specs.Ranks.{AreRanked, AreShort};
+ghost use Rattle.f3_word_cells.specs.Ranks.{AreRanked, AreShort};
 ghost use Rattle.f3_word_machine.specs.Simple.{IsSimple};
 ghost use Rattle.f3_word_machine.specs.Steps.{PrintsAt};
 

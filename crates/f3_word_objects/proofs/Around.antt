@@ -54,7 +54,7 @@ use Rattle.f3_word_cells.proofs.Orderly.{IsAfter}
 use Rattle.f3_word_areas.proofs.Types.{component-declared, declared-rank, known}
 use Rattle.f3_word_objects.specs.Each.{AreSingle, PicksIn, PicksOfEach}
 use Rattle.f3_word_objects.specs.Picks.{Picks}
-use Rattle.f3_word_objects.specs.Ranks.{AreRanked, AreShort}
+use Rattle.f3_word_cells.specs.Ranks.{AreRanked, AreShort}
 use Rattle.f3_word_objects.specs.Taken.{PoppedAll, Took}
 use Rattle.f3_word_objects.proofs.Above.{afterwards, cell-beneath, in-order, taken, taken-many}
 use Rattle.f3_word_objects.proofs.Beside.{either-not, one-cell, reaches-one}

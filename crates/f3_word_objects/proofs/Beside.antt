@@ -32,7 +32,7 @@ use Rattle.f3_word_cells.proofs.Lines.{line_goes, performs_looks}
 use Rattle.f3_word_cells.proofs.OnTop.{line_kinds}
 use Rattle.f3_word_cells.proofs.Orderly.{after_cells}
 use Rattle.f3_word_objects.specs.Each.{IsBeside}
-use Rattle.f3_word_objects.specs.Ranks.{AreShort}
+use Rattle.f3_word_cells.specs.Ranks.{AreShort}
 use Rattle.f3_word_objects.specs.Shapes.{dims_of}
 use Rattle.f3_word_objects.proofs.Members.{component-of, component-stands, each-stands, some-component}
 use Rattle.f3_word_objects.proofs.Passing.{OnObject}

@@ -37,7 +37,7 @@ use Rattle.f3_word_areas.specs.Parts.{IsPartOf, moved_from_one}
 use Rattle.f3_word_areas.proofs.Components.{component-found, component-within, part-is}
 use Rattle.f3_word_areas.proofs.Further.{Leads, spans-from-one, told-further}
 use Rattle.f3_word_objects.specs.Each.{AreSingle, IsInEach, IsNumber}
-use Rattle.f3_word_objects.specs.Ranks.{AreShort}
+use Rattle.f3_word_cells.specs.Ranks.{AreShort}
 use Rattle.f3_word_objects.proofs.Members.{plain-component}
 use Rattle.f3_word_objects.proofs.Single.{number-within, offset-so}
 

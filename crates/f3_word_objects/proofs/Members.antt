@@ -36,7 +36,7 @@ use Rattle.f3_word_areas.specs.Parts.{IsPartOf}
 use Rattle.f3_word_areas.proofs.Types.{known}
 use Rattle.f3_word_areas.proofs.Further.{one-component, each-component}
 use Rattle.f3_word_objects.specs.Parts.{IsComponent, Located}
-use Rattle.f3_word_objects.specs.Ranks.{AreShort}
+use Rattle.f3_word_cells.specs.Ranks.{AreShort}
 
 -- ---- no component is allocatable
 

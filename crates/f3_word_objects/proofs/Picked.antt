@@ -25,7 +25,7 @@ use Rattle.f3_word_cells.specs.declared.state.Stop.TheVariants as stop
 use Rattle.f3_word_cells.specs.Areas.{AreThere, IsObject, shape_for, spans_of, types_of}
 use Rattle.f3_word_cells.proofs.Lines.{first_gives, first_fails, performs_gives}
 use Rattle.f3_word_objects.specs.Picks.{Picks, with_elements}
-use Rattle.f3_word_objects.specs.Ranks.{AreShort}
+use Rattle.f3_word_cells.specs.Ranks.{AreShort}
 
 -- ---- the run of the line
 

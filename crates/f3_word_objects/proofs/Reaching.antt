@@ -19,7 +19,7 @@ use Rattle.f3_word_cells.specs.Moves.{Popped, Pushed}
 use Rattle.f3_word_cells.proofs.Lines.{line_goes, performs_looks}
 use Rattle.f3_word_cells.proofs.OnTop.{line_kinds}
 use Rattle.f3_word_objects.specs.Parts.{Located}
-use Rattle.f3_word_objects.specs.Ranks.{AreShort}
+use Rattle.f3_word_cells.specs.Ranks.{AreShort}
 use Rattle.f3_word_objects.proofs.Members.{component-of, component-stands, some-component}
 use Rattle.f3_word_objects.proofs.Passing.{OnObject, replaced}
 use Rattle.f3_word_objects.proofs.Tops.{after-at, object-taken}

@@ -43,7 +43,7 @@ use Rattle.f3_word_cells.proofs.Lines.{does_so, line_goes, line_stops, first_giv
 use Rattle.f3_word_cells.proofs.OnTop.{line_kinds}
 use Rattle.f3_word_cells.proofs.Orderly.{IsAfter}
 use Rattle.f3_word_objects.specs.Picks.{Picks}
-use Rattle.f3_word_objects.specs.Ranks.{AreShort}
+use Rattle.f3_word_cells.specs.Ranks.{AreShort}
 use Rattle.f3_word_objects.specs.Shapes.{dims_of}
 use Rattle.f3_word_objects.specs.Taken.{PoppedAll, Took}
 use Rattle.f3_word_objects.proofs.Above.{afterwards, cell-beneath, in-memory, in-order, stack, taken, taken-many}

@@ -1,5 +1,4 @@
 pub mod Taken
-pub mod Ranks
 pub mod Shapes
 pub mod Parts
 pub mod Variables

@@ -8,7 +8,7 @@ ghost use Rattle.f3_word_cells.specs.Does.{DoesIn, Keeps};
 ghost use Rattle.f3_word_cells.specs.Scenes.{IsScene};
 ghost use Rattle.f3_word_objects.specs.Each.{IsBeside};
 ghost use Rattle.f3_word_objects.specs.Parts.{Located};
-ghost use Rattle.f3_word_objects.specs.Ranks.{AreRanked, AreShort, ComponentsHaveRanks};
+ghost use Rattle.f3_word_cells.specs.Ranks.{AreRanked, AreShort, ComponentsHaveRanks};
 
 use crate::taking::pop_object;
 use f3_room_places::types::Types;

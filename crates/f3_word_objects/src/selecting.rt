@@ -14,7 +14,7 @@ ghost use Rattle.f3_word_objects.specs.Each.{AreSingle, IsNumber, IsPlaceIn, Pic
 ghost use Rattle.f3_word_objects.specs.Picks.{Picks};
 ghost use Rattle.f3_room_places.specs.Places.{HasTables};
 ghost use Rattle.f3_word_cells.specs.Scenes.{IsScene};
-ghost use Rattle.f3_word_objects.specs.Ranks.{AreRanked, AreShort, ComponentsHaveRanks};
+ghost use Rattle.f3_word_cells.specs.Ranks.{AreRanked, AreShort, ComponentsHaveRanks};
 ghost use Rattle.f3_word_objects.specs.Shapes.{dims_of};
 
 use crate::shapes::dims_of;

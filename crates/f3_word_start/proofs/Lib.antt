@@ -1,4 +1,5 @@
 pub mod Plains
+pub mod Ranked
 pub mod Framing
 pub mod Taking
 pub mod FirstSite
