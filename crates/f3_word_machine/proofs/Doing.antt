@@ -1,19 +1,16 @@
 -- What an instruction does, by what its call says.
-use Rattle.std.proofs.Common.{◌≡◌, ◌≢◌, ◌≤◌, ◌<◌, ◌^◌, ℕ, Bool, false, true, [], length, refl, sym, ◌∙◌, subst, ap, inl, inr, reverse, vec_len, nat_cmp, arith}
-use Rattle.std.specs.Prelude.{⊤, ◌⊎◌, Result, Ok, Err, Option, Some, None, slice_get, unwrap_or, Vec, IsTrue, is_some}
-use Rattle.std.specs.declared.alloc.Global.{Global}
+use Rattle.std.proofs.Common.{◌≡◌, ◌≢◌, ◌<◌, ℕ, false, [], length, refl, sym, ◌∙◌, subst, ap, inl, inr, reverse, vec_len, arith}
+use Rattle.std.specs.Prelude.{⊤, Result, Ok, Err, Option, Some, None, slice_get, unwrap_or}
 use Rattle.std.proofs.lemmas.List.{length-map}
 use Rattle.std.proofs.lemmas.Bool.{true≢false}
 use Rattle.f3_places.specs.declared.source.Place.{Place}
 use Rattle.f3_program.specs.declared.program.Program.{Program}
-use Rattle.f3_live_blocks.specs.Blocks.{Live, Block, IsLive, words_of, words_in}
-use Rattle.std.specs.FinMap.{get}
+use Rattle.f3_live_blocks.specs.Blocks.{Live}
 use Rattle.f3_code.specs.declared.instruction.Instruction.{Instruction}
 use Rattle.f3_code.specs.State as s
 use Rattle.f3_code.specs.State.{Line, Code, Failed, placed}
 use Rattle.f3_meaning_whole.specs.Act.{Here}
 use Rattle.f3_meaning_whole.specs.Permitted.{IsLawful}
-use Rattle.f3_gen_values.specs.Emission.{code_in}
 use Rattle.f3_gen_values.specs.Emitted.{line_in}
 use Rattle.f3_gen_values.specs.declared.line.Line as emitted
 use Rattle.f3_meaning_whole.specs.Run.{setting_of}
@@ -31,7 +28,7 @@ use Rattle.f3_word_cells.specs.declared.state.Stop.TheVariants as stop
 use Rattle.f3_word_machine.specs.Simple.{IsSimple, is_simple_act}
 use Rattle.f3_word_cells.specs.Scenes.{IsScene, code_of}
 use Rattle.f3_word_cells.specs.States.{Stands, AreCallers, beneath, own}
-use Rattle.f3_word_cells.specs.Does.{IsTold, IsAt, Becomes, Does, DoesIn, DoesAt, StopsSo}
+use Rattle.f3_word_cells.specs.Does.{Becomes, Does, DoesIn, StopsSo}
 use Rattle.f3_word_control.specs.Doing.{DoesAmong, DoesThere, DoesWith, DoesPrint, Prints}
 use Rattle.f3_word_machine.specs.declared.ended.Ended.{Ended}
 use Rattle.f3_word_machine.specs.declared.ended.Ended.TheVariants as end
@@ -92,13 +89,13 @@ module _ (p : Program) (t : s.State) (l : Line) (there : slice_get (code_of p).l
 
   pub stops : (e : Stop) (z : Ended) → EndsBy e place z → Prints p l t (Err e) n new a b → Steps p t (Err z) n new a b
   stops e z is f = by e is f where
-    as : (y : Ended) → z ≡ y → Steps p t (Err y) n new a b → Steps p t (Err z) n new a b
-    as y same d = subst (λ x. Steps p t (Err x) n new a b) (sym same) d
+    so : (y : Ended) → z ≡ y → Steps p t (Err y) n new a b → Steps p t (Err z) n new a b
+    so y same d = subst (λ x. Steps p t (Err x) n new a b) (sym same) d
 
     by : (e : Stop) → EndsBy e place z → Prints p l t (Err e) n new a b → Steps p t (Err z) n new a b
-    by stop.Done is f = as end.Done is (record { line = l; there = there; bytes = []; stops = f.0; wrote = f.1 })
-    by (stop.Stopped number) is f = as (end.Stopped number) is (record { line = l; there = there; bytes = []; stops = f.0; wrote = f.1 })
-    by (stop.Failed error) is f = as (end.Failed error place) is (record {
+    by stop.Done is f = so end.Done is (record { line = l; there = there; bytes = []; stops = f.0; wrote = f.1 })
+    by (stop.Stopped number) is f = so (end.Stopped number) is (record { line = l; there = there; bytes = []; stops = f.0; wrote = f.1 })
+    by (stop.Failed error) is f = so (end.Failed error place) is (record {
       line = l;
       there = there;
       bytes = [];
@@ -107,8 +104,8 @@ module _ (p : Program) (t : s.State) (l : Line) (there : slice_get (code_of p).l
     })
     by stop.Lost is f = absurd is
     by stop.Forbidden is f = absurd is
-    by stop.Refused is f = let (to, bytes, goes, faulted) = f in as end.WriteFault is (record { line = l; there = there; next = to; bytes = bytes; goes = goes; faulted = faulted })
-    by stop.Memory is f = as end.Memory is f.1
+    by stop.Refused is f = let (to, bytes, goes, faulted) = f in so end.WriteFault is (record { line = l; there = there; next = to; bytes = bytes; goes = goes; faulted = faulted })
+    by stop.Memory is f = so end.Memory is f.1
 
   -- and not for what no line of a run does
   module _ (run : IsOfRun p t) (e : Stop) (f : Prints p l t (Err e) n new a b) where
@@ -119,7 +116,7 @@ module _ (p : Program) (t : s.State) (l : Line) (there : slice_get (code_of p).l
     not_lost is = never_lost p t run l there (as_stop stop.Lost is).0
 
     pub not_forbidden : IsLawful p → e ≢ stop.Forbidden
-    not_forbidden lawful is = never_forbidden p t run lawful l there (as_stop stop.Forbidden is).0
+    not_forbidden lawful is = never_forbidden p t run l there lawful (as_stop stop.Forbidden is).0
 
 -- the line of the code that was emitted as this one
 pub line_of : (x : Scene) → IsScene x → (l : emitted.Line) (pc : ℕ) → Some l ≡ slice_get x.emission.now.lines.items pc

@@ -1,9 +1,9 @@
 -- What no line of a run does: the code of a program is never lost, and that of a lawful one changes nothing that may only be read.
-use Rattle.std.proofs.Common.{◌≡◌, ◌∙◌, ℕ, suc, ◌+◌, Bool, false, List, [], ◌∷◌, ◌++◌, refl, sym, ap, subst, append_assoc, inl, inr}
+use Rattle.std.proofs.Common.{◌≡◌, ◌∙◌, ℕ, suc, ◌+◌, Bool, List, [], ◌∷◌, ◌++◌, sym, ap, subst, append_assoc, inl, inr}
 use Rattle.std.specs.Prelude.{⊤, ◌⊎◌, None, Some, slice_get}
 use Rattle.f3_program.specs.declared.program.Program.{Program}
 use Rattle.f3_meaning_whole.specs.Ran.{Event, Printed, Changed, Began, Entered, Ended, Asked, Change, End, Gives, Fails, Stops, Beyond}
-use Rattle.f3_meaning_whole.specs.Reference.{Right, Define, Read}
+use Rattle.f3_meaning_whole.specs.Reference.{Define, Read}
 use Rattle.f3_meaning_whole.specs.Run.{run_of, changes}
 use Rattle.f3_meaning_whole.specs.Permitted.{Each, Permitted, IsLawful}
 use Rattle.f3_meaning_laws.proofs.Changes.{changes_are_permitted}
@@ -18,7 +18,7 @@ use Rattle.f3_code_laws.proofs.Source.{translated}
 use Rattle.f3_cells.specs.States.{setting}
 use Rattle.f3_heights.proofs.States.{states_are_of_runs}
 use Rattle.f3_word_cells.specs.Scenes.{code_of}
-use Rattle.f3_word_cells.specs.Does.{GoesOn, StopsSo, IsLost, IsForbidden, does_line, stream}
+use Rattle.f3_word_cells.specs.Does.{StopsSo, IsLost, IsForbidden, does_line, stream}
 use Rattle.f3_word_needs.specs.Room.{IsOfRun}
 use Rattle.f3_word_machine.proofs.Course.{none_more}
 

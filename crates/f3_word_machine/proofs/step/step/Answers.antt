@@ -1,10 +1,7 @@
-use Rattle.std.proofs.Common.{◌≡◌, ◌<◌, ◌^◌, ℕ, Some, Ok, Err, sym, ◌∙◌, subst, ap, length, arith}
-use Rattle.std.specs.Prelude.{slice_get, unwrap_or}
-use Rattle.f3_code.specs.State.{Line}
+use Rattle.std.proofs.Common.{◌<◌, sym, ◌∙◌, subst, ap, length, arith}
+use Rattle.std.specs.Prelude.{slice_get}
 use Rattle.f3_output.specs.Output.{state_of}
 use Rattle.f3_word_needs.proofs.Memory.{memory_is_as_large}
-use Rattle.f3_word_machine.specs.Steps.{Steps}
-use Rattle.f3_word_control.specs.Doing.{Prints}
 use Rattle.f3_word_machine.proofs.Doing.{steps, stops, not_lost, not_forbidden, line_of, is_line, at_place}
 use Rattle.f3_word_machine.proofs.step.step.Goals as goal
 
