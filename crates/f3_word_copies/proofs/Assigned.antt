@@ -47,13 +47,14 @@ use Rattle.f3_word_cells.proofs.OnTop.{line_kinds, two_on_top, of_datum, of_obje
 use Rattle.f3_word_cells.proofs.Moving.{moved_to}
 use Rattle.f3_word_cells.proofs.Amid.{Amid, amid_first, amid_last, amid_moved, amid_popped, amid_put}
 use Rattle.f3_word_cells.proofs.InHand.{hand_free, amid_without}
+use Rattle.f3_word_cells.proofs.Orderly.{IsAfter, after_way}
 use Rattle.f3_word_cells.proofs.Lines.{answering, with_stack, line_goes, line_stops, performs_does, first_gives, first_fails, first_granted, claim_for_block, claim_for_scalar}
-use Rattle.f3_word_copies.specs.Taken.{TookObject, TookDatum}
+use Rattle.f3_word_reads.specs.Taken.{TookObject, TookDatum}
 use Rattle.f3_word_copies.specs.Puts.{CanTake, Takes}
 use Rattle.f3_word_copies.specs.Fits.{CanFit}
-use Rattle.f3_word_copies.proofs.Tops.{object-there, datum-there}
+use Rattle.f3_word_reads.proofs.Tops.{object-there, datum-there}
 use Rattle.f3_word_copies.proofs.OfKinds.{kinds-agree}
-use Rattle.f3_word_copies.proofs.Loading.{scalar-needs, block-needs}
+use Rattle.f3_word_reads.proofs.Loading.{scalar-needs, block-needs}
 
 -- an assignment of a type
 abbrev pub IsAssignment : Base → Instruction → Type 0
@@ -68,7 +69,7 @@ pub record OnAssign (p : Program) (t : s.State) : Type 0 where
   pub takes : takes kind other ≡ true
   pub rest : List CellType
   pub kinds : (site_at p t.pc).cells ≡ cell.Object kind ∷ cell.Datum other ∷ rest
-  pub next : (site_at p (t.pc + 1)).cells ≡ rest
+  pub next : IsAfter p t.pc (t.pc + 1) rest
   pub reference : Reference
   pub value : Value
   pub below : List s.Cell
@@ -89,7 +90,7 @@ on-tops p t k j told fixed can leads =
       takes = can;
       rest = leads.rest;
       kinds = leads.before;
-      next = ap (λ (y : Site). y.cells) leads.next;
+      next = after_way p t.pc (t.pc + 1) [] leads.rest leads.next;
       reference = object.0;
       value = value.0;
       below = two.below;
@@ -116,7 +117,7 @@ amid-begin p m old x t on st = amid_first p t m old x (kinds-of on) (stack-of on
 pub lost-first : (p : Program) (m n : Live) (old mid new : State) (of : Base) (y : Instruction) → IsAssignment of y → TookObject None old mid → DoesIn p y (Err stop.Lost) m n old new
 lost-first p m n old mid new of y which none t l x told at act st =
     let on = on-assign p t l of y which told at act in
-    let there = object-there p m _ x old.names.items.items old.here t.here _ on.reference (s.Datum on.value ∷ on.below) (amid-begin p m old x t on st).cells in
+    let there = object-there p m _ x old.names.items.items old.here t.here _ on.reference (s.Datum on.value ∷ on.below) on.kind (cell.Datum on.other ∷ on.rest) (amid-begin p m old x t on st).known (amid-begin p m old x t on st).cells in
     absurd (none.0 there.0 there.1 there.2)
 
 module _ (p : Program) (m : Live) (old mid : State) (w : Object) (popped : Popped (c.Object w) old mid) where
@@ -197,19 +198,19 @@ module _ (p : Program) (m : Live) (old mid low : State) (a : Area) (first : Popp
     take-goes e fit is = by d is
       where
         by : (b : Datum) → IsDatum p m b v → GoesOn p l t next []
-        by (datum.Scalar k) is' = line_goes p l t (i.Take of) (s.Object r ∷ s.Datum v ∷ below) next [] _ (act ∙ e) stack (λ rest.
+        by (datum.Scalar k) is' = line_goes p l t (i.Take of) (s.Object r ∷ s.Datum v ∷ below) next [] tt _ (act ∙ e) stack (λ rest.
             ap (λ z. performs (z >>= λ u. claim_for u here >>= λ done. set r u here) (answering (t.world).store (stream [] rest)) (goal-state (stream [] rest))) (fit-gives fit)
             ∙ first_gives v (λ u. claim_for u here >>= λ done. set r u here) _ _
             ∙ ap (λ z. performs (z >>= λ done. set r v here) (answering (t.world).store (stream [] rest)) (goal-state (stream [] rest))) (claim_for_scalar v here (scalar-needs k v is'))
             ∙ first_gives tt (λ done. set r v here) _ _ ∙ performs_does (λ store. change r here (spread (length (paths r)) v)) _ _)
-        by (datum.Block b) is' = line_goes p l t (i.Take of) (s.Object r ∷ s.Datum v ∷ below) next (false ∷ []) _ (act ∙ e) stack (λ rest.
+        by (datum.Block b) is' = line_goes p l t (i.Take of) (s.Object r ∷ s.Datum v ∷ below) next (false ∷ []) tt _ (act ∙ e) stack (λ rest.
             ap (λ z. performs (z >>= λ u. claim_for u here >>= λ done. set r u here) (answering (t.world).store (stream (false ∷ []) rest)) (goal-state (stream (false ∷ []) rest))) (fit-gives fit)
             ∙ first_gives v (λ u. claim_for u here >>= λ done. set r u here) _ _
             ∙ ap (λ z. performs (z >>= λ done. set r v here) (answering (t.world).store (stream (false ∷ []) rest)) (goal-state (stream (false ∷ []) rest))) (claim_for_block v here (block-needs p m b v is'))
             ∙ first_granted here (t.world).store [] rest (λ done. set r v here) _ ∙ performs_does (λ store. change r here (spread (length (paths r)) v)) _ _)
 
     fill-goes : y ≡ i.Fill of → value_fits of v ≡ true → GoesOn p l t next []
-    fill-goes e fit = line_goes p l t (i.Fill of) (s.Object r ∷ s.Datum v ∷ below) next [] _ (act ∙ e) stack (λ rest.
+    fill-goes e fit = line_goes p l t (i.Fill of) (s.Object r ∷ s.Datum v ∷ below) next [] tt _ (act ∙ e) stack (λ rest.
         ap (λ z. performs (z >>= λ u. set r u here) (answering (t.world).store (stream [] rest)) (goal-state (stream [] rest))) (fit-gives fit)
         ∙ first_gives v (λ u. set r u here) _ _ ∙ performs_does (λ store. change r here (spread (length (paths r)) v)) _ _)
 
@@ -218,10 +219,10 @@ module _ (p : Program) (m : Live) (old mid low : State) (a : Area) (first : Popp
     assign-goes (inr e) fit is = fill-goes e fit
 
     pub assign-stops : IsAssignment of y → value_fits of v ≡ false → StopsSo p l t (Failed Overflow here.place) []
-    assign-stops (inl e) unfit = line_stops p l t (i.Take of) (s.Object r ∷ s.Datum v ∷ below) (Failed Overflow here.place) [] (act ∙ e) stack (λ rest.
+    assign-stops (inl e) unfit = line_stops p l t (i.Take of) (s.Object r ∷ s.Datum v ∷ below) (Failed Overflow here.place) [] tt (act ∙ e) stack (λ rest.
         ap (λ z. performs (z >>= λ u. claim_for u here >>= λ done. set r u here) (answering (t.world).store (stream [] rest)) (goal-state (stream [] rest))) (fit-fails unfit)
         ∙ first_fails Overflow here.place (λ u. claim_for u here >>= λ done. set r u here) _ _)
-    assign-stops (inr e) unfit = line_stops p l t (i.Fill of) (s.Object r ∷ s.Datum v ∷ below) (Failed Overflow here.place) [] (act ∙ e) stack (λ rest.
+    assign-stops (inr e) unfit = line_stops p l t (i.Fill of) (s.Object r ∷ s.Datum v ∷ below) (Failed Overflow here.place) [] tt (act ∙ e) stack (λ rest.
         ap (λ z. performs (z >>= λ u. set r u here) (answering (t.world).store (stream [] rest)) (goal-state (stream [] rest))) (fit-fails unfit)
         ∙ first_fails Overflow here.place (λ u. set r u here) _ _)
 

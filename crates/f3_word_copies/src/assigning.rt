@@ -7,7 +7,7 @@ ghost use Rattle.f3_word_cells.specs.Does.{DoesIn, IsAt, Keeps};
 
 use crate::fitting::fits;
 use crate::putting::put;
-use crate::taking::{pop_datum, pop_object};
+use f3_word_reads::taking::{pop_datum, pop_object};
 use f3_heap::Blocks;
 use f3_meaning_whole::run_error::RunError;
 use f3_program::declarations::Base;

@@ -10,7 +10,7 @@ ghost use Rattle.f3_meaning_whole.specs.Arithmetic.{fits, value_fits};
 ghost use Rattle.f3_room_places.specs.Places.{HasTables};
 ghost use Rattle.f3_word_copies.specs.Fits.{CanFit, is_numbers, words_fit};
 
-use crate::scalars::is_scalar;
+use f3_word_reads::scalars::is_scalar;
 use f3_heap::{BlockId, Blocks};
 use f3_program::declarations::{Base, Constant};
 use f3_room_places::types::Types;

@@ -6,7 +6,7 @@ ghost use Rattle.f3_word_cells.specs.Scenes.{IsScene};
 ghost use Rattle.f3_word_cells.specs.Does.{DoesIn, IsAt, Keeps};
 
 use crate::putting::begin;
-use crate::taking::pop_object;
+use f3_word_reads::taking::pop_object;
 use f3_heap::Blocks;
 use f3_word_cells::cell::{Cell, Object};
 use f3_word_cells::scene::Scene;
