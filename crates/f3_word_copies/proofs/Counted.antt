@@ -167,7 +167,7 @@ begin-first p m old x t on st =
 pub lost-begin : (p : Program) (m n : Live) (old mid new : State) → TookObject None old mid → DoesIn p i.CountBegin (Err stop.Lost) m n old new
 lost-begin p m n old mid new none t l x told at act st =
     let on = on-begin p t l told at act in
-    let there = object-there p m _ x old.names.items.items old.here t.here _ on.reference _ on.kind _ (begin-first p m old x t on st).known (begin-first p m old x t on st).cells in
+    let there = object-there p m _ x old.names.items.items old.here t.here _ on.reference _ on.kind (cell.Datum (of_kind on.kind.of 0) ∷ cell.Datum (of_kind on.kind.of 0) ∷ cell.Datum (of_kind on.kind.of 0) ∷ on.rest) (begin-first p m old x t on st).known (begin-first p m old x t on st).cells in
     absurd (none.0 there.0 there.1 there.2)
 
 module _ (p : Program) (m : Live) (old mid : State) (w : Object) (popped : Popped (c.Object w) old mid) where
