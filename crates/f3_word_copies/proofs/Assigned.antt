@@ -42,18 +42,19 @@ use Rattle.f3_word_cells.specs.Scenes.{code_of}
 use Rattle.f3_word_cells.specs.States.{IsLaid, Stands, datum_blocks}
 use Rattle.f3_word_cells.specs.Moves.{Moved, Popped}
 use Rattle.f3_word_cells.specs.Free.{AreFree}
-use Rattle.f3_word_cells.specs.Does.{DoesIn, GoesOn, IsAt, IsForbidden, IsTold, StopsSo, stream}
+use Rattle.f3_word_cells.specs.Does.{AreGranted, DoesIn, GoesOn, IsAt, IsForbidden, IsTold, StopsSo, stream}
 use Rattle.f3_word_cells.proofs.OnTop.{line_kinds, two_on_top, of_datum, of_object}
 use Rattle.f3_word_cells.proofs.Moving.{moved_to}
 use Rattle.f3_word_cells.proofs.Amid.{Amid, amid_first, amid_last, amid_moved, amid_popped, amid_put}
 use Rattle.f3_word_cells.proofs.InHand.{hand_free, amid_without}
 use Rattle.f3_word_cells.proofs.Lines.{answering, with_stack, does_so, line_goes, line_forbids, line_stops, performs_does, first_gives, first_fails, first_granted, claim_for_block, claim_for_scalar}
-use Rattle.f3_word_copies.specs.Taken.{TookObject, TookDatum}
+use Rattle.f3_word_cells.proofs.Orderly.{IsAfter, after_way}
+use Rattle.f3_word_reads.specs.Taken.{TookObject, TookDatum}
 use Rattle.f3_word_copies.specs.Puts.{CanTake, Takes}
 use Rattle.f3_word_copies.specs.Fits.{CanFit}
-use Rattle.f3_word_copies.proofs.Tops.{object-there, datum-there}
+use Rattle.f3_word_reads.proofs.Tops.{object-there, datum-there}
 use Rattle.f3_word_copies.proofs.OfKinds.{kinds-agree}
-use Rattle.f3_word_copies.proofs.Loading.{scalar-needs, block-needs}
+use Rattle.f3_word_reads.proofs.Loading.{scalar-needs, block-needs}
 
 -- an assignment of a type
 abbrev pub IsAssignment : Base → Instruction → Type 0
@@ -68,7 +69,7 @@ pub record OnAssign (p : Program) (t : s.State) : Type 0 where
   pub takes : takes kind other ≡ true
   pub rest : List CellType
   pub kinds : (site_at p t.pc).cells ≡ cell.Object kind ∷ cell.Datum other ∷ rest
-  pub next : (site_at p (t.pc + 1)).cells ≡ rest
+  pub next : IsAfter p t.pc (t.pc + 1) rest
   pub reference : Reference
   pub value : Value
   pub below : List s.Cell
@@ -89,7 +90,7 @@ on-tops p t k j told fixed can leads =
       takes = can;
       rest = leads.rest;
       kinds = leads.before;
-      next = ap (λ (y : Site). y.cells) leads.next;
+      next = after_way p t.pc (t.pc + 1) [] leads.rest leads.next;
       reference = object.0;
       value = value.0;
       below = two.below;
@@ -116,7 +117,7 @@ amid-begin p m old x t on st = amid_first p t m old x (kinds-of on) (stack-of on
 pub lost-first : (p : Program) (m n : Live) (old mid new : State) (of : Base) (y : Instruction) → IsAssignment of y → TookObject None old mid → DoesIn p y (Err stop.Lost) m n old new
 lost-first p m n old mid new of y which none t l x told at act st =
     let on = on-assign p t l of y which told at act in
-    let there = object-there p m _ x old.names.items.items old.here t.here _ on.reference (s.Datum on.value ∷ on.below) (amid-begin p m old x t on st).cells in
+    let there = object-there p m _ x old.names.items.items old.here t.here _ on.reference (s.Datum on.value ∷ on.below) on.kind (cell.Datum on.other ∷ on.rest) (amid-begin p m old x t on st).known (amid-begin p m old x t on st).cells in
     absurd (none.0 there.0 there.1 there.2)
 
 module _ (p : Program) (m : Live) (old mid : State) (w : Object) (popped : Popped (c.Object w) old mid) where
@@ -177,12 +178,13 @@ module _ (p : Program) (m : Live) (old mid low : State) (w : Object) (first : Po
     abbrev Puts : Instruction → List Bool → Type 0
     Puts z given = (rest : ℕ → Bool) → does_so p l t z (s.Object r ∷ s.Datum v ∷ below) given rest ≡ Goes (change r here (spread (length (paths r)) v)) (with_answers rest next)
 
-    take-puts : value_fits of v ≡ true → IsDatum p m d v → (given : List Bool) × Puts (i.Take of) given
+    take-puts : value_fits of v ≡ true → IsDatum p m d v → (given : List Bool) × AreGranted given × Puts (i.Take of) given
     take-puts fit is = by d is
       where
-        by : (b : Datum) → IsDatum p m b v → (given : List Bool) × Puts (i.Take of) given
+        by : (b : Datum) → IsDatum p m b v → (given : List Bool) × AreGranted given × Puts (i.Take of) given
         by (datum.Scalar k) is' = (
           [],
+          tt,
           λ rest.
               ap (λ z. performs (z >>= λ u. claim_for u here >>= λ done. set r u here) (answering (t.world).store (stream [] rest)) (goal-state (stream [] rest))) (fit-gives fit)
               ∙ first_gives v (λ u. claim_for u here >>= λ done. set r u here) _ _
@@ -191,6 +193,7 @@ module _ (p : Program) (m : Live) (old mid low : State) (w : Object) (first : Po
         )
         by (datum.Block b) is' = (
           false ∷ [],
+          tt,
           λ rest.
               ap (λ z. performs (z >>= λ u. claim_for u here >>= λ done. set r u here) (answering (t.world).store (stream (false ∷ []) rest)) (goal-state (stream (false ∷ []) rest))) (fit-gives fit)
               ∙ first_gives v (λ u. claim_for u here >>= λ done. set r u here) _ _
@@ -204,20 +207,20 @@ module _ (p : Program) (m : Live) (old mid low : State) (w : Object) (first : Po
         ∙ first_gives v (λ u. set r u here) _ _ ∙ performs_does (λ store. change r here (spread (length (paths r)) v)) _ _
 
     pub assign-goes : IsAssignment of y → value_fits of v ≡ true → IsDatum p m d v → GoesOn p l t next []
-    assign-goes (inl e) fit is = let puts = take-puts fit is in line_goes p l t (i.Take of) (s.Object r ∷ s.Datum v ∷ below) next puts.0 _ (act ∙ e) stack puts.1
-    assign-goes (inr e) fit is = line_goes p l t (i.Fill of) (s.Object r ∷ s.Datum v ∷ below) next [] _ (act ∙ e) stack (fill-puts fit)
+    assign-goes (inl e) fit is = let puts = take-puts fit is in line_goes p l t (i.Take of) (s.Object r ∷ s.Datum v ∷ below) next puts.0 puts.1 _ (act ∙ e) stack puts.2
+    assign-goes (inr e) fit is = line_goes p l t (i.Fill of) (s.Object r ∷ s.Datum v ∷ below) next [] tt _ (act ∙ e) stack (fill-puts fit)
 
     pub assign-forbids : IsAssignment of y → value_fits of v ≡ true → IsDatum p m d v → r.right ≡ Read → IsForbidden p l t
     assign-forbids (inl e) fit is right = let puts = take-puts fit is in
-        line_forbids p l t (i.Take of) (s.Object r ∷ s.Datum v ∷ below) next puts.0 (record { reference = r; executing = here.unit }) _ right (act ∙ e) stack puts.1
+        line_forbids p l t (i.Take of) (s.Object r ∷ s.Datum v ∷ below) next puts.0 (record { reference = r; executing = here.unit }) _ right (act ∙ e) stack puts.2
     assign-forbids (inr e) fit is right =
         line_forbids p l t (i.Fill of) (s.Object r ∷ s.Datum v ∷ below) next [] (record { reference = r; executing = here.unit }) _ right (act ∙ e) stack (fill-puts fit)
 
     pub assign-stops : IsAssignment of y → value_fits of v ≡ false → StopsSo p l t (Failed Overflow here.place) []
-    assign-stops (inl e) unfit = line_stops p l t (i.Take of) (s.Object r ∷ s.Datum v ∷ below) (Failed Overflow here.place) [] (act ∙ e) stack (λ rest.
+    assign-stops (inl e) unfit = line_stops p l t (i.Take of) (s.Object r ∷ s.Datum v ∷ below) (Failed Overflow here.place) [] tt (act ∙ e) stack (λ rest.
         ap (λ z. performs (z >>= λ u. claim_for u here >>= λ done. set r u here) (answering (t.world).store (stream [] rest)) (goal-state (stream [] rest))) (fit-fails unfit)
         ∙ first_fails Overflow here.place (λ u. claim_for u here >>= λ done. set r u here) _ _)
-    assign-stops (inr e) unfit = line_stops p l t (i.Fill of) (s.Object r ∷ s.Datum v ∷ below) (Failed Overflow here.place) [] (act ∙ e) stack (λ rest.
+    assign-stops (inr e) unfit = line_stops p l t (i.Fill of) (s.Object r ∷ s.Datum v ∷ below) (Failed Overflow here.place) [] tt (act ∙ e) stack (λ rest.
         ap (λ z. performs (z >>= λ u. set r u here) (answering (t.world).store (stream [] rest)) (goal-state (stream [] rest))) (fit-fails unfit)
         ∙ first_fails Overflow here.place (λ u. set r u here) _ _)
 

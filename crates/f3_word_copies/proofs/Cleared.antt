@@ -42,11 +42,12 @@ use Rattle.f3_word_cells.specs.Does.{Does, IsTold, stream}
 use Rattle.f3_word_cells.proofs.OnTop.{line_kinds}
 use Rattle.f3_word_cells.proofs.Moving.{moved_to}
 use Rattle.f3_word_cells.proofs.Amid.{Amid, amid_first, amid_last, amid_moved}
+use Rattle.f3_word_cells.proofs.Orderly.{IsAfter, after_way}
 use Rattle.f3_word_cells.proofs.Lines.{answering, line_goes, performs_does}
-use Rattle.f3_word_copies.proofs.Tops.{ObjectOnTop, object-on-top, object-there}
-use Rattle.f3_word_copies.proofs.Flatness.{flat_for}
-use Rattle.f3_word_copies.proofs.Areas.{tells-all}
-use Rattle.f3_word_copies.proofs.Standing.{held-value}
+use Rattle.f3_word_reads.proofs.Tops.{ObjectOnTop, object-on-top, object-there}
+use Rattle.f3_word_reads.proofs.Flatness.{flat_for}
+use Rattle.f3_word_reads.proofs.Areas.{tells-all}
+use Rattle.f3_word_reads.proofs.Standing.{held-value}
 
 -- ---- what stands there, put there
 
@@ -162,14 +163,14 @@ pub record OnClear (p : Program) (t : s.State) : Type 0 where
   pub kind : Kind
   pub rest : List CellType
   pub kinds : (site_at p t.pc).cells ≡ cell.Object kind ∷ rest
-  pub next : (site_at p (t.pc + 1)).cells ≡ cell.Object kind ∷ rest
+  pub next : IsAfter p t.pc (t.pc + 1) (cell.Object kind ∷ rest)
   pub top : ObjectOnTop kind t.stack
 
 on-clear : (p : Program) (t : s.State) (l : Line) → IsTold p t → slice_get (code_of p).lines t.pc ≡ Some l → l.act ≡ i.Clear → OnClear p t
 on-clear p t l told at act =
     let d = line_kinds p t l i.Clear told at act in
     let leads = d.1 in
-    record { kind = d.0; rest = leads.rest; kinds = leads.before; next = ap (λ (y : Site). y.cells) leads.next; top = object-on-top p t d.0 leads.rest told leads.before }
+    record { kind = d.0; rest = leads.rest; kinds = leads.before; next = after_way p t.pc (t.pc + 1) (cell.Object d.0 ∷ []) leads.rest leads.next; top = object-on-top p t d.0 leads.rest told leads.before }
 
 pub clears : (old new : State) → Moved (old.pc + 1) old new → Does i.Clear (Ok tt) old new
 clears old new moved p m t l x told at act st =
@@ -178,7 +179,7 @@ clears old new moved p m t l x told at act st =
     let stack : List s.Cell = s.Object r ∷ on.top.below in
     let ks : List CellType = cell.Object on.kind ∷ on.rest in
     let begun = amid_first p t m old x ks stack st on.kinds on.top.split in
-    let there = object-there p m _ x old.names.items.items old.here t.here _ r on.top.below begun.cells in
+    let there = object-there p m _ x old.names.items.items old.here t.here _ r on.top.below on.kind on.rest begun.known begun.cells in
     let is : IsObject p x there.0 r = there.3 in
     let stored : Store = put_all (paths r) (map (λ q. cleared (get (t.world).store q)) (paths r)) (t.world).store in
     let same : stored ≡ (t.world).store =
@@ -189,7 +190,7 @@ clears old new moved p m t l x told at act st =
     record {
       next = moved_to t (t.pc + 1) stack t.here world;
       rooms = x;
-      goes = line_goes p l t i.Clear stack (moved_to t (t.pc + 1) stack t.here world) [] _ act on.top.split
+      goes = line_goes p l t i.Clear stack (moved_to t (t.pc + 1) stack t.here world) [] tt _ act on.top.split
           (λ rest. performs_does (λ store. change r (placed l.place t.here) (map (λ q. cleared (get store q)) (paths r))) (answering (t.world).store (stream [] rest)) _);
       stands = amid_last p t m m old new x ks (t.pc + 1) stack world st amid on.next line;
     }

@@ -43,10 +43,12 @@ use Rattle.f3_word_cells.proofs.Scalars.{number_datum, shape_of_number, whole_nu
 use Rattle.f3_word_cells.proofs.Moving.{moved_to}
 use Rattle.f3_word_cells.proofs.Amid.{Amid, amid_first, amid_last, amid_popped, amid_pushed, amid_put}
 use Rattle.f3_word_cells.proofs.Lines.{answering, line_goes, line_forbids, performs_does}
-use Rattle.f3_word_copies.specs.Taken.{TookObject, TookNumber}
-use Rattle.f3_word_copies.specs.Reads.{IsThere}
+use Rattle.f3_word_cells.proofs.Orderly.{IsAfter, after_way}
+use Rattle.f3_word_reads.specs.Taken.{TookObject}
+use Rattle.f3_word_copies.specs.Taken.{TookNumber}
+use Rattle.f3_word_reads.specs.Reads.{IsThere}
 use Rattle.f3_word_copies.specs.Puts.{CanTake, Takes}
-use Rattle.f3_word_copies.proofs.Tops.{object-there, datum-there}
+use Rattle.f3_word_reads.proofs.Tops.{object-there, datum-there}
 
 -- ---- four cells on top
 
@@ -55,7 +57,7 @@ pub record OnBegin (p : Program) (t : s.State) : Type 0 where
   pub whole : is_whole_number kind ≡ true
   pub rest : List CellType
   pub kinds : (site_at p t.pc).cells ≡ cell.Object kind ∷ cell.Datum (of_kind kind.of 0) ∷ cell.Datum (of_kind kind.of 0) ∷ cell.Datum (of_kind kind.of 0) ∷ rest
-  pub next : (site_at p (t.pc + 1)).cells ≡ cell.Turns ∷ rest
+  pub next : IsAfter p t.pc (t.pc + 1) (cell.Turns ∷ rest)
   pub reference : Reference
   pub step : Value
   pub last : Value
@@ -116,7 +118,7 @@ on-begin p t l told at act =
       whole = d.1;
       rest = leads.rest;
       kinds = leads.before;
-      next = ap (λ (y : Site). y.cells) leads.next;
+      next = after_way p t.pc (t.pc + 1) (cell.Turns ∷ []) leads.rest leads.next;
       reference = four.reference;
       step = four.step;
       last = four.last;
@@ -165,7 +167,7 @@ begin-first p m old x t on st =
 pub lost-begin : (p : Program) (m n : Live) (old mid new : State) → TookObject None old mid → DoesIn p i.CountBegin (Err stop.Lost) m n old new
 lost-begin p m n old mid new none t l x told at act st =
     let on = on-begin p t l told at act in
-    let there = object-there p m _ x old.names.items.items old.here t.here _ on.reference _ (begin-first p m old x t on st).cells in
+    let there = object-there p m _ x old.names.items.items old.here t.here _ on.reference _ on.kind (cell.Datum (of_kind on.kind.of 0) ∷ cell.Datum (of_kind on.kind.of 0) ∷ cell.Datum (of_kind on.kind.of 0) ∷ on.rest) (begin-first p m old x t on st).known (begin-first p m old x t on st).cells in
     absurd (none.0 there.0 there.1 there.2)
 
 module _ (p : Program) (m : Live) (old mid : State) (w : Object) (popped : Popped (c.Object w) old mid) where
@@ -239,7 +241,7 @@ module _ (p : Program) (m : Live) (old mid : State) (w : Object) (popped : Poppe
             record {
               next = moved_to t (t.pc + 1) (turning ∷ on.below) t.here world;
               rooms = x;
-              goes = line_goes p l t i.CountBegin (s.Object r ∷ s.Datum on.step ∷ s.Datum on.last ∷ s.Datum on.first ∷ on.below) (moved_to t (t.pc + 1) (turning ∷ on.below) t.here world) [] _ act on.split
+              goes = line_goes p l t i.CountBegin (s.Object r ∷ s.Datum on.step ∷ s.Datum on.last ∷ s.Datum on.first ∷ on.below) (moved_to t (t.pc + 1) (turning ∷ on.below) t.here world) [] tt _ act on.split
                   (λ rest. performs_does (λ store. change r (placed l.place t.here) (spread (length (paths r)) on.first)) (answering (t.world).store (stream [] rest)) _);
               stands = amid_last p t m n old new x (cell.Turns ∷ on.rest) (t.pc + 1) (turning ∷ on.below) world st amid on.next line;
             }

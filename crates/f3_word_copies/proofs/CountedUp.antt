@@ -49,11 +49,13 @@ use Rattle.f3_word_cells.proofs.Scalars.{one_object, shape_of_number, whole_numb
 use Rattle.f3_word_cells.proofs.Moving.{moved_to}
 use Rattle.f3_word_cells.proofs.Amid.{Amid, amid_first, amid_last, amid_popped, amid_pushed, amid_put}
 use Rattle.f3_word_cells.proofs.Lines.{answering, with_stack, does_so, line_goes, line_forbids, line_stops, performs_does, first_gives, first_fails, first_looks}
-use Rattle.f3_word_copies.specs.Taken.{HeldUp, TookObject, TookTurns}
-use Rattle.f3_word_copies.specs.Reads.{IsThere}
+use Rattle.f3_word_cells.proofs.Orderly.{IsAfter, after_way}
+use Rattle.f3_word_reads.specs.Taken.{TookObject}
+use Rattle.f3_word_copies.specs.Taken.{HeldUp, TookTurns}
+use Rattle.f3_word_reads.specs.Reads.{IsThere}
 use Rattle.f3_word_copies.specs.Puts.{CanTake, Takes}
-use Rattle.f3_word_copies.proofs.Tops.{object-there, turns-there}
-use Rattle.f3_word_copies.proofs.Standing.{held-value, one-live, one-within}
+use Rattle.f3_word_reads.proofs.Tops.{object-there, turns-there}
+use Rattle.f3_word_reads.proofs.Standing.{held-value, one-live, one-within}
 use Rattle.f3_word_copies.proofs.Counted.{number-can}
 
 pub record OnUp (p : Program) (t : s.State) (of : Base) : Type 0 where
@@ -62,7 +64,7 @@ pub record OnUp (p : Program) (t : s.State) (of : Base) : Type 0 where
   pub typed : kind.of ≡ of
   pub rest : List CellType
   pub kinds : (site_at p t.pc).cells ≡ cell.Object kind ∷ cell.Turns ∷ rest
-  pub next : (site_at p (t.pc + 1)).cells ≡ cell.Turns ∷ rest
+  pub next : IsAfter p t.pc (t.pc + 1) (cell.Turns ∷ rest)
   pub reference : Reference
   pub left : ℕ
   pub step : ℤ
@@ -83,7 +85,7 @@ on-up p t l of told at act =
       typed = d.2;
       rest = leads.rest;
       kinds = leads.before;
-      next = ap (λ (y : Site). y.cells) leads.next;
+      next = after_way p t.pc (t.pc + 1) (cell.Turns ∷ []) leads.rest leads.next;
       reference = object.0;
       left = turns.0;
       step = turns.1;
@@ -100,7 +102,7 @@ module _ (p : Program) (of : Base) (m : Live) (old mid : State) where
   pub lost-up : (n : Live) (new : State) → TookObject None old mid → DoesIn p (i.CountUp of) (Err stop.Lost) m n old new
   lost-up n new none t l x told at act st =
       let on = on-up p t l of told at act in
-      let there = object-there p m _ x old.names.items.items old.here t.here _ on.reference _ (up-first p m old x t of on st).cells in
+      let there = object-there p m _ x old.names.items.items old.here t.here _ on.reference _ on.kind (cell.Turns ∷ on.rest) (up-first p m old x t of on st).known (up-first p m old x t of on st).cells in
       absurd (none.0 there.0 there.1 there.2)
 
   -- ---- the line
@@ -137,14 +139,14 @@ module _ (p : Program) (of : Base) (m : Live) (old mid : State) where
         ∙ first_gives (Number sum) (λ u. set r u here) _ _ ∙ performs_does (λ store. change r here (spread (length (paths r)) (Number sum))) _ _
 
     pub up-goes : fits of sum ≡ true → GoesOn p l t after []
-    up-goes fit = line_goes p l t (i.CountUp of) (s.Object r ∷ s.Turns on.left on.step ∷ on.below) after [] _ act on.split (up-puts fit)
+    up-goes fit = line_goes p l t (i.CountUp of) (s.Object r ∷ s.Turns on.left on.step ∷ on.below) after [] tt _ act on.split (up-puts fit)
 
     pub up-forbids : fits of sum ≡ true → r.right ≡ Read → IsForbidden p l t
     up-forbids fit right =
         line_forbids p l t (i.CountUp of) (s.Object r ∷ s.Turns on.left on.step ∷ on.below) after [] (record { reference = r; executing = here.unit }) _ right act on.split (up-puts fit)
 
     pub up-stops : fits of sum ≡ false → StopsSo p l t (Failed Overflow here.place) []
-    up-stops unfit = line_stops p l t (i.CountUp of) (s.Object r ∷ s.Turns on.left on.step ∷ on.below) (Failed Overflow here.place) [] act on.split (λ rest.
+    up-stops unfit = line_stops p l t (i.CountUp of) (s.Object r ∷ s.Turns on.left on.step ∷ on.below) (Failed Overflow here.place) [] tt act on.split (λ rest.
         first_looks (λ store. get store r.path) (λ v. converted of (Number (number_of v +ℤ on.step)) here.place >>= λ u. set r u here) _ _
         ∙ ap (λ z. performs (z >>= λ u. set r u here) (answering (t.world).store (stream [] rest)) (λ done. machine.on (with_answers (stream [] rest) (with_stack (s.Object r ∷ s.Turns on.left on.step ∷ on.below) t)) (s.Turns on.left on.step ∷ on.below))) (sum-fails unfit)
         ∙ first_fails Overflow here.place (λ u. set r u here) _ _)

@@ -15,7 +15,7 @@ use Rattle.f3_room_arrays.specs.Changes.{LieWithin}
 use Rattle.f3_room_arrays.proofs.Numbers.{place-number, places-many, progression-length}
 use Rattle.f3_room_arrays.proofs.Placing.{IsCopied, all-first, all-rest, all-none, all-more, copied-live, copied-long, copied-more, copied-source, copied-target, inside-place, progression-more}
 use Rattle.f3_room_arrays.proofs.Running.{line-inside, take-next}
-use Rattle.f3_word_copies.proofs.Areas.{one-place}
+use Rattle.f3_word_reads.proofs.Areas.{one-place}
 
 got : (xs : List ℤ) (k : ℕ) (z d : ℤ) → slice_get xs k ≡ Some z → get_or xs k d ≡ z
 got [] k z d e = absurd cc

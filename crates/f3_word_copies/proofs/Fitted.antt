@@ -28,10 +28,10 @@ use Rattle.f3_word_cells.specs.declared.cell.Area.{Area}
 use Rattle.f3_word_cells.specs.declared.cell.Datum.TheVariants as datum
 use Rattle.f3_word_cells.specs.Areas.{types_of, shape_for, spans_of}
 use Rattle.f3_word_copies.specs.Fits.{CanFit, is_numbers, is_truth, words_fit}
-use Rattle.f3_word_copies.proofs.Areas.{count-size}
-use Rattle.f3_word_copies.proofs.Copying.{types-same}
-use Rattle.f3_word_copies.proofs.Standing.{no-dims, tables-for}
-use Rattle.f3_word_copies.proofs.Types.{scalar-derived}
+use Rattle.f3_word_reads.proofs.Areas.{count-size}
+use Rattle.f3_word_reads.proofs.Copying.{types-same}
+use Rattle.f3_word_reads.proofs.Standing.{no-dims, tables-for}
+use Rattle.f3_word_reads.proofs.Types.{scalar-derived}
 
 and-true : (a b : Bool) → a ≡ true → b ≡ true → a && b ≡ true
 and-true true b e f = f

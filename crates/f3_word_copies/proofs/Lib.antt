@@ -1,12 +1,3 @@
-pub mod Strides
-pub mod Types
-pub mod Flatness
-pub mod Areas
-pub mod Copying
-pub mod Standing
-pub mod Tops
-pub mod Loading
-pub mod Rooms
 pub mod Spreads
 pub mod Each
 pub mod Fewer

@@ -36,9 +36,10 @@ use Rattle.f3_word_cells.proofs.OnTop.{line_kinds}
 use Rattle.f3_word_cells.proofs.Moving.{moved_to}
 use Rattle.f3_word_cells.proofs.Amid.{Amid, amid_first, amid_last, amid_popped, amid_pushed, amid_put}
 use Rattle.f3_word_cells.proofs.Lines.{answering, line_goes, line_forbids, performs_does}
-use Rattle.f3_word_copies.specs.Taken.{TookObject}
+use Rattle.f3_word_cells.proofs.Orderly.{IsAfter, after_way}
+use Rattle.f3_word_reads.specs.Taken.{TookObject}
 use Rattle.f3_word_copies.specs.Puts.{CanBeginAt, Takes}
-use Rattle.f3_word_copies.proofs.Tops.{ObjectOnTop, object-on-top, object-there}
+use Rattle.f3_word_reads.proofs.Tops.{ObjectOnTop, object-on-top, object-there}
 use Rattle.f3_word_copies.proofs.Typed.{type-can}
 
 pub record OnSet (p : Program) (t : s.State) (l : Line) : Type 0 where
@@ -46,14 +47,14 @@ pub record OnSet (p : Program) (t : s.State) (l : Line) : Type 0 where
   pub value : l.value ≡ initial (setting_of p) kind.of
   pub rest : List CellType
   pub kinds : (site_at p t.pc).cells ≡ cell.Object kind ∷ rest
-  pub next : (site_at p (t.pc + 1)).cells ≡ cell.Object kind ∷ rest
+  pub next : IsAfter p t.pc (t.pc + 1) (cell.Object kind ∷ rest)
   pub top : ObjectOnTop kind t.stack
 
 pub on-set : (p : Program) (t : s.State) (l : Line) → IsTold p t → slice_get (code_of p).lines t.pc ≡ Some l → l.act ≡ i.Set → OnSet p t l
 on-set p t l told at act =
     let d = line_kinds p t l i.Set told at act in
     let leads = d.3 in
-    record { kind = d.0; value = d.2; rest = leads.rest; kinds = leads.before; next = ap (λ (y : Site). y.cells) leads.next; top = object-on-top p t d.0 leads.rest told leads.before }
+    record { kind = d.0; value = d.2; rest = leads.rest; kinds = leads.before; next = after_way p t.pc (t.pc + 1) (cell.Object d.0 ∷ []) leads.rest leads.next; top = object-on-top p t d.0 leads.rest told leads.before }
 
 set-first : (p : Program) (m : Live) (old : State) (x : Rooms) (t : s.State) (l : Line) (on : OnSet p t l) → Stands p m old x t
     → Amid p t m old old x (cell.Object on.kind ∷ on.rest) (s.Object on.top.reference ∷ on.top.below) (t.world).store []
@@ -62,7 +63,7 @@ set-first p m old x t l on st = amid_first p t m old x (cell.Object on.kind ∷ 
 pub set-lost : (p : Program) (m n : Live) (old mid new : State) → TookObject None old mid → DoesIn p i.Set (Err stop.Lost) m n old new
 set-lost p m n old mid new none t l x told at act st =
     let on = on-set p t l told at act in
-    let there = object-there p m _ x old.names.items.items old.here t.here _ on.top.reference _ (set-first p m old x t l on st).cells in
+    let there = object-there p m _ x old.names.items.items old.here t.here _ on.top.reference _ on.kind on.rest (set-first p m old x t l on st).known (set-first p m old x t l on st).cells in
     absurd (none.0 there.0 there.1 there.2)
 
 module _ (p : Program) (m : Live) (old mid : State) (w : Object) (popped : Popped (c.Object w) old mid) where
@@ -98,7 +99,7 @@ module _ (p : Program) (m : Live) (old mid : State) (w : Object) (popped : Poppe
         record {
           next = moved_to t (t.pc + 1) (s.Object r ∷ on.top.below) t.here world;
           rooms = x;
-          goes = line_goes p l t i.Set (s.Object r ∷ on.top.below) (moved_to t (t.pc + 1) (s.Object r ∷ on.top.below) t.here world) [] _ act on.top.split
+          goes = line_goes p l t i.Set (s.Object r ∷ on.top.below) (moved_to t (t.pc + 1) (s.Object r ∷ on.top.below) t.here world) [] tt _ act on.top.split
               (λ rest. performs_does (λ store. change r (placed l.place t.here) (spread (length (paths r)) l.value)) (answering (t.world).store (stream [] rest)) _);
           stands = amid_last p t m n old new x (cell.Object on.kind ∷ on.rest) (t.pc + 1) (s.Object r ∷ on.top.below) world st amid on.next line;
         }

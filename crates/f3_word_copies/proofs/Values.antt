@@ -33,11 +33,11 @@ use Rattle.f3_word_cells.specs.Areas.{types_of, shape_for, spans_of}
 use Rattle.f3_room_levels.proofs.Widths.{object_many}
 use Rattle.f3_word_copies.proofs.Fresh.{shows-initial, repeat-initial}
 use Rattle.f3_word_copies.specs.Spread.{spread_over, fewer_of}
-use Rattle.f3_word_copies.specs.Reads.{IsThere}
+use Rattle.f3_word_reads.specs.Reads.{IsThere}
 use Rattle.f3_word_copies.specs.Puts.{CanTake, Takes}
-use Rattle.f3_word_copies.proofs.Flatness.{flat_for}
+use Rattle.f3_word_reads.proofs.Flatness.{flat_for}
 use Rattle.f3_word_copies.proofs.Fewer.{fewer-first, fewer-second, quotient-within}
-use Rattle.f3_word_copies.proofs.Areas.{tells-all, many-all, count-size, among, all-within}
+use Rattle.f3_word_reads.proofs.Areas.{tells-all, many-all, count-size, among, all-within}
 use Rattle.f3_word_copies.proofs.Taken.{repeat, Shows, repeat-constant, repeat-object, spread-array, listed-joined, shows-constant, constant-long, shows-block, spread-objects, none-put, put-both, own-put, takes-as, takes-none}
 
 pub same-block : (d : Datum) (a b : Area) → d ≡ datum.Block a → d ≡ datum.Block b → a ≡ b

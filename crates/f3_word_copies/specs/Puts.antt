@@ -17,7 +17,7 @@ use Rattle.f3_word_cells.specs.declared.cell.Datum.TheVariants as datum
 use Rattle.f3_word_cells.specs.declared.cell.Object.TheVariants as o
 use Rattle.f3_word_cells.specs.Areas.{types_of, shape_for, IsDatum}
 use Rattle.f3_word_cells.specs.States.{datum_blocks}
-use Rattle.f3_word_copies.specs.Reads.{IsThere}
+use Rattle.f3_word_reads.specs.Reads.{IsThere}
 
 -- a value is of the type of an area
 abbrev pub Agrees : Program → Area → Datum → Type 0

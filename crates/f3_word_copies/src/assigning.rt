@@ -7,7 +7,6 @@ ghost use Rattle.f3_word_cells.specs.Does.{DoesIn, IsAt, Keeps};
 
 use crate::fitting::fits;
 use crate::putting::put;
-use crate::taking::{pop_datum, pop_object};
 use f3_heap::Blocks;
 use f3_meaning_whole::run_error::RunError;
 use f3_program::declarations::Base;
@@ -15,6 +14,7 @@ use f3_word_cells::cell::Object;
 use f3_word_cells::giving::let_go_datum;
 use f3_word_cells::scene::Scene;
 use f3_word_cells::state::{State, Stop};
+use f3_word_reads::taking::{pop_datum, pop_object};
 
 /// The object on top takes the value beneath, converted to a type.
 fn assign<B: Blocks>(

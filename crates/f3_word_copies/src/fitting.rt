@@ -10,11 +10,11 @@ ghost use Rattle.f3_meaning_whole.specs.Arithmetic.{fits, value_fits};
 ghost use Rattle.f3_room_places.specs.Places.{HasTables};
 ghost use Rattle.f3_word_copies.specs.Fits.{CanFit, is_numbers, words_fit};
 
-use crate::scalars::is_scalar;
 use f3_heap::{BlockId, Blocks};
 use f3_program::declarations::{Base, Constant};
 use f3_room_places::types::Types;
 use f3_word_cells::cell::{Area, Datum};
+use f3_word_reads::scalars::is_scalar;
 
 /// Whether a number of 64 bits is one of kind 4, -2147483648 to 2147483647 (own rule for ISO/IEC 1539-1:2004, 4.4.1).
 pub(crate) fn is_short(number: i64) -> bool

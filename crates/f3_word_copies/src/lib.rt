@@ -1,4 +1,4 @@
-//! Variables are read and changed, over words, in programs without allocatables.
+//! Variables are changed, over words, in programs without allocatables.
 #![tactic(auto)]
 
 pub mod assigning;
@@ -7,10 +7,6 @@ pub mod counting;
 mod elements;
 mod fitting;
 mod initial;
-mod packing;
 mod putting;
-pub mod reading;
-mod scalars;
 pub mod setting;
 mod spreading;
-mod taking;

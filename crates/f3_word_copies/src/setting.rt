@@ -6,11 +6,11 @@ ghost use Rattle.f3_word_cells.specs.Scenes.{IsScene};
 ghost use Rattle.f3_word_cells.specs.Does.{DoesIn, IsAt, Keeps};
 
 use crate::putting::begin;
-use crate::taking::pop_object;
 use f3_heap::Blocks;
 use f3_word_cells::cell::{Cell, Object};
 use f3_word_cells::scene::Scene;
 use f3_word_cells::state::{State, Stop};
+use f3_word_reads::taking::pop_object;
 
 /// The object takes the value of the line, with which an object of its type begins (12.4.1.7).
 pub fn set<B: Blocks>(scene: Scene<'_>, heap: &mut B, state: &mut State) -> Result<(), Stop>

@@ -10,8 +10,8 @@ use Rattle.f3_word_cells.specs.declared.cell.Area.{Area}
 use Rattle.f3_word_cells.specs.declared.cell.Datum.{Datum}
 use Rattle.f3_word_copies.specs.Spread.{spread_over, fewer_of}
 use Rattle.f3_word_copies.specs.Puts.{CanTake}
-use Rattle.f3_word_copies.proofs.Copying.{words-same}
-use Rattle.f3_word_copies.proofs.Standing.{no-dims, some-dims}
+use Rattle.f3_word_reads.proofs.Copying.{words-same}
+use Rattle.f3_word_reads.proofs.Standing.{no-dims, some-dims}
 use Rattle.f3_word_copies.proofs.Values.{take-within, scalar-takes, scalar-within, from-live, from-apart, one-within, one-takes, array-takes, same-block}
 use Rattle.f3_word_copies.proofs.putting.put.Goals as goal
 

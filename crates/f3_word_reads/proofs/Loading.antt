@@ -14,11 +14,11 @@ use Rattle.f3_meaning_whole.specs.Act.{Here, claim_for, needs_storage, read}
 use Rattle.f3_meaning_whole.specs.Arithmetic.{constant_value}
 use Rattle.f3_meaning_whole.specs.declared.run_error.RunError.TheVariants.{HeapHasNoRoom}
 use Rattle.f3_code.specs.declared.instruction.Instruction.TheVariants as i
-use Rattle.f3_code.specs.State.{Line, placed, Goes, Stays, Failed}
+use Rattle.f3_code.specs.State.{Line, placed}
 use Rattle.f3_code.specs.State as s
 use Rattle.f3_code.specs.Machine.{performs, on}
 use Rattle.f3_code.specs.Heap.{with_answers}
-use Rattle.f3_cell_kinds.specs.Types.{CellType, Site}
+use Rattle.f3_cell_kinds.specs.Types.{CellType}
 use Rattle.f3_cell_kinds.specs.Types as cell
 use Rattle.f3_cell_kinds.specs.Laws.{site_at}
 use Rattle.f3_rooms.specs.Rooms.{Rooms}
@@ -34,15 +34,16 @@ use Rattle.f3_word_cells.specs.Areas.{shape_for, IsDatum}
 use Rattle.f3_word_cells.specs.Scenes.{code_of}
 use Rattle.f3_word_cells.specs.States.{Stands, IsLaid, datum_blocks}
 use Rattle.f3_word_cells.specs.Moves.{Popped, Pushed}
-use Rattle.f3_word_cells.specs.Does.{DoesIn, GoesOn, IsTold, StopsSo, stream}
+use Rattle.f3_word_cells.specs.Does.{DoesOver, GoesOn, IsTold, RefusedAt, stream}
 use Rattle.f3_word_cells.proofs.Scalars.{Large, IsComposite, IsArray, large_block}
 use Rattle.f3_word_cells.proofs.OnTop.{line_kinds}
 use Rattle.f3_word_cells.proofs.Moving.{moved_to}
 use Rattle.f3_word_cells.proofs.Amid.{Amid, amid_first, amid_last, amid_popped, amid_pushed, amid_taken, amid_written}
-use Rattle.f3_word_cells.proofs.Lines.{answering, with_stack, line_goes, line_stops, performs_gives, first_looks, first_gives, first_granted, first_refused, claim_for_block, claim_for_scalar}
-use Rattle.f3_word_copies.specs.Taken.{TookObject}
-use Rattle.f3_word_copies.specs.Reads.{IsThere, IsOf, Gains, Reads}
-use Rattle.f3_word_copies.proofs.Tops.{ObjectOnTop, object-on-top, object-there}
+use Rattle.f3_word_cells.proofs.Orderly.{IsAfter, after_way}
+use Rattle.f3_word_cells.proofs.Lines.{answering, with_stack, line_goes, line_refused, performs_gives, first_looks, first_gives, first_granted, first_refused, claim_for_block, claim_for_scalar}
+use Rattle.f3_word_reads.specs.Taken.{TookObject}
+use Rattle.f3_word_reads.specs.Reads.{IsThere, IsOf, Gains, Reads}
+use Rattle.f3_word_reads.proofs.Tops.{ObjectOnTop, object-on-top, object-there}
 
 -- ---- an object on top
 
@@ -51,20 +52,20 @@ pub record OnLoad (p : Program) (t : s.State) : Type 0 where
   pub kind : Kind
   pub rest : List CellType
   pub kinds : (site_at p t.pc).cells ≡ cell.Object kind ∷ rest
-  pub next : (site_at p (t.pc + 1)).cells ≡ cell.Datum kind ∷ rest
+  pub next : IsAfter p t.pc (t.pc + 1) (cell.Datum kind ∷ rest)
   pub top : ObjectOnTop kind t.stack
 
 pub on-load : (p : Program) (t : s.State) (l : Line) → IsTold p t → slice_get (code_of p).lines t.pc ≡ Some l → l.act ≡ i.Load → OnLoad p t
 on-load p t l told at act =
     let d = line_kinds p t l i.Load told at act in
     let leads = d.2 in
-    record { kind = d.0; rest = leads.rest; kinds = leads.before; next = ap (λ (y : Site). y.cells) leads.next; top = object-on-top p t d.0 leads.rest told leads.before }
+    record { kind = d.0; rest = leads.rest; kinds = leads.before; next = after_way p t.pc (t.pc + 1) (cell.Datum d.0 ∷ []) leads.rest leads.next; top = object-on-top p t d.0 leads.rest told leads.before }
 
-pub lost-load : (p : Program) (m n : Live) (old mid new : State) → TookObject None old mid → DoesIn p i.Load (Err stop.Lost) m n old new
-lost-load p m n old mid new none t l x told at act st =
+pub lost-load : (p : Program) (m n : Live) (old mid new : State) (Full Spent : Type 0) → TookObject None old mid → DoesOver Full Spent p i.Load (Err stop.Lost) m n old new
+lost-load p m n old mid new Full Spent none t l x told at act st =
     let on = on-load p t l told at act in
     let amid = amid_first p t m old x _ (s.Object on.top.reference ∷ on.top.below) st on.kinds on.top.split in
-    let there = object-there p m _ x old.names.items.items old.here t.here _ on.top.reference on.top.below amid.cells in
+    let there = object-there p m _ x old.names.items.items old.here t.here _ on.top.reference on.top.below on.kind on.rest amid.known amid.cells in
     absurd (none.0 there.0 there.1 there.2)
 
 -- ---- what a value claims
@@ -108,21 +109,21 @@ module _ (p : Program) (t : s.State) (l : Line) (r : Reference) (below : List s.
   reads-so answers = first_looks (λ store. held_at store r.path r.reach) (λ v. claim_for v here >>= λ done. gives v) (answering (t.world).store answers) _
 
   pub goes-scalar : needs_storage value ≡ false → GoesOn p l t next []
-  goes-scalar none = line_goes p l t i.Load (s.Object r ∷ below) next [] [] act stack (λ rest.
+  goes-scalar none = line_goes p l t i.Load (s.Object r ∷ below) next [] tt [] act stack (λ rest.
       reads-so (stream [] rest)
       ∙ ap (λ m. performs (m >>= λ done. gives value) (answering (t.world).store (stream [] rest)) (λ x. on (with_answers (stream [] rest) (with_stack (s.Object r ∷ below) t)) (s.Datum x ∷ below)))
       (claim_for_scalar value here none)
       ∙ first_gives tt (λ done. gives value) _ _ ∙ performs_gives value _ _)
 
   pub goes-block : needs_storage value ≡ true → GoesOn p l t next []
-  goes-block some = line_goes p l t i.Load (s.Object r ∷ below) next (false ∷ []) [] act stack (λ rest.
+  goes-block some = line_goes p l t i.Load (s.Object r ∷ below) next (false ∷ []) tt [] act stack (λ rest.
       reads-so (stream (false ∷ []) rest)
       ∙ ap (λ m. performs (m >>= λ done. gives value) (answering (t.world).store (stream (false ∷ []) rest)) (λ x. on (with_answers (stream (false ∷ []) rest) (with_stack (s.Object r ∷ below) t)) (s.Datum x ∷ below)))
       (claim_for_block value here some)
       ∙ first_granted here (t.world).store [] rest (λ done. gives value) _ ∙ performs_gives value _ _)
 
-  pub stops-full : needs_storage value ≡ true → StopsSo p l t (Failed HeapHasNoRoom here.place) []
-  stops-full some = line_stops p l t i.Load (s.Object r ∷ below) (Failed HeapHasNoRoom here.place) (true ∷ []) act stack (λ rest.
+  pub refused : needs_storage value ≡ true → RefusedAt p l t
+  refused some = line_refused p l t i.Load (s.Object r ∷ below) act stack (λ rest.
       reads-so (stream (true ∷ []) rest)
       ∙ ap (λ m. performs (m >>= λ done. gives value) (answering (t.world).store (stream (true ∷ []) rest)) (λ x. on (with_answers (stream (true ∷ []) rest) (with_stack (s.Object r ∷ below) t)) (s.Datum x ∷ below)))
       (claim_for_block value here some)
@@ -148,9 +149,9 @@ module _ (p : Program) (m : Live) (old mid : State) (o : Object) (popped : Poppe
       (amid_first p t m old x (cell.Object on.kind ∷ on.rest) (s.Object on.top.reference ∷ on.top.below) st on.kinds on.top.split) popped tt in
       (on, record { derived = derived; flat = told.plain.types; sound = st.sound; is = amid.0 }, amid.2)
 
-  module _ (n : Live) where
-    pub does-load : (new : State) (d : Datum) → ((x : Rooms) (r : Reference) → IsThere p types m x o r → Reads p m n x r (Ok d)) → Pushed (c.Datum d) (mid.pc + 1) mid new
-        → DoesIn p i.Load (Ok tt) m n old new
+  module _ (n : Live) (Full Spent : Type 0) where
+    pub does-load : (new : State) (d : Datum) → ((x : Rooms) (r : Reference) → IsThere p types m x o r → Reads Full Spent p m n x r (Ok d)) → Pushed (c.Datum d) (mid.pc + 1) mid new
+        → DoesOver Full Spent p i.Load (Ok tt) m n old new
     does-load new d reads pushed t l x told at act st =
         let there = there-load t l x told at act st in
         let on = there.0 in
@@ -169,10 +170,11 @@ module _ (p : Program) (m : Live) (old mid : State) (o : Object) (popped : Poppe
           stands = amid_last p t m n old new x (cell.Datum on.kind ∷ on.rest) (t.pc + 1) (s.Datum (held_at (t.world).store r.path r.reach) ∷ top.below) t.world st amid on.next line;
         }
 
-    pub fails-load : (new : State) (e : Stop) → ((x : Rooms) (r : Reference) → IsThere p types m x o r → Reads p m n x r (Err e)) → DoesIn p i.Load (Err e) m n old new
+    pub fails-load : (new : State) (e : Stop) → ((x : Rooms) (r : Reference) → IsThere p types m x o r → Reads Full Spent p m n x r (Err e)) → DoesOver Full Spent p i.Load (Err e) m n old new
     fails-load new (stop.Failed HeapHasNoRoom) reads t l x told at act st =
         let there = there-load t l x told at act st in
         let top = (there.0).top in
-        stops-full p t l top.reference top.below act top.split (ap (λ store. needs_storage (held_at store top.reference.path top.reference.reach)) st.store ∙ reads x top.reference there.1)
-    fails-load new stop.Memory reads t l x told at act st = tt
+        let no = reads x top.reference there.1 in
+        (refused p t l top.reference top.below act top.split (ap (λ store. needs_storage (held_at store top.reference.path top.reference.reach)) st.store ∙ no.0), no.1)
+    fails-load new stop.Memory reads t l x told at act st = let there = there-load t l x told at act st in reads x (there.0).top.reference there.1
     fails-load new e reads t l x told at act st = let there = there-load t l x told at act st in absurd (reads x (there.0).top.reference there.1)

@@ -2,8 +2,8 @@ use Rattle.std.proofs.Common.{◌∙◌, ap, sym}
 use Rattle.f3_meaning_whole.specs.Shape.{shape_in}
 use Rattle.f3_rooms.specs.Places.{is_scalar_shape}
 use Rattle.f3_room_places.specs.Places.{shapes}
-use Rattle.f3_word_copies.proofs.Types.{scalar-tested}
-use Rattle.f3_word_copies.proofs.scalars.is_scalar.Goals as goal
+use Rattle.f3_word_reads.proofs.Types.{scalar-tested}
+use Rattle.f3_word_reads.proofs.scalars.is_scalar.Goals as goal
 
 pub returns-in-Derived : goal.returns-in-Derived
 returns-in-Derived c =

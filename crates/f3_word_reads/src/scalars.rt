@@ -4,14 +4,14 @@ ghost use Rattle.std.specs.Prelude.{◌≡◌, MatchOption, false, true};
 ghost use Rattle.f3_meaning_whole.specs.Arithmetic.{constant_value};
 ghost use Rattle.f3_meaning_whole.specs.Shape.{shape_in};
 ghost use Rattle.f3_rooms.specs.Places.{is_scalar_shape};
-ghost use Rattle.f3_word_copies.specs.Scalars.{scalar_of};
+ghost use Rattle.f3_word_reads.specs.Scalars.{scalar_of};
 ghost use Rattle.f3_room_places.specs.Places.{HasTables, shapes};
 
 use f3_program::declarations::{Base, Constant};
 use f3_room_places::types::Types;
 
 /// Whether objects of a type are scalars of an intrinsic type.
-pub(crate) fn is_scalar(types: Types<'_>, of: Base) -> bool
+pub fn is_scalar(types: Types<'_>, of: Base) -> bool
     requires { HasTables types }
     ensures { result ≡ is_scalar_shape (shape_in (shapes types.entry) of) }
 {

@@ -7,9 +7,9 @@ ghost use Rattle.f3_meaning_whole.specs.Reference.{Reference};
 ghost use Rattle.f3_rooms.specs.Rooms.{Rooms};
 ghost use Rattle.f3_room_places.specs.Places.{HasTables};
 ghost use Rattle.f3_word_cells.specs.Scenes.{IsScene};
-ghost use Rattle.f3_word_cells.specs.Does.{DoesIn, IsAt, Keeps};
+ghost use Rattle.f3_word_cells.specs.Does.{DoesOver, HasNoMemory, HasNoRoom, IsAt, Keeps};
 ghost use Rattle.f3_word_cells.specs.declared.cell.Object.TheVariants as o;
-ghost use Rattle.f3_word_copies.specs.Reads.{IsLarge, IsThere, Reads};
+ghost use Rattle.f3_word_reads.specs.Reads.{IsLarge, IsThere, Reads};
 
 use crate::packing::pack;
 use crate::scalars::{is_scalar, scalar_in};
@@ -23,22 +23,23 @@ use f3_word_cells::cell::{Area, Cell, Datum, Object};
 use f3_word_cells::scene::Scene;
 use f3_word_cells::state::{State, Stop};
 
-/// A copy of what stands there, in a block of its own.
+/// A copy of what stands there, in a block of its own. No heap has one of 2 to the 63 words or more.
+///
+/// `Stop::Failed` where the heap has no room for it, `Stop::Memory` where the host refused memory.
 fn copied<B: Blocks>(heap: &mut B, types: Types<'_>, area: &Area) -> Result<Datum, Stop>
     requires tables { HasTables types }
     requires large { IsLarge types area.now }
     requires there { (p : Program) × (x : Rooms) × (r : Reference) × IsThere p types (B.blocks heap.old) x (o.Stands area.now) r }
-    ensures { (p : Program) (x : Rooms) (r : Reference) → IsThere p types.entry (B.blocks heap.old) x (o.Stands area.now) r → Reads p (B.blocks heap.old) (B.blocks heap.new) x r result }
+    ensures { (p : Program) (x : Rooms) (r : Reference) → IsThere p types.entry (B.blocks heap.old) x (o.Stands area.now) r → Reads (HasNoRoom B.has_room heap.old) (HasNoMemory B.allows (B.kept heap.old) (B.blocks heap.old)) p (B.blocks heap.old) (B.blocks heap.new) x r result }
 {
     let size = words(types, area.of);
-    let Some(packed) = pack(&area.elements.dims, size) else {
-        return Err(Stop::Failed(RunError::HeapHasNoRoom));
-    };
+    let packed = pack(&area.elements.dims, size);
     let block = match heap.take(packed.words) {
         Ok(block) => block,
         Err(TakeFault::Full) => return Err(Stop::Failed(RunError::HeapHasNoRoom)),
         Err(TakeFault::Memory) => return Err(Stop::Memory),
     };
+    heap.blocks_are_short();
     if packed.words > 0 {
         gather(heap, &area.elements, size, block, 0);
     }
@@ -56,7 +57,7 @@ fn copied<B: Blocks>(heap: &mut B, types: Types<'_>, area: &Area) -> Result<Datu
 fn held<B: Blocks>(heap: &mut B, types: Types<'_>, object: Object) -> Result<Datum, Stop>
     requires tables { HasTables types }
     requires there { (p : Program) × (x : Rooms) × (r : Reference) × IsThere p types (B.blocks heap.old) x object r }
-    ensures { (p : Program) (x : Rooms) (r : Reference) → IsThere p types.entry (B.blocks heap.old) x object r → Reads p (B.blocks heap.old) (B.blocks heap.new) x r result }
+    ensures { (p : Program) (x : Rooms) (r : Reference) → IsThere p types.entry (B.blocks heap.old) x object r → Reads (HasNoRoom B.has_room heap.old) (HasNoMemory B.allows (B.kept heap.old) (B.blocks heap.old)) p (B.blocks heap.old) (B.blocks heap.new) x r result }
 {
     let area = match object {
         Object::Held(_, constant) => return Ok(Datum::Scalar(constant)),
@@ -76,7 +77,7 @@ pub fn load<B: Blocks>(scene: Scene<'_>, heap: &mut B, state: &mut State) -> Res
     requires room { length state.old.cells.items.items < state.old.cells.room }
     requires bottom { state.old.base ≤ length state.old.cells.items.items }
     requires at { IsAt scene.program.now i.Load (B.blocks heap.old) state.old }
-    ensures does { DoesIn scene.entry.program.now i.Load result (B.blocks heap.old) (B.blocks heap.new) state.old state.new }
+    ensures does { DoesOver (HasNoRoom B.has_room heap.old) (HasNoMemory B.allows (B.kept heap.old) (B.blocks heap.old)) scene.entry.program.now i.Load result (B.blocks heap.old) (B.blocks heap.new) state.old state.new }
     ensures keeps { Keeps state.old state.new }
 {
     let Some(object) = pop_object(state) else {

@@ -59,9 +59,9 @@ pub record IsRead (p : Program) (m n : Live) (x : Rooms) (r : Reference) (d : Da
   pub gains : Gains m n (datum_blocks d)
   pub typed : IsOf r.of d
 
--- or storage was refused
-abbrev pub Reads : Program → Live → Live → Rooms → Reference → Result Datum Stop → Type 0
-Reads p m n x r (Ok d) = IsRead p m n x r d
-Reads p m n x r (Err (stop.Failed HeapHasNoRoom)) = needs_storage (held_at (store_of (types_of p) m x) r.path r.reach) ≡ true
-Reads p m n x r (Err stop.Memory) = ⊤
-Reads p m n x r (Err e) = ⊥
+-- or a heap has no room for it, or the host no memory
+abbrev pub Reads : (Full Spent : Type 0) → Program → Live → Live → Rooms → Reference → Result Datum Stop → Type 0
+Reads Full Spent p m n x r (Ok d) = IsRead p m n x r d
+Reads Full Spent p m n x r (Err (stop.Failed HeapHasNoRoom)) = (needs_storage (held_at (store_of (types_of p) m x) r.path r.reach) ≡ true) × Full
+Reads Full Spent p m n x r (Err stop.Memory) = Spent
+Reads Full Spent p m n x r (Err e) = ⊥

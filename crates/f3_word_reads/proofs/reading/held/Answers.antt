@@ -1,13 +1,13 @@
 use Rattle.std.proofs.Common.{◌∙◌, sym, ap, subst, refl, inl, inr, rules, w64, FitsSigned}
 use Rattle.std.proofs.lemmas.Int.{to_z-of_z}
-use Rattle.f3_word_copies.specs.Scalars.{scalar_of}
+use Rattle.f3_word_reads.specs.Scalars.{scalar_of}
 use Rattle.f3_meaning_whole.specs.Shape.{shape_in}
 use Rattle.f3_rooms.specs.Places.{is_scalar_shape}
-use Rattle.f3_word_copies.specs.Reads.{IsThere}
-use Rattle.f3_word_copies.proofs.Copying.{types-same}
-use Rattle.f3_word_copies.proofs.Standing.{constant-held, tables-for, one-live, one-within, one-value, no-dims, some-dims}
-use Rattle.f3_word_copies.proofs.reading.held.Goals as goal
-use Rattle.f3_word_copies.proofs.reading.held.Goals.{else-is_empty-via-then-is_empty+else-is_scalar, else-is_empty-via-else-is_empty}
+use Rattle.f3_word_reads.specs.Reads.{IsThere}
+use Rattle.f3_word_reads.proofs.Copying.{types-same}
+use Rattle.f3_word_reads.proofs.Standing.{constant-held, tables-for, one-live, one-within, one-value, no-dims, some-dims}
+use Rattle.f3_word_reads.proofs.reading.held.Goals as goal
+use Rattle.f3_word_reads.proofs.reading.held.Goals.{else-is_empty-via-then-is_empty+else-is_scalar, else-is_empty-via-else-is_empty}
 
 pub returns-in-Held : goal.returns-in-Held
 returns-in-Held g c p x r there =

@@ -21,6 +21,7 @@ use Rattle.f3_word_cells.specs.declared.cell.Cell.TheVariants as c
 use Rattle.f3_word_cells.specs.declared.state.Name.{Name}
 use Rattle.f3_word_cells.specs.Areas.{IsDatum, IsObject}
 use Rattle.f3_word_cells.specs.Cells.{AreCells}
+use Rattle.f3_word_cells.specs.States.{AreKnown}
 use Rattle.f3_word_cells.specs.Does.{IsTold}
 use Rattle.f3_word_cells.proofs.OnTop.{one_on_top, of_object}
 
@@ -38,27 +39,30 @@ object-on-top p t k rest told e =
     record { reference = is.0; below = one.below; split = one.split ∙ ap (λ a. a ∷ one.below) is.1; refers = is.2 }
 
 -- then so it is in memory
-pub object-there : (p : Program) (live : Live) (Rest : Rooms → List Name → Type 0) (x : Rooms) (ns : List Name) (h : Here) (here : m.Here) (cells : List Cell) (r : Reference) (below : List s.Cell) → AreCells p live Rest x ns h here cells (s.Object r ∷ below)
+pub object-there : (p : Program) (live : Live) (Rest : Rooms → List Name → Type 0) (x : Rooms) (ns : List Name) (h : Here) (here : m.Here) (cells : List Cell) (r : Reference) (below : List s.Cell) → (k : Kind) (ks : List CellType)
+    → AreKnown p (cell.Object k ∷ ks) cells → AreCells p live Rest x ns h here cells (s.Object r ∷ below)
     → (o : Object) × (rest : List Cell) × (cells ≡ c.Object o ∷ rest) × IsObject p x o r
-object-there p live Rest x ns h here [] r below are = absurd are
-object-there p live Rest x ns h here (c.Object o ∷ rest) r below are = (o, rest, refl, are.0)
-object-there p live Rest x ns h here (c.Datum d ∷ rest) r below are = absurd are.0
-object-there p live Rest x ns h here (c.Argument a ∷ rest) r below are = absurd are.0
-object-there p live Rest x ns h here (c.Choice a ∷ rest) r below are = absurd are.0
-object-there p live Rest x ns h here (c.Bound z ∷ rest) r below are = absurd are.0
-object-there p live Rest x ns h here (c.Bounds ds ∷ rest) r below are = absurd are.0
-object-there p live Rest x ns h here (c.Turns k z ∷ rest) r below are = absurd are.0
-object-there p live Rest x ns h here (c.Objects a ∷ rest) r below are = absurd are.0
-object-there p live Rest x ns h here (c.Selector a ∷ rest) r below are = absurd are.0
-object-there p live Rest x ns h here (c.Level k a ∷ rest) r below are = absurd are.0
-object-there p live Rest x ns h here (c.Outside a ∷ rest) r below are = absurd are.0
-object-there p live Rest x ns h here (c.Going f ∷ rest) r below are = absurd are.0
+object-there p live Rest x ns h here [] r below k ks known are = absurd are
+object-there p live Rest x ns h here (c.Object o ∷ rest) r below k ks known are = (o, rest, refl, are.0)
+object-there p live Rest x ns h here (c.Each a j ∷ rest) r below k ks known are = absurd known.0
+object-there p live Rest x ns h here (c.Datum d ∷ rest) r below k ks known are = absurd are.0
+object-there p live Rest x ns h here (c.Argument a ∷ rest) r below k ks known are = absurd are.0
+object-there p live Rest x ns h here (c.Choice a ∷ rest) r below k ks known are = absurd are.0
+object-there p live Rest x ns h here (c.Bound z ∷ rest) r below k ks known are = absurd are.0
+object-there p live Rest x ns h here (c.Bounds ds ∷ rest) r below k ks known are = absurd are.0
+object-there p live Rest x ns h here (c.Turns j z ∷ rest) r below k ks known are = absurd are.0
+object-there p live Rest x ns h here (c.Objects a ∷ rest) r below k ks known are = absurd are.0
+object-there p live Rest x ns h here (c.Selector a ∷ rest) r below k ks known are = absurd are.0
+object-there p live Rest x ns h here (c.Level j a ∷ rest) r below k ks known are = absurd are.0
+object-there p live Rest x ns h here (c.Outside a ∷ rest) r below k ks known are = absurd are.0
+object-there p live Rest x ns h here (c.Going f ∷ rest) r below k ks known are = absurd are.0
 
 pub datum-there : (p : Program) (live : Live) (Rest : Rooms → List Name → Type 0) (x : Rooms) (ns : List Name) (h : Here) (here : m.Here) (cells : List Cell) (v : Value) (below : List s.Cell) → AreCells p live Rest x ns h here cells (s.Datum v ∷ below)
     → (d : Datum) × (rest : List Cell) × (cells ≡ c.Datum d ∷ rest) × IsDatum p live d v
 datum-there p live Rest x ns h here [] v below are = absurd are
 datum-there p live Rest x ns h here (c.Datum d ∷ rest) v below are = (d, rest, refl, are.0)
 datum-there p live Rest x ns h here (c.Object o ∷ rest) v below are = absurd are.0
+datum-there p live Rest x ns h here (c.Each a j ∷ rest) v below are = absurd are.0
 datum-there p live Rest x ns h here (c.Argument a ∷ rest) v below are = absurd are.0
 datum-there p live Rest x ns h here (c.Choice a ∷ rest) v below are = absurd are.0
 datum-there p live Rest x ns h here (c.Bound z ∷ rest) v below are = absurd are.0
@@ -76,6 +80,7 @@ turns-there p live Rest x ns h here [] k z below are = absurd are
 turns-there p live Rest x ns h here (c.Turns left y ∷ rest) k z below are = (left, y, rest, refl)
 turns-there p live Rest x ns h here (c.Datum d ∷ rest) k z below are = absurd are.0
 turns-there p live Rest x ns h here (c.Object o ∷ rest) k z below are = absurd are.0
+turns-there p live Rest x ns h here (c.Each a j ∷ rest) k z below are = absurd are.0
 turns-there p live Rest x ns h here (c.Argument a ∷ rest) k z below are = absurd are.0
 turns-there p live Rest x ns h here (c.Choice a ∷ rest) k z below are = absurd are.0
 turns-there p live Rest x ns h here (c.Bound b ∷ rest) k z below are = absurd are.0

@@ -1,12 +1,12 @@
 //! What stands on top.
 
-ghost use Rattle.f3_word_copies.specs.Taken.{TookObject, TookDatum};
+ghost use Rattle.f3_word_reads.specs.Taken.{TookObject, TookDatum};
 
 use f3_word_cells::cell::{Cell, Datum, Object};
 use f3_word_cells::state::State;
 
 /// The object on top, which is taken.
-pub(crate) fn pop_object(state: &mut State) -> Option<Object>
+pub fn pop_object(state: &mut State) -> Option<Object>
     ensures { TookObject result state.old state.new }
 {
     match state.pop() {
@@ -16,7 +16,7 @@ pub(crate) fn pop_object(state: &mut State) -> Option<Object>
 }
 
 /// The value on top, which is taken.
-pub(crate) fn pop_datum(state: &mut State) -> Option<Datum>
+pub fn pop_datum(state: &mut State) -> Option<Datum>
     ensures { TookDatum result state.old state.new }
 {
     match state.pop() {

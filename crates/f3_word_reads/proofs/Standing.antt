@@ -32,9 +32,9 @@ use Rattle.f3_room_arrays.proofs.Objects.{object-is, object-live, object-within}
 use Rattle.f3_word_cells.specs.declared.cell.Area.{Area}
 use Rattle.f3_word_cells.specs.declared.cell.Object.TheVariants as o
 use Rattle.f3_word_cells.specs.Areas.{types_of, shape_for, AreThere, IsHeld}
-use Rattle.f3_word_copies.specs.Scalars.{scalar_of}
-use Rattle.f3_word_copies.specs.Reads.{IsThere}
-use Rattle.f3_word_copies.proofs.Types.{scalar-derived}
+use Rattle.f3_word_reads.specs.Scalars.{scalar_of}
+use Rattle.f3_word_reads.specs.Reads.{IsThere}
+use Rattle.f3_word_reads.proofs.Types.{scalar-derived}
 
 -- ---- no dimensions
 

@@ -9,7 +9,7 @@ use Rattle.f3_word_cells.specs.declared.state.State.{State}
 use Rattle.f3_word_cells.specs.States.{own}
 use Rattle.f3_word_cells.specs.Moves.{IsSame, PoppedOr}
 use Rattle.f3_word_cells.specs.Does.{Keeps}
-use Rattle.f3_word_copies.specs.Taken.{TookObject, TookDatum}
+use Rattle.f3_word_reads.specs.Taken.{TookObject, TookDatum}
 
 pub keeps-same : (old new : State) → IsSame old new → Keeps old new
 keeps-same old new is = record { cells = is.room; names = is.names; callers = is.callers; blocks = is.blocks; levels = is.levels }

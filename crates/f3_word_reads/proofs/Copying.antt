@@ -1,6 +1,6 @@
 -- Copies of objects in blocks of their own.
-use Rattle.std.proofs.Common.{◌≡◌, ◌≢◌, ◌∙◌, sym, ap, subst, refl, inl, inr, ℕ, zero, suc, ◌+◌, ◌*◌, ◌<◌, ◌≤◌, true, false, List, [], ◌∷◌, length, replicate, arith}
-use Rattle.std.specs.Prelude.{◌⊎◌, None, ℤ, pos, ◌*ℤ◌, unsigned_abs}
+use Rattle.std.proofs.Common.{◌≡◌, ◌≢◌, ◌∙◌, sym, ap, subst, refl, inl, inr, ℕ, zero, suc, ◌+◌, ◌-◌, ◌*◌, ◌^◌, ◌<◌, ◌≤◌, true, false, List, [], ◌∷◌, length, min, replicate, arith}
+use Rattle.std.specs.Prelude.{◌⊎◌, None, ℤ, pos, unsigned_abs}
 use Rattle.std.specs.List.{AllZip}
 use Rattle.std.specs.FinMap.{get as find}
 use Rattle.std.proofs.lemmas.List.{length-replicate}
@@ -39,11 +39,11 @@ use Rattle.f3_word_cells.specs.declared.cell.Area.{Area}
 use Rattle.f3_word_cells.specs.declared.cell.Datum.TheVariants as datum
 use Rattle.f3_word_cells.specs.declared.cell.Object.TheVariants as o
 use Rattle.f3_word_cells.specs.Areas.{types_of, shape_for, spans_of, value_in, AreThere, IsBlock}
-use Rattle.f3_word_copies.specs.Packed.{packed_from, stride_behind}
-use Rattle.f3_word_copies.specs.Reads.{IsLarge, IsThere, IsNew, IsRead}
-use Rattle.f3_word_copies.proofs.Strides.{packed-contiguous, packed-spans, packed-size, stride-words}
-use Rattle.f3_word_copies.proofs.Flatness.{flat_for}
-use Rattle.f3_word_copies.proofs.Areas.{tells-all, many-all, count-size, among, all-within}
+use Rattle.f3_word_reads.specs.Packed.{packed_from}
+use Rattle.f3_word_reads.specs.Reads.{IsLarge, IsThere, IsNew, IsRead}
+use Rattle.f3_word_reads.proofs.Strides.{packed-contiguous, packed-spans, packed-size}
+use Rattle.f3_word_reads.proofs.Flatness.{flat_for}
+use Rattle.f3_word_reads.proofs.Areas.{tells-all, many-all, count-size, among, all-within}
 
 -- ---- which values need storage
 
@@ -73,6 +73,9 @@ needs-storage p types m x a r there large = needs-by p m x there.sound a r.path 
 
 -- ---- numbers
 
+abbrev IsApart : ℤ → List Dim → Type 0
+IsApart w es = (size_of es ≡ 0) ⊎ IsContiguous w es
+
 product-zero : (a b : ℕ) → a * b ≡ 0 → (a ≡ 0) ⊎ (b ≡ 0)
 product-zero zero b e = inl refl
 product-zero (suc a) zero e = inr refl
@@ -82,13 +85,15 @@ product-some : (a b : ℕ) → 0 < a * b → 0 < a
 product-some zero b lt = absurd (omega arith)
 product-some (suc a) b lt = omega arith
 
-pub total-is : (words size n : ℕ) (es ds : List Dim) → pos words ≡ stride_behind (pos size) es → es ≡ ds → size ≡ n → words ≡ size_of ds * n
-total-is words size n es ds e f g = by (e ∙ ap (stride_behind (pos size)) f ∙ ap (λ k. stride_behind (pos k) ds) g ∙ stride-words n ds)
-  where
-    by : pos words ≡ pos (size_of ds * n) → words ≡ size_of ds * n
-    by h = cc
+-- so many words were taken
+pub taken-short : (m n : Live) (b k : ℕ) → n ≡ with_taken m b k → length (words_of n b) < 2 ^ 63 → k < 2 ^ 63
+taken-short m n b k is short = subst (λ j. j < 2 ^ 63) (ap (λ (l : Live). length (words_of l b)) is ∙ ap length (words-insert_same m b _) ∙ length-replicate k (pos 0)) short
 
-packed-none : (w : ℤ) (ds : List Dim) → packed_from w ds ≡ [] → ds ≡ []
+pub total-is : (words size n : ℕ) (es ds : List Dim) → words ≡ min (size_of es * size) (2 ^ 64 - 1) → es ≡ ds → size ≡ n → words < 2 ^ 63 → words ≡ size_of ds * n
+total-is words size n es ds e f g short =
+    let h : size_of es * size ≡ size_of ds * n = ap (λ (us : List Dim). size_of us * size) f ∙ ap (λ k. size_of ds * k) g in omega (arith, e, h, short)
+
+packed-none : (w : ℕ) (ds : List Dim) → packed_from w ds ≡ [] → ds ≡ []
 packed-none w [] e = refl
 packed-none w (d ∷ ds) e = absurd cc
 
@@ -125,7 +130,7 @@ module _ (p : Program) (types : Types) (old : Live) (x : Rooms) (a : Area) (r : 
   many : length (places a.elements) ≡ size_of ds
   many = places-many (pos (a.elements).offset) ds
 
-  module _ (block : ℕ) (fresh : find old block ≡ None) (total : ℕ) (is-total : total ≡ size_of ds * n) (mid : Live) (mid-is : mid ≡ with_taken old block total) where
+  module _ (block : ℕ) (fresh : find old block ≡ None) (total : ℕ) (short : total < 2 ^ 63) (is-total : total ≡ size_of ds * n) (mid : Live) (mid-is : mid ≡ with_taken old block total) where
     not-among : (q : ℕ) → 0 < times q (blocks_of x) → q ≢ block
     not-among q lt = fresh-apart old block q fresh (all_live ts old x there.sound q lt)
 
@@ -179,37 +184,37 @@ module _ (p : Program) (types : Types) (old : Live) (x : Rooms) (a : Area) (r : 
       abbrev value-with : List Dim → Value
       value-with es = laid (length es) (spans_of es) n (object now s) block 0 Empty
 
-      one-value : (q : Path) (es : List Dim) → es ≡ [] → row now s 1 block 0 ≡ get (store_of ts mid x) q ∷ [] → value-with (packed_from (pos n) es) ≡ get (store_of ts mid x) q
-      one-value q es e is = ap (λ fs. value-with (packed_from (pos n) fs)) e ∙ head is
+      one-value : (q : Path) (es : List Dim) → es ≡ [] → row now s 1 block 0 ≡ get (store_of ts mid x) q ∷ [] → value-with (packed_from n es) ≡ get (store_of ts mid x) q
+      one-value q es e is = ap (λ fs. value-with (packed_from n fs)) e ∙ head is
         where
           head : object now s block 0 Empty ∷ [] ≡ get (store_of ts mid x) q ∷ [] → object now s block 0 Empty ≡ get (store_of ts mid x) q
           head f = cc
 
       many-value : (q : Path) (qs : List Path) (es : List Dim) → es ≢ [] → size_of es ≡ length qs
           → ((rank : ℕ) (ss : List Span) → count ss ≡ length qs → laid (suc rank) (shown ss) n (object now s) block 0 Empty ≡ held_at (store_of ts mid x) q (Many ss qs))
-          → value-with (packed_from (pos n) es) ≡ held_at (store_of ts mid x) q (Many (spans_of es) qs)
+          → value-with (packed_from n es) ≡ held_at (store_of ts mid x) q (Many (spans_of es) qs)
       many-value q qs [] some size held = absurd (some refl)
       many-value q qs (d ∷ es) some size held =
-          ap (λ ss. laid (length (packed_from (pos n) (d ∷ es))) ss n (object now s) block 0 Empty) (packed-spans (pos n) (d ∷ es))
-          ∙ held (length (packed_from (pos d.extent *ℤ pos n) es)) (spans_of (d ∷ es)) (count-size (d ∷ es) ∙ size)
+          ap (λ ss. laid (length (packed_from n (d ∷ es))) ss n (object now s) block 0 Empty) (packed-spans n (d ∷ es))
+          ∙ held (length (packed_from (n * d.extent) es)) (spans_of (d ∷ es)) (count-size (d ∷ es) ∙ size)
 
-      value-by : (q : Path) (reach : Reach) → AreThere p x a q reach → Reads ts mid now x s (paths_by q reach) block 0 → value-with (packed_from (pos n) ds) ≡ held_at (store_of ts mid x) q reach
+      value-by : (q : Path) (reach : Reach) → AreThere p x a q reach → Reads ts mid now x s (paths_by q reach) block 0 → value-with (packed_from n ds) ≡ held_at (store_of ts mid x) q reach
       value-by q One at rs = one-value q ds at.0 rs.values
       value-by q (Many ss qs) at rs =
           many-value q qs ds at.0 (many-all p x a qs at.2) (λ rank us e. rs.held rank q us e)
           ∙ ap (λ us. held_at (store_of ts mid x) q (Many us qs)) (sym at.1)
 
-      module _ (large : ((a.elements).dims.items ≢ []) ⊎ (is_scalar_shape s ≡ false)) (b : Area) (dims-is : (b.elements).dims.items ≡ packed_from (pos n) ds) (block-is : (b.elements).block ≡ block)
+      module _ (large : ((a.elements).dims.items ≢ []) ⊎ (is_scalar_shape s ≡ false)) (b : Area) (dims-is : (b.elements).dims.items ≡ packed_from n ds) (block-is : (b.elements).block ≡ block)
           (offset-is : (b.elements).offset ≡ 0) (of-is : b.of ≡ a.of) where
         value-is : value_in p now b ≡ held_at (store_of ts old x) r.path r.reach
         value-is =
             ap (λ (es : List Dim). laid (length es) (spans_of es) (words_for (shape_for p b.of)) (object now (shape_for p b.of)) (b.elements).block 0 Empty) dims-is
-            ∙ ap (λ (of : Base). laid (length (packed_from (pos n) ds)) (spans_of (packed_from (pos n) ds)) (words_for (shape_for p of)) (object now (shape_for p of)) (b.elements).block 0 Empty) of-is
-            ∙ ap (λ (q : ℕ). laid (length (packed_from (pos n) ds)) (spans_of (packed_from (pos n) ds)) n (object now s) q 0 Empty) block-is
+            ∙ ap (λ (of : Base). laid (length (packed_from n ds)) (spans_of (packed_from n ds)) (words_for (shape_for p of)) (object now (shape_for p of)) (b.elements).block 0 Empty) of-is
+            ∙ ap (λ (q : ℕ). laid (length (packed_from n ds)) (spans_of (packed_from n ds)) n (object now s) q 0 Empty) block-is
             ∙ value-by r.path r.reach there.is.1 reads ∙ ap (λ (st : Store). held_at st r.path r.reach) mid-store
 
         large-is : ((a.elements).dims.items ≢ []) ⊎ (is_scalar_shape s ≡ false) → ((b.elements).dims.items ≢ []) ⊎ (is_scalar_shape (shape_for p b.of) ≡ false)
-        large-is (inl some) = inl (λ e. some (packed-none (pos n) ds (sym dims-is ∙ e)))
+        large-is (inl some) = inl (λ e. some (packed-none n ds (sym dims-is ∙ e)))
         large-is (inr e) = inr (ap (λ of. is_scalar_shape (shape_for p of)) of-is ∙ e)
 
         now-live : IsLive now block
@@ -217,14 +222,15 @@ module _ (p : Program) (types : Types) (old : Live) (x : Rooms) (a : Area) (r : 
 
         words-many : size_of (b.elements).dims.items * words_for (shape_for p b.of) ≡ total
         words-many =
-            ap (λ (es : List Dim). size_of es * words_for (shape_for p b.of)) dims-is ∙ ap (λ k. k * words_for (shape_for p b.of)) (packed-size (pos n) ds)
+            ap (λ (es : List Dim). size_of es * words_for (shape_for p b.of)) dims-is ∙ ap (λ k. k * words_for (shape_for p b.of)) (packed-size n ds)
             ∙ ap (λ of. size_of ds * words_for (shape_for p of)) of-is ∙ sym is-total
 
         is-block : IsBlock p now b
         is-block = record {
           offset = offset-is;
           large = large-is large;
-          contiguous = subst (λ (of : Base). IsContiguous (pos (words_for (shape_for p of))) (b.elements).dims.items) (sym of-is) (subst (IsContiguous (pos n)) (sym dims-is) (packed-contiguous (pos n) ds));
+          contiguous = subst (λ (of : Base). IsApart (pos (words_for (shape_for p of))) (b.elements).dims.items) (sym of-is)
+              (subst (IsApart (pos n)) (sym dims-is) (packed-contiguous n ds (subst (λ k. k < 2 ^ 63) is-total short)));
           live = subst (IsLive now) (sym block-is) now-live;
           words = ap (λ (q : ℕ). length (words_of now q)) block-is ∙ now-long ∙ sym words-many;
         }

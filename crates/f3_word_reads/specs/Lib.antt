@@ -1,0 +1,4 @@
+pub mod Packed
+pub mod Scalars
+pub mod Taken
+pub mod Reads
