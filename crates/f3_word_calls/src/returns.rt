@@ -11,7 +11,7 @@ use crate::operands::{pop_datum, pop_objects};
 use f3_heap::Blocks;
 use f3_word_cells::cell::Cell;
 use f3_word_cells::state::{State, Stop};
-use f3_word_values::bounds::plain;
+use f3_word_areas::values::plain;
 
 /// Back to the caller (ISO/IEC 1539-1:2004, 12.4).
 #[inline(never)]
