@@ -1,6 +1,6 @@
 -- Values that are held for associate names stand on a level of their own.
-use Rattle.std.proofs.Common.{◌≡◌, ◌≢◌, ◌∙◌, inl, inr, ℕ, zero, suc, ◌+◌, ◌<◌, ◌≤◌, ◌^◌, Bool, true, List, [], ◌∷◌, ◌++◌, length, map, append_assoc, refl, sym, ap, subst, arith}
-use Rattle.std.specs.Prelude.{⊤, pos, Some, slice_get, slice_index_or}
+use Rattle.std.proofs.Common.{◌≡◌, ◌∙◌, inr, ℕ, zero, suc, ◌+◌, ◌<◌, ◌≤◌, ◌^◌, true, List, [], ◌∷◌, ◌++◌, length, map, append_assoc, refl, sym, ap, subst, arith}
+use Rattle.std.specs.Prelude.{pos, Some, slice_get, slice_index_or}
 use Rattle.std.specs.List.{All}
 use Rattle.std.specs.declared.alloc.Global.{Global}
 use Rattle.std.proofs.lemmas.List.{length-append}
@@ -19,7 +19,7 @@ use Rattle.f3_meaning_whole.specs.Shape.{Shape, Whole, shape_in}
 use Rattle.f3_meaning_whole.specs.Store.{Local, get}
 use Rattle.f3_meaning_whole.specs.Value.{Value}
 use Rattle.f3_rooms.specs.Flat.{is_flat}
-use Rattle.f3_rooms.specs.Forms.{Laid, form_of, words_for}
+use Rattle.f3_rooms.specs.Forms.{Laid, words_for}
 use Rattle.f3_rooms.specs.Held.{Empty}
 use Rattle.f3_rooms.specs.Laws.{with_level}
 use Rattle.f3_rooms.specs.Places.{Found, found}
@@ -41,7 +41,7 @@ use Rattle.f3_word_cells.specs.Areas.{AreThere, IsBlock, IsDatum, IsObject, shap
 use Rattle.f3_word_cells.specs.Cells.{AreNames}
 use Rattle.f3_word_cells.specs.States.{cells_blocks, datum_blocks}
 use Rattle.f3_word_cells.proofs.Within.{AreRooms, object_within}
-use Rattle.f3_word_areas.specs.Parts.{AreDimsOf, IsPart}
+use Rattle.f3_word_areas.specs.Parts.{AreDimsOf}
 use Rattle.f3_word_areas.proofs.There.{part-there}
 use Rattle.f3_word_calls.proofs.Holding.{AreData, AreShort, IsShort, data_blocks, declared_as, form_is, get_behind, held_there, room_for, slot_of, slots_of}
 use Rattle.f3_word_associates.specs.Names.{AreNamed, IsHolding}

@@ -1,5 +1,5 @@
 -- Selectors on top.
-use Rattle.std.proofs.Common.{◌≡◌, ◌∙◌, ℕ, zero, suc, ◌+◌, Bool, true, List, [], ◌∷◌, ◌++◌, length, map, reverse, append_assoc, refl, sym, ap, subst, arith}
+use Rattle.std.proofs.Common.{◌≡◌, ◌∙◌, ℕ, zero, suc, ◌+◌, true, List, [], ◌∷◌, ◌++◌, length, map, reverse, append_assoc, refl, sym, ap, subst, arith}
 use Rattle.std.specs.Prelude.{⊤}
 use Rattle.std.proofs.lemmas.List.{reverse-append}
 use Rattle.f3_program.specs.declared.declarations.Base.{Base}
@@ -12,7 +12,7 @@ use Rattle.f3_live_blocks.specs.Blocks.{Live}
 use Rattle.f3_meaning_whole.specs.Act as act
 use Rattle.f3_meaning_whole.specs.Arithmetic.{constant_value}
 use Rattle.f3_meaning_whole.specs.Exec as exec
-use Rattle.f3_meaning_whole.specs.Value.{Value, Number, Truth}
+use Rattle.f3_meaning_whole.specs.Value.{Value}
 use Rattle.f3_code.specs.Machine.{on_many, selector_of}
 use Rattle.f3_code.specs.State.{Next}
 use Rattle.f3_code.specs.State as s

@@ -1,5 +1,5 @@
 use Rattle.std.proofs.Common.{arith}
-use Rattle.f3_word_associates.proofs.Associating.{enough, hand}
+use Rattle.f3_word_associates.proofs.Associating.{associate_do, enough, hand}
 use Rattle.f3_word_associates.proofs.beginning.associate.Goals as goal
 
 pub begin-requires-clause-selectors : goal.begin-requires-clause-selectors
@@ -14,3 +14,7 @@ begin-requires-clause-hand c =
     let k = at.1.1 in
     let e = hand at.1.0 at.0 c.args.state.now k.rooms k.state k.line k.told k.there c.args.count k.act k.stands in
     omega (arith, e)
+
+pub returns-clause-does : goal.returns-clause-does
+returns-clause-does c = λ p live t l x told there is st.
+    associate_do p live c.args.state.now x t l told there c.args.count is st _ c.begin.ensures.begun
