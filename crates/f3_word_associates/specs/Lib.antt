@@ -1,2 +1,3 @@
 pub mod Names
 pub mod Begun
+pub mod Words
