@@ -1,7 +1,9 @@
-use Rattle.std.proofs.Common.{refl, ap, subst, sym, ◌∙◌, ◌≡◌, arith, ◌++◌, [], ◌∷◌}
+use Rattle.std.proofs.Common.{refl, w64, rules, ◌-◌, ap, subst, sym, ◌∙◌, ◌≡◌, arith, ◌++◌, [], ◌∷◌}
 use Rattle.std.specs.Prelude.{Some, None}
 use Rattle.f3_meaning_whole.specs.Exec.{declared_in}
 use Rattle.f3_rooms.specs.Forms.{total}
+use Rattle.f3_rooms.specs.Places.{with_word}
+use Rattle.std.proofs.lemmas.Int.{to_z-of_z}
 use Rattle.f3_room_places.specs.Places.{shapes}
 use Rattle.f3_room_levels.specs.Initial.{AllCanBegin, initial_words}
 use Rattle.f3_room_levels.specs.Writing.{IsBlank, with_words_from}
@@ -58,7 +60,7 @@ returns-clause-begun g c =
     subst (λ ds. k ≡ with_words_from mid b 0 (initial_words ts ds)) c.deref.ensures.value c.write_initial.ensures.written in
     elim c.match-procedure.branch [
       | in-Some w ↦ begins_behind ts q m mid k c.args.words b told.fresh told.taken c.requires.fit c.requires.long written w.in-Some.result w.in-Some.is w.first_word-word.result
-          w.first_word-word.ensures (g.B.Blocks.blocks c.match-procedure.heap) (ap (g.B.Blocks.blocks) w.heap-is ∙ w.write.ensures.written)
+          w.first_word-word.ensures (g.B.Blocks.blocks c.match-procedure.heap) (ap (g.B.Blocks.blocks) w.heap-is ∙ w.write.ensures.written ∙ ap (with_word k b (c.args.words - 1)) (to_z-of_z w64 w.first_word-word.result (search rules)))
       | in_default w ↦ subst (λ (n : Live). Begins ts m n (declared_in q) c.args.words b) (ap (g.B.Blocks.blocks) (sym w.heap-is))
           (begins_alone ts q m mid k c.args.words b told.fresh told.taken c.requires.fit c.requires.long written w.in_default.is)
     ]
