@@ -1,2 +1,4 @@
 pub mod Variables
 pub mod Cutting
+pub mod Arguments
+pub mod Counted

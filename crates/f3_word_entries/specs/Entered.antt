@@ -7,6 +7,7 @@ use Rattle.f3_word_cells.specs.declared.state.Name.{Name}
 use Rattle.f3_word_cells.specs.declared.state.State.{State}
 use Rattle.f3_word_cells.specs.States.{cells_blocks}
 use Rattle.f3_word_entries.specs.Names.{AreNamed}
+use Rattle.f3_word_entries.specs.Ranked.{AreRanked}
 
 -- So many cells are the arguments and went; dummies have names for them; the blocks of their values are a level of their own, and behind it
 -- a block is that of the variables. The caller is kept, and the procedure begins at a line.
@@ -15,6 +16,7 @@ pub record Entered (q : Procedure) (number at count block : ℕ) (place : Place)
   pub arguments : List Cell
   pub split : old.cells.items.items ≡ left ++ arguments
   pub many : length arguments ≡ count
+  pub ranked : AreRanked arguments
   pub cells : new.cells.items.items ≡ left
   pub added : List Name
   pub names : new.names.items.items ≡ old.names.items.items ++ added

@@ -3,6 +3,7 @@
 ghost use Rattle.std.specs.Prelude.{◌≡◌, ◌+◌, ◌≤◌, ◌++◌, length};
 ghost use Rattle.std.specs.Option.{option_to_list};
 ghost use Rattle.f3_word_cells.specs.States.{cell_blocks, cells_blocks, datum_blocks};
+ghost use Rattle.f3_word_entries.specs.Ranked.{AreRanked, IsRanked, IsRankedCell};
 
 use f3_heap::BlockId;
 use f3_word_cells::cell::{Association, Cell, Datum, Passed};
@@ -10,17 +11,22 @@ use f3_word_cells::stack::Stack;
 
 /// The block of a value, if it has one.
 fn block_of_datum(datum: &Datum) -> Option<BlockId>
-    ensures { option_to_list result ≡ datum_blocks datum.now }
+    ensures block { option_to_list result ≡ datum_blocks datum.now }
+    ensures ranked { IsRanked datum.now }
 {
     match datum {
         Datum::Scalar(_) => None,
-        Datum::Block(area) => Some(area.elements.block),
+        Datum::Block(area) => {
+            prove!(area.elements.dims.len() <= 7);
+            Some(area.elements.block)
+        }
     }
 }
 
 /// The block of a cell's value, if it has one.
 fn block_of(cell: &Cell) -> Option<BlockId>
-    ensures { option_to_list result ≡ cell_blocks cell.now }
+    ensures block { option_to_list result ≡ cell_blocks cell.now }
+    ensures ranked { IsRankedCell cell.now }
 {
     match cell {
         Cell::Datum(datum) => block_of_datum(datum),
@@ -34,6 +40,7 @@ fn block_of(cell: &Cell) -> Option<BlockId>
 pub(crate) fn hold(blocks: &mut Stack<BlockId>, cells: &[Cell])
     requires { length blocks.old.items.items + length cells.now ≤ blocks.old.room }
     ensures blocks { blocks.new.items.items ≡ blocks.old.items.items ++ cells_blocks cells.now }
+    ensures ranked { AreRanked cells.now }
     ensures room { blocks.new.room ≡ blocks.old.room }
 {
     let Some((cell, others)) = cells.split_first() else {

@@ -5,6 +5,7 @@ use Rattle.f3_word_cells.specs.declared.cell.Cell.{Cell}
 use Rattle.f3_word_cells.specs.States.{cells_blocks}
 use Rattle.f3_word_entries.specs.Entered.{Entered}
 use Rattle.f3_word_entries.specs.Names.{AreNamed}
+use Rattle.f3_word_entries.specs.Ranked.{AreRanked}
 use Rattle.f3_word_entries.proofs.Cutting.{blocks_few, caller_is, here_is, cut_left, cut_many, cut_split, rest_is, many_more, two_more}
 use Rattle.f3_word_entries.proofs.entering.enter.Goals as goal
 
@@ -38,6 +39,7 @@ returns-clause-entered c =
       arguments = drop first xs;
       split = cut_split first xs;
       many = cut_many xs c.len.result c.args.count (search rules) c.requires.arguments;
+      ranked = subst AreRanked (rest_is first xs c.deref-3.result.now c.deref-3.ensures.value) c.hold.ensures.ranked;
       cells = c.cut.ensures.items;
       added = c.name_all.ensures.names.0;
       names = c.name_all.ensures.names.1;
