@@ -22,13 +22,13 @@ get_below (x ∷ xs) (suc i) y e = let less = get_below xs i y e in omega (arith
 -- ---- counts
 
 -- how many arguments dummies have
-counts : ℕ → List Dummy → List formed.Given → ℕ
+abbrev counts : ℕ → List Dummy → List formed.Given → ℕ
 counts k [] gs = 0
 counts k (d ∷ ds) gs = given_for k gs + counts (suc k) ds gs
 
 counts_none : (k : ℕ) (ds : List Dummy) → counts k ds [] ≡ 0
 counts_none k [] = refl
-counts_none k (d ∷ ds) = counts_none (suc k) ds
+counts_none k (d ∷ ds) = let e = counts_none (suc k) ds in omega (arith, e)
 
 counts_each : (k : ℕ) (ds : List Dummy) (gs : List formed.Given) → all_given k ds gs ≡ true → counts k ds gs ≡ length ds
 counts_each k [] gs each = refl
@@ -53,6 +53,12 @@ differ a b ne = by (nat_eq a b) refl
     by true e = absurd (ne (eqb-true a b e))
     by false e = refl
 
+apart : (a b : ℕ) → nat_eq a b ≡ false → a ≢ b
+apart a b e same = let is = eq-eqb a b same in absurd (cc)
+
+next : {a b : ℕ} → a ≢ b → b ≤ a → suc b ≤ a
+next ne from = omega (arith, from, ne)
+
 counts_before : (g : formed.Given) (gs : List formed.Given) (k : ℕ) (ds : List Dummy) → g.number < k → counts k ds (g ∷ gs) ≡ counts k ds gs
 counts_before g gs k [] less = refl
 counts_before g gs k (d ∷ ds) less =
@@ -63,22 +69,21 @@ counts_before g gs k (d ∷ ds) less =
 counts_more : (g : formed.Given) (gs : List formed.Given) (k : ℕ) (ds : List Dummy) → k ≤ g.number → g.number < k + length ds
     → counts k ds (g ∷ gs) ≡ suc (counts k ds gs)
 counts_more g gs k [] from less = absurd (omega (arith, from, less))
-counts_more g gs k (d ∷ ds) from less = by (nat_eq g.number k) refl
+counts_more g gs k (d ∷ ds) from less =
+    by (λ above. counts_more g gs (suc k) ds above (omega (arith, less))) (nat_eq g.number k) refl
   where
-    by : (t : Bool) → nat_eq g.number k ≡ t → counts k (d ∷ ds) (g ∷ gs) ≡ suc (counts k (d ∷ ds) gs)
-    by true e =
+    by : (suc k ≤ g.number → counts (suc k) ds (g ∷ gs) ≡ suc (counts (suc k) ds gs)) → (t : Bool) → nat_eq g.number k ≡ t
+        → counts k (d ∷ ds) (g ∷ gs) ≡ suc (counts k (d ∷ ds) gs)
+    by further true e =
         let same = eqb-true g.number k e in
         let one = one_more (nat_eq g.number k) (given_for k gs) (counts (suc k) ds (g ∷ gs)) e in
         let more = counts_before g gs (suc k) ds (omega (arith, same)) in
         omega (arith, one, more)
-    by false e =
-        let ne : g.number ≢ k = λ same. let is = eq-eqb g.number k same in cc in
+    by further false e =
+        let ne : g.number ≢ k = apart g.number k e in
         let one = none_more (nat_eq g.number k) (given_for k gs) e in
-        let more = counts_more g gs (suc k) ds (above ne) (omega (arith, less)) in
+        let more = further (next ne from) in
         omega (arith, one, more)
-      where
-        above : g.number ≢ k → suc k ≤ g.number
-        above ne = omega (arith, from, ne)
 
 number_below : (ds : List Dummy) (g : formed.Given) → fits_dummy ds g ≡ true → g.number < length ds
 number_below ds g fits =

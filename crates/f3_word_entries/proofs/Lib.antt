@@ -2,3 +2,4 @@ pub mod Variables
 pub mod Cutting
 pub mod Arguments
 pub mod Counted
+pub mod Dummies
