@@ -3,3 +3,5 @@ pub mod Cutting
 pub mod Arguments
 pub mod Counted
 pub mod Dummies
+pub mod Data
+pub mod Rooming
