@@ -5,3 +5,4 @@ pub mod Counted
 pub mod Dummies
 pub mod Data
 pub mod Rooming
+pub mod Going
