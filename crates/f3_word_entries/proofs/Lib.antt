@@ -6,3 +6,4 @@ pub mod Dummies
 pub mod Data
 pub mod Rooming
 pub mod Going
+pub mod Callee
