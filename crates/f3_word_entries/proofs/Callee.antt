@@ -51,7 +51,9 @@ use Rattle.f3_meaning_whole.specs.Shape.{Shape}
 use Rattle.f3_program.specs.declared.declarations.Base.{Base}
 use Rattle.f3_word_cells.specs.Cells.{AreCells, AreNamed, AreNames, IsHere, names_in}
 use Rattle.f3_word_cells.specs.Does.{IsTold}
-use Rattle.f3_word_cells.specs.States.{AreAtHand, AreCalled, AreCallers, AreKnown, AreTight, IsCalled, IsCaller, IsOrderly, Stands, beneath, cells_blocks, cells_from, is_held_at, level_rooms, loose_blocks, own, rooms_at, starts_of}
+use Rattle.f3_word_cells.specs.States.{AreAtHand, AreCalled, AreCallers, AreKnown, AreTight, IsCalled, IsCaller, IsOrderly, Stands, beneath, cells_blocks, cells_from, is_held_at, level_rooms, levels_rooms, loose_blocks, own, rooms_at, starts_of}
+use Rattle.f3_code.specs.Machine.{entered}
+use Rattle.f3_word_cells.proofs.Lines.{answering}
 use Rattle.f3_word_cells.specs.Scalars.{is_plain_scalar}
 use Rattle.f3_cell_kinds.specs.Holds.{InScope}
 use Rattle.f3_word_cells.proofs.Moving.{Beneath}
@@ -423,3 +425,74 @@ module _ (p : Program) (h : Global) (t : s.State) (m n : Live) (old new : State)
           (subst (λ (ls : List (List Slot)). AreTight (Called (beneath old)) ls (length ns) split.left)
           (sym (ap (λ k. take k both.levels) levels_are ∙ two_taken x slots (begun block (declared_in q)))) left_tight)),
     )
+
+    -- ---- all
+
+    abbrev entry : Entry
+    entry = record { at = at; unit = q.unit; dummies = q.dummies.items; variables = declared_in q; initial = variables (setting_of p) q }
+
+    abbrev begun_state : s.State
+    begun_state = entered t below (act.at place t.here) entry ps (length t.world.store.levels)
+        (answering (with_levels t.world.store values (variables (setting_of p) q)) (λ k. false))
+
+    own_none : own new ≡ []
+    own_none = ap (λ k. cells_from k new.cells.items.items) into.base ∙ ap (cells_from (length into.left)) into.cells
+        ∙ ap reverse (ap (drop (length into.left)) (sym (append-nil into.left)) ∙ drop_whole into.left [])
+
+    beneath_new : beneath new ≡ into.left
+    beneath_new = ap (λ k. take k new.cells.items.items) into.base ∙ ap (take (length into.left)) into.cells
+        ∙ ap (take (length into.left)) (sym (append-nil into.left)) ∙ take_whole into.left []
+
+    callers_new : reverse new.callers.items.items ≡ caller ∷ reverse old.callers.items.items
+    callers_new = ap reverse into.callers ∙ reverse-append old.callers.items.items (caller ∷ [])
+
+    stack_stands : AreCells p n (Beneath p n new (frame ∷ t.frames)) both new.names.items.items new.here callee_here (own new) []
+    stack_stands =
+        subst (λ (zs : List Cell). AreCells p n (Beneath p n new (frame ∷ t.frames)) both new.names.items.items new.here callee_here zs []) (sym own_none) (
+          subst (λ (ms : List Name). IsHere p both ms new.here callee_here) (sym into.names)
+              (subst (λ (k : Here). IsHere p both (ns ++ into.added) k callee_here) (sym into.here) here_is),
+          subst (λ (ms : List Name). AreCallers p n (beneath new) (reverse new.callers.items.items) (frame ∷ t.frames) both ms) (sym into.names)
+              (subst (λ (fs : List Caller). AreCallers p n (beneath new) fs (frame ∷ t.frames) both (ns ++ into.added)) (sym callers_new)
+              (subst (λ (zs : List Cell). AreCallers p n zs (caller ∷ reverse old.callers.items.items) (frame ∷ t.frames) both (ns ++ into.added)) (sym beneath_new) callers_are)),
+        )
+
+    tight_stands : AreTight (AreCalled p (beneath new) (reverse new.callers.items.items)) both.levels (length new.names.items.items) (own new)
+    tight_stands =
+        subst (AreTight (AreCalled p (beneath new) (reverse new.callers.items.items)) both.levels (length new.names.items.items)) (sym own_none)
+        (subst (λ (ms : List Name). AreCalled p (beneath new) (reverse new.callers.items.items) both.levels (length ms)) (sym into.names)
+        (subst (λ (fs : List Caller). AreCalled p (beneath new) fs both.levels (length (ns ++ into.added))) (sym callers_new)
+        (subst (λ (zs : List Cell). AreCalled p zs (caller ∷ reverse old.callers.items.items) both.levels (length (ns ++ into.added))) (sym beneath_new) called_are)))
+
+    orderly_stands : site_at p at ≡ first_site q → IsOrderly p at (length new.names.items.items) new.here (own new)
+    orderly_stands first =
+        subst (λ (zs : List Cell). IsOrderly p at (length new.names.items.items) new.here zs) (sym own_none)
+        (subst (λ (k : Here). IsOrderly p at (length new.names.items.items) k []) (sym into.here)
+        (subst (λ (ms : List Name). IsOrderly p at (length ms) memory_here []) (sym into.names) (
+          ap (λ z. is_plain_scalar z.returns) first ∙ told.plain.results number q there,
+          subst (InScope p.types.items (λ z. AreAtHand (length (ns ++ into.added)) memory_here [])) (sym (ap (λ z. z.scope) first)) (sym names_many),
+        )))
+
+    pub callee_stands : site_at p at ≡ first_site q → Stands p n new both begun_state
+    callee_stands first = record {
+      sound = sound;
+      store = store;
+      statics = st.statics ∙ sym into.statics;
+      declared = st.declared;
+      bare = st.bare;
+      all_bare = two_bare x slots block (declared_in q) st.all_bare (level_bare p h m flat (held_data args) short);
+      blocks = into.blocks ∙ ap (λ bs. bs ++ (cells_blocks args ++ block ∷ [])) st.blocks
+          ∙ ap (λ bs. levels_rooms x.levels ++ (bs ++ block ∷ [])) (sym slot_rooms) ∙ sym (two_rooms x slots block (declared_in q));
+      levels = into.levels ∙ ap (λ ks. ks ++ (length old.blocks.items.items ∷ (length old.blocks.items.items + length (cells_blocks args)) ∷ [])) st.levels
+          ∙ ap (λ (bs : List ℕ). starts_of 0 x.levels ++ (length old.blocks.items.items ∷ (length old.blocks.items.items + length bs) ∷ [])) (sym slot_rooms)
+          ∙ sym (two_starts x slots block (declared_in q) old.blocks.items.items st.blocks);
+      pc = sym into.pc;
+      bottom = let e = into.base in let f = ap length into.cells in omega (arith, e, f);
+      known = subst (AreKnown p (site_at p at).cells) (sym own_none) (none_known p (site_at p at).cells);
+      stack = stack_stands;
+      orderly = orderly_stands first;
+      tight = tight_stands;
+      once = once;
+      all = all;
+      live = live;
+      unpinned = all_unpinned ts m n (declared_in q) words block begins st.unpinned;
+    }
