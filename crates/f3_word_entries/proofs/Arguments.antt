@@ -106,7 +106,7 @@ abbrev pub cells_on : List Cell → List Cell → List Cell
 cells_on [] zs = zs
 cells_on (a ∷ cs) zs = cells_on cs (a ∷ zs)
 
-cells_on_is : (cs zs : List Cell) → cells_on cs zs ≡ reverse cs ++ zs
+pub cells_on_is : (cs zs : List Cell) → cells_on cs zs ≡ reverse cs ++ zs
 cells_on_is [] zs = refl
 cells_on_is (a ∷ cs) zs =
     cells_on_is cs (a ∷ zs)

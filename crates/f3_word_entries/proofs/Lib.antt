@@ -7,3 +7,4 @@ pub mod Data
 pub mod Rooming
 pub mod Going
 pub mod Callee
+pub mod Calling
