@@ -7,4 +7,5 @@ pub mod Data
 pub mod Rooming
 pub mod Going
 pub mod Callee
+pub mod Sources
 pub mod Calling
