@@ -7,3 +7,4 @@ pub mod Types
 pub mod Components
 pub mod Further
 pub mod Variables
+pub mod Plain

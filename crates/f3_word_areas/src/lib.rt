@@ -5,3 +5,4 @@ pub mod bounds;
 pub mod copies;
 pub mod parts;
 pub mod sections;
+pub mod values;

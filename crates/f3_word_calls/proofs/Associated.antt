@@ -1,5 +1,5 @@
 -- The objects of an ASSOCIATE that was left.
-use Rattle.std.proofs.Common.{◌≡◌, ◌∙◌, ℕ, ◌+◌, List, [], ◌∷◌, sym, ap, subst, arith}
+use Rattle.std.proofs.Common.{◌≡◌, ◌∙◌, ℕ, ◌+◌, List, [], ◌∷◌, length, reverse, sym, ap, subst, arith}
 use Rattle.std.specs.Prelude.{Ok, None, Some, slice_get}
 use Rattle.f3_program.specs.declared.declarations.Kind.{Kind}
 use Rattle.f3_program.specs.declared.program.Program.{Program}
@@ -21,11 +21,12 @@ use Rattle.f3_word_cells.specs.declared.state.Name.{Name}
 use Rattle.f3_word_cells.specs.declared.state.State.{State}
 use Rattle.f3_word_cells.specs.Cells.{AreCells}
 use Rattle.f3_word_cells.specs.Scenes.{code_of}
-use Rattle.f3_word_cells.specs.States.{AreKnown, Stands, own}
+use Rattle.f3_word_cells.specs.States.{AreAtHand, AreCalled, AreKnown, AreTight, Stands, beneath, own}
 use Rattle.f3_word_cells.specs.Moves.{IsSame, Popped, Pushed}
 use Rattle.f3_word_cells.specs.Does.{Becomes, IsTold}
 use Rattle.f3_word_cells.proofs.OnTop.{line_kinds, of_going, of_level, two_on_top}
 use Rattle.f3_word_cells.proofs.Moving.{Beneath, moved_to, stands_moved}
+use Rattle.f3_word_cells.proofs.Orderly.{IsAfter, after_way, orderly_so}
 use Rattle.f3_word_cells.proofs.Lines.{line_goes}
 use Rattle.f3_word_calls.specs.Taken.{Took, level_cell}
 use Rattle.f3_word_calls.proofs.Tops.{going_cell, level_is, top_is}
@@ -56,7 +57,7 @@ module _ (p : Program) (live : Live) (old : State) (x : Rooms) (t : s.State) (l 
     pub others : List Kind
     pub rest : List CellType
     pub kinds : (site_at p t.pc).cells ≡ cell.Going ∷ cell.Level others ∷ rest
-    pub next : (site_at p (t.pc + 1)).cells ≡ cell.Objects others ∷ cell.Going ∷ cell.Level others ∷ rest
+    pub next : IsAfter p t.pc (t.pc + 1) (cell.Objects others ∷ cell.Going ∷ cell.Level others ∷ rest)
 
   pub at_left : AtLeft
   at_left =
@@ -73,7 +74,7 @@ module _ (p : Program) (live : Live) (old : State) (x : Rooms) (t : s.State) (l 
         others = lead.0;
         rest = lead.1.rest;
         kinds = lead.1.before;
-        next = ap (λ z. z.cells) lead.1.next;
+        next = after_way p t.pc (t.pc + 1) (cell.Objects lead.0 ∷ cell.Going ∷ cell.Level lead.0 ∷ []) lead.1.rest lead.1.next;
       }
 
   abbrev Rest : Rooms → List Name → Type 0
@@ -117,18 +118,21 @@ module _ (p : Program) (live : Live) (old : State) (x : Rooms) (t : s.State) (l 
           let same : IsSame old new = same_through popped.same (same_through taken.same (same_through first.same (same_through second.same third.same))) in
           let stack : List s.Cell = s.Objects at_left.objects ∷ t.stack in
           let known : AreKnown p (site_at p (t.pc + 1)).cells (own new) =
-          subst (λ ks. AreKnown p ks (own new)) (sym at_left.next)
+          subst (λ ks. AreKnown p ks (own new)) (sym at_left.next.cells)
           (subst (λ zs. AreKnown p (cell.Objects at_left.others ∷ cell.Going ∷ cell.Level at_left.others ∷ at_left.rest) zs) (sym own_new)
           (tt, subst (λ ks. AreKnown p ks (own old)) at_left.kinds st.known)) in
           record {
             next = moved_to t (t.pc + 1) stack t.here t.world;
             rooms = x;
             goes = line_goes p l t i.Associated (s.Going at_left.flow ∷ s.Level at_left.level at_left.objects ∷ at_left.below)
-                (moved_to t (t.pc + 1) stack t.here t.world) [] [] is at_left.split
+                (moved_to t (t.pc + 1) stack t.here t.world) [] tt [] is at_left.split
                 (λ rest. ap (λ bs. Goes [] (with_answers rest (moved_to t (t.pc + 1) (s.Objects at_left.objects ∷ bs) t.here t.world))) (sym at_left.split));
             stands = stands_moved p live old new x t (t.pc + 1) stack st same
                 (ap (λ j. j + 1) (st.pc ∙ sym (second.pc ∙ first.pc ∙ taken.pc ∙ popped.pc)) ∙ sym third.pc) known
                 (subst (λ zs. AreCells p live Rest x ns old.here t.here zs stack) (sym own_new) (level_cells.0.1, tt, st.stack))
+                (orderly_so p t.pc (t.pc + 1) (length ns) old.here old.here (own old) (own new) _ at_left.next
+                (λ are. subst (λ zs. AreAtHand (length ns) old.here zs) (sym own_new) are) st.orderly)
+                (subst (λ zs. AreTight (AreCalled p (beneath old) (reverse old.callers.items.items)) x.levels (length ns) zs) (sym own_new) st.tight)
                 (λ q. let a = popped.blocks q in let b = taken.blocks q in let d = first.blocks q in let e = second.blocks q in let f = third.blocks q in
                 omega (arith, a, b, d, e, f));
           }

@@ -20,25 +20,29 @@ use Rattle.f3_cells.specs.Cells.{flow_of}
 use Rattle.f3_cells.specs.declared.cell.Flow.{Flow as Way}
 use Rattle.f3_rooms.specs.Held.{times}
 use Rattle.f3_rooms.specs.Laws.{before_level}
-use Rattle.f3_rooms.specs.Rooms.{Rooms}
+use Rattle.f3_rooms.specs.Rooms.{Rooms, Slot}
 use Rattle.f3_rooms.proofs.Framing.{Kept, kept_fewer}
 use Rattle.f3_word_cells.specs.declared.cell.Range.{Range}
+use Rattle.f3_word_cells.specs.declared.cell.Cell.{Cell}
 use Rattle.f3_word_cells.specs.declared.cell.Cell.TheVariants as c
 use Rattle.f3_word_cells.specs.declared.state.Name.{Name}
+use Rattle.f3_word_cells.specs.declared.state.Caller.{Caller}
 use Rattle.f3_word_cells.specs.declared.state.State.{State}
 use Rattle.f3_word_cells.specs.Cells.{AreCells}
 use Rattle.f3_word_cells.specs.Scenes.{code_of}
-use Rattle.f3_word_cells.specs.States.{AreCallers, AreKnown, Stands, beneath, cells_blocks, levels_rooms, own}
+use Rattle.f3_word_cells.specs.States.{AreAtHand, AreCalled, AreCallers, AreKnown, AreTight, IsOrderly, Stands, beneath, end_of, cells_blocks, levels_rooms, own}
 use Rattle.f3_word_cells.specs.Moves.{Popped, Pushed}
 use Rattle.f3_word_cells.specs.Does.{Becomes, IsTold, stream}
 use Rattle.f3_word_cells.proofs.OnTop.{line_kinds, of_going, of_level, of_objects, three_on_top}
 use Rattle.f3_word_cells.proofs.Stacks.{cells_blocks_reverse, cells_blocks_split}
 use Rattle.f3_word_cells.proofs.Staying.{callers_stay, cells_stay}
 use Rattle.f3_word_cells.proofs.Moving.{Beneath}
+use Rattle.f3_word_cells.proofs.Orderly.{IsAfter, after_way}
 use Rattle.f3_word_cells.proofs.Lines.{answering, line_goes, performs_does, with_stack}
 use Rattle.f3_word_calls.specs.Gone.{Gone, MayGo, first_block}
 use Rattle.f3_word_calls.specs.Taken.{Took, level_cell}
 use Rattle.f3_word_calls.proofs.Giving.{gone_none}
+use Rattle.f3_word_calls.proofs.Tight.{length_cut, orderly_to}
 use Rattle.f3_word_calls.proofs.Leaving.{blocks_ended, kept_left, left_stands, levels_go}
 use Rattle.f3_word_calls.proofs.Tops.{going_cell, level_is, objects_cell, top_is}
 
@@ -56,7 +60,7 @@ module _ (p : Program) (m : Live) (old : State) (x : Rooms) (t : s.State) (l : L
     pub others : List Kind
     pub rest : List CellType
     pub kinds : (site_at p t.pc).cells ≡ cell.Objects names ∷ cell.Going ∷ cell.Level others ∷ rest
-    pub next : (site_at p (t.pc + 1)).cells ≡ cell.Going ∷ rest
+    pub next : IsAfter p t.pc (t.pc + 1) (cell.Going ∷ rest)
 
   pub at_end : AtEnd
   at_end =
@@ -78,7 +82,7 @@ module _ (p : Program) (m : Live) (old : State) (x : Rooms) (t : s.State) (l : L
         others = lead.1;
         rest = lead.2.rest;
         kinds = lead.2.before;
-        next = ap (λ z. z.cells) lead.2.next;
+        next = after_way p t.pc (t.pc + 1) (cell.Going ∷ []) lead.2.rest lead.2.next;
       }
 
   abbrev Rest : Rooms → List Name → Type 0
@@ -239,15 +243,34 @@ module _ (p : Program) (m : Live) (old : State) (x : Rooms) (t : s.State) (l : L
               subst (λ zs. AreKnown p (cell.Objects at_end.names ∷ cell.Going ∷ cell.Level at_end.others ∷ at_end.rest) zs) own_old
               (subst (λ ks. AreKnown p ks (own old)) at_end.kinds st.known) in
               let known : AreKnown p (site_at p (t.pc + 1)).cells (own new) =
-              subst (λ ks. AreKnown p ks (own new)) (sym at_end.next)
+              subst (λ ks. AreKnown p ks (own new)) (sym at_end.next.cells)
               (subst (λ zs. AreKnown p (cell.Going ∷ at_end.rest) zs) (sym own_new) (tt, was.1.1.1)) in
+              let Called : List Cell → List Caller → List (List Slot) → ℕ → Type 0 = AreCalled p in
+              let were : AreTight (Called (beneath old) (reverse old.callers.items.items)) x.levels (length ns)
+              (c.Objects range ∷ c.Going way ∷ c.Level k objects ∷ own three) =
+              subst (λ zs. AreTight (Called (beneath old) (reverse old.callers.items.items)) x.levels (length ns) zs) own_old st.tight in
+              let ended_at : end_of objects ≡ length ns = were.2 in
+              let size : length new.names.items.items ≡ objects.from = ap length names_so ∙ length_cut objects.from ns (omega (arith, ended_at)) in
+              let left_tight : AreTight (Called (beneath old) (reverse old.callers.items.items)) (take k x.levels) objects.from (c.Going way ∷ own three) = were.3 in
+              let tight_one : AreTight (Called (beneath old) (reverse old.callers.items.items)) (take k x.levels) (length new.names.items.items) (own new) =
+              subst (λ j. AreTight (Called (beneath old) (reverse old.callers.items.items)) (take k x.levels) j (own new)) (sym size)
+              (subst (λ zs. AreTight (Called (beneath old) (reverse old.callers.items.items)) (take k x.levels) objects.from zs) (sym own_new) left_tight) in
+              let tight : AreTight (Called (beneath new) (reverse new.callers.items.items)) (take k x.levels) (length new.names.items.items) (own new) =
+              subst (λ zs. AreTight (Called zs (reverse new.callers.items.items)) (take k x.levels) (length new.names.items.items) (own new)) (sym beneath_new)
+              (subst (λ cs. AreTight (Called (beneath old) (reverse cs.items.items)) (take k x.levels) (length new.names.items.items) (own new)) (sym callers_so) tight_one) in
+              let orderly : IsOrderly p (t.pc + 1) (length new.names.items.items) new.here (own new) =
+              orderly_to p t.pc (t.pc + 1) (length ns) (length new.names.items.items) old.here new.here (own old) (own new) (cell.Going ∷ at_end.rest) at_end.next
+              (λ are. subst (λ h. AreAtHand (length new.names.items.items) h (own new)) (sym here_so)
+              (subst (λ j. AreAtHand j old.here (own new)) (sym size)
+              (subst (λ zs. AreAtHand objects.from old.here zs) (sym own_new)
+              (subst (λ zs. AreAtHand (length ns) old.here zs) own_old are)))) st.orderly in
               let store : Store = record { statics = t.world.store.statics; levels = take at_end.level t.world.store.levels } in
               let u : s.State = record { pc = t.pc + 1; stack = bs; here = t.here; frames = t.frames; world = answering store t.world.answers } in
               let on_top : List s.Cell = s.Objects at_end.left ∷ two_ in
               record {
                 next = u;
                 rooms = y;
-                goes = line_goes p l t i.EndAssociate on_top u [] (Ended at_end.level ∷ []) is at_end.split
+                goes = line_goes p l t i.EndAssociate on_top u [] tt (Ended at_end.level ∷ []) is at_end.split
                     (λ rest. performs_does (λ z. Ended at_end.level ∷ []) (answering t.world.store rest)
                     (λ done w. on (with_answers (stream [] rest) (with_stack on_top t)) bs w));
                 stands = left_stands p m old x t st k n new u (record {
@@ -270,5 +293,7 @@ module _ (p : Program) (m : Live) (old : State) (x : Rooms) (t : s.State) (l : L
                       omega (arith, under, j, h));
                   known = known;
                   stack = f;
+                  orderly = orderly;
+                  tight = tight;
                 });
               }

@@ -119,7 +119,7 @@ module _ (p : Program) (h : Global) (m : Live) (a : Area) (few : length a.elemen
   declared_spans : spans_declared (declared_as h a few).dimensions.items ≡ spans_of dims_in
   declared_spans = same_spans dims_in
 
-  form_is : form_of (declared_as h a few) ≡ Laid (length dims_in) (spans_of dims_in)
+  pub form_is : form_of (declared_as h a few) ≡ Laid (length dims_in) (spans_of dims_in)
   form_is = ap (Laid (length dims_in)) declared_spans
 
   pub room_value : room_values (types_of p) m room_for ≡ value_in p m a ∷ []
@@ -240,7 +240,7 @@ module _ (p : Program) (h : Global) (m : Live) (flat : (of : Base) → is_flat (
 
 -- ---- the object of a scalar that is held
 
-get_behind : {A : Type 0} (xs : List A) (y : A) → slice_get (xs ++ y ∷ []) (length xs) ≡ Some y
+pub get_behind : {A : Type 0} (xs : List A) (y : A) → slice_get (xs ++ y ∷ []) (length xs) ≡ Some y
 get_behind [] y = refl
 get_behind (x ∷ xs) y = get_behind xs y
 

@@ -1,5 +1,5 @@
 -- Levels that end.
-use Rattle.std.proofs.Common.{◌≡◌, ◌∙◌, ℕ, zero, suc, ◌+◌, ◌<◌, ◌≤◌, List, [], ◌∷◌, ◌++◌, length, take, drop, is_some, append_assoc, refl, sym, ap, inl, inr, arith}
+use Rattle.std.proofs.Common.{◌≡◌, ◌∙◌, ℕ, zero, suc, ◌+◌, ◌<◌, ◌≤◌, List, [], ◌∷◌, ◌++◌, length, reverse, take, drop, is_some, append_assoc, refl, sym, ap, inl, inr, arith}
 use Rattle.std.specs.Prelude.{slice_index_or}
 use Rattle.std.specs.FinMap.{get as find}
 use Rattle.std.proofs.lemmas.Bool.{cases_lt}
@@ -30,7 +30,7 @@ use Rattle.f3_word_cells.specs.declared.state.Name.{Name}
 use Rattle.f3_word_cells.specs.declared.state.State.{State}
 use Rattle.f3_word_cells.specs.Areas.{types_of}
 use Rattle.f3_word_cells.specs.Cells.{AreCells, IsCell, here_beneath, here_under, names_under, rooms_under}
-use Rattle.f3_word_cells.specs.States.{AreBare, AreKnown, IsBareLevel, Stands, cells_blocks, level_rooms, levels_rooms, loose_blocks, own, starts_of}
+use Rattle.f3_word_cells.specs.States.{AreBare, AreCalled, AreKnown, AreTight, IsBareLevel, IsOrderly, Stands, beneath, cells_blocks, level_rooms, levels_rooms, loose_blocks, own, starts_of}
 use Rattle.f3_word_cells.proofs.Moving.{Beneath}
 use Rattle.f3_word_calls.specs.Gone.{Gone, MayGo, first_block}
 
@@ -141,6 +141,8 @@ module _ (p : Program) (m : Live) (old : State) (x : Rooms) (t : s.State) (st : 
     pub bottom : new.base ≤ length new.cells.items.items
     pub known : AreKnown p (site_at p u.pc).cells (own new)
     pub stack : AreCells p n (Beneath p n new u.frames) (before_level x k) new.names.items.items new.here u.here (own new) u.stack
+    pub orderly : IsOrderly p u.pc (length new.names.items.items) new.here (own new)
+    pub tight : AreTight (AreCalled p (beneath new) (reverse new.callers.items.items)) (take k x.levels) (length new.names.items.items) (own new)
 
   module _ (n : Live) (went left : List ℕ) (counts : (q : ℕ) → times q (cells_blocks old.cells.items.items) ≡ times q left + times q went)
       (gone : Gone (went ++ levels_rooms (drop k x.levels)) m n) where
@@ -183,6 +185,8 @@ module _ (p : Program) (m : Live) (old : State) (x : Rooms) (t : s.State) (st : 
         bottom = leaves.bottom;
         known = leaves.known;
         stack = leaves.stack;
+        orderly = leaves.orderly;
+        tight = leaves.tight;
         once = λ q. let one = st.once q in let a = counted q in let b = leaves.counts q in let d = sum q in omega (arith, one, a, b, d);
         all = λ q alive. let some = left_live n leaves.went left leaves.counts leaves.gone q alive in let d = sum q in omega (arith, some, d);
         live = λ q some. ap is_some (stays n leaves.went left leaves.counts leaves.gone q (omega (arith, some)))

@@ -2,6 +2,7 @@ pub mod Tops
 pub mod Beneath
 pub mod Latest
 pub mod Giving
+pub mod Tight
 pub mod Leaving
 pub mod Going
 pub mod Nexts

@@ -36,6 +36,7 @@ use Rattle.f3_word_cells.specs.Does.{Becomes, IsTold}
 use Rattle.f3_word_cells.proofs.OnTop.{line_kinds, of_objects, one_on_top}
 use Rattle.f3_word_cells.proofs.Within.{here_stands}
 use Rattle.f3_word_cells.proofs.Moving.{Beneath, moved_to}
+use Rattle.f3_word_cells.proofs.Orderly.{IsAfter, after_way}
 use Rattle.f3_word_cells.proofs.Amid.{Amid, amid_first, amid_popped, amid_pushed}
 use Rattle.f3_word_cells.proofs.Lines.{becomes_ahead, does_so, line_goes, with_stack}
 use Rattle.f3_word_calls.specs.Nexts.{HasNext, IsFirst}
@@ -96,8 +97,9 @@ module _ (p : Program) (live : Live) (old : State) (x : Rooms) (t : s.State) (l 
       let lead = in_is site.scope Here (line_kinds p t l i.Dummies told there is) in
       let leads = lead.2 in
       goes_with p live old x t l st old new (cell.Objects (lead.0).names) leads.rest (s.Objects t.here.names) t.stack (c.Objects old.here.names)
-      (amid_first p t live old x leads.rest t.stack st leads.before refl) refl pushed tt is_here.names tt (ap (λ z. z.cells) leads.next)
-      (line_goes p l t i.Dummies t.stack (moved_to t (t.pc + 1) (s.Objects t.here.names ∷ t.stack) t.here t.world) [] [] is refl (λ rest. refl))
+      (amid_first p t live old x leads.rest t.stack st leads.before refl) refl pushed tt is_here.names tt
+      (after_way p t.pc (t.pc + 1) (cell.Objects (lead.0).names ∷ []) leads.rest leads.next)
+      (line_goes p l t i.Dummies t.stack (moved_to t (t.pc + 1) (s.Objects t.here.names ∷ t.stack) t.here t.world) [] tt [] is refl (λ rest. refl))
 
   -- some objects on top, and the first of them
   pub record FirstOnTop (k : Kind) (ks : List Kind) : Type 0 where
@@ -157,7 +159,7 @@ module _ (p : Program) (live : Live) (old : State) (x : Rooms) (t : s.State) (l 
 
           -- and the first one above them
           pub next_goes : (act : Instruction) (new : State) → l.act ≡ act → Pushed (c.Object o) (more.pc + 1) more new
-              → (site_at p (t.pc + 1)).cells ≡ cell.Object k ∷ cell.Objects ks ∷ rest
+              → IsAfter p t.pc (t.pc + 1) (cell.Object k ∷ cell.Objects ks ∷ rest)
               → ((r : ℕ → Bool) → does_so p l t act (s.Objects (top.first ∷ top.others) ∷ top.below) [] r
               ≡ Goes [] (with_answers r (moved_to t (t.pc + 1) (s.Object top.first ∷ s.Objects top.others ∷ top.below) t.here t.world)))
               → Becomes p l t (Ok tt) live new
@@ -165,11 +167,11 @@ module _ (p : Program) (live : Live) (old : State) (x : Rooms) (t : s.State) (l 
               goes_with p live old x t l st more new (cell.Object k) (cell.Objects ks ∷ rest) (s.Object top.first) (s.Objects top.others ∷ top.below) (c.Object o)
               amid_more (pushed.pc ∙ popped.pc) put tt next.0 tt kinds
               (line_goes p l t act (s.Objects (top.first ∷ top.others) ∷ top.below)
-              (moved_to t (t.pc + 1) (s.Object top.first ∷ s.Objects top.others ∷ top.below) t.here t.world) [] [] is top.split goes)
+              (moved_to t (t.pc + 1) (s.Object top.first ∷ s.Objects top.others ∷ top.below) t.here t.world) [] tt [] is top.split goes)
 
           -- or so far on
           pub others_ahead : (act : Instruction) (d total : ℕ) (new : State) (result : Result ⊤ Stop) → l.act ≡ act → WentAhead d total result more new
-              → length (code_of p).lines ≡ total → (site_at p (t.pc + 1 + d)).cells ≡ cell.Objects ks ∷ rest
+              → length (code_of p).lines ≡ total → IsAfter p t.pc (t.pc + 1 + d) (cell.Objects ks ∷ rest)
               → ((r : ℕ → Bool) → does_so p l t act (s.Objects (top.first ∷ top.others) ∷ top.below) [] r
               ≡ Goes [] (with_answers r (moved_to t (t.pc + 1 + d) (s.Objects top.others ∷ top.below) t.here t.world)))
               → Becomes p l t result live new
@@ -177,18 +179,18 @@ module _ (p : Program) (live : Live) (old : State) (x : Rooms) (t : s.State) (l 
               becomes_ahead p live live old more new x (cell.Objects ks ∷ rest) t l (s.Objects top.others ∷ top.below) d total result st amid_more
               (pushed.pc ∙ popped.pc) kinds size went
               (line_goes p l t act (s.Objects (top.first ∷ top.others) ∷ top.below)
-              (moved_to t (t.pc + 1 + d) (s.Objects top.others ∷ top.below) t.here t.world) [] [] is top.split goes)
+              (moved_to t (t.pc + 1 + d) (s.Objects top.others ∷ top.below) t.here t.world) [] tt [] is top.split goes)
 
           -- by an argument
           pub argument_goes : (number d : ℕ) (new : State) → l.act ≡ i.NextArgument number d → Pushed (c.Object o) (more.pc + 1) more new
-              → (site_at p (t.pc + 1)).cells ≡ cell.Object k ∷ cell.Objects ks ∷ rest → is_held (passed_at number (passed_in t.frames)) ≡ true
+              → IsAfter p t.pc (t.pc + 1) (cell.Object k ∷ cell.Objects ks ∷ rest) → is_held (passed_at number (passed_in t.frames)) ≡ true
               → Becomes p l t (Ok tt) live new
           argument_goes number d new is put kinds held =
               next_goes (i.NextArgument number d) new is put kinds (λ r. ap (λ b. next_argument (top.first ∷ top.others) b d
               (with_answers r (with_stack (s.Objects (top.first ∷ top.others) ∷ top.below) t)) top.below) held)
 
           pub argument_ahead : (number d total : ℕ) (new : State) (result : Result ⊤ Stop) → l.act ≡ i.NextArgument number d
-              → WentAhead d total result more new → length (code_of p).lines ≡ total → (site_at p (t.pc + 1 + d)).cells ≡ cell.Objects ks ∷ rest
+              → WentAhead d total result more new → length (code_of p).lines ≡ total → IsAfter p t.pc (t.pc + 1 + d) (cell.Objects ks ∷ rest)
               → is_held (passed_at number (passed_in t.frames)) ≡ false → Becomes p l t result live new
           argument_ahead number d total new result is went size kinds held =
               others_ahead (i.NextArgument number d) d total new result is went size kinds (λ r. ap (λ b. next_argument (top.first ∷ top.others) b d

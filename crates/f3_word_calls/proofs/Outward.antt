@@ -1,5 +1,5 @@
 -- Where a procedure was called.
-use Rattle.std.proofs.Common.{◌≡◌, ◌∙◌, ℕ, ◌+◌, Bool, List, [], ◌∷◌, reverse, take, inr, refl, sym, ap, subst, arith}
+use Rattle.std.proofs.Common.{◌≡◌, ◌∙◌, ℕ, ◌+◌, Bool, List, [], ◌∷◌, length, reverse, take, inr, refl, sym, ap, subst, arith}
 use Rattle.std.specs.Prelude.{Ok, Err, Some, slice_get}
 use Rattle.f3_places.specs.declared.source.Place.{Place}
 use Rattle.f3_program.specs.declared.program.Program.{Program}
@@ -28,7 +28,7 @@ use Rattle.f3_word_cells.specs.declared.state.State.{State}
 use Rattle.f3_word_cells.specs.declared.state.Stop.TheVariants as stop
 use Rattle.f3_word_cells.specs.Cells.{AreCells, IsHere}
 use Rattle.f3_word_cells.specs.Scenes.{code_of}
-use Rattle.f3_word_cells.specs.States.{AreCallers, AreKnown, Stands, beneath, own}
+use Rattle.f3_word_cells.specs.States.{AreCalled, AreCallers, AreKnown, AreTight, Stands, beneath, own}
 use Rattle.f3_word_cells.specs.Moves.{Pushed}
 use Rattle.f3_word_cells.specs.Does.{Becomes, IsTold}
 use Rattle.f3_word_cells.proofs.OnTop.{line_kinds}
@@ -38,6 +38,7 @@ use Rattle.f3_word_cells.proofs.Moving.{Beneath, IsSameElse, moved_to, stands_at
 use Rattle.f3_word_cells.proofs.Lines.{line_goes, line_stops}
 use Rattle.f3_word_calls.specs.Nexts.{is_passed_held}
 use Rattle.f3_word_calls.proofs.Beneath.{callers_stand}
+use Rattle.f3_word_calls.proofs.Tight.{orderly_untold}
 
 -- at another place
 abbrev pub placed_at : Place → Here → Here
@@ -94,7 +95,7 @@ module _ (p : Program) (live : Live) (old : State) (x : Rooms) (t : s.State) (l 
   pub outward_lost : l.act ≡ i.Outward → reverse old.callers.items.items ≡ [] → Becomes p l t (Err stop.Lost) live old
   outward_lost is none =
       let gs = no_frames (reverse old.callers.items.items) t.frames are_callers none in
-      inr (line_stops p l t i.Outward t.stack Stuck [] is refl (λ r. ap (λ fs. outward fs (with_answers r t)) gs))
+      inr (line_stops p l t i.Outward t.stack Stuck [] tt is refl (λ r. ap (λ fs. outward fs (with_answers r t)) gs))
 
   module _ (f : Caller) (others : List Caller) (latest : reverse old.callers.items.items ≡ f ∷ others) (new : State) (is : l.act ≡ i.Outward)
       (pushed : Pushed (c.Objects old.here.names) (old.pc + 1) (record old { here = placed_at f.place f.here }) new) where
@@ -133,12 +134,15 @@ module _ (p : Program) (live : Live) (old : State) (x : Rooms) (t : s.State) (l 
         record {
           next = moved_to t (t.pc + 1) stack g.caller t.world;
           rooms = x;
-          goes = line_goes p l t i.Outward t.stack (moved_to t (t.pc + 1) stack g.caller t.world) [] [] is refl
+          goes = line_goes p l t i.Outward t.stack (moved_to t (t.pc + 1) stack g.caller t.world) [] tt [] is refl
               (λ r. ap (λ fs. outward fs (with_answers r t)) frames);
           stands = stands_at p live old new x t (t.pc + 1) stack g.caller st same (ap (λ n. n + 1) st.pc ∙ sym pushed.pc)
               (subst (λ ks. AreKnown p ks (own new)) (sym kinds) known)
               (subst (λ (h : Here). AreCells p live Rest x ns h g.caller (own new) stack) (sym pushed.same.here)
               (subst (λ (zs : List Cell). AreCells p live Rest x ns k g.caller zs stack) (sym pushed.cells) (names, tt, cells)))
+              (orderly_untold p t.pc (t.pc + 1) (length ns) (length ns) old.here new.here (own old) (own new) (ap (λ z. z.returns) leads.next)
+              (ap (λ z. z.scope) leads.next) st.orderly)
+              (subst (λ zs. AreTight (AreCalled p (beneath old) (reverse old.callers.items.items)) x.levels (length ns) zs) (sym pushed.cells) st.tight)
               (λ q. let e = pushed.blocks q in omega (arith, e));
         }
 

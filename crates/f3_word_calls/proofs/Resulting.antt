@@ -29,10 +29,11 @@ use Rattle.f3_word_cells.specs.Areas.{IsDatum, value_in}
 use Rattle.f3_word_cells.specs.Scenes.{code_of}
 use Rattle.f3_word_cells.specs.States.{IsLaid, Stands, datum_blocks, own}
 use Rattle.f3_word_cells.specs.Moves.{Popped, Pushed}
-use Rattle.f3_word_cells.specs.Does.{Becomes, IsTold, stream}
+use Rattle.f3_word_cells.specs.Does.{AreGranted, Becomes, IsTold, stream}
 use Rattle.f3_word_cells.proofs.OnTop.{line_kinds, of_datum, one_on_top}
 use Rattle.f3_word_cells.proofs.Scalars.{IsArray, IsComposite, Large, large_block}
 use Rattle.f3_word_cells.proofs.Moving.{Beneath, moved_to}
+use Rattle.f3_word_cells.proofs.Orderly.{IsAfter, after_way}
 use Rattle.f3_word_cells.proofs.Amid.{Amid, amid_first, amid_popped}
 use Rattle.f3_word_cells.proofs.Lines.{answering, claim_for_block, claim_for_scalar, first_gives, first_granted, line_goes, performs_gives, with_stack}
 use Rattle.f3_word_calls.specs.Taken.{Took}
@@ -53,6 +54,10 @@ large_present ds v (IsArray ss vs same is) = subst (λ x. IsPresent x true) (sym
 abbrev pub asks_for : Datum → List Bool
 asks_for (datum.Scalar k) = []
 asks_for (datum.Block a) = false ∷ []
+
+granted_asks_for : (d : Datum) → AreGranted (asks_for d)
+granted_asks_for (datum.Scalar k) = tt
+granted_asks_for (datum.Block a) = tt
 
 abbrev gives_result : Value → Here → World → (Value → World → s.State) → s.Next
 gives_result v here w f = performs (result v here >>= λ x. built x here) w f
@@ -93,7 +98,7 @@ module _ (p : Program) (live : Live) (old : State) (x : Rooms) (t : s.State) (l 
     pub split : t.stack ≡ s.Datum value ∷ below
     pub rest : List CellType
     pub kinds : (site_at p t.pc).cells ≡ cell.Datum kind ∷ rest
-    pub next : (site_at p (t.pc + 1)).cells ≡ cell.Datum (held_kind kind) ∷ rest
+    pub next : IsAfter p t.pc (t.pc + 1) (cell.Datum (held_kind kind) ∷ rest)
 
   pub at_value : AtValue
   at_value =
@@ -107,7 +112,7 @@ module _ (p : Program) (live : Live) (old : State) (x : Rooms) (t : s.State) (l 
         split = one.split ∙ ap (λ b. b ∷ one.below) value.1;
         rest = lead.1.rest;
         kinds = lead.1.before;
-        next = ap (λ z. z.cells) lead.1.next;
+        next = after_way p t.pc (t.pc + 1) (cell.Datum (held_kind lead.0) ∷ []) lead.1.rest lead.1.next;
       }
 
   amid_old : Amid p t live old old x (cell.Datum at_value.kind ∷ at_value.rest) (s.Datum at_value.value ∷ at_value.below) t.world.store []
@@ -130,6 +135,6 @@ module _ (p : Program) (live : Live) (old : State) (x : Rooms) (t : s.State) (l 
       let u : s.State = moved_to t (t.pc + 1) (s.Datum (plain v) ∷ at_value.below) t.here t.world in
       goes_with p live old x t l st mid new (cell.Datum (held_kind at_value.kind)) at_value.rest (s.Datum (plain v)) at_value.below (c.Datum e) amid popped.pc pushed tt
       (value v taken.0) (kind (held_kind at_value.kind) taken.1) at_value.next
-      (line_goes p l t i.Result stack u (asks_for d) [] is at_value.split
+      (line_goes p l t i.Result stack u (asks_for d) (granted_asks_for d) [] is at_value.split
       (λ rest. result_goes p live (placed l.place t.here) t.world.store v rest
       (λ y. on (with_answers (stream (asks_for d) rest) (with_stack stack t)) (s.Datum y ∷ at_value.below)) d taken.0))

@@ -33,7 +33,7 @@ use Rattle.f3_word_cells.specs.declared.state.Stop.TheVariants as stop
 use Rattle.f3_word_cells.specs.Areas.{IsDatum}
 use Rattle.f3_word_cells.specs.Cells.{AreCells}
 use Rattle.f3_word_cells.specs.Scenes.{code_of}
-use Rattle.f3_word_cells.specs.States.{AreCallers, AreKnown, IsLaid, Stands, beneath, cells_blocks, cells_from, datum_blocks, levels_rooms, own}
+use Rattle.f3_word_cells.specs.States.{AreCalled, AreCallers, AreKnown, AreTight, IsLaid, IsOrderly, Stands, beneath, cells_blocks, cells_from, datum_blocks, levels_rooms, own}
 use Rattle.f3_word_cells.specs.Moves.{Popped}
 use Rattle.f3_word_cells.specs.Does.{Becomes, IsTold, stream}
 use Rattle.f3_word_cells.proofs.OnTop.{line_kinds, of_datum, of_objects, two_on_top}
@@ -44,6 +44,7 @@ use Rattle.f3_word_cells.proofs.Lines.{answering, line_goes, line_stops, perform
 use Rattle.f3_word_calls.specs.Gone.{Cleared, Gone, MayGo, first_block}
 use Rattle.f3_word_calls.specs.Taken.{Took}
 use Rattle.f3_word_calls.proofs.Giving.{gone_both}
+use Rattle.f3_word_calls.proofs.Tight.{called_back, length_cut}
 use Rattle.f3_word_calls.proofs.Leaving.{blocks_ended, ends_same, kept_left, left_stands, levels_go}
 use Rattle.f3_word_calls.proofs.Outward.{are_callers, no_frames}
 use Rattle.f3_word_calls.proofs.Tops.{datum_cell, objects_cell, top_is}
@@ -175,7 +176,7 @@ module _ (p : Program) (m : Live) (old : State) (x : Rooms) (t : s.State) (l : L
         lost none =
             let nothing : reverse old.callers.items.items ≡ [] = ap (λ w. reverse w.items.items) (sym same_callers) ∙ ap reverse none in
             let gs = no_frames p m old x t l told there st (reverse old.callers.items.items) t.frames (are_callers p m old x t l told there st) nothing in
-            inr (line_stops p l t i.Return (s.Objects at_return.objects ∷ s.Datum at_return.value ∷ at_return.below) Stuck [] is at_return.split
+            inr (line_stops p l t i.Return (s.Objects at_return.objects ∷ s.Datum at_return.value ∷ at_return.below) Stuck [] tt is at_return.split
             (λ r. ap (λ fs. returned fs (with_answers (stream [] r) (with_stack (s.Objects at_return.objects ∷ s.Datum at_return.value ∷ at_return.below) t)) at_return.value) gs))
 
         module _ (f : Caller) (cs : List Caller) (latest : three.callers.items.items ≡ cs ++ f ∷ []) where
@@ -282,13 +283,33 @@ module _ (p : Program) (m : Live) (old : State) (x : Rooms) (t : s.State) (l : L
                 let shape : IsLaid p told.fits.end d = subst (λ j. IsLaid p j d) ends laid in
                 let known : AreKnown p (site_at p g.pc).cells (own new) =
                 subst (λ ks. AreKnown p ks (own new)) (sym kinds) (subst (λ es. AreKnown p (cell.Datum told.fits.end ∷ held.0) es) (sym (own_so caller.bottom)) (shape, below)) in
+                let was : AreTight (AreCalled p ys (f ∷ reverse cs)) x.levels (length ns) (own old) =
+                subst (λ fs. AreTight (AreCalled p ys fs) x.levels (length ns) (own old)) latest_is st.tight in
+                let back = called_back p ys f (reverse cs) x.levels (length ns) (own old) was in
+                let ends_at = caller.dummies in
+                let size : length new.names.items.items ≡ f.dummies.from = ap length names_so ∙ length_cut f.dummies.from ns (omega (arith, ends_at)) in
+                let tight_one : AreTight (AreCalled p (take f.base ys) (reverse cs)) (take k x.levels) (length new.names.items.items) zs =
+                subst (λ j. AreTight (AreCalled p (take f.base ys) (reverse cs)) (take k x.levels) j zs) (sym size) back.2 in
+                let tight_two : AreTight (AreCalled p (take f.base ys) (reverse cs)) (take k x.levels) (length new.names.items.items) (own new) =
+                subst (λ es. AreTight (AreCalled p (take f.base ys) (reverse cs)) (take k x.levels) (length new.names.items.items) es) (sym (own_so caller.bottom)) tight_one in
+                let tight : AreTight (AreCalled p (beneath new) (reverse new.callers.items.items)) (take k x.levels) (length new.names.items.items) (own new) =
+                subst (λ es. AreTight (AreCalled p es (reverse new.callers.items.items)) (take k x.levels) (length new.names.items.items) (own new)) (sym (beneath_so caller.bottom))
+                (subst (λ fs. AreTight (AreCalled p (take f.base ys) fs) (take k x.levels) (length new.names.items.items) (own new)) (sym (ap reverse callers_is)) tight_two) in
+                let order_one : IsOrderly p f.pc f.dummies.from f.here zs = back.1 in
+                let order_two : IsOrderly p f.pc f.dummies.from f.here (own new) =
+                subst (λ es. IsOrderly p f.pc f.dummies.from f.here es) (sym (own_so caller.bottom)) order_one in
+                let order_three : IsOrderly p f.pc (length new.names.items.items) new.here (own new) =
+                subst (λ h. IsOrderly p f.pc (length new.names.items.items) h (own new)) (sym here_is)
+                (subst (λ j. IsOrderly p f.pc j f.here (own new)) (sym size) order_two) in
+                let orderly : IsOrderly p g.pc (length new.names.items.items) new.here (own new) =
+                subst (λ j. IsOrderly p j (length new.names.items.items) new.here (own new)) (sym caller.pc) order_three in
                 let store : Store = record { statics = t.world.store.statics; levels = take g.level t.world.store.levels } in
                 let u : s.State = record { pc = g.pc; stack = stack; here = g.here; frames = gs; world = answering store t.world.answers } in
                 let top : List s.Cell = s.Objects at_return.objects ∷ s.Datum v ∷ at_return.below in
                 record {
                   next = u;
                   rooms = before_level x k;
-                  goes = line_goes p l t i.Return top u [] (Ended g.level ∷ []) is at_return.split
+                  goes = line_goes p l t i.Return top u [] tt (Ended g.level ∷ []) is at_return.split
                       (λ rest. ap (λ fs. returned fs (with_answers (stream [] rest) (with_stack top t)) v) frames
                       ∙ performs_does (λ z. Ended g.level ∷ []) (answering t.world.store rest)
                       (λ done w. record { pc = g.pc; stack = stack; here = g.here; frames = gs; world = w }));
@@ -308,6 +329,8 @@ module _ (p : Program) (m : Live) (old : State) (x : Rooms) (t : s.State) (l : L
                         omega (arith, e, b, h);
                     known = known;
                     stack = six;
+                    orderly = orderly;
+                    tight = tight;
                   });
                 }
 

@@ -9,9 +9,9 @@ ghost use Rattle.f3_word_calls.specs.Doing.{DoesWith, IsAtSome};
 use crate::ends::{clear, end_levels};
 use crate::operands::{pop_datum, pop_objects};
 use f3_heap::Blocks;
+use f3_word_areas::values::plain;
 use f3_word_cells::cell::Cell;
 use f3_word_cells::state::{State, Stop};
-use f3_word_values::bounds::plain;
 
 /// Back to the caller (ISO/IEC 1539-1:2004, 12.4).
 #[inline(never)]

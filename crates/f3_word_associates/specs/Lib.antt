@@ -1,0 +1,3 @@
+pub mod Names
+pub mod Begun
+pub mod Words
