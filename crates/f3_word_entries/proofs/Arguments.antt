@@ -153,17 +153,7 @@ module _ (p : Program) (x : Rooms) (live : Live) (ns : List Name) where
         cells = cells.2;
         known = known.1;
       }
-      one cs (c.Datum d ∷ left) e are cells known = absurd cells.0
-      one cs (c.Object d ∷ left) e are cells known = absurd cells.0
-      one cs (c.Choice d ∷ left) e are cells known = absurd cells.0
-      one cs (c.Bound d ∷ left) e are cells known = absurd cells.0
-      one cs (c.Bounds d ∷ left) e are cells known = absurd cells.0
-      one cs (c.Turns d k ∷ left) e are cells known = absurd cells.0
-      one cs (c.Objects d ∷ left) e are cells known = absurd cells.0
-      one cs (c.Selector d ∷ left) e are cells known = absurd cells.0
-      one cs (c.Level d k ∷ left) e are cells known = absurd cells.0
-      one cs (c.Outside d ∷ left) e are cells known = absurd cells.0
-      one cs (c.Going d ∷ left) e are cells known = absurd cells.0
+      one cs (z ∷ left) e are cells known = absurd cells.0
 
   pub correspond_many : (gs : List Given) (ps : List m.Passed) (cs : List Cell) → Correspond gs ps cs → length cs ≡ length gs
   correspond_many [] [] [] are = refl

@@ -37,15 +37,7 @@ cell_few (c.Argument (passed.Given k d)) = datum_few d
 cell_few (c.Argument (passed.Lent k d)) = omega arith
 cell_few (c.Selector (association.Holds of d)) = datum_few d
 cell_few (c.Selector (association.Means z)) = omega arith
-cell_few (c.Object d) = omega arith
-cell_few (c.Choice d) = omega arith
-cell_few (c.Bound d) = omega arith
-cell_few (c.Bounds d) = omega arith
-cell_few (c.Turns d e) = omega arith
-cell_few (c.Objects d) = omega arith
-cell_few (c.Level d e) = omega arith
-cell_few (c.Outside d) = omega arith
-cell_few (c.Going d) = omega arith
+cell_few z = omega arith
 
 -- a cell has one block at most
 pub blocks_few : (zs : List Cell) → length (cells_blocks zs) ≤ length zs

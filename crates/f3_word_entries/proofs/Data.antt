@@ -33,17 +33,7 @@ pub data_short : (cs : List Cell) → AreRanked cs → AreShort (held_data cs)
 data_short [] few = tt
 data_short (c.Argument (passed.Given k d) ∷ cs) few = (datum_short d few.0, data_short cs few.1)
 data_short (c.Argument (passed.Lent k d) ∷ cs) few = data_short cs few.1
-data_short (c.Datum d ∷ cs) few = data_short cs few.1
-data_short (c.Object d ∷ cs) few = data_short cs few.1
-data_short (c.Choice d ∷ cs) few = data_short cs few.1
-data_short (c.Bound d ∷ cs) few = data_short cs few.1
-data_short (c.Bounds d ∷ cs) few = data_short cs few.1
-data_short (c.Turns d e ∷ cs) few = data_short cs few.1
-data_short (c.Objects d ∷ cs) few = data_short cs few.1
-data_short (c.Selector d ∷ cs) few = data_short cs few.1
-data_short (c.Level d e ∷ cs) few = data_short cs few.1
-data_short (c.Outside d ∷ cs) few = data_short cs few.1
-data_short (c.Going d ∷ cs) few = data_short cs few.1
+data_short (z ∷ cs) few = data_short cs few.1
 
 module _ (p : Program) (x : Rooms) (live : Live) (ns : List Name) where
   pub data_are : (gs : List formed.Given) (ps : List m.Passed) (cs : List Cell) → Correspond p x live ns gs ps cs → AreData p live (held_data cs) (held ps)

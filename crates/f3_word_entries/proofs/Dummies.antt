@@ -167,9 +167,11 @@ module _ (p : Program) (h : Global) (live : Live) (x : Rooms) (ns : List Name) (
         dims = held_dims (words_for (shape_for p a.of)) a.elements.dims.items is.0.contiguous;
       } in
       let reads : get (store_of ts live inner) (whole (Local level slot)) ≡ v =
-      ap (λ us. slice_index_or us slot Unallocated) (there ∙ vs) ∙ ap (λ i. slice_index_or (before ++ v ∷ after) i Unallocated) many ∙ index_amid before after v Unallocated in
-      (refl, subst (λ w. AreThere p inner area (whole (Local level slot)) (reach_of (whole (Local level slot)) w)) reads
-      (part-there p live inner (Local level slot) [] (variable_in ts r 0 (declared_as h a short)) area leads part))
+      ap (λ us. slice_index_or us slot Unallocated) (there ∙ vs) ∙ ap (λ i. slice_index_or (before ++ v ∷ after) i Unallocated) many ∙ index_amid before after v Unallocated in (
+        refl,
+        subst (λ w. AreThere p inner area (whole (Local level slot)) (reach_of (whole (Local level slot)) w)) reads
+            (part-there p live inner (Local level slot) [] (variable_in ts r 0 (declared_as h a short)) area leads part),
+      )
 
   -- ---- one dummy
 

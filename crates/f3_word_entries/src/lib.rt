@@ -2,7 +2,7 @@
 #![tactic(auto)]
 
 mod beginning;
-pub mod entries;
 mod entering;
+pub mod entries;
 mod holding;
 mod naming;

@@ -15,7 +15,7 @@ push-requires-3 c =
     let first = c.len.result - c.args.count in
     let few = blocks_few (drop first xs) in
     let held = ap length (c.hold.ensures.blocks ∙ ap (λ cs. c.args.state.now.blocks.items.items ++ cells_blocks cs) (rest_is first xs c.deref-3.result.now c.deref-3.ensures.value))
-        ∙ length-append c.args.state.now.blocks.items.items (cells_blocks (drop first xs)) in
+    ∙ length-append c.args.state.now.blocks.items.items (cells_blocks (drop first xs)) in
     let many = cut_many xs c.len.result c.args.count (search rules) c.requires.arguments in
     let enough = c.requires.blocks in
     let room = c.hold.ensures.room in

@@ -112,7 +112,7 @@ enter-requires-clause-names g c =
     let q = c.index-procedure.result.now in
     let there = got p.procedures.items c.args.number q q (get_below p.procedures.items c.args.number r.0 r.1) c.index-procedure.ensures in
     let many = dummies_many p at.state at.line c.args.number c.args.count q there at.told at.act
-        (call_of p at.state at.line c.args.number c.args.count q there at.told at.there at.act) in
+    (call_of p at.state at.line c.args.number c.args.count q there at.told at.there at.act) in
     let room = c.requires.names in
     omega (arith, many, room)
 
