@@ -1,6 +1,6 @@
 -- The arguments of a call, on top of a stack.
-use Rattle.std.proofs.Common.{◌≡◌, ◌∙◌, ℕ, zero, suc, ◌+◌, ◌≤◌, List, [], ◌∷◌, ◌++◌, length, drop, reverse, append_assoc, refl, sym, ap, subst, arith}
-use Rattle.std.specs.Prelude.{⊤, Some, slice_get}
+use Rattle.std.proofs.Common.{◌≡◌, ◌∙◌, ℕ, suc, ◌+◌, ◌≤◌, List, [], ◌∷◌, ◌++◌, length, drop, reverse, append_assoc, refl, sym, ap, arith}
+use Rattle.std.specs.Prelude.{⊤}
 use Rattle.std.proofs.lemmas.List.{append-nil, drop-append-le, length-append, length-drop, length-reverse, reverse-append, reverse-reverse}
 use Rattle.f3_program.specs.declared.declarations.Derived.{Derived}
 use Rattle.f3_program.specs.declared.program.Program.{Program}
@@ -12,7 +12,6 @@ use Rattle.f3_code.specs.State.{Next}
 use Rattle.f3_code.specs.Machine.{argument_of, on_many}
 use Rattle.f3_cell_kinds.specs.Types.{CellType, arguments_on}
 use Rattle.f3_cell_kinds.specs.Types as cell
-use Rattle.f3_cell_kinds.specs.Holds.{IsPassed as IsGiven}
 use Rattle.f3_cell_kinds.specs.Laws.{site_at}
 use Rattle.f3_cell_kinds.proofs.Reaching.{AllPassed}
 use Rattle.f3_rooms.specs.Rooms.{Rooms, Slot}

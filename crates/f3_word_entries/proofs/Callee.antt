@@ -1,15 +1,15 @@
 -- What stands where a procedure begins.
-use Rattle.std.proofs.Common.{◌≡◌, ◌≢◌, ◌∙◌, inl, inr, ℕ, zero, suc, ◌+◌, ◌≤◌, ◌<◌, Bool, true, false, List, [], ◌∷◌, ◌++◌, length, drop, take, reverse, is_some, append_assoc, refl, sym, ap, subst, arith}
-use Rattle.std.specs.Prelude.{⊤, None, Some, slice_get, slice_index_or, unwrap_or}
+use Rattle.std.proofs.Common.{◌≡◌, ◌∙◌, inl, inr, ℕ, zero, suc, ◌+◌, ◌≤◌, ◌<◌, true, false, List, [], ◌∷◌, ◌++◌, length, drop, take, reverse, is_some, refl, sym, ap, subst, arith}
+use Rattle.std.specs.Prelude.{None, Some, slice_get, slice_index_or, unwrap_or}
 use Rattle.std.specs.declared.alloc.Global.{Global}
 use Rattle.std.specs.FinMap.{get as find}
 use Rattle.std.proofs.lemmas.Bool.{cases_eq, cases_lt}
-use Rattle.std.proofs.lemmas.List.{append-nil, length-append, length-map, length-reverse, reverse-append, take-append-le}
+use Rattle.std.proofs.lemmas.List.{append-nil, length-append, length-map, reverse-append, take-append-le}
 use Rattle.f3_places.specs.declared.source.Place.{Place}
 use Rattle.f3_program.specs.declared.declarations.Kind.{Kind}
 use Rattle.f3_program.specs.declared.program.Procedure.{Procedure}
 use Rattle.f3_program.specs.declared.program.Program.{Program}
-use Rattle.f3_live_blocks.specs.Blocks.{Live, IsLive, pins_of}
+use Rattle.f3_live_blocks.specs.Blocks.{Live, IsLive}
 use Rattle.f3_meaning_whole.specs.Value.{Unallocated, Value}
 use Rattle.f3_meaning_whole.specs.Reference.{Reference}
 use Rattle.f3_meaning_whole.specs.Store.{Store}
@@ -25,13 +25,13 @@ use Rattle.f3_cells.specs.Cells.{declared_by, variables_of}
 use Rattle.f3_cell_kinds.specs.Types.{CellType, arguments_on}
 use Rattle.f3_cell_kinds.specs.Types as cell
 use Rattle.f3_cell_kinds.specs.Kinds.{arrived, first_site}
-use Rattle.f3_cell_kinds.specs.Effect.{declared_kind, way}
+use Rattle.f3_cell_kinds.specs.Effect.{way}
 use Rattle.f3_cell_kinds.specs.Laws.{site_at}
 use Rattle.f3_cell_kinds.proofs.Given.{arguments_over}
 use Rattle.f3_cell_kinds.proofs.Reaching.{AllPassed}
 use Rattle.f3_rooms.specs.Held.{times}
 use Rattle.f3_rooms.specs.Laws.{before_level, with_level}
-use Rattle.f3_rooms.specs.Rooms.{Room, Rooms, Slot, Stands as Stood, blocks_of, level_blocks, store_of}
+use Rattle.f3_rooms.specs.Rooms.{Rooms, Slot, Stands as Stood, blocks_of, level_blocks, store_of}
 use Rattle.f3_rooms.specs.Sound.{IsSound}
 use Rattle.f3_rooms.proofs.Allocating.{at_most_one, only_one}
 use Rattle.f3_rooms.proofs.Framing.{Kept, one_here, times_append}
@@ -49,7 +49,7 @@ use Rattle.f3_word_cells.specs.Areas.{shape_for, types_of}
 use Rattle.f3_rooms.specs.Flat.{is_flat}
 use Rattle.f3_meaning_whole.specs.Shape.{Shape}
 use Rattle.f3_program.specs.declared.declarations.Base.{Base}
-use Rattle.f3_word_cells.specs.Cells.{AreCells, AreNamed, AreNames, IsHere, names_in}
+use Rattle.f3_word_cells.specs.Cells.{AreCells, AreNames, IsHere, names_in}
 use Rattle.f3_word_cells.specs.Does.{IsTold}
 use Rattle.f3_word_cells.specs.States.{AreAtHand, AreCalled, AreCallers, AreKnown, AreTight, IsCalled, IsCaller, IsOrderly, Stands, beneath, cells_blocks, cells_from, is_held_at, level_rooms, levels_rooms, loose_blocks, own, rooms_at, starts_of}
 use Rattle.f3_code.specs.Machine.{entered}
@@ -57,19 +57,19 @@ use Rattle.f3_word_cells.proofs.Lines.{answering}
 use Rattle.f3_word_cells.specs.Scalars.{is_plain_scalar}
 use Rattle.f3_cell_kinds.specs.Holds.{InScope}
 use Rattle.f3_word_cells.proofs.Moving.{Beneath}
-use Rattle.f3_word_cells.proofs.Orderly.{IsAfter, after_way, in_scope}
+use Rattle.f3_word_cells.proofs.Orderly.{after_way, in_scope}
 use Rattle.f3_word_cells.proofs.Stacks.{cells_blocks_append, cells_blocks_reverse, cells_blocks_split}
 use Rattle.f3_word_cells.proofs.Staying.{callers_stay, cells_stay}
 use Rattle.f3_word_cells.proofs.Within.{names_within, rooms_with_level}
-use Rattle.f3_word_calls.proofs.Holding.{AreShort, data_blocks, holding_begins, level_bare, level_block, level_room, slots_of}
+use Rattle.f3_word_calls.proofs.Holding.{AreShort, holding_begins, level_bare, level_block, level_room, slots_of}
 use Rattle.f3_word_entries.specs.Entered.{Entered}
-use Rattle.f3_word_entries.proofs.Arguments.{Correspond, IsCut, Split, arguments_on_top, cells_on, cells_split, correspond_many, cut_is, hand_on, passed_many, passed_on, tight_on}
+use Rattle.f3_word_entries.proofs.Arguments.{Correspond, IsCut, Split, cells_split, correspond_many, cut_is, hand_on, passed_on, tight_on}
 use Rattle.f3_word_entries.proofs.Counted.{IsFor, none_behind}
 use Rattle.f3_word_entries.proofs.Cutting.{blocks_few}
 use Rattle.f3_word_entries.proofs.Data.{all_flat, blocks_are, data_are, data_short}
 use Rattle.f3_word_entries.proofs.Dummies.{all_named, held_data}
 use Rattle.f3_word_entries.proofs.Going.{with_levels}
-use Rattle.f3_word_entries.proofs.Rooming.{all_unpinned, elsewhere, held_rooms, not_there, other_block, times_two, two_bare, two_before, two_levels, two_more, two_rooms, two_starts, two_taken, variable_rooms, variables_stand, with_two}
+use Rattle.f3_word_entries.proofs.Rooming.{all_unpinned, elsewhere, held_rooms, not_there, other_block, times_two, two_bare, two_before, two_more, two_rooms, two_starts, two_taken, variable_rooms, variables_stand, with_two}
 
 take_part : {A : Type 0} (k : ℕ) (xs ys : List A) → k ≤ length xs → take k (xs ++ ys) ≡ take k xs
 take_part k xs ys less = take-append-le k xs ys less

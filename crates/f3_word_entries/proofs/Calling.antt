@@ -1,6 +1,6 @@
 -- What becomes of a call.
-use Rattle.std.proofs.Common.{◌≡◌, ◌∙◌, ℕ, zero, suc, ◌+◌, ◌≤◌, ◌<◌, Bool, true, false, List, [], ◌∷◌, ◌++◌, length, drop, take, reverse, refl, sym, ap, subst, arith}
-use Rattle.std.specs.Prelude.{None, Some, nat_lt, slice_get, unwrap_or}
+use Rattle.std.proofs.Common.{◌≡◌, ◌∙◌, ℕ, zero, suc, ◌≤◌, ◌<◌, Bool, true, false, List, [], ◌∷◌, length, drop, take, reverse, refl, sym, ap, subst, arith}
+use Rattle.std.specs.Prelude.{Some, nat_lt, slice_get, unwrap_or}
 use Rattle.std.specs.declared.alloc.Global.{Global}
 use Rattle.std.proofs.lemmas.Bool.{lt-ltb, ltb-true}
 use Rattle.std.proofs.lemmas.List.{length-append, length-drop, length-reverse}
@@ -12,7 +12,7 @@ use Rattle.f3_live_blocks.specs.Blocks.{Live}
 use Rattle.f3_meaning_whole.specs.declared.run_error.RunError.TheVariants.{CallsTooDeep}
 use Rattle.f3_meaning_whole.specs.Act as meaning
 use Rattle.f3_meaning_whole.specs.Act.{Setting}
-use Rattle.f3_meaning_whole.specs.Exec.{declared_in, dummies, held, variables}
+use Rattle.f3_meaning_whole.specs.Exec.{declared_in, held, variables}
 use Rattle.f3_meaning_whole.specs.Formed.{referenced}
 use Rattle.f3_meaning_whole.specs.Formed as formed
 use Rattle.f3_meaning_whole.specs.Run.{setting_of}
@@ -30,12 +30,11 @@ use Rattle.f3_cell_kinds.specs.Effect.{declared_kind, on}
 use Rattle.f3_cell_kinds.specs.Laws.{site_at}
 use Rattle.f3_cell_kinds.proofs.Asked.{some_same}
 use Rattle.f3_cell_kinds.proofs.Given.{arguments_over}
-use Rattle.f3_cell_kinds.proofs.Reaching.{AllPassed}
-use Rattle.f3_cell_kinds.proofs.Standing.{EntryAt, entry_at}
+use Rattle.f3_cell_kinds.proofs.Standing.{entry_at}
 use Rattle.f3_rooms.specs.Rooms.{Rooms}
 use Rattle.f3_rooms.specs.Laws.{before_level}
 use Rattle.f3_word_cells.specs.declared.state.Name.{Name}
-use Rattle.f3_room_levels.specs.Levels.{Begins, begun}
+use Rattle.f3_room_levels.specs.Levels.{Begins}
 use Rattle.f3_word_cells.specs.declared.cell.Cell.{Cell}
 use Rattle.f3_word_cells.specs.declared.state.Caller.{Caller}
 use Rattle.f3_word_cells.specs.declared.state.State.{State}
@@ -49,11 +48,10 @@ use Rattle.f3_word_cells.proofs.Moving.{Beneath}
 use Rattle.f3_word_cells.proofs.OnTop.{line_kinds}
 use Rattle.f3_word_calls.proofs.Beneath.{callers_stand}
 use Rattle.f3_word_entries.specs.Entered.{Entered}
-use Rattle.f3_word_entries.proofs.Arguments.{AreArguments, Split, arguments_on_top, cells_on, cells_on_is, cells_split, correspond_many, passed_many, passed_on}
+use Rattle.f3_word_entries.proofs.Arguments.{AreArguments, Split, arguments_on_top, cells_on_is, cells_split, correspond_many, passed_many}
 use Rattle.f3_word_entries.proofs.Callee.{callee_stands}
 use Rattle.f3_word_entries.proofs.Counted.{IsFor, arguments_for}
 use Rattle.f3_word_entries.proofs.Going.{goes_there, refused_there, too_deep, with_levels}
-use Rattle.f3_word_entries.proofs.Rooming.{with_two}
 
 -- ---- how many callers there are
 

@@ -1,5 +1,5 @@
 -- The arguments on top are cut from the cells.
-use Rattle.std.proofs.Common.{◌≡◌, ◌∙◌, ℕ, zero, suc, ◌+◌, ◌-◌, ◌≤◌, ◌<◌, List, [], ◌∷◌, ◌++◌, length, take, drop, append_assoc, refl, sym, ap, subst, arith}
+use Rattle.std.proofs.Common.{◌≡◌, ◌∙◌, ℕ, suc, ◌+◌, ◌-◌, ◌≤◌, List, [], ◌∷◌, ◌++◌, length, take, drop, append_assoc, sym, ap, arith}
 use Rattle.std.proofs.lemmas.List.{length-append, length-drop, take_all, take-append-drop}
 use Rattle.std.specs.Prelude.{None, Some}
 use Rattle.f3_places.specs.declared.source.Place.{Place}

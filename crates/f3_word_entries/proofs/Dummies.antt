@@ -1,6 +1,6 @@
 -- Dummies are for the objects that the machine over values has.
-use Rattle.std.proofs.Common.{◌≡◌, ◌≢◌, ◌∙◌, inl, inr, ℕ, zero, suc, ◌+◌, ◌≤◌, ◌<◌, ◌^◌, Bool, true, false, List, [], ◌∷◌, ◌++◌, length, map, refl, sym, ap, subst, arith, append_assoc, if◌then◌else◌}
-use Rattle.std.specs.Prelude.{⊤, nat_eq, None, Some, slice_get, slice_index_or, pos}
+use Rattle.std.proofs.Common.{◌≡◌, ◌∙◌, inr, ℕ, zero, suc, ◌+◌, ◌<◌, Bool, true, false, List, [], ◌∷◌, ◌++◌, length, map, refl, sym, ap, subst, arith, append_assoc, if◌then◌else◌}
+use Rattle.std.specs.Prelude.{⊤, nat_eq, Some, slice_get, slice_index_or, pos}
 use Rattle.std.specs.declared.alloc.Global.{Global}
 use Rattle.std.proofs.lemmas.Bool.{eqb-true}
 use Rattle.std.proofs.lemmas.List.{length-append}
@@ -16,7 +16,7 @@ use Rattle.f3_live_blocks.specs.Blocks.{Live}
 use Rattle.f3_meaning_whole.specs.Arithmetic.{constant_value}
 use Rattle.f3_meaning_whole.specs.Value.{Value, Unallocated}
 use Rattle.f3_meaning_whole.specs.Store.{Local, get}
-use Rattle.f3_meaning_whole.specs.Reference.{Read, Reference, reach_of}
+use Rattle.f3_meaning_whole.specs.Reference.{Read, reach_of}
 use Rattle.f3_meaning_whole.specs.Act.{passed_at, to_root, whole}
 use Rattle.f3_meaning_whole.specs.Act as m
 use Rattle.f3_meaning_whole.specs.Exec.{argument_at, bound, dummies, held}
@@ -27,7 +27,7 @@ use Rattle.f3_code.specs.Exec.{is_held}
 use Rattle.f3_desc.specs.declared.descriptor.Dim.{Dim}
 use Rattle.f3_desc.specs.Laws.{IsContiguous}
 use Rattle.f3_cell_kinds.specs.Holds.{IsOf}
-use Rattle.f3_cell_kinds.proofs.Asked.{and_is, base_same, some_is, some_same}
+use Rattle.f3_cell_kinds.proofs.Asked.{and_is, some_is, some_same}
 use Rattle.f3_cell_kinds.proofs.Reaching.{AllPassed}
 use Rattle.f3_meaning_whole.specs.Shape.{spans_declared}
 use Rattle.f3_rooms.specs.Forms.{Laid, words_for}
@@ -44,14 +44,14 @@ use Rattle.f3_word_cells.specs.declared.cell.Passed.TheVariants as passed
 use Rattle.f3_word_cells.specs.declared.cell.Cell.{Cell}
 use Rattle.f3_word_cells.specs.declared.cell.Cell.TheVariants as c
 use Rattle.f3_word_cells.specs.declared.state.Name.{Name}
-use Rattle.f3_word_cells.specs.Areas.{AreThere, IsBlock, IsDatum, IsObject, shape_for, spans_of, types_of}
+use Rattle.f3_word_cells.specs.Areas.{AreThere, IsDatum, IsObject, shape_for, spans_of, types_of}
 use Rattle.f3_word_cells.specs.Cells.{AreNames}
 use Rattle.f3_word_cells.specs.States.{IsLaid, is_held_at}
 use Rattle.f3_word_cells.proofs.Within.{object_within, rooms_with_level}
 use Rattle.f3_word_areas.specs.Parts.{AreDimsOf, IsPart}
 use Rattle.f3_word_areas.proofs.There.{part-there}
 use Rattle.f3_word_calls.proofs.Holding.{AreShort, IsShort, declared_as, dimension_of, held_there, room_for, slot_of, slots_of}
-use Rattle.f3_word_entries.specs.Names.{AreNamed, IsNamed, held_object, number_of, numbered}
+use Rattle.f3_word_entries.specs.Names.{AreNamed, IsNamed, held_object, numbered}
 use Rattle.f3_word_entries.proofs.Arguments.{Correspond}
 
 -- the values that are held, in the order of the arguments

@@ -1,11 +1,11 @@
 -- What a call does over values.
-use Rattle.std.proofs.Common.{◌≡◌, ◌∙◌, ℕ, suc, ◌≤◌, ◌<◌, Bool, true, false, List, [], ◌∷◌, ◌++◌, length, refl, sym, ap, if◌then◌else◌}
+use Rattle.std.proofs.Common.{◌≡◌, ◌∙◌, ℕ, Bool, true, false, List, [], ◌∷◌, ◌++◌, length, refl, ap, if◌then◌else◌}
 use Rattle.std.specs.Prelude.{nat_lt, Some, slice_get}
 use Rattle.f3_program.specs.declared.program.Program.{Program}
 use Rattle.f3_meaning_whole.specs.Value.{Value}
 use Rattle.f3_meaning_whole.specs.Store.{Store}
 use Rattle.f3_meaning_whole.specs.declared.run_error.RunError.TheVariants.{CallsTooDeep, HeapHasNoRoom}
-use Rattle.f3_meaning_whole.specs.Ran.{Entered, Event, World, asks, does, fails, gives, looks, ◌>>=◌}
+use Rattle.f3_meaning_whole.specs.Ran.{Entered, World, asks, does, fails, gives, looks, ◌>>=◌}
 use Rattle.f3_meaning_whole.specs.Act.{Here, Passed}
 use Rattle.f3_meaning_whole.specs.Exec.{held}
 use Rattle.f3_code.specs.declared.instruction.Instruction.TheVariants as i

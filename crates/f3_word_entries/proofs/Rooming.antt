@@ -1,19 +1,18 @@
 -- Two levels more: of the values that are held, and of the variables of a procedure.
-use Rattle.std.proofs.Common.{◌≡◌, ◌≢◌, ◌∙◌, inl, inr, ℕ, zero, suc, ◌+◌, ◌≤◌, ◌<◌, ℤ, List, [], ◌∷◌, ◌++◌, length, is_some, append_assoc, refl, sym, ap, subst, arith}
-use Rattle.std.specs.Prelude.{None, Some, slice_get, slice_index_or, take}
+use Rattle.std.proofs.Common.{◌≡◌, ◌≢◌, ◌∙◌, inl, inr, ℕ, suc, ◌+◌, ℤ, List, [], ◌∷◌, ◌++◌, length, append_assoc, refl, sym, ap, subst, arith}
+use Rattle.std.specs.Prelude.{Some, slice_get, slice_index_or, take}
 use Rattle.std.specs.FinMap.{get as find}
 use Rattle.std.proofs.lemmas.Bool.{cases_eq}
-use Rattle.std.proofs.lemmas.List.{append-nil, length-append, length-map}
+use Rattle.std.proofs.lemmas.List.{length-append}
 use Rattle.f3_program.specs.declared.declarations.Declared.{Declared}
 use Rattle.f3_live_blocks.specs.Blocks.{Live, IsLive, pins_in, pins_of, with_taken}
 use Rattle.f3_live_blocks.proofs.Laws.{get-insert_other, pins-insert_same}
 use Rattle.f3_meaning_whole.specs.Shape.{Shape}
-use Rattle.f3_rooms.specs.Held.{end, times}
+use Rattle.f3_rooms.specs.Held.{times}
 use Rattle.f3_rooms.specs.Places.{with_word}
 use Rattle.f3_rooms.specs.Rooms.{Room, Rooms, Slot, Stands as Stood, blocks_of, level_blocks, levels_blocks, room_blocks}
 use Rattle.f3_rooms.specs.Laws.{before_level, with_level}
 use Rattle.f3_rooms.proofs.Framing.{times_append}
-use Rattle.f3_rooms.proofs.Allocating.{only_one}
 use Rattle.f3_room_levels.specs.Initial.{initial_words}
 use Rattle.f3_room_levels.specs.Levels.{Begins, begun}
 use Rattle.f3_room_levels.specs.Writing.{with_words_from}

@@ -1,5 +1,5 @@
 -- The variables of a procedure begin, the result behind the others.
-use Rattle.std.proofs.Common.{◌≡◌, ◌∙◌, append_assoc, Option, ℕ, ◌+◌, ◌-◌, ◌<◌, ◌≤◌, ℤ, List, [], ◌∷◌, ◌++◌, length, refl, sym, ap, subst, arith}
+use Rattle.std.proofs.Common.{◌≡◌, ◌∙◌, append_assoc, Option, ℕ, ◌+◌, ◌-◌, ◌≤◌, ℤ, List, [], ◌∷◌, ◌++◌, length, sym, ap, subst, arith}
 use Rattle.std.specs.Prelude.{None, Some}
 use Rattle.std.specs.FinMap.{get as find}
 use Rattle.f3_program.specs.declared.declarations.Declared.{Declared}

@@ -1,5 +1,4 @@
-use Rattle.std.proofs.Common.{refl, w64, rules, ◌-◌, ap, subst, sym, ◌∙◌, ◌≡◌, arith, ◌++◌, [], ◌∷◌}
-use Rattle.std.specs.Prelude.{Some, None}
+use Rattle.std.proofs.Common.{refl, w64, rules, ◌-◌, ap, subst, sym, ◌∙◌, ◌≡◌, arith}
 use Rattle.f3_meaning_whole.specs.Exec.{declared_in}
 use Rattle.f3_rooms.specs.Forms.{total}
 use Rattle.f3_rooms.specs.Places.{with_word}

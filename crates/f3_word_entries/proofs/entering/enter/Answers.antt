@@ -1,9 +1,8 @@
-use Rattle.std.proofs.Common.{rules, ◌≡◌, ◌∙◌, ◌+◌, ◌-◌, ◌<◌, ◌≤◌, ◌++◌, [], ◌∷◌, List, length, take, drop, refl, sym, ap, subst, arith}
+use Rattle.std.proofs.Common.{rules, ◌≡◌, ◌∙◌, ◌+◌, ◌-◌, ◌++◌, [], ◌∷◌, List, length, take, drop, refl, ap, subst, arith}
 use Rattle.std.proofs.lemmas.List.{length-append}
 use Rattle.f3_program.specs.declared.program.Dummy.{Dummy}
 use Rattle.f3_word_cells.specs.declared.cell.Cell.{Cell}
 use Rattle.f3_word_cells.specs.States.{cells_blocks}
-use Rattle.f3_word_entries.specs.Entered.{Entered}
 use Rattle.f3_word_entries.specs.Names.{AreNamed}
 use Rattle.f3_word_entries.specs.Ranked.{AreRanked}
 use Rattle.f3_word_entries.proofs.Cutting.{blocks_few, caller_is, here_is, cut_left, cut_many, cut_split, rest_is, many_more, two_more}

@@ -1,4 +1,4 @@
-use Rattle.std.proofs.Common.{rules, refl, sym, ap, subst, ◌≡◌, ◌∙◌, ◌<◌, ◌≤◌, length, arith}
+use Rattle.std.proofs.Common.{rules, sym, ap, subst, ◌≡◌, ◌∙◌, ◌<◌, ◌≤◌, length, arith}
 use Rattle.std.specs.Prelude.{Err, Some, slice_get, slice_index_or}
 use Rattle.f3_meaning_whole.specs.Exec.{declared_in}
 use Rattle.f3_cell_kinds.proofs.Asked.{some_same}
