@@ -1,0 +1,101 @@
+-- The variables of a procedure begin, the result behind the others.
+use Rattle.std.proofs.Common.{◌≡◌, ◌∙◌, append_assoc, Option, ℕ, ◌+◌, ◌-◌, ◌≤◌, ℤ, List, [], ◌∷◌, ◌++◌, length, sym, ap, subst, arith}
+use Rattle.std.specs.Prelude.{None, Some}
+use Rattle.std.specs.FinMap.{get as find}
+use Rattle.f3_program.specs.declared.declarations.Declared.{Declared}
+use Rattle.f3_program.specs.declared.program.Procedure.{Procedure}
+use Rattle.f3_live_blocks.specs.Blocks.{Live, IsLive, words_of, with_taken}
+use Rattle.f3_meaning_whole.specs.Exec.{declared_in, with_result}
+use Rattle.f3_meaning_whole.specs.Shape.{Shape, shape_in}
+use Rattle.f3_rooms.specs.Forms.{room, total}
+use Rattle.f3_rooms.specs.Places.{with_word}
+use Rattle.f3_room_levels.specs.Initial.{AllCanBegin, CanBegin, initial_words, variable_words}
+use Rattle.f3_room_levels.specs.Levels.{Begins}
+use Rattle.f3_room_levels.specs.Writing.{IsBlank, with_words_from}
+use Rattle.f3_room_levels.proofs.Begun.{begins, taken_blank}
+use Rattle.f3_room_levels.proofs.Widths.{initial_many, variable_many}
+use Rattle.f3_room_levels.proofs.Written.{written_from, written_long, written_on}
+use Rattle.std.proofs.lemmas.List.{append-nil}
+
+module _ (ts : List Shape) where
+  total_more : (ds : List Declared) (d : Declared) → total ts (ds ++ d ∷ []) ≡ total ts ds + room ts d
+  total_more [] d = omega arith
+  total_more (c ∷ ds) d = let e : total ts (ds ++ d ∷ []) ≡ total ts ds + room ts d = total_more ds d in omega arith
+
+  words_more : (ds : List Declared) (d : Declared) → initial_words ts (ds ++ d ∷ []) ≡ initial_words ts ds ++ variable_words ts d
+  words_more [] d = append-nil (variable_words ts d)
+  words_more (c ∷ ds) d = ap (λ ws. variable_words ts c ++ ws) (words_more ds d) ∙ sym (append_assoc (variable_words ts c) (initial_words ts ds) (variable_words ts d))
+
+  can_front : (ds es : List Declared) → AllCanBegin ts (ds ++ es) → AllCanBegin ts ds
+  can_front [] es can = tt
+  can_front (c ∷ ds) es can = (can.0, can.1, can_front ds es can.2)
+
+  can_behind : (ds es : List Declared) → AllCanBegin ts (ds ++ es) → AllCanBegin ts es
+  can_behind [] es can = can
+  can_behind (c ∷ ds) es can = can_behind ds es can.2
+
+  -- the others, whether there is a result or not
+  pub can_others : (q : Procedure) → AllCanBegin ts (declared_in q) → AllCanBegin ts q.locals.items
+  can_others q can = by q.result can
+    where
+      by : (o : Option Declared) → AllCanBegin ts (with_result q.locals.items o) → AllCanBegin ts q.locals.items
+      by None h = h
+      by (Some d) h = can_front q.locals.items (d ∷ []) h
+
+  pub less_others : (q : Procedure) → total ts q.locals.items ≤ total ts (declared_in q)
+  less_others q = by q.result
+    where
+      by : (o : Option Declared) → total ts q.locals.items ≤ total ts (with_result q.locals.items o)
+      by None = omega arith
+      by (Some d) = let e = total_more q.locals.items d in omega (arith, e)
+
+  module _ (q : Procedure) (can : AllCanBegin ts (declared_in q)) (d : Declared) (is : q.result ≡ Some d) where
+    all_is : declared_in q ≡ q.locals.items ++ d ∷ []
+    all_is = ap (with_result q.locals.items) is
+
+    can_all : AllCanBegin ts (q.locals.items ++ d ∷ [])
+    can_all = subst (AllCanBegin ts) all_is can
+
+    -- the result has one word, the last one
+    pub last_word : (w : ℤ) → ((ss : List Shape) → CanBegin (shape_in ss d.kind.of) d → variable_words ss d ≡ w ∷ [])
+        → (variable_words ts d ≡ w ∷ []) × (total ts (declared_in q) ≡ total ts q.locals.items + 1)
+    last_word w first =
+        let last = can_behind q.locals.items (d ∷ []) can_all in
+        let one = first ts last.0 in
+        let many : 1 ≡ room ts d = ap length (sym one) ∙ variable_many ts d last.0 last.1 in
+        (one, ap (total ts) all_is ∙ total_more q.locals.items d ∙ omega (arith, many))
+
+module _ (ts : List Shape) (q : Procedure) (m mid k : Live) (words b : ℕ) (fresh : find m b ≡ None) (taken : mid ≡ with_taken m b words)
+    (can : AllCanBegin ts (declared_in q)) (long : words ≡ total ts (declared_in q)) (written : k ≡ with_words_from mid b 0 (initial_words ts q.locals.items)) where
+  pub others_blank : IsBlank mid b 0 (total ts q.locals.items)
+  others_blank = taken_blank m mid words b taken (total ts q.locals.items) (let e = less_others ts q in omega (arith, e, long))
+
+  all_blank : IsBlank mid b 0 words
+  all_blank = taken_blank m mid words b taken words (omega arith)
+
+  pub others_live : IsLive k b
+  others_live = subst (λ (n : Live). IsLive n b) (sym written) ((written_from mid b 0 (initial_words ts q.locals.items)).live b all_blank.live)
+
+  pub others_long : words ≤ length (words_of k b)
+  others_long =
+      let e = written_long mid k b 0 (initial_words ts q.locals.items) written in let f = all_blank.within in omega (arith, e, f)
+
+  -- no result
+  pub begins_alone : q.result ≡ None → Begins ts m k (declared_in q) words b
+  begins_alone none =
+      let all : declared_in q ≡ q.locals.items = ap (with_result q.locals.items) none in
+      begins ts m mid k (declared_in q) words b fresh taken can (omega (arith, long)) (written ∙ ap (λ ds. with_words_from mid b 0 (initial_words ts ds)) (sym all))
+
+  -- a result behind the others
+  pub begins_behind : (d : Declared) → q.result ≡ Some d → (w : ℤ)
+      → ((ss : List Shape) → CanBegin (shape_in ss d.kind.of) d → variable_words ss d ≡ w ∷ [])
+      → (n : Live) → n ≡ with_word k b (words - 1) w → Begins ts m n (declared_in q) words b
+  begins_behind d is w first n put =
+      let last = last_word ts q can d is w first in
+      let at : words - 1 ≡ 0 + total ts q.locals.items = (let e = last.1 in omega (arith, e, long)) in
+      let many = initial_many ts q.locals.items (can_others ts q can) in
+      let all : initial_words ts (declared_in q) ≡ initial_words ts q.locals.items ++ w ∷ [] =
+      ap (λ ds. initial_words ts ds) (ap (with_result q.locals.items) is) ∙ words_more ts q.locals.items d ∙ ap (λ ws. initial_words ts q.locals.items ++ ws) last.0 in
+      begins ts m mid n (declared_in q) words b fresh taken can (omega (arith, long))
+      (put ∙ ap (λ i. with_words_from k b i (w ∷ [])) at ∙ written_on mid k b 0 (total ts q.locals.items) (initial_words ts q.locals.items) (w ∷ []) many written
+      ∙ ap (with_words_from mid b 0) (sym all))

@@ -1,0 +1,4 @@
+pub mod Names
+pub mod Ranked
+pub mod Entered
+pub mod Doing
