@@ -1,5 +1,5 @@
 -- The array of the values that were taken.
-use Rattle.std.proofs.Common.{◌≡◌, ◌≢◌, ◌∙◌, ℕ, zero, suc, ◌+◌, ◌*◌, List, [], ◌∷◌, ◌++◌, length, map, reverse, take, drop, refl, sym, ap, subst, inl, arith, append_assoc}
+use Rattle.std.proofs.Common.{◌≡◌, ◌≢◌, ◌∙◌, inr, ℕ, zero, suc, ◌+◌, ◌*◌, List, [], ◌∷◌, ◌++◌, length, map, reverse, take, drop, refl, sym, ap, subst, inl, arith, append_assoc}
 use Rattle.std.specs.Prelude.{pos}
 use Rattle.std.proofs.lemmas.List.{reverse-append, reverse-reverse, take-append-drop}
 use Rattle.f3_program.specs.declared.declarations.Base.{Base}
@@ -128,7 +128,7 @@ module _ (p : Program) (t : s.State) (n : ℕ) (h : OnArray p t n) (old : State)
   is-block = record {
     offset = is.offset;
     large = inl some-dims;
-    contiguous = subst (IsContiguous (pos (words_for (shape_for p a.of)))) (sym is.dims) (ap pos size-words, tt);
+    contiguous = inr (subst (IsContiguous (pos (words_for (shape_for p a.of)))) (sym is.dims) (ap pos size-words, tt));
     live = subst (IsLive live) (sym is.block) (hand_live p t live old now x h.rest h.below (t.world).store block [] all-amid);
     words = ap (λ b. length (words_of live b)) is.block ∙ col.long
         ∙ (let one : size_of (a.elements).dims.items ≡ n * 1 = ap size_of is.dims in

@@ -1,5 +1,6 @@
 -- Values that are held for associate names stand on a level of their own.
 use Rattle.std.proofs.Common.{◌≡◌, ◌∙◌, inr, ℕ, zero, suc, ◌+◌, ◌<◌, ◌≤◌, ◌^◌, true, List, [], ◌∷◌, ◌++◌, length, map, append_assoc, refl, sym, ap, subst, arith}
+use Rattle.std.specs.Prelude.{◌⊎◌}
 use Rattle.std.specs.Prelude.{pos, Some, slice_get, slice_index_or}
 use Rattle.std.specs.List.{All}
 use Rattle.std.specs.declared.alloc.Global.{Global}
@@ -9,7 +10,7 @@ use Rattle.f3_program.specs.declared.declarations.Base.TheVariants as base
 use Rattle.f3_program.specs.declared.program.Program.{Program}
 use Rattle.f3_live_blocks.specs.Blocks.{Live}
 use Rattle.f3_desc.specs.declared.descriptor.Dim.{Dim}
-use Rattle.f3_desc.specs.Laws.{IsContiguous}
+use Rattle.f3_desc.specs.Laws.{IsContiguous, size_of}
 use Rattle.f3_meaning_whole.specs.Act.{to_root, whole}
 use Rattle.f3_meaning_whole.specs.Arithmetic.{constant_value}
 use Rattle.f3_meaning_whole.specs.Exec.{associates, held_by}
@@ -116,9 +117,9 @@ settled_is : (ds : List Dim) → settled (Laid (length ds) (spans_of ds)) ≡ La
 settled_is [] = refl
 settled_is (d ∷ ds) = refl
 
-dims_are : (n : ℕ) (ds : List Dim) → IsContiguous (pos n) ds → AreDimsOf n (Laid (length ds) (spans_of ds)) ds
+dims_are : (n : ℕ) (ds : List Dim) → (size_of ds ≡ 0) ⊎ IsContiguous (pos n) ds → AreDimsOf n (Laid (length ds) (spans_of ds)) ds
 dims_are n [] apart = (refl, refl)
-dims_are n (d ∷ ds) apart = ((λ e. cc), refl, inr apart)
+dims_are n (d ∷ ds) apart = ((λ e. cc), refl, apart)
 
 module _ (p : Program) (h : Global) (m : Live) (x : Rooms) where
   module _ (front behind : List Slot) (of : Base) (a : Area) (few : length a.elements.dims.items < 2 ^ 63) (block : IsBlock p m a)

@@ -1,5 +1,6 @@
 -- Dummies are for the objects that the machine over values has.
 use Rattle.std.proofs.Common.{◌≡◌, ◌∙◌, inr, ℕ, zero, suc, ◌+◌, ◌<◌, Bool, true, false, List, [], ◌∷◌, ◌++◌, length, map, refl, sym, ap, subst, arith, append_assoc, if◌then◌else◌}
+use Rattle.std.specs.Prelude.{◌⊎◌}
 use Rattle.std.specs.Prelude.{⊤, nat_eq, Some, slice_get, slice_index_or, pos}
 use Rattle.std.specs.declared.alloc.Global.{Global}
 use Rattle.std.proofs.lemmas.Bool.{eqb-true}
@@ -25,7 +26,7 @@ use Rattle.f3_meaning_whole.specs.Permitted.{same_type}
 use Rattle.f3_meaning_whole.specs.Formed as formed
 use Rattle.f3_code.specs.Exec.{is_held}
 use Rattle.f3_desc.specs.declared.descriptor.Dim.{Dim}
-use Rattle.f3_desc.specs.Laws.{IsContiguous}
+use Rattle.f3_desc.specs.Laws.{IsContiguous, size_of}
 use Rattle.f3_cell_kinds.specs.Holds.{IsOf}
 use Rattle.f3_cell_kinds.proofs.Asked.{and_is, some_is, some_same}
 use Rattle.f3_cell_kinds.proofs.Reaching.{AllPassed}
@@ -121,9 +122,9 @@ same_spans : (ds : List Dim) → spans_declared (map dimension_of ds) ≡ spans_
 same_spans [] = refl
 same_spans (d ∷ ds) = ap (λ ss. record { lower = d.lower; extent = d.extent } ∷ ss) (same_spans ds)
 
-held_dims : (n : ℕ) (ds : List Dim) → IsContiguous (pos n) ds → AreDimsOf n (settled (Laid (length ds) (spans_declared (map dimension_of ds)))) ds
+held_dims : (n : ℕ) (ds : List Dim) → (size_of ds ≡ 0) ⊎ IsContiguous (pos n) ds → AreDimsOf n (settled (Laid (length ds) (spans_declared (map dimension_of ds)))) ds
 held_dims n [] is = (refl, refl)
-held_dims n (d ∷ ds) is = ((λ e. cc), sym (same_spans (d ∷ ds)), inr is)
+held_dims n (d ∷ ds) is = ((λ e. cc), sym (same_spans (d ∷ ds)), is)
 
 module _ (p : Program) (h : Global) (live : Live) (x : Rooms) (ns : List Name) (unit : ℕ) (slots : List Slot) (values : List Value)
     (there : slice_index_or (store_of (types_of p) live (with_level x slots)).levels (length x.levels) [] ≡ values) where
