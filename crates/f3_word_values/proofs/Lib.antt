@@ -1,4 +1,4 @@
 pub mod Ending
 pub mod Does
 pub mod Widths
-pub mod Plain
+pub mod Spans

@@ -1,5 +1,5 @@
 -- How instructions end.
-use Rattle.std.specs.Prelude.{⊤, ◌≡◌, ◌+◌, pos, List, [], Result, Ok, Err}
+use Rattle.std.specs.Prelude.{⊤, ◌≡◌, ◌+◌, List, [], Result, Ok, Err}
 use Rattle.f3_program.specs.declared.declarations.Constant.{Constant}
 use Rattle.f3_meaning_whole.specs.declared.run_error.RunError.{RunError}
 use Rattle.f3_desc.specs.declared.descriptor.Dim.{Dim}
@@ -16,10 +16,6 @@ abbrev pub Finishes : Result Constant RunError → Result ⊤ Stop → State →
 Finishes (Ok c) (Ok done) old new = Pushed (scalar_cell c) (old.pc + 1) old new
 Finishes (Err e) (Err (stop.Failed f)) old new = f ≡ e
 Finishes given result old new = ⊥
-
--- the same dimension from 1 on
-abbrev pub from_one : Dim → Dim
-from_one d = record { lower = pos 1; extent = d.extent; stride = d.stride }
 
 -- the dimensions of a value
 abbrev pub dims_of : Datum → List Dim

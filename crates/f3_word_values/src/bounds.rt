@@ -1,26 +1,20 @@
 //! Bounds of arrays.
 
-ghost use Rattle.std.specs.Prelude.{◌≡◌, ◌≤◌, ◌^◌, ℕ, MatchOption, map, pos};
+ghost use Rattle.std.specs.Prelude.{◌≡◌, ◌≤◌, ◌^◌, ℕ, MatchOption, pos};
 ghost use Rattle.f3_places.specs.declared.source.Place.{Place};
-ghost use Rattle.f3_program.specs.declared.program.Program.{Program};
 ghost use Rattle.f3_program.specs.declared.declarations.Base.TheVariants.{Integer};
-ghost use Rattle.f3_program.specs.declared.declarations.Kind.{Kind};
-ghost use Rattle.f3_live_blocks.specs.Blocks.{Live};
 ghost use Rattle.f3_meaning_whole.specs.Value as m;
 ghost use Rattle.f3_meaning_whole.specs.Act.{Here};
 ghost use Rattle.f3_meaning_whole.specs.Arithmetic.{converted};
 ghost use Rattle.f3_meaning_whole.specs.Eval.{ask, asked};
 ghost use Rattle.f3_arithmetic.specs.Scalars.{scalar_ran};
-ghost use Rattle.f3_word_cells.specs.Areas.{span_of, spans_of, IsDatum};
-ghost use Rattle.f3_word_cells.specs.States.{datum_blocks, IsLaid};
-ghost use Rattle.f3_word_values.specs.Ends.{from_one};
+ghost use Rattle.f3_word_cells.specs.Areas.{span_of, spans_of};
 
 use crate::operations::converted;
 use f3_desc::descriptor::Dim;
 use f3_meaning_whole::run_error::RunError;
 use f3_program::declarations::{Base, Constant};
 use f3_program::expression::Query;
-use f3_word_cells::cell::Datum;
 
 /// How many elements an array of bounds has (ISO/IEC 1539-1:2004, 6.2.2.2): none where they are 2 to the 64 or more.
 fn count(dims: &[Dim]) -> Option<u64>
@@ -88,28 +82,4 @@ pub(crate) fn asked(query: Query, dims: &[Dim], dimension: i64) -> Result<Consta
         return default_number(ask(query, *first));
     }
     asked(query, others, dimension - 1)
-}
-
-/// Dimensions get lower bounds of 1.
-fn begin_at_one(dims: &mut [Dim])
-    ensures { dims.new ≡ map from_one dims.old }
-{
-    for dim in dims.iter_mut() {
-        dim.lower = 1;
-    }
-}
-
-/// The value of an expression that is no variable: its bounds are from 1 on.
-pub fn plain(datum: Datum) -> Datum
-    ensures value { (p : Program) (live : Live) (v : m.Value) → IsDatum p live datum v → IsDatum p live result (m.plain v) }
-    ensures kind { (p : Program) (k : Kind) → IsLaid p k datum → IsLaid p k result }
-    ensures blocks { datum_blocks result ≡ datum_blocks datum }
-{
-    match datum {
-        Datum::Block(mut area) => {
-            begin_at_one(area.elements.dims.as_mut_slice());
-            Datum::Block(area)
-        }
-        scalar => scalar,
-    }
 }

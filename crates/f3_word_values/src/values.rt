@@ -4,10 +4,10 @@ ghost use Rattle.std.specs.Prelude.{◌≡◌, ◌<◌, ◌≤◌, ◌^◌, leng
 ghost use Rattle.f3_code.specs.declared.instruction.Instruction.TheVariants.{Push, Plain, PassValue, SelectValue, Subscript, Limit, NoLimit, Triplet};
 ghost use Rattle.f3_word_cells.specs.Does.{Does, Keeps};
 
-use crate::bounds::plain as with_plain_bounds;
 use f3_arithmetic::operators::number_of;
 use f3_cells::cell::Chosen;
 use f3_program::declarations::{Base, Constant};
+use f3_word_areas::values::plain as with_plain_bounds;
 use f3_word_cells::cell::{Association, Cell, Datum, Passed};
 use f3_word_cells::state::{State, Stop};
 use f3_word_control::operands::{pop_bound, pop_datum, pop_scalar};

@@ -11,7 +11,7 @@ use Rattle.f3_word_control.proofs.Moving.{datum_taken}
 use Rattle.f3_word_control.proofs.Lines.{after_at, goes_with, goes}
 use Rattle.f3_word_control.proofs.Tops.{datum_on}
 use Rattle.f3_word_values.proofs.Does.{bounds_so}
-use Rattle.f3_word_values.proofs.Plain.{datum_spans}
+use Rattle.f3_word_values.proofs.Spans.{datum_spans}
 use Rattle.f3_word_values.proofs.queries.bounds_of_value.Goals as goal
 
 pub returns-in_default-clause-does : goal.returns-in_default-clause-does
