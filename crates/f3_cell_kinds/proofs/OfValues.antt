@@ -240,17 +240,17 @@ module _ (p : Program) (sites : ℕ → Site) (r : Kind) (s : Scope) where
         let y = component_at p j n in
         let same : y ≡ m.declared.kind = ap kind_of_part part in
         let f = picked p r s (nat_eq j.rank 0) is_opened all bs j m.declared.kind k (subscripts_are p r s xs) is in
-        first p sites (plain p sites (line o (i.ComponentOf n)) (at r s h) (cell.Object j ∷ []) (part_cell j y ∷ cell.Object j ∷ [])
+        first p sites (plain p sites (line o (i.ComponentOf n)) (at r s h) (cell.Object j ∷ []) (part_cell j n y ∷ cell.Object j ∷ [])
         (λ pc live c b. (
           j,
           m,
           held,
           part,
-          subst (λ (z : Kind). Leads sites pc (on (sites pc) (cell.Object j ∷ []) (part_cell j z ∷ cell.Object j ∷ []))) same b,
+          subst (λ (z : Kind). Leads sites pc (on (sites pc) (cell.Object j ∷ []) (part_cell j n z ∷ cell.Object j ∷ []))) same b,
         )))
-        (seq p sites (chosen_part xs o (part_cell j y ∷ cell.Object j ∷ h) bs f.0 fit)
-        (last p sites (from_same _ _ (sym (choices_over bs (part_cell j y ∷ cell.Object j ∷ []) h))
-        (plain p sites (line o (i.SelectOf is_opened n (subscript_count xs))) (at r s h) (choices_on bs (part_cell j y ∷ cell.Object j ∷ [])) (cell.Object k ∷ [])
+        (seq p sites (chosen_part xs o (part_cell j n y ∷ cell.Object j ∷ h) bs f.0 fit)
+        (last p sites (from_same _ _ (sym (choices_over bs (part_cell j n y ∷ cell.Object j ∷ []) h))
+        (plain p sites (line o (i.SelectOf is_opened n (subscript_count xs))) (at r s h) (choices_on bs (part_cell j n y ∷ cell.Object j ∷ [])) (cell.Object k ∷ [])
         (λ pc live c b. (
           j,
           m,
@@ -260,7 +260,7 @@ module _ (p : Program) (sites : ℕ → Site) (r : Kind) (s : Scope) where
           held,
           part,
           f.1,
-          subst (λ (z : Kind). Leads sites pc (on (sites pc) (choices_on bs (part_cell j z ∷ cell.Object j ∷ [])) (cell.Object k ∷ []))) same b,
+          subst (λ (z : Kind). Leads sites pc (on (sites pc) (choices_on bs (part_cell j n z ∷ cell.Object j ∷ [])) (cell.Object k ∷ []))) same b,
         ))))))
 
     pub chosen_part : {m : _} (xs : l.Row_of-Subscript m) (o : Option Place) (h : List CellType) (bs : List Bool) →

@@ -142,13 +142,13 @@ module _ (types : List Derived) where
       let of = ap (λ ts. component_type ts r.of n) same ∙ ap (λ t. component_type types t n) h.0 ∙ component_base types k.of n c e in
       looks_given _ w (of, f.0, f.1)
 
-  part_cell_by : (b : Bool) (k c : Kind) (q : Reference) → q.of ≡ c.of → (b ≡ true → Reaches c q.reach) → (b ≡ false → Reaches (of_kind c.of k.rank) q.reach) →
-      Is types (if b then cell.Object c else cell.Each k.rank c) (state.Object q)
-  part_cell_by true k c q of f g = (of, f refl)
-  part_cell_by false k c q of f g = (of, g refl)
+  part_cell_by : (b : Bool) (k : Kind) (n : ℕ) (c : Kind) (q : Reference) → q.of ≡ c.of → (b ≡ true → Reaches c q.reach) → (b ≡ false → Reaches (of_kind c.of k.rank) q.reach) →
+      Is types (if b then cell.Object c else cell.Each k n c) (state.Object q)
+  part_cell_by true k n c q of f g = (of, f refl)
+  part_cell_by false k n c q of f g = (of, g refl)
 
-  pub part_cell_is : (k c : Kind) (q : Reference) → IsPart k c q → Is types (part_cell k c) (state.Object q)
-  part_cell_is k c q h = part_cell_by (nat_eq k.rank 0) k c q h.0 h.1 h.2
+  pub part_cell_is : (k : Kind) (n : ℕ) (c : Kind) (q : Reference) → IsPart k c q → Is types (part_cell k n c) (state.Object q)
+  part_cell_is k n c q h = part_cell_by (nat_eq k.rank 0) k n c q h.0 h.1 h.2
 
   pub part_kind_is : (k c j : Kind) (q : Reference) → part_kind k c ≡ Some j → IsPart k c q → Refers j q
   part_kind_is k c j q e h = part_by types (nat_eq k.rank 0) k c j q.of q.reach h.0 h.1 h.2 e

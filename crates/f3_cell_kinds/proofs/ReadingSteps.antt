@@ -98,8 +98,8 @@ module _ (limit : ℕ) (g : Setting) (p : Program) (code : Code) (sites : ℕ �
   any_object (state.Object q ∷ st) c h = h q st c.by.0 (record { by = c.by.1 })
   any_object (x ∷ st) c h = stays_so p.types.items sites
 
-  each_object : {rank : ℕ} {k : Kind} {rest : List CellType} {f : Reference → List Cell → Next} (stack : List Cell) → Cells (cell.Each rank k ∷ rest) stack →
-      ((q : Reference) (st : List Cell) → Refers (of_kind k.of rank) q → Cells rest st → Kept (f q st)) → Kept (on_object stack f)
+  each_object : {a : Kind} {n : ℕ} {k : Kind} {rest : List CellType} {f : Reference → List Cell → Next} (stack : List Cell) → Cells (cell.Each a n k ∷ rest) stack →
+      ((q : Reference) (st : List Cell) → Refers (of_kind k.of a.rank) q → Cells rest st → Kept (f q st)) → Kept (on_object stack f)
   each_object [] c h = absurd c.by
   each_object (state.Object q ∷ st) c h = h q st c.by.0 (record { by = c.by.1 })
   each_object (x ∷ st) c h = stays_so p.types.items sites
@@ -177,7 +177,7 @@ module _ (limit : ℕ) (g : Setting) (p : Program) (code : Code) (sites : ℕ �
       (λ y f w. there b.next (top (part_kind_is p.types.items k c.declared.kind j y part f) d)))
   act_reads (i.ComponentOf n) (k, c, held, at_n, b) = standing b.before (λ q st h is d.
       performing_at p.types.items sites (component g n (Selected here.unit) q) s.world (component_given p.types.items g k c n (Selected here.unit) q s.world types_same held at_n h is)
-      (λ y f w. there b.next (top (part_cell_is p.types.items k c.declared.kind y f) (top h d))))
+      (λ y f w. there b.next (top (part_cell_is p.types.items k n c.declared.kind y f) (top h d))))
   act_reads (i.WorkComponent n) (k, c, scalar, at_n, b) = standing b.before (λ q st h is d.
       let a = and_is _ _ scalar in
       performing_at p.types.items sites (component g n Language q) s.world (component_given p.types.items g k c n Language q s.world types_same (not_is _ a.0) at_n h is)
@@ -196,12 +196,12 @@ module _ (limit : ℕ) (g : Setting) (p : Program) (code : Code) (sites : ℕ �
       beneath st c d (λ q st' h is c'. performing_at p.types.items sites (selects is_opened cs q here) s.world
       (selects_given p.types.items p is_opened k j bs cs q here s.world part are h is) (λ y f w. there b.next (top f c'))))
   act_reads (i.SelectOf is_opened m n) (k, c, bs, j, many, held, at_m, part, b) =
-      at_choices bs n many (b.before ∙ sym (choices_over bs (part_cell k c.declared.kind ∷ cell.Object k ∷ []) b.rest)) (λ cs st are d stand.
+      at_choices bs n many (b.before ∙ sym (choices_over bs (part_cell k m c.declared.kind ∷ cell.Object k ∷ []) b.rest)) (λ cs st are d stand.
       by_rank (nat_eq k.rank 0) refl cs st are d stand part)
     where
       by_rank : (t : Bool) → nat_eq k.rank 0 ≡ t → (cs : List Chosen) (st : List Cell) → AllChosen bs cs →
-          Cells ((if t then cell.Object c.declared.kind else cell.Each k.rank c.declared.kind) ∷ cell.Object k ∷ b.rest) st →
-          CellsStand p s.here s.world.store ((if t then cell.Object c.declared.kind else cell.Each k.rank c.declared.kind) ∷ cell.Object k ∷ b.rest) st →
+          Cells ((if t then cell.Object c.declared.kind else cell.Each k m c.declared.kind) ∷ cell.Object k ∷ b.rest) st →
+          CellsStand p s.here s.world.store ((if t then cell.Object c.declared.kind else cell.Each k m c.declared.kind) ∷ cell.Object k ∷ b.rest) st →
           (if t then sectioned p [] [] is_opened (Some bs) c.declared.kind else element_of_each p [] [] is_opened (Some bs) k c.declared.kind) ≡ Some j →
           Kept (on_object st (λ q st. on_object st (λ r st. performs (by_reach r.reach (selects is_opened cs q here)
           (picks_in_each (spans_of_component (component_of g.program.types.items r.of m)) q cs here)) s.world (λ q. machine.on s (state.Object q ∷ st)))))

@@ -68,9 +68,9 @@ drop_forget zero h = refl
 drop_forget (suc n) [] = refl
 drop_forget (suc n) (x ∷ h) = drop_forget n h
 
-part_forget : (b : Bool) (rank : ℕ) (k : Kind) → sort_of_type (if b then cell.Object k else cell.Each rank k) ≡ sort.Object
-part_forget true rank k = refl
-part_forget false rank k = refl
+part_forget : (b : Bool) (array : Kind) (n : ℕ) (k : Kind) → sort_of_type (if b then cell.Object k else cell.Each array n k) ≡ sort.Object
+part_forget true array n k = refl
+part_forget false array n k = refl
 
 limit_same : {hs : List Site} {ts : List (List Sort)} (b : Bool) (r : Kind) (s : Scope) (h : List CellType) (k : Kind) → Same hs ts →
     Same (if b then hs ++ at r s (cell.Datum k ∷ h) ∷ [] else at r s h ∷ []) (if b then ts ++ (sort.Datum ∷ forget h) ∷ [] else forget h ∷ [])
@@ -128,8 +128,8 @@ module _ (p : Program) where
       select_of_same h k n l.Whole = cons refl none
       select_of_same h k n l.Contents = cons refl (cons refl none)
       select_of_same h k n (l.Elements' is_opened m xs) =
-          let x = part_cell k (component_at p k n) in
-          let same : sort_of_type x ≡ sort.Object = part_forget (nat_eq k.rank 0) k.rank (component_at p k n) in
+          let x = part_cell k n (component_at p k n) in
+          let same : sort_of_type x ≡ sort.Object = part_forget (nat_eq k.rank 0) k n (component_at p k n) in
           cons refl (subst (λ (z : Sort). Same (chosen_sites p r s (x ∷ cell.Object k ∷ h) xs ++ at r s (choices_on (triplets xs) (x ∷ cell.Object k ∷ h)) ∷ [])
           (chosen_sorts (z ∷ sort.Object ∷ forget h) xs ++ (times (subscript_count xs) sort.Choice ++ (z ∷ sort.Object ∷ forget h)) ∷ [])) same
           (on (chosen_same (x ∷ cell.Object k ∷ h) xs) (cons (triplets_forget xs (x ∷ cell.Object k ∷ h)) none)))

@@ -145,8 +145,8 @@ range_fits t r = is_number t
 abbrev pub part_kind : Kind → Kind → Option Kind
 part_kind k c = if nat_eq k.rank 0 then Some c else only (is_scalar c) (of_kind c.of k.rank)
 
-abbrev pub part_cell : Kind → Kind → CellType
-part_cell k c = if nat_eq k.rank 0 then Object c else Each k.rank c
+abbrev pub part_cell : Kind → ℕ → Kind → CellType
+part_cell k n c = if nat_eq k.rank 0 then Object c else Each k n c
 
 -- elements of a component, or an element of the component of each element of an array
 abbrev pub picked_kind : Program → Bool → List Bool → Kind → Kind → Option Kind
@@ -197,13 +197,13 @@ module _ (p : Program) (s : Site) (v : Value) where
   Does (i.Component n) by = (k : Kind) × (c : Component) × (j : Kind) × (k.is_allocatable ≡ false) × (component_of p.types.items k.of n ≡ Some c)
       × (part_kind k c.declared.kind ≡ Some j) × by (on s (Object k ∷ []) (Object j ∷ []))
   Does (i.ComponentOf n) by = (k : Kind) × (c : Component) × (k.is_allocatable ≡ false) × (component_of p.types.items k.of n ≡ Some c)
-      × by (on s (Object k ∷ []) (part_cell k c.declared.kind ∷ Object k ∷ []))
+      × by (on s (Object k ∷ []) (part_cell k n c.declared.kind ∷ Object k ∷ []))
   Does i.Contents by = (k : Kind) × (k.is_allocatable ≡ true) × by (on s (Object k ∷ []) (Object (held_kind k) ∷ []))
   Does (i.Select is_opened n) by = (k : Kind) × (bs : List Bool) × (j : Kind) × (length bs ≡ n) × (sectioned p [] [] is_opened (Some bs) k ≡ Some j)
       × by (on s (choices_on bs (Object k ∷ [])) (Object j ∷ []))
   Does (i.SelectOf is_opened m n) by = (k : Kind) × (c : Component) × (bs : List Bool) × (j : Kind) × (length bs ≡ n)
       × (k.is_allocatable ≡ false) × (component_of p.types.items k.of m ≡ Some c) × (picked_kind p is_opened bs k c.declared.kind ≡ Some j)
-      × by (on s (choices_on bs (part_cell k c.declared.kind ∷ Object k ∷ [])) (Object j ∷ []))
+      × by (on s (choices_on bs (part_cell k m c.declared.kind ∷ Object k ∷ [])) (Object j ∷ []))
   Does i.Subscript by = (k : Kind) × (is_whole_number k ≡ true) × by (on s (Datum k ∷ []) (Choice false ∷ []))
   Does i.Limit by = (k : Kind) × (is_whole_number k ≡ true) × by (on s (Datum k ∷ []) (Bound ∷ []))
   Does i.NoLimit by = by (on s [] (Bound ∷ []))

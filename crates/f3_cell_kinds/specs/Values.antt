@@ -117,8 +117,8 @@ module _ (p : Program) where
       select_of_sites h k n l.Whole = at r s (cell.Object k ∷ h) ∷ []
       select_of_sites h k n l.Contents = at r s (cell.Object k ∷ h) ∷ at r s (cell.Object (component_at k n) ∷ h) ∷ []
       select_of_sites h k n (l.Elements' is_opened m xs) = at r s (cell.Object k ∷ h)
-          ∷ (chosen_sites (part_cell k (component_at k n) ∷ cell.Object k ∷ h) xs
-          ++ at r s (choices_on (triplets xs) (part_cell k (component_at k n) ∷ cell.Object k ∷ h)) ∷ [])
+          ∷ (chosen_sites (part_cell k n (component_at k n) ∷ cell.Object k ∷ h) xs
+          ++ at r s (choices_on (triplets xs) (part_cell k n (component_at k n) ∷ cell.Object k ∷ h)) ∷ [])
 
       pub chosen_sites : {m : _} → List CellType → l.Row_of-Subscript m → List Site
       chosen_sites h l.end_of-Subscript = []

@@ -3,3 +3,4 @@ pub mod Asking
 mod Ends
 mod Hinted
 mod Sizes
+mod Short

@@ -1,6 +1,6 @@
 //! What a heap of blocks is.
 
-ghost use Rattle.std.specs.Prelude.{◌≡◌, ◌≢◌, ◌↔◌, ◌<◌, ◌+◌, ◌-◌, ℕ, ℤ, pos, Bool, true, false, List, length};
+ghost use Rattle.std.specs.Prelude.{◌≡◌, ◌≢◌, ◌↔◌, ◌<◌, ◌+◌, ◌-◌, ◌^◌, ℕ, ℤ, pos, Bool, true, false, List, length};
 ghost use Rattle.std.specs.Prelude.{IfOk, IfSome, IfNone, OnOk, OnErr, IsOk, slice_set, slice_index_or};
 ghost use Rattle.std.specs.FinMap.{get, remove};
 ghost use Rattle.std.specs.Borrow.{sem, Lends, Array, i64 as word_type};
@@ -150,6 +150,10 @@ pub trait Blocks {
     /// Whether a block of so many words can be taken.
     fn room(&self, words: usize) -> bool
         ensures { result ≡ has_room self.now words };
+
+    /// Each block has fewer than 2 to the 63 words, since the host's memory holds no more. A call does nothing, and only says so.
+    fn blocks_are_short(&self)
+        ensures { (b : ℕ) → length (words_of (blocks self.now) b) < 2 ^ 63 };
 
     // Full is allowed exactly where there is no room
     ghost refuses: { (s : Self) (w : ℕ) → allows (kept s) (sizes (blocks s)) w Full ↔ (has_room s w ≡ false) };

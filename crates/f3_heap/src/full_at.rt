@@ -113,6 +113,11 @@ impl<B: Blocks> Blocks for FullAt<B> {
         self.at != 1 && self.blocks.room(words)
     }
 
+    #[inline(always)]
+    fn blocks_are_short(&self) {
+        self.blocks.blocks_are_short();
+    }
+
     ghost refuses = { λ s w. full_at_refuses B.allows (refused_take s) (B.kept (behind s))
         (sizes (B.blocks (behind s))) w (B.has_room (behind s) w) (B.refuses (behind s) w) };
 

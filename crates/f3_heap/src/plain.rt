@@ -237,6 +237,11 @@ impl Blocks for PlainBlocks {
         fits(words, self.size - self.used)
     }
 
+    #[inline(always)]
+    fn blocks_are_short(&self) {
+        let _size = self.size;
+    }
+
     ghost refuses = { λ h w. plain_refuses h.size h.blocks w };
 
     ghost pair_keeps = { λ h b ws. refl };

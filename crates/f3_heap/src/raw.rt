@@ -183,6 +183,11 @@ impl Blocks for RawHeap {
         has_room(&self.arena.region, &self.arena.book, words)
     }
 
+    #[inline(always)]
+    fn blocks_are_short(&self) {
+        let _size = self.arena.book.size;
+    }
+
     ghost refuses = { λ h w. raw_refuses h.size h.blocks w };
 
     ghost pair_keeps = { λ h b ws. refl };

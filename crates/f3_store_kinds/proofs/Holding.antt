@@ -85,7 +85,7 @@ module _ (types : List Derived) (sites : ℕ → Site) where
 
   cell_more : (g h : Typing) (x : CellType) (c : Cell) → Within g h → CellLeads types g x c → CellLeads types h x c
   cell_more g h (cell.Object k) (state.Object r) w e = leads_more types g h k r w e
-  cell_more g h (cell.Each rank k) (state.Object r) w e = each_more types g h k r w e
+  cell_more g h (cell.Each array number k) (state.Object r) w e = each_more types g h k r w e
   cell_more g h (cell.Argument x) (state.Argument y) w e = passed_more g h x y w e
   cell_more g h (cell.Elements of) (state.Elements ps) w e = paths_more g h (of_kind of 0) ps w e
   cell_more g h (cell.Objects ks) (state.Objects rs) w e = all_more types g h ks rs w e
@@ -246,8 +246,8 @@ module _ (p : Program) (sites : ℕ → Site) (g : Typing) where
     at_object (state.Object q ∷ st) s h = h q st s.by.0 s.leads.0 (record { by = s.by.1; leads = s.leads.1 })
     at_object (c ∷ st) s h = stays_so
 
-    pub at_each : {rank : ℕ} {k : Kind} {rest : List CellType} {f : Reference → List Cell → Next} (stack : List Cell) → Has (cell.Each rank k ∷ rest) stack →
-        ((q : Reference) (st : List Cell) → Refers (of_kind k.of rank) q → EachLeads types g k q → Has rest st → Keeps (f q st)) → Keeps (on_object stack f)
+    pub at_each : {a : Kind} {n : ℕ} {k : Kind} {rest : List CellType} {f : Reference → List Cell → Next} (stack : List Cell) → Has (cell.Each a n k ∷ rest) stack →
+        ((q : Reference) (st : List Cell) → Refers (of_kind k.of a.rank) q → EachLeads types g k q → Has rest st → Keeps (f q st)) → Keeps (on_object stack f)
     at_each [] s h = absurd s.by
     at_each (state.Object q ∷ st) s h = h q st s.by.0 s.leads.0 (record { by = s.by.1; leads = s.leads.1 })
     at_each (c ∷ st) s h = stays_so

@@ -230,10 +230,10 @@ module _ (limit : ℕ) (w : Setting) (p : Program) (code : Code) (sites : ℕ �
 
   -- ---- cells
 
-  part_cell_on : (b : Bool) (k c : Kind) (q : Reference) (xs : List CellType) (stack : List Cell) → nat_eq k.rank 0 ≡ b → PartLeads types g k c q → Below xs stack →
-      Below ((if b then cell.Object c else cell.Each k.rank c) ∷ xs) (state.Object q ∷ stack)
-  part_cell_on true k c q xs stack e h f = (h.0 e, f)
-  part_cell_on false k c q xs stack e h f = ((h.1 e).0, f)
+  part_cell_on : (b : Bool) (k : Kind) (n : ℕ) (c : Kind) (q : Reference) (xs : List CellType) (stack : List Cell) → nat_eq k.rank 0 ≡ b → PartLeads types g k c q → Below xs stack →
+      Below ((if b then cell.Object c else cell.Each k n c) ∷ xs) (state.Object q ∷ stack)
+  part_cell_on true k n c q xs stack e h f = (h.0 e, f)
+  part_cell_on false k n c q xs stack e h f = ((h.1 e).0, f)
 
   -- ---- constructs
 
@@ -453,7 +453,7 @@ module _ (limit : ℕ) (w : Setting) (p : Program) (code : Code) (sites : ℕ �
       (λ y u f e'. there b.next e' (part_kind_leads types g k c.declared.kind j y part f, d.leads)))
   act_leads (i.ComponentOf n) (k, c, held, at_n, b) cl = object s.stack (had b.before) (λ q st h e d.
       performing_calm p sites g (component w n (Selected here.unit) q) s.world (component_calm types g w k n c (Selected here.unit) q s.world.store acc.store held at_n h.1 e)
-      (λ y u f e'. there b.next e' (part_cell_on (nat_eq k.rank 0) k c.declared.kind y (cell.Object k ∷ b.rest) (state.Object q ∷ st) refl f (e, d.leads))))
+      (λ y u f e'. there b.next e' (part_cell_on (nat_eq k.rank 0) k n c.declared.kind y (cell.Object k ∷ b.rest) (state.Object q ∷ st) refl f (e, d.leads))))
   act_leads i.Contents (k, held, b) cl = object s.stack (had b.before) (λ q st h e c.
       performing_calm p sites g (contents q here) s.world (contents_calm types g k q here s.world.store acc.store held h e) (λ y u f e'. there b.next e' (f.1, c.leads)))
   act_leads (i.Select is_opened n) (k, bs, j, many, part, b) cl = at_choices p sites g Rest s.here.level s.here.names K o r fits.end bs n s.stack many
@@ -461,10 +461,10 @@ module _ (limit : ℕ) (w : Setting) (p : Program) (code : Code) (sites : ℕ �
       performing_calm p sites g (selects is_opened cs y here) s.world (selects_calm types g p is_opened k j bs cs y here s.world.store acc.store part are h e)
       (λ z u f e'. there b.next e' (f, c.leads))))
   act_leads (i.SelectOf is_opened m n) (k, c, bs, j, many, held, at_m, part, b) cl = at_choices p sites g Rest s.here.level s.here.names K o r fits.end bs n s.stack many
-      (had (b.before ∙ sym (choices_over bs (part_cell k c.declared.kind ∷ cell.Object k ∷ []) b.rest))) (λ cs st are q. by_rank (nat_eq k.rank 0) refl cs st are q part)
+      (had (b.before ∙ sym (choices_over bs (part_cell k m c.declared.kind ∷ cell.Object k ∷ []) b.rest))) (λ cs st are q. by_rank (nat_eq k.rank 0) refl cs st are q part)
     where
       by_rank : (t : Bool) → nat_eq k.rank 0 ≡ t → (cs : List Chosen) (st : List Cell) → AllChosen bs cs →
-          Cells ((if t then cell.Object c.declared.kind else cell.Each k.rank c.declared.kind) ∷ cell.Object k ∷ b.rest) st →
+          Cells ((if t then cell.Object c.declared.kind else cell.Each k m c.declared.kind) ∷ cell.Object k ∷ b.rest) st →
           (if t then sectioned p [] [] is_opened (Some bs) c.declared.kind else element_of_each p [] [] is_opened (Some bs) k c.declared.kind) ≡ Some j →
           Kept (on_object st (λ q st. on_object st (λ y st. performs (by_reach y.reach (selects is_opened cs q here)
           (picks_in_each (spans_of_component (component_of w.program.types.items y.of m)) q cs here)) s.world (λ q. machine.on s (state.Object q ∷ st)))))

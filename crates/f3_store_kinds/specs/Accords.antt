@@ -50,7 +50,7 @@ module _ (types : List Derived) where
 
   abbrev pub CellLeads : Typing → CellType → Cell → Type 0
   CellLeads g (cell.Object k) (state.Object r) = Leads types g k r
-  CellLeads g (cell.Each rank k) (state.Object r) = EachLeads types g k r
+  CellLeads g (cell.Each array number k) (state.Object r) = EachLeads types g k r
   CellLeads g (cell.Argument x) (state.Argument y) = PassedLeads g x y
   CellLeads g (cell.Elements of) (state.Elements ps) = AllLeadTo types g (of_kind of 0) ps
   CellLeads g (cell.Objects ks) (state.Objects rs) = AllLead types g ks rs

@@ -91,6 +91,7 @@ module _ (p : Program) (n : Live) where
   cell_counts x ns (c.Level k z) b is = refl
   cell_counts x ns (c.Outside z) b is = refl
   cell_counts x ns (c.Going z) b is = refl
+  cell_counts x ns (c.Each z k) b is = refl
 
   -- so of the cells of an activation, where what is beneath tells so of those beneath
   own_count : (Rest : Rooms → List Name → Type 0) (Goal : Type 0) → ((y : Rooms) (ms : List Name) → Rest y ms → Goal) → (x : Rooms) (ns : List Name)

@@ -51,6 +51,8 @@ module _ (p : Program) (n : Live) (types : List Derived) (sites : ℕ → Site) 
   nothing_under x ns (c.Outside d) b below o r end is stand = is
   nothing_under x ns (c.Going d) (s.Going v) below o r end is stand = stand
   nothing_under x ns (c.Going d) b below o r end is stand = is
+  nothing_under x ns (c.Each d k) (s.Object v) below o r end is stand = stand
+  nothing_under x ns (c.Each d k) b below o r end is stand = is
 
   -- a cell
   datum_holds : (k : CellType) (v : Value) → HoldsNone k → Is types k (s.Datum v) → ⊥
@@ -81,6 +83,7 @@ module _ (p : Program) (n : Live) (types : List Derived) (sites : ℕ → Site) 
   cell_empty x ns (c.Level d e) b k is none of = refl
   cell_empty x ns (c.Outside d) b k is none of = refl
   cell_empty x ns (c.Going d) b k is none of = refl
+  cell_empty x ns (c.Each d z) b k is none of = refl
 
   -- those of an activation, and what stands beneath
   cells_empty : (Rest : Rooms → List Name → Type 0) (Goal : Type 0) → ((y : Rooms) (ms : List Name) → Rest y ms → Goal) → (x : Rooms) (ns : List Name)

@@ -30,7 +30,7 @@ idle_holds : (k : CellType) → IsIdle k → HoldsNone k
 idle_holds (cell.Level ks) idle = absurd idle
 idle_holds (cell.Datum k) idle = idle
 idle_holds (cell.Object k) idle = idle
-idle_holds (cell.Each k j) idle = idle
+idle_holds (cell.Each array k j) idle = idle
 idle_holds (cell.Argument k) idle = idle
 idle_holds (cell.Choice k) idle = idle
 idle_holds cell.Bound idle = idle

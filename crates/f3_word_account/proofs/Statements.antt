@@ -11,7 +11,7 @@ constructs_idle : (xs : List CellType) → AreConstructs (map sort_of_type xs) �
 constructs_idle [] are out = tt
 constructs_idle ((cell.Datum k) ∷ xs) are out = absurd are
 constructs_idle ((cell.Object k) ∷ xs) are out = absurd are
-constructs_idle ((cell.Each k j) ∷ xs) are out = absurd are
+constructs_idle ((cell.Each array k j) ∷ xs) are out = absurd are
 constructs_idle ((cell.Argument k) ∷ xs) are out = absurd are
 constructs_idle ((cell.Choice k) ∷ xs) are out = absurd are
 constructs_idle (cell.Bound ∷ xs) are out = absurd are

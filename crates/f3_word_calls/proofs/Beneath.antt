@@ -13,6 +13,7 @@ use Rattle.f3_word_cells.specs.declared.cell.Passed.{Passed}
 use Rattle.f3_word_cells.specs.declared.cell.Passed.TheVariants as passed
 use Rattle.f3_word_cells.specs.declared.cell.Association.{Association}
 use Rattle.f3_word_cells.specs.declared.cell.Association.TheVariants as association
+use Rattle.f3_word_cells.specs.declared.cell.Object.TheVariants as o
 use Rattle.f3_word_cells.specs.declared.cell.Here.{Here}
 use Rattle.f3_word_cells.specs.declared.cell.Cell.{Cell}
 use Rattle.f3_word_cells.specs.declared.cell.Cell.TheVariants as c
@@ -51,6 +52,7 @@ rooms_before_both y x k are = record {
 rooms_under_both : (a : Cell) (y x : Rooms) → AreRooms y x → AreRooms (rooms_under a y) (rooms_under a x)
 rooms_under_both (c.Datum d) y x are = are
 rooms_under_both (c.Object d) y x are = are
+rooms_under_both (c.Each d e) y x are = are
 rooms_under_both (c.Argument d) y x are = are
 rooms_under_both (c.Choice d) y x are = are
 rooms_under_both (c.Bound d) y x are = are
@@ -73,6 +75,7 @@ first_take_both k ms ns first = subst (λ zs. AreFirst (take k ms) (take k zs)) 
 first_under_both : (a : Cell) (ms ns : List Name) → AreFirst ms ns → AreFirst (names_under a ms) (names_under a ns)
 first_under_both (c.Datum d) ms ns first = first
 first_under_both (c.Object d) ms ns first = first
+first_under_both (c.Each d e) ms ns first = first
 first_under_both (c.Argument d) ms ns first = first
 first_under_both (c.Choice d) ms ns first = first
 first_under_both (c.Bound d) ms ns first = first
@@ -105,6 +108,9 @@ module _ (p : Program) (live : Live) where
     cell_within (c.Datum d) b is = absurd is
     cell_within (c.Object d) (s.Object r) is = object_within p y x are d r is
     cell_within (c.Object d) b is = absurd is
+    cell_within (c.Each d e) (s.Object r) is =
+        record { array = is.array; stands = object_within p y x are (o.Stands d) is.array is.stands; components = is.components }
+    cell_within (c.Each d e) b is = absurd is
     cell_within (c.Argument d) (s.Argument b) is = passed_within d b is
     cell_within (c.Argument d) b is = absurd is
     cell_within (c.Choice d) (s.Choice b) is = is
@@ -129,6 +135,7 @@ module _ (p : Program) (live : Live) where
     around_within : (h : Here) (here : m.Here) (a : Cell) → IsWithin p live y ms h here a → IsWithin p live x ns h here a
     around_within h here (c.Datum d) is = is
     around_within h here (c.Object d) is = is
+    around_within h here (c.Each d e) is = is
     around_within h here (c.Argument d) is = is
     around_within h here (c.Choice d) is = is
     around_within h here (c.Bound d) is = is

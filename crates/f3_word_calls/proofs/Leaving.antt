@@ -220,6 +220,7 @@ module _ (p : Program) (live : Live) where
   to_cell : (x : Rooms) (ns : List Name) (a : Cell) (pc : ℕ) (place : Place) → IsCell p x live ns a (s.To pc place) → ⊥
   to_cell x ns (c.Datum d) pc place is = is
   to_cell x ns (c.Object d) pc place is = is
+  to_cell x ns (c.Each d e) pc place is = is
   to_cell x ns (c.Argument d) pc place is = is
   to_cell x ns (c.Choice d) pc place is = is
   to_cell x ns (c.Bound d) pc place is = is

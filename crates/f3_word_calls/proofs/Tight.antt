@@ -72,6 +72,7 @@ module _ (p : Program) (ys : List Cell) (f : Caller) (fs : List Caller) where
   called_back ls n (c.Level level range ∷ zs) are = back_less ls level (called_back (take level ls) range.from zs are.3)
   called_back ls n (c.Datum d ∷ zs) are = called_back ls n zs are
   called_back ls n (c.Object d ∷ zs) are = called_back ls n zs are
+  called_back ls n (c.Each d e ∷ zs) are = called_back ls n zs are
   called_back ls n (c.Argument d ∷ zs) are = called_back ls n zs are
   called_back ls n (c.Choice d ∷ zs) are = called_back ls n zs are
   called_back ls n (c.Bound d ∷ zs) are = called_back ls n zs are

@@ -22,6 +22,7 @@ module _ (p : Program) (live : Live) (x : Rooms) where
   pub objects_cell : (ns : List Name) (a : Cell) (rs : List Reference) → IsCell p x live ns a (s.Objects rs) → (range : Range) × (a ≡ c.Objects range)
   objects_cell ns (c.Datum d) rs is = absurd is
   objects_cell ns (c.Object d) rs is = absurd is
+  objects_cell ns (c.Each d e) rs is = absurd is
   objects_cell ns (c.Argument d) rs is = absurd is
   objects_cell ns (c.Choice d) rs is = absurd is
   objects_cell ns (c.Bound d) rs is = absurd is
@@ -36,6 +37,7 @@ module _ (p : Program) (live : Live) (x : Rooms) where
   pub datum_cell : (ns : List Name) (a : Cell) (v : Value) → IsCell p x live ns a (s.Datum v) → (d : Datum) × (a ≡ c.Datum d)
   datum_cell ns (c.Datum d) v is = (d, refl)
   datum_cell ns (c.Object d) v is = absurd is
+  datum_cell ns (c.Each d e) v is = absurd is
   datum_cell ns (c.Argument d) v is = absurd is
   datum_cell ns (c.Choice d) v is = absurd is
   datum_cell ns (c.Bound d) v is = absurd is
@@ -50,6 +52,7 @@ module _ (p : Program) (live : Live) (x : Rooms) where
   pub going_cell : (ns : List Name) (a : Cell) (f : Flow) → IsCell p x live ns a (s.Going f) → (w : Way) × (a ≡ c.Going w)
   going_cell ns (c.Datum d) f is = absurd is
   going_cell ns (c.Object d) f is = absurd is
+  going_cell ns (c.Each d e) f is = absurd is
   going_cell ns (c.Argument d) f is = absurd is
   going_cell ns (c.Choice d) f is = absurd is
   going_cell ns (c.Bound d) f is = absurd is
@@ -65,6 +68,7 @@ module _ (p : Program) (live : Live) (x : Rooms) where
       → (z : ℕ × Range) × (a ≡ level_cell z)
   level_is ns (c.Datum d) k rs is = absurd is
   level_is ns (c.Object d) k rs is = absurd is
+  level_is ns (c.Each d e) k rs is = absurd is
   level_is ns (c.Argument d) k rs is = absurd is
   level_is ns (c.Choice d) k rs is = absurd is
   level_is ns (c.Bound d) k rs is = absurd is

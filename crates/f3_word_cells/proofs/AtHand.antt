@@ -35,7 +35,7 @@ hand_told p pc n h zs o e are = subst (λ (a : Around). InScope p.types.items (�
 amid_next : (k : CellType) (ks : List CellType) → IsAmid (map sort_of_type (k ∷ ks)) → (IsPlain (sort_of_type k) × IsAmid (map sort_of_type ks)) ⊎ ((o : Scope) × (k ≡ cell.Outside o))
 amid_next (cell.Datum k) ks amid = inl (tt, amid)
 amid_next (cell.Object k) ks amid = inl (tt, amid)
-amid_next (cell.Each rank k) ks amid = inl (tt, amid)
+amid_next (cell.Each array number k) ks amid = inl (tt, amid)
 amid_next (cell.Argument g) ks amid = inl (tt, amid)
 amid_next (cell.Choice b) ks amid = inl (tt, amid)
 amid_next cell.Bound ks amid = inl (tt, amid)

@@ -29,8 +29,8 @@ plain_is_flat types (cell.Datum k) (s.Datum v) plain is = tt
 plain_is_flat types (cell.Datum k) b plain is = absurd is
 plain_is_flat types (cell.Object k) (s.Object r) plain is = tt
 plain_is_flat types (cell.Object k) b plain is = absurd is
-plain_is_flat types (cell.Each rank k) (s.Object r) plain is = tt
-plain_is_flat types (cell.Each rank k) b plain is = absurd is
+plain_is_flat types (cell.Each array n k) (s.Object r) plain is = tt
+plain_is_flat types (cell.Each array n k) b plain is = absurd is
 plain_is_flat types (cell.Argument g) (s.Argument a) plain is = tt
 plain_is_flat types (cell.Argument g) b plain is = absurd is
 plain_is_flat types (cell.Choice k) (s.Choice z) plain is = tt
@@ -62,6 +62,7 @@ module _ (p : Program) (live : Live) where
       → IsCell p x live ns a b → IsFlat b → Holds (rooms_under a x) (names_under a ns) (here_under a h) (here_beneath a b here) → Holds x ns h here
   flat_under Holds x ns h here (c.Datum d) b is flat holds = holds
   flat_under Holds x ns h here (c.Object d) b is flat holds = holds
+  flat_under Holds x ns h here (c.Each d e) b is flat holds = holds
   flat_under Holds x ns h here (c.Argument d) b is flat holds = holds
   flat_under Holds x ns h here (c.Choice d) b is flat holds = holds
   flat_under Holds x ns h here (c.Bound d) b is flat holds = holds
@@ -80,6 +81,7 @@ module _ (p : Program) (live : Live) where
       → IsWithin p live x ns h here a × (Holds x ns h here → Holds (rooms_under a x) (names_under a ns) (here_under a h) (here_beneath a b here))
   flat_above Holds x ns h here (c.Datum d) b is flat = (tt, λ holds. holds)
   flat_above Holds x ns h here (c.Object d) b is flat = (tt, λ holds. holds)
+  flat_above Holds x ns h here (c.Each d e) b is flat = (tt, λ holds. holds)
   flat_above Holds x ns h here (c.Argument d) b is flat = (tt, λ holds. holds)
   flat_above Holds x ns h here (c.Choice d) b is flat = (tt, λ holds. holds)
   flat_above Holds x ns h here (c.Bound d) b is flat = (tt, λ holds. holds)

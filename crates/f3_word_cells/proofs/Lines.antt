@@ -9,7 +9,8 @@ use Rattle.f3_meaning_whole.specs.Value.{Value}
 use Rattle.f3_meaning_whole.specs.Store.{Store}
 use Rattle.f3_meaning_whole.specs.declared.run_error.RunError.{RunError}
 use Rattle.f3_meaning_whole.specs.declared.run_error.RunError.TheVariants.{HeapHasNoRoom}
-use Rattle.f3_meaning_whole.specs.Ran.{Event, World, Ran, gives, fails, looks, does, asks, replayed, ◌>>=◌}
+use Rattle.f3_meaning_whole.specs.Reference.{Read}
+use Rattle.f3_meaning_whole.specs.Ran.{Event, Change, Changed, World, Ran, gives, fails, looks, does, asks, replayed, ◌>>=◌}
 use Rattle.f3_meaning_whole.specs.Act.{Here, claim, claim_for, needs_storage}
 use Rattle.f3_meaning_whole.specs.Run.{output}
 use Rattle.f3_code.specs.declared.instruction.Instruction.{Instruction}
@@ -26,7 +27,7 @@ use Rattle.f3_word_cells.specs.declared.state.Stop.TheVariants as stop
 use Rattle.f3_word_cells.specs.Scenes.{code_of}
 use Rattle.f3_word_cells.specs.Moves.{WentAhead}
 use Rattle.f3_word_cells.specs.States.{Stands}
-use Rattle.f3_word_cells.specs.Does.{AreGranted, Becomes, GoesOn, IsLost, RefusedAt, StopsSo, stream}
+use Rattle.f3_word_cells.specs.Does.{AreGranted, Becomes, GoesOn, IsForbidden, IsLost, RefusedAt, StopsSo, stream}
 use Rattle.f3_word_cells.proofs.Amid.{Amid, amid_last, amid_moved}
 use Rattle.f3_word_cells.proofs.Moving.{moved_to}
 use Rattle.f3_word_cells.proofs.Orderly.{IsAfter}
@@ -168,3 +169,10 @@ becomes_ahead p m n old mid new x ks t l stack d total (Err (stop.Failed error))
 becomes_ahead p m n old mid new x ks t l stack d total (Err stop.Forbidden) st amid line kinds size went goes = absurd went
 becomes_ahead p m n old mid new x ks t l stack d total (Err stop.Refused) st amid line kinds size went goes = absurd went
 becomes_ahead p m n old mid new x ks t l stack d total (Err stop.Memory) st amid line kinds size went goes = absurd went
+
+-- the line would change what may only be read
+pub line_forbids : (p : Program) (l : Line) (t : s.State) (x : Instruction) (stack : List s.Cell) (u : s.State) (given : List Bool) (c : Change) (vs : List Value)
+    → (c.reference).right ≡ Read → l.act ≡ x → t.stack ≡ stack
+    → ((rest : ℕ → Bool) → does_so p l t x stack given rest ≡ Goes (Changed c vs ∷ []) (with_answers rest u)) → IsForbidden p l t
+line_forbids p l t x stack u given c vs right e f h =
+    record { change = c; right = right; values = vs; next = u; given = given; changes = λ rest. line_is p l t x stack given rest e f ∙ h rest }

@@ -129,10 +129,10 @@ pub of_object : (types : List Derived) (k : Kind) (c : s.Cell) → Is types (cel
 of_object types k (s.Object r) h = (r, refl, h)
 of_object types k c h = absurd h
 
-pub of_each : (types : List Derived) (rank : ℕ) (k : Kind) (c : s.Cell) → Is types (cell.Each rank k) c
-    → (r : Reference) × (c ≡ s.Object r) × Refers (formed.of_kind k.of rank) r
-of_each types rank k (s.Object r) h = (r, refl, h)
-of_each types rank k c h = absurd h
+pub of_each : (types : List Derived) (array : Kind) (n : ℕ) (k : Kind) (c : s.Cell) → Is types (cell.Each array n k) c
+    → (r : Reference) × (c ≡ s.Object r) × Refers (formed.of_kind k.of array.rank) r
+of_each types array n k (s.Object r) h = (r, refl, h)
+of_each types array n k c h = absurd h
 
 pub of_argument : (types : List Derived) (g : formed.Given) (c : s.Cell) → Is types (cell.Argument g) c
     → (a : m.Passed) × (c ≡ s.Argument a) × IsPassed types g a

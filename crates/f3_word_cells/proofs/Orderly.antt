@@ -58,6 +58,7 @@ IsFlatCell a = ⊤
 pub flat_cell : (p : Program) (x : Rooms) (live : Live) (ns : List Name) (a : Cell) (b : s.Cell) → IsCell p x live ns a b → IsFlat b → IsFlatCell a
 flat_cell p x live ns (c.Datum d) b is flat = tt
 flat_cell p x live ns (c.Object d) b is flat = tt
+flat_cell p x live ns (c.Each d e) b is flat = tt
 flat_cell p x live ns (c.Argument d) b is flat = tt
 flat_cell p x live ns (c.Choice d) b is flat = tt
 flat_cell p x live ns (c.Bound d) b is flat = tt
@@ -75,6 +76,7 @@ flat_cell p x live ns (c.Going d) b is flat = tt
 pub hand_flat : (n : ℕ) (h : Here) (a : Cell) (zs : List Cell) → IsFlatCell a → AreAtHand n h (a ∷ zs) ≡ AreAtHand n h zs
 hand_flat n h (c.Datum d) zs flat = refl
 hand_flat n h (c.Object d) zs flat = refl
+hand_flat n h (c.Each d e) zs flat = refl
 hand_flat n h (c.Argument d) zs flat = refl
 hand_flat n h (c.Choice d) zs flat = refl
 hand_flat n h (c.Bound d) zs flat = refl
@@ -90,6 +92,7 @@ pub tight_flat : (Rest : List (List Slot) → ℕ → Type 0) (ls : List (List S
     → AreTight Rest ls n (a ∷ zs) ≡ AreTight Rest ls n zs
 tight_flat Rest ls n (c.Datum d) zs flat = refl
 tight_flat Rest ls n (c.Object d) zs flat = refl
+tight_flat Rest ls n (c.Each d e) zs flat = refl
 tight_flat Rest ls n (c.Argument d) zs flat = refl
 tight_flat Rest ls n (c.Choice d) zs flat = refl
 tight_flat Rest ls n (c.Bound d) zs flat = refl
@@ -113,6 +116,7 @@ hand_named n h k (c.Outside outer ∷ zs) e are = (ap end_of e ∙ are.0, are.1)
 hand_named n h k (c.Level level range ∷ zs) e are = hand_named range.from h k zs e are
 hand_named n h k (c.Datum d ∷ zs) e are = hand_named n h k zs e are
 hand_named n h k (c.Object d ∷ zs) e are = hand_named n h k zs e are
+hand_named n h k (c.Each d f ∷ zs) e are = hand_named n h k zs e are
 hand_named n h k (c.Argument d ∷ zs) e are = hand_named n h k zs e are
 hand_named n h k (c.Choice d ∷ zs) e are = hand_named n h k zs e are
 hand_named n h k (c.Bound d ∷ zs) e are = hand_named n h k zs e are

@@ -69,6 +69,8 @@ module _ (p : Program) (m n : Live) where
     cell_stays (c.Datum d) b kept is = absurd is
     cell_stays (c.Object o) (s.Object r) kept is = is
     cell_stays (c.Object o) b kept is = absurd is
+    cell_stays (c.Each o e) (s.Object r) kept is = is
+    cell_stays (c.Each o e) b kept is = absurd is
     cell_stays (c.Argument a) (s.Argument b) kept is = passed_stays a b kept is
     cell_stays (c.Argument a) b kept is = absurd is
     cell_stays (c.Choice a) (s.Choice b) kept is = is
@@ -94,6 +96,7 @@ module _ (p : Program) (m n : Live) where
   within_stays : (x : Rooms) (ns : List Name) (h : Here) (here : act.Here) (a : Cell) → IsWithin p m x ns h here a → IsWithin p n x ns h here a
   within_stays x ns h here (c.Datum d) is = is
   within_stays x ns h here (c.Object d) is = is
+  within_stays x ns h here (c.Each d e) is = is
   within_stays x ns h here (c.Argument d) is = is
   within_stays x ns h here (c.Choice d) is = is
   within_stays x ns h here (c.Bound d) is = is

@@ -6,4 +6,5 @@ pub mod Moves
 pub mod Plain
 pub mod Scenes
 pub mod Free
+pub mod Ranks
 pub mod Does

@@ -67,6 +67,8 @@ pub struct Here {
 pub enum Cell {
     Datum(Datum),
     Object(Object),
+    /// The component of a number, counted from 0, of each element of an array, of which elements are selected (ISO/IEC 1539-1:2004, 6.1.2).
+    Each(Area, usize),
     Argument(Passed),
     Choice(Chosen),
     /// A bound of a triplet.

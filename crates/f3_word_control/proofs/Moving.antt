@@ -164,6 +164,8 @@ in_order p t n old now x ks stack store hand others e amid = record {
   is = amid.is;
   known = amid.known;
   cells = amid.cells;
+  orderly = amid.orderly;
+  tight = amid.tight;
   once = λ q. let f = e q in let one = amid.once q in omega (arith, f, one);
   all = λ q alive. let f = e q in let some = amid.all q alive in omega (arith, f, some);
   live = λ q some. amid.live q (let f = e q in omega (arith, f, some));

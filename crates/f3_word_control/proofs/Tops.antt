@@ -3,7 +3,6 @@ use Rattle.std.proofs.Common.{◌≡◌, ◌∙◌, ℕ, ℤ, ◌+◌, true, Lis
 use Rattle.std.specs.Prelude.{drop, map, slice_get, Option, Some, None, ◌||◌, pos, unwrap_or}
 use Rattle.f3_program.specs.declared.declarations.Constant.TheVariants as constant
 use Rattle.f3_program.specs.declared.statement.Range.{Range}
-use Rattle.f3_program.specs.declared.statement.Range.TheVariants as range
 use Rattle.f3_program.specs.declared.declarations.Base.TheVariants as base
 use Rattle.f3_program.specs.declared.declarations.Constant.{Constant}
 use Rattle.f3_program.specs.declared.declarations.Kind.{Kind}
@@ -25,7 +24,7 @@ use Rattle.f3_cell_kinds.specs.Effect.{truth}
 use Rattle.f3_cell_kinds.specs.Kinds.{Goes}
 use Rattle.f3_cell_kinds.proofs.Standing.{in_is}
 use Rattle.f3_cells.specs.declared.cell.Flow.{Flow}
-use Rattle.f3_cell_kinds.specs.Types.{Scope, CellType, Site, sort_of_type}
+use Rattle.f3_cell_kinds.specs.Types.{Scope, Told, CellType, sort_of_type}
 use Rattle.f3_cell_kinds.specs.Types as cell
 use Rattle.f3_cell_kinds.specs.Holds.{IsOf, Is}
 use Rattle.f3_cell_kinds.specs.Laws.{site_at}
@@ -51,6 +50,8 @@ use Rattle.f3_word_cells.specs.Scenes.{code_of}
 use Rattle.f3_word_cells.proofs.Flat.{IsFlat, plain_is_flat}
 use Rattle.f3_word_cells.proofs.Moving.{Beneath}
 use Rattle.f3_word_cells.proofs.Amid.{Amid}
+use Rattle.f3_word_cells.proofs.Orderly.{IsAfter}
+use Rattle.f3_word_control.proofs.Lines.{after_at, begun_at, left_to}
 
 -- whether what is selected is in a range, where it is none as 0 is
 pub selected_meets : (r : Range) (o : Option Constant) (v : Value) → IsSelected o v → meets r v ≡ meets r (constant_value (unwrap_or o (constant.Number (pos 0))))
@@ -138,23 +139,24 @@ module _ (p : Program) (live : Live) (x : Rooms) where
         (d.0, top.1, top.3 ∙ ap (λ a. a ∷ top.1) d.1)
 
     pub met_at : (l : Line) (r : Range) → Goes p (site_at p) t.pc l (i.Meets r)
-        → (rest : List CellType) × ((site_at p t.pc).cells ≡ rest) × ((site_at p (t.pc + 1)).cells ≡ cell.Datum truth ∷ rest)
+        → (rest : List CellType) × ((site_at p t.pc).cells ≡ rest) × IsAfter p t.pc (t.pc + 1) (cell.Datum truth ∷ rest)
     met_at l r b =
         let at = in_is (site_at p t.pc).scope _ b in
-        let lead = at.2.3 in (lead.rest, lead.before, ap (λ (z : Site). z.cells) lead.next)
+        let lead = at.2.3 in (lead.rest, lead.before, after_at lead.next refl refl)
 
     pub selecting_at : (l : Line) → Goes p (site_at p) t.pc l i.Selecting
         → (k : Kind) × (o : Scope) × (rest : List CellType) × ((site_at p t.pc).cells ≡ cell.Datum k ∷ rest)
-        × ((site_at p (t.pc + 1)).cells ≡ cell.Outside o ∷ rest)
+        × ((site_at p t.pc).scope ≡ Told o) × (site_at p (t.pc + 1) ≡ begun_at (site_at p t.pc) k o rest)
     selecting_at l b =
         let at = in_is (site_at p t.pc).scope _ b in
-        let lead = at.2.2 in (at.2.0, at.0, lead.rest, lead.before, ap (λ (z : Site). z.cells) lead.next)
+        let lead = at.2.2 in (at.2.0, at.0, lead.rest, lead.before, at.1, lead.next)
 
     pub left_at : (l : Line) (by : Way) (d : ℕ) → Goes p (site_at p) t.pc l (i.Leave by d)
-        → (o : Scope) × (rest : List CellType) × ((site_at p t.pc).cells ≡ cell.Outside o ∷ rest) × ((site_at p (t.pc + 1 + d)).cells ≡ cell.Going ∷ rest)
+        → (o : Scope) × (rest : List CellType) × ((site_at p t.pc).cells ≡ cell.Outside o ∷ rest) × ((inner : Scope) × ((site_at p t.pc).scope ≡ Told inner))
+        × (site_at p (t.pc + 1 + d) ≡ left_to (site_at p t.pc) o rest)
     left_at l by d b =
         let at = in_is (site_at p t.pc).scope _ b in
-        let lead = at.2.1 in (at.2.0, lead.rest, lead.before, ap (λ (z : Site). z.cells) lead.far.0)
+        let lead = at.2.1 in (at.2.0, lead.rest, lead.before, (at.0, at.1), lead.far.0)
 
     pub left_on : (l : Line) (by : Way) (d : ℕ) → Goes p (site_at p) t.pc l (i.Leave by d) → (h : Here) × (cs : List Cell) × (own w ≡ c.Outside h ∷ cs)
     left_on l by d b = let at = in_is (site_at p t.pc).scope _ b in outside_on at.2.0 at.2.1.rest at.2.1.before
@@ -168,7 +170,7 @@ module _ (p : Program) (live : Live) (x : Rooms) where
 
     -- ---- what goes from the stack by itself
 
-    clean_at : (l : Line) (y : Instruction) (ks : List CellType) → slice_get (code_of p).lines t.pc ≡ Some l → l.act ≡ y → (site_at p t.pc).cells ≡ ks
+    pub clean_at : (l : Line) (y : Instruction) (ks : List CellType) → slice_get (code_of p).lines t.pc ≡ Some l → l.act ≡ y → (site_at p t.pc).cells ≡ ks
         → IsClean y (map sort_of_type ks)
     clean_at l y ks there is kinds =
         subst (λ hs. IsClean y (map sort_of_type hs)) kinds

@@ -37,12 +37,12 @@ use Rattle.f3_word_cells.specs.Areas.{types_of, shape_for, IsObject}
 use Rattle.f3_word_cells.specs.Scenes.{code_of}
 use Rattle.f3_word_cells.specs.States.{Stands}
 use Rattle.f3_word_cells.specs.Moves.{Popped, Pushed}
-use Rattle.f3_word_cells.specs.Does.{DoesIn, IsTold, changes_top, stream}
+use Rattle.f3_word_cells.specs.Does.{DoesIn, IsTold, stream}
 use Rattle.f3_word_cells.proofs.OnTop.{AreOf, line_kinds, cells_taken, of_datum, of_object}
 use Rattle.f3_word_cells.proofs.Scalars.{number_datum, shape_of_number, whole_number}
 use Rattle.f3_word_cells.proofs.Moving.{moved_to}
 use Rattle.f3_word_cells.proofs.Amid.{Amid, amid_first, amid_last, amid_popped, amid_pushed, amid_put}
-use Rattle.f3_word_cells.proofs.Lines.{answering, line_goes, performs_does}
+use Rattle.f3_word_cells.proofs.Lines.{answering, line_goes, line_forbids, performs_does}
 use Rattle.f3_word_copies.specs.Taken.{TookObject, TookNumber}
 use Rattle.f3_word_copies.specs.Reads.{IsThere}
 use Rattle.f3_word_copies.specs.Puts.{CanTake, Takes}
@@ -247,5 +247,10 @@ module _ (p : Program) (m : Live) (old mid : State) (w : Object) (popped : Poppe
 pub begin-forbids : (p : Program) (m n : Live) (old mid new : State) (b : Base) (k : _) → Popped (c.Object (o.Held b k)) old mid → DoesIn p i.CountBegin (Err stop.Forbidden) m n old new
 begin-forbids p m n old mid new b k popped t l x told at act st =
     let on = on-begin p t l told at act in
+    let r = on.reference in
     let there = (one-taken p m old mid (o.Held b k) popped t x on st).0 in
-    record { changes = ap changes_top act; object = on.reference; rest = s.Datum on.step ∷ s.Datum on.last ∷ s.Datum on.first ∷ on.below; top = on.split; right = there.2 }
+    let stored : Store = put_all (paths r) (spread (length (paths r)) on.first) (t.world).store in
+    let turning : s.Cell = s.Turns (trips (number_of on.first) (number_of on.last) (number_of on.step)) (number_of on.step) in
+    line_forbids p l t i.CountBegin (s.Object r ∷ s.Datum on.step ∷ s.Datum on.last ∷ s.Datum on.first ∷ on.below) (moved_to t (t.pc + 1) (turning ∷ on.below) t.here (answering stored (t.world).answers)) []
+    (record { reference = r; executing = (placed l.place t.here).unit }) _ there.2 act on.split
+    (λ rest. performs_does (λ store. change r (placed l.place t.here) (spread (length (paths r)) on.first)) (answering (t.world).store (stream [] rest)) _)

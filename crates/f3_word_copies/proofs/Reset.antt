@@ -31,11 +31,11 @@ use Rattle.f3_word_cells.specs.Areas.{types_of, shape_for, IsObject}
 use Rattle.f3_word_cells.specs.Scenes.{code_of}
 use Rattle.f3_word_cells.specs.States.{Stands}
 use Rattle.f3_word_cells.specs.Moves.{Popped, Pushed}
-use Rattle.f3_word_cells.specs.Does.{DoesIn, IsTold, changes_top, stream}
+use Rattle.f3_word_cells.specs.Does.{DoesIn, IsTold, stream}
 use Rattle.f3_word_cells.proofs.OnTop.{line_kinds}
 use Rattle.f3_word_cells.proofs.Moving.{moved_to}
 use Rattle.f3_word_cells.proofs.Amid.{Amid, amid_first, amid_last, amid_popped, amid_pushed, amid_put}
-use Rattle.f3_word_cells.proofs.Lines.{answering, line_goes, performs_does}
+use Rattle.f3_word_cells.proofs.Lines.{answering, line_goes, line_forbids, performs_does}
 use Rattle.f3_word_copies.specs.Taken.{TookObject}
 use Rattle.f3_word_copies.specs.Puts.{CanBeginAt, Takes}
 use Rattle.f3_word_copies.proofs.Tops.{ObjectOnTop, object-on-top, object-there}
@@ -106,5 +106,8 @@ module _ (p : Program) (m : Live) (old mid : State) (w : Object) (popped : Poppe
 pub set-forbids : (p : Program) (m n : Live) (old mid new : State) (b : Base) (k : _) → Popped (c.Object (o.Held b k)) old mid → DoesIn p i.Set (Err stop.Forbidden) m n old new
 set-forbids p m n old mid new b k popped t l x told at act st =
     let on = on-set p t l told at act in
+    let r = on.top.reference in
     let there = (set-taken p m old mid (o.Held b k) popped t x l on st).0 in
-    record { changes = ap changes_top act; object = on.top.reference; rest = on.top.below; top = on.top.split; right = there.2 }
+    let stored : Store = put_all (paths r) (spread (length (paths r)) l.value) (t.world).store in
+    line_forbids p l t i.Set (s.Object r ∷ on.top.below) (moved_to t (t.pc + 1) (s.Object r ∷ on.top.below) t.here (answering stored (t.world).answers)) [] (record { reference = r; executing = (placed l.place t.here).unit }) _ there.2 act on.top.split
+    (λ rest. performs_does (λ store. change r (placed l.place t.here) (spread (length (paths r)) l.value)) (answering (t.world).store (stream [] rest)) _)

@@ -33,15 +33,15 @@ fn assign<B: Blocks>(
     let Some(object) = pop_object(state) else {
         return Err(Stop::Lost);
     };
-    let Object::Stands(area) = object else {
-        return Err(Stop::Forbidden);
-    };
     let Some(datum) = pop_datum(state) else {
         return Err(Stop::Lost);
     };
     if !fits(heap, scene.types, of, &datum) {
         return Err(Stop::Failed(RunError::Overflow));
     }
+    let Object::Stands(area) = object else {
+        return Err(Stop::Forbidden);
+    };
     put(heap, scene.types, &area, &datum);
     let_go_datum(heap, datum);
     state.advance();

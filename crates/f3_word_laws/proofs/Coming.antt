@@ -1,5 +1,5 @@
 -- What lines do one after another.
-use Rattle.std.proofs.Common.{◌≡◌, ℕ, zero, suc, ◌+◌, Bool, List, [], ◌∷◌, ◌++◌, refl, sym, ap, ◌∙◌, arith, append_assoc}
+use Rattle.std.proofs.Common.{◌≡◌, ℕ, zero, suc, ◌+◌, Bool, true, false, List, [], ◌∷◌, ◌++◌, refl, sym, ap, ◌∙◌, arith, append_assoc}
 use Rattle.std.specs.Prelude.{Some, slice_get}
 use Rattle.std.proofs.Math.Path.{fun_ext}
 use Rattle.f3_program.specs.declared.program.Program.{Program}
@@ -12,7 +12,7 @@ use Rattle.f3_code.specs.Machine.{before, run, advance}
 use Rattle.f3_code.specs.Heap.{with_answers}
 use Rattle.f3_cells.specs.States.{setting}
 use Rattle.f3_word_cells.specs.Scenes.{code_of}
-use Rattle.f3_word_cells.specs.Does.{GoesOn, stream}
+use Rattle.f3_word_cells.specs.Does.{AreGranted, GoesOn, stream}
 use Rattle.f3_courses.proofs.Coming.{output_both}
 use Rattle.f3_word_laws.specs.Comes.{Comes}
 use Rattle.f3_word_laws.specs.Laws.{RunsGoOn}
@@ -21,6 +21,7 @@ stays : (p : Program) (t : s.State) → Comes p t t 0 []
 stays p t = record {
   out = [];
   given = [];
+  granted = tt;
   printed = refl;
   comes = λ rest n. let e : 0 + n ≡ n = omega arith in ap (λ k. run 1000 (setting p) (code_of p) k (with_answers rest t)) e;
 }
@@ -30,6 +31,11 @@ streams [] cs rest n = refl
 streams (b ∷ bs) cs rest zero = refl
 streams (b ∷ bs) cs rest (suc n) = streams bs cs rest n
 
+granted_both : (bs cs : List Bool) → AreGranted bs → AreGranted cs → AreGranted (bs ++ cs)
+granted_both [] cs a b = b
+granted_both (false ∷ bs) cs a b = granted_both bs cs a b
+granted_both (true ∷ bs) cs a b = absurd a
+
 both : (a b : List Event) (c : Course) → before a (before b c) ≡ before (a ++ b) c
 both a b c = let P : List Event → Course = λ l. record { out = l; halt = c.halt } in ap P (sym (append_assoc a b c.out))
 
@@ -38,6 +44,7 @@ goes_on : (p : Program) (t u v : s.State) (l : Line) (k : ℕ) (bytes more : Lis
 goes_on p t u v l k bytes more c at g = record {
   out = c.out ++ g.out;
   given = c.given ++ g.given;
+  granted = granted_both c.given g.given c.granted g.granted;
   printed = output_both c.out g.out ∙ ap (λ y. y ++ output g.out) c.printed ∙ ap (λ y. bytes ++ y) g.printed;
   comes = λ rest n.
       let R : ℕ → s.State → Course = run 1000 (setting p) (code_of p) in

@@ -29,7 +29,7 @@ objects_are_there p live w x t g stands fits acc =
     parts_stand p (site_at p) t g fits acc
     (subst (λ z. CellsThere z (site_at p t.pc).cells t.stack) (sym stands.store)
     (cells_there p live x stands.sound (AreCallers p live (beneath w) (reverse w.callers.items.items) t.frames) w.names.items.items w.here t.here
-    (site_at p t.pc).cells (own w) t.stack stands.stack))
+    (site_at p t.pc).cells (own w) t.stack stands.known stands.stack))
 
 -- kinds do not ask for the answers of a heap
 fits_with : (p : Program) (t : s.State) (answers : ℕ → Bool) → Fits p.types.items (site_at p) t → Fits p.types.items (site_at p) (with_answers answers t)

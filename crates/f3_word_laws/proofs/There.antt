@@ -36,6 +36,7 @@ use Rattle.f3_word_cells.specs.declared.cell.Cell.TheVariants as c
 use Rattle.f3_word_cells.specs.declared.state.Name.{Name}
 use Rattle.f3_word_cells.specs.Areas.{types_of, shape_for, IsHeld, AreThere, IsObject}
 use Rattle.f3_word_cells.specs.declared.cell.Here.{Here}
+use Rattle.f3_word_cells.specs.States.{AreKnown, IsKnown}
 use Rattle.f3_word_cells.specs.Cells.{IsPassed, IsCell, AreCells, names_under, rooms_under, here_under, here_beneath}
 use Rattle.f3_word_cells.proofs.Within.{AreRooms, object_within, rooms_beneath, rooms_same, rooms_through}
 use Rattle.f3_meaning_whole.specs.Act as act
@@ -114,19 +115,20 @@ module _ (p : Program) (m : Live) (x : Rooms) (sound : IsSound (types_of p) m x)
     passed_there ns g (passed.Lent i z) (Given j v) is = tt
     passed_there ns g (passed.Lent i z) (Lent j r) is = object_is_there z g.kind r (object_within p u x rooms z r is.1)
 
-    object_there_in : (ns : List Name) (k : Kind) (z : Cell) (r : Reference) → IsCell p u m ns z (s.Object r) → ReachThere store k r.path r.reach
-    object_there_in ns k (c.Datum d) r is = absurd is
-    object_there_in ns k (c.Object z) r is = object_is_there z k r (object_within p u x rooms z r is)
-    object_there_in ns k (c.Argument z) r is = absurd is
-    object_there_in ns k (c.Choice z) r is = absurd is
-    object_there_in ns k (c.Bound z) r is = absurd is
-    object_there_in ns k (c.Bounds z) r is = absurd is
-    object_there_in ns k (c.Turns z w) r is = absurd is
-    object_there_in ns k (c.Objects z) r is = absurd is
-    object_there_in ns k (c.Selector z) r is = absurd is
-    object_there_in ns k (c.Level z w) r is = absurd is
-    object_there_in ns k (c.Outside z) r is = absurd is
-    object_there_in ns k (c.Going z) r is = absurd is
+    object_there_in : (ns : List Name) (k : Kind) (z : Cell) (r : Reference) → IsKnown p (cell.Object k) z → IsCell p u m ns z (s.Object r) → ReachThere store k r.path r.reach
+    object_there_in ns k (c.Datum d) r known is = absurd is
+    object_there_in ns k (c.Object z) r known is = object_is_there z k r (object_within p u x rooms z r is)
+    object_there_in ns k (c.Argument z) r known is = absurd is
+    object_there_in ns k (c.Choice z) r known is = absurd is
+    object_there_in ns k (c.Bound z) r known is = absurd is
+    object_there_in ns k (c.Bounds z) r known is = absurd is
+    object_there_in ns k (c.Turns z w) r known is = absurd is
+    object_there_in ns k (c.Objects z) r known is = absurd is
+    object_there_in ns k (c.Selector z) r known is = absurd is
+    object_there_in ns k (c.Level z w) r known is = absurd is
+    object_there_in ns k (c.Outside z) r known is = absurd is
+    object_there_in ns k (c.Going z) r known is = absurd is
+    object_there_in ns k (c.Each a n) r known is = absurd known
 
     argument_there_in : (ns : List Name) (g : formed.Given) (z : Cell) (y : act.Passed) → IsCell p u m ns z (s.Argument y) → PassedThere store g y
     argument_there_in ns g (c.Datum d) y is = absurd is
@@ -141,67 +143,68 @@ module _ (p : Program) (m : Live) (x : Rooms) (sound : IsSound (types_of p) m x)
     argument_there_in ns g (c.Level z w) y is = absurd is
     argument_there_in ns g (c.Outside z) y is = absurd is
     argument_there_in ns g (c.Going z) y is = absurd is
+    argument_there_in ns g (c.Each a n) y is = absurd is
 
-    cell_there : (ns : List Name) (y : CellType) (z : Cell) (e : s.Cell) → IsCell p u m ns z e → CellThere store y e
-    cell_there ns (cell.Object k) z (s.Datum v) is = tt
-    cell_there ns (cell.Object k) z (s.Object r) is = object_there_in ns k z r is
-    cell_there ns (cell.Object k) z (s.Argument y) is = tt
-    cell_there ns (cell.Object k) z (s.Choice y) is = tt
-    cell_there ns (cell.Object k) z (s.Bound y) is = tt
-    cell_there ns (cell.Object k) z (s.Bounds ss) is = tt
-    cell_there ns (cell.Object k) z (s.Extent y) is = tt
-    cell_there ns (cell.Object k) z (s.Status y) is = tt
-    cell_there ns (cell.Object k) z (s.Turns n y) is = tt
-    cell_there ns (cell.Object k) z (s.Elements ps) is = tt
-    cell_there ns (cell.Object k) z (s.Objects rs) is = tt
-    cell_there ns (cell.Object k) z (s.To n y) is = tt
-    cell_there ns (cell.Object k) z (s.Selector y) is = tt
-    cell_there ns (cell.Object k) z (s.Level n rs) is = tt
-    cell_there ns (cell.Object k) z (s.Outside y) is = tt
-    cell_there ns (cell.Object k) z (s.Going y) is = tt
-    cell_there ns (cell.Argument g) z (s.Datum v) is = tt
-    cell_there ns (cell.Argument g) z (s.Object r) is = tt
-    cell_there ns (cell.Argument g) z (s.Argument y) is = argument_there_in ns g z y is
-    cell_there ns (cell.Argument g) z (s.Choice y) is = tt
-    cell_there ns (cell.Argument g) z (s.Bound y) is = tt
-    cell_there ns (cell.Argument g) z (s.Bounds ss) is = tt
-    cell_there ns (cell.Argument g) z (s.Extent y) is = tt
-    cell_there ns (cell.Argument g) z (s.Status y) is = tt
-    cell_there ns (cell.Argument g) z (s.Turns n y) is = tt
-    cell_there ns (cell.Argument g) z (s.Elements ps) is = tt
-    cell_there ns (cell.Argument g) z (s.Objects rs) is = tt
-    cell_there ns (cell.Argument g) z (s.To n y) is = tt
-    cell_there ns (cell.Argument g) z (s.Selector y) is = tt
-    cell_there ns (cell.Argument g) z (s.Level n rs) is = tt
-    cell_there ns (cell.Argument g) z (s.Outside y) is = tt
-    cell_there ns (cell.Argument g) z (s.Going y) is = tt
-    cell_there ns (cell.Datum k) z e is = tt
-    cell_there ns (cell.Each rank k) z e is = tt
-    cell_there ns (cell.Choice b) z e is = tt
-    cell_there ns cell.Bound z e is = tt
-    cell_there ns (cell.Bounds rank) z e is = tt
-    cell_there ns cell.Extent z e is = tt
-    cell_there ns cell.Status z e is = tt
-    cell_there ns cell.Turns z e is = tt
-    cell_there ns (cell.Elements of) z e is = tt
-    cell_there ns (cell.Objects ks) z e is = tt
-    cell_there ns (cell.Selector k) z e is = tt
-    cell_there ns (cell.Level ks) z e is = tt
-    cell_there ns (cell.Outside scope) z e is = tt
-    cell_there ns cell.Going z e is = tt
+    cell_there : (ns : List Name) (y : CellType) (z : Cell) (e : s.Cell) → IsKnown p y z → IsCell p u m ns z e → CellThere store y e
+    cell_there ns (cell.Object k) z (s.Datum v) known is = tt
+    cell_there ns (cell.Object k) z (s.Object r) known is = object_there_in ns k z r known is
+    cell_there ns (cell.Object k) z (s.Argument y) known is = tt
+    cell_there ns (cell.Object k) z (s.Choice y) known is = tt
+    cell_there ns (cell.Object k) z (s.Bound y) known is = tt
+    cell_there ns (cell.Object k) z (s.Bounds ss) known is = tt
+    cell_there ns (cell.Object k) z (s.Extent y) known is = tt
+    cell_there ns (cell.Object k) z (s.Status y) known is = tt
+    cell_there ns (cell.Object k) z (s.Turns n y) known is = tt
+    cell_there ns (cell.Object k) z (s.Elements ps) known is = tt
+    cell_there ns (cell.Object k) z (s.Objects rs) known is = tt
+    cell_there ns (cell.Object k) z (s.To n y) known is = tt
+    cell_there ns (cell.Object k) z (s.Selector y) known is = tt
+    cell_there ns (cell.Object k) z (s.Level n rs) known is = tt
+    cell_there ns (cell.Object k) z (s.Outside y) known is = tt
+    cell_there ns (cell.Object k) z (s.Going y) known is = tt
+    cell_there ns (cell.Argument g) z (s.Datum v) known is = tt
+    cell_there ns (cell.Argument g) z (s.Object r) known is = tt
+    cell_there ns (cell.Argument g) z (s.Argument y) known is = argument_there_in ns g z y is
+    cell_there ns (cell.Argument g) z (s.Choice y) known is = tt
+    cell_there ns (cell.Argument g) z (s.Bound y) known is = tt
+    cell_there ns (cell.Argument g) z (s.Bounds ss) known is = tt
+    cell_there ns (cell.Argument g) z (s.Extent y) known is = tt
+    cell_there ns (cell.Argument g) z (s.Status y) known is = tt
+    cell_there ns (cell.Argument g) z (s.Turns n y) known is = tt
+    cell_there ns (cell.Argument g) z (s.Elements ps) known is = tt
+    cell_there ns (cell.Argument g) z (s.Objects rs) known is = tt
+    cell_there ns (cell.Argument g) z (s.To n y) known is = tt
+    cell_there ns (cell.Argument g) z (s.Selector y) known is = tt
+    cell_there ns (cell.Argument g) z (s.Level n rs) known is = tt
+    cell_there ns (cell.Argument g) z (s.Outside y) known is = tt
+    cell_there ns (cell.Argument g) z (s.Going y) known is = tt
+    cell_there ns (cell.Datum k) z e known is = tt
+    cell_there ns (cell.Each array number k) z e known is = tt
+    cell_there ns (cell.Choice b) z e known is = tt
+    cell_there ns cell.Bound z e known is = tt
+    cell_there ns (cell.Bounds rank) z e known is = tt
+    cell_there ns cell.Extent z e known is = tt
+    cell_there ns cell.Status z e known is = tt
+    cell_there ns cell.Turns z e known is = tt
+    cell_there ns (cell.Elements of) z e known is = tt
+    cell_there ns (cell.Objects ks) z e known is = tt
+    cell_there ns (cell.Selector k) z e known is = tt
+    cell_there ns (cell.Level ks) z e known is = tt
+    cell_there ns (cell.Outside scope) z e known is = tt
+    cell_there ns cell.Going z e known is = tt
 
   cells_there_in : (Rest : Rooms → List Name → Type 0) (y : Rooms) → AreRooms y x → (ns : List Name) (h : Here) (here : act.Here) (ts : List CellType)
-      (zs : List Cell) (es : List s.Cell) → AreCells p m Rest y ns h here zs es → CellsThere store ts es
-  cells_there_in Rest y rooms ns h here [] zs es are = tt
-  cells_there_in Rest y rooms ns h here (t ∷ ts) [] [] are = tt
-  cells_there_in Rest y rooms ns h here (t ∷ ts) [] (e ∷ es) are = absurd are
-  cells_there_in Rest y rooms ns h here (t ∷ ts) (z ∷ zs) [] are = tt
-  cells_there_in Rest y rooms ns h here (t ∷ ts) (z ∷ zs) (e ∷ es) are = (
-    cell_there y rooms ns t z e are.0,
+      (zs : List Cell) (es : List s.Cell) → AreKnown p ts zs → AreCells p m Rest y ns h here zs es → CellsThere store ts es
+  cells_there_in Rest y rooms ns h here [] zs es known are = tt
+  cells_there_in Rest y rooms ns h here (t ∷ ts) [] [] known are = tt
+  cells_there_in Rest y rooms ns h here (t ∷ ts) [] (e ∷ es) known are = absurd are
+  cells_there_in Rest y rooms ns h here (t ∷ ts) (z ∷ zs) [] known are = tt
+  cells_there_in Rest y rooms ns h here (t ∷ ts) (z ∷ zs) (e ∷ es) known are = (
+    cell_there y rooms ns t z e known.0 are.0,
     cells_there_in Rest (rooms_under z y) (rooms_through (rooms_under z y) y x (rooms_beneath z y) rooms) (names_under z ns) (here_under z h)
-        (here_beneath z e here) ts zs es are.2,
+        (here_beneath z e here) ts zs es known.1 are.2,
   )
 
   pub cells_there : (Rest : Rooms → List Name → Type 0) (ns : List Name) (h : Here) (here : act.Here) (ts : List CellType) (zs : List Cell) (es : List s.Cell)
-      → AreCells p m Rest x ns h here zs es → CellsThere store ts es
-  cells_there Rest ns h here ts zs es are = cells_there_in Rest x (rooms_same x) ns h here ts zs es are
+      → AreKnown p ts zs → AreCells p m Rest x ns h here zs es → CellsThere store ts es
+  cells_there Rest ns h here ts zs es known are = cells_there_in Rest x (rooms_same x) ns h here ts zs es known are

@@ -1,10 +1,10 @@
 -- The first instruction, which prints nothing, and the run behind it.
-use Rattle.std.proofs.Common.{◌≡◌, ◌≤◌, ◌<◌, ℕ, false, true, zero, suc, ◌+◌, ◌-◌, Bool, List, [], ◌∷◌, ◌++◌, refl, sym, ap, ◌∙◌, subst, arith}
+use Rattle.std.proofs.Common.{◌≡◌, ◌<◌, ℕ, false, true, suc, Bool, List, [], ◌∷◌, refl, sym, ap, ◌∙◌, subst, arith}
 use Rattle.f3_program.specs.declared.program.Program.{Program}
 use Rattle.f3_live_blocks.specs.Blocks.{Live}
 use Rattle.f3_meaning_whole.specs.Formed.{IsWellFormed}
 use Rattle.f3_meaning_whole.specs.declared.run_error.RunError.TheVariants.{HeapHasNoRoom}
-use Rattle.f3_meaning_whole.specs.Ran.{Event, Entered}
+use Rattle.f3_meaning_whole.specs.Ran.{Entered}
 use Rattle.f3_meaning_whole.specs.Run.{output}
 use Rattle.f3_meaning_whole.specs.Value.{Value}
 use Rattle.f3_code.specs.Lower.{lowered_program}
@@ -21,17 +21,15 @@ use Rattle.f3_machine_laws.specs.declared.ended.Ended.TheVariants as ends
 use Rattle.f3_machine_laws.specs.Answers.{EndsSo, GoesOnAfter, AnswersFor}
 use Rattle.f3_word_cells.specs.declared.state.State.{State}
 use Rattle.f3_word_cells.specs.Plain.{IsPlain}
-use Rattle.f3_word_cells.specs.Scenes.{code_of}
-use Rattle.f3_word_cells.specs.States.{Stands}
 use Rattle.f3_word_cells.specs.Does.{IsTold, stream}
 use Rattle.f3_word_laws.proofs.Telling.{start_is_told}
 use Rattle.f3_word_needs.specs.Room.{HasRoom}
 use Rattle.f3_word_needs.proofs.Keeping.{start_has_room}
-use Rattle.f3_word_start.specs.Begins.{Begins, IsRefused, first_state, first_events}
+use Rattle.f3_word_start.specs.Begins.{Begins, IsRefused, first_state}
 use Rattle.f3_word_machine.specs.declared.ended.Ended.{Ended}
 use Rattle.f3_word_machine.specs.declared.ended.Ended.TheVariants as end
 use Rattle.f3_word_machine.specs.Steps.{IsReady}
-use Rattle.f3_word_machine.specs.Runs.{course_from, Answered, Strayed, AnswersSo, RunsFrom}
+use Rattle.f3_word_machine.specs.Runs.{course_from, Answered, AnswersSo}
 use Rattle.f3_word_machine.specs.Whole.{course_of, RunsWhole}
 use Rattle.f3_word_machine.proofs.Course.{none_more}
 
@@ -99,8 +97,6 @@ module _ (p : Program) where
     whole end.StepLimit m = answered ends.StepLimit m
     whole end.WriteFault m = answered ends.WriteFault m
     whole end.Memory m = answered ends.Memory m
-    whole end.NoRoom m = answered ends.Memory m
-    whole end.Strayed m = record { answers = none_more; left = less; fewer = omega (arith, more); strays = m }
 
   -- ---- no line is done
 

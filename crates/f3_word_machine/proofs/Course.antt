@@ -1,9 +1,8 @@
 -- The course of the machine, instruction by instruction.
-use Rattle.std.proofs.Common.{◌≡◌, ◌≤◌, ◌<◌, ℕ, false, zero, suc, ◌+◌, Bool, List, [], ◌∷◌, ◌++◌, refl, sym, ap, ◌∙◌, subst, append-nil, append_assoc, arith}
+use Rattle.std.proofs.Common.{◌≡◌, ◌<◌, ℕ, false, ◌+◌, Bool, List, [], ◌++◌, sym, ap, ◌∙◌, subst, append-nil, arith}
 use Rattle.std.specs.Prelude.{Ok, Err, Some, slice_get}
 use Rattle.f3_program.specs.declared.program.Program.{Program}
 use Rattle.f3_live_blocks.specs.Blocks.{Live}
-use Rattle.f3_meaning_whole.specs.Ran.{Event}
 use Rattle.f3_meaning_whole.specs.Run.{output}
 use Rattle.f3_code.specs.State as s
 use Rattle.f3_code.specs.State.{Line, Goes, Stays, Next, Halt, Running, Course}
@@ -17,19 +16,19 @@ use Rattle.f3_output.specs.Output.{Wrote, Faulted}
 use Rattle.f3_output.proofs.Outputs.{wrote_none, wrote_more, faulted_behind}
 use Rattle.f3_word_machine.specs.declared.ended.Ended.{Ended}
 use Rattle.f3_word_machine.specs.declared.ended.Ended.TheVariants as end
-use Rattle.f3_machine_laws.specs.Answers.{EndsSo, GoesOnAfter, AnswersFor}
+use Rattle.f3_machine_laws.specs.Answers.{EndsSo, GoesOnAfter}
 use Rattle.f3_rooms.specs.Rooms.{Rooms}
 use Rattle.f3_word_cells.specs.declared.state.State.{State}
 use Rattle.f3_word_cells.specs.Scenes.{code_of}
 use Rattle.f3_word_cells.specs.States.{Stands}
-use Rattle.f3_word_cells.specs.Does.{IsTold, GoesOn, StopsSo, stream}
+use Rattle.f3_word_cells.specs.Does.{IsTold, stream}
 use Rattle.f3_word_laws.specs.Comes.{Comes}
 use Rattle.f3_word_laws.proofs.Coming.{runs_go_on}
 use Rattle.f3_word_laws.proofs.Telling.{runs_are_told}
 use Rattle.f3_word_needs.specs.Room.{HasRoom}
 use Rattle.f3_word_needs.proofs.Keeping.{lines_keep_room}
-use Rattle.f3_word_machine.specs.Steps.{Went, Ends, Refuses, Strays, Steps}
-use Rattle.f3_word_machine.specs.Runs.{course_from, Answered, Strayed, AnswersSo}
+use Rattle.f3_word_machine.specs.Steps.{Ends, Steps}
+use Rattle.f3_word_machine.specs.Runs.{course_from, AnswersSo}
 
 abbrev pub none_more : ℕ → Bool
 none_more n = false
@@ -123,9 +122,6 @@ module _ (p : Program) (t : s.State) where
           so = (done + 1, omega arith, subst (λ bytes. Faulted a c bytes) (sym (ap (λ (y : Course). output y.out) at ∙ printed)) (faulted_behind r.wrote e.faulted));
         }
     stops n new c steps end.Memory left e = record { answers = stream (r.comes).given none_more; so = (done, omega arith, until c e) }
-    stops n new c steps end.NoRoom left e = record { answers = stream (r.comes).given none_more; so = (done, omega arith, until c e) }
-    stops n new c steps end.Strayed left e =
-        record { to = r.to; count = done; within = omega arith; bytes = r.bytes; comes = r.comes; strays = e }
 
   pub at_limit : (steps : ℕ) (m : Live) (old : State) (a b : o.State) → Reached steps m old a b → AnswersSo p t steps a b end.StepLimit
   at_limit steps m old a b r = record { answers = stream (r.comes).given none_more; so = until steps m old a b r b wrote_none }

@@ -1,3 +1,4 @@
 pub mod Course
 pub mod Beginning
 pub mod Doing
+mod Never

@@ -1,5 +1,5 @@
 -- What the run of a program over words answers.
-use Rattle.std.specs.Prelude.{◌≡◌, ◌≤◌, ℕ, suc, Bool, false}
+use Rattle.std.specs.Prelude.{ℕ, Bool}
 use Rattle.f3_program.specs.declared.program.Program.{Program}
 use Rattle.f3_code.specs.Lower.{lowered_program}
 use Rattle.f3_code.specs.State.{Course}
@@ -7,21 +7,13 @@ use Rattle.f3_code.specs.Run.{after}
 use Rattle.f3_output.specs.Output as o
 use Rattle.f3_machine_laws.specs.declared.ended.Ended.TheVariants as ends
 use Rattle.f3_word_cells.specs.Scenes.{code_of}
-use Rattle.f3_word_start.specs.Begins.{first_state}
 use Rattle.f3_word_machine.specs.declared.ended.Ended.{Ended}
 use Rattle.f3_word_machine.specs.declared.ended.Ended.TheVariants as end
-use Rattle.f3_word_machine.specs.Runs.{Answered, Strayed}
+use Rattle.f3_word_machine.specs.Runs.{Answered}
 
 -- the machine of a program with its code, where a heap gives these answers, after so many instructions
 abbrev pub course_of : Program → (ℕ → Bool) → ℕ → Course
 course_of p answers k = after 1000 (lowered_program p) (code_of p) answers k
-
--- from the state in which the main program begins it comes to one from which it strays
-pub record StraysWithin (p : Program) (steps : ℕ) : Type 0 where
-  pub answers : ℕ → Bool
-  pub left : ℕ
-  pub fewer : suc left ≤ steps
-  pub strays : Strayed p (first_state p answers) left
 
 -- What the answer says of a program whose machine may take so many instructions, and of the output before and now.
 abbrev pub RunsWhole : Program → ℕ → o.State → o.State → Ended → Type 0
@@ -31,5 +23,3 @@ RunsWhole p steps a b (end.Failed error place) = Answered (course_of p) steps a 
 RunsWhole p steps a b end.StepLimit = Answered (course_of p) steps a b ends.StepLimit
 RunsWhole p steps a b end.WriteFault = Answered (course_of p) steps a b ends.WriteFault
 RunsWhole p steps a b end.Memory = Answered (course_of p) steps a b ends.Memory
-RunsWhole p steps a b end.NoRoom = Answered (course_of p) steps a b ends.Memory
-RunsWhole p steps a b end.Strayed = StraysWithin p steps

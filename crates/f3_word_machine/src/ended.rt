@@ -18,8 +18,4 @@ pub enum Ended {
     WriteFault,
     /// A growth of the host's memory was refused.
     Memory,
-    /// Blocks have 2 to the 63 words or more together, which those of a heap of fewer words never have.
-    NoRoom,
-    /// A line leads to where there is none, or changes what may only be read.
-    Strayed,
 }

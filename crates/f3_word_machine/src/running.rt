@@ -1,5 +1,6 @@
 //! Runs.
 
+ghost use Rattle.f3_meaning_whole.specs.Permitted.{IsLawful};
 ghost use Rattle.f3_output.specs.Output.{state_of};
 ghost use Rattle.f3_word_cells.specs.Scenes.{IsScene};
 ghost use Rattle.f3_word_machine.specs.Simple.{IsSimple};
@@ -24,6 +25,7 @@ pub fn run<B: Blocks, W: Write>(
 ) -> Ended
     requires scene { IsScene scene }
     requires simple { IsSimple scene.program.now }
+    requires lawful { IsLawful scene.program.now }
     requires cells { HasCells scene.program.now state.old.cells.room }
     requires ready { IsReady scene.program.now (B.blocks heap.old) state.old }
     ensures { RunsFrom scene.entry.program.now steps (B.blocks heap.old) state.old (state_of W.contents output.old) (state_of W.contents output.new) result }

@@ -1,10 +1,11 @@
 //! One instruction.
 
-ghost use Rattle.std.specs.Prelude.{◌≡◌, Some, None, MatchOption, slice_get};
+ghost use Rattle.std.specs.Prelude.{◌≡◌, ◌≢◌, ◌<◌, Some, length, slice_get};
+ghost use Rattle.f3_meaning_whole.specs.Permitted.{IsLawful};
 ghost use Rattle.f3_output.specs.Output.{state_of};
 ghost use Rattle.f3_word_cells.specs.Scenes.{IsScene};
 ghost use Rattle.f3_word_machine.specs.Simple.{IsSimple};
-ghost use Rattle.f3_word_machine.specs.Steps.{HasCells, IsReady, StepsFrom, ended_by};
+ghost use Rattle.f3_word_machine.specs.Steps.{EndsBy, HasCells, IsReady, StepsFrom};
 
 use crate::ended::Ended;
 use crate::table::perform;
@@ -16,32 +17,29 @@ use f3_word_cells::scene::Scene;
 use f3_word_cells::state::{State, Stop};
 use std::io::Write;
 
-/// So many words or more are not in use.
-const MOST: usize = 1 << 63;
-
 /// How a run ends where an instruction at a place stops it.
 #[inline(never)]
 fn end_of(stop: Stop, place: Place) -> Ended
-    ensures { result ≡ ended_by stop place }
+    requires found { stop ≢ Stop.Lost }
+    requires permitted { stop ≢ Stop.Forbidden }
+    ensures { EndsBy stop place result }
 {
     match stop {
         Stop::Done => Ended::Done,
         Stop::Stopped(number) => Ended::Stopped(number),
         Stop::Failed(error) => Ended::Failed(error, place),
-        Stop::Lost | Stop::Forbidden => Ended::Strayed,
         Stop::Refused => Ended::WriteFault,
         Stop::Memory => Ended::Memory,
+        Stop::Lost | Stop::Forbidden => unreachable!(),
     }
 }
 
 /// The line of a number.
-fn line_at(lines: &[Line], pc: usize) -> Option<&Line>
-    ensures { MatchOption result (slice_get lines.now pc ≡ None) (λ l. slice_get lines.now pc ≡ Some l.now) }
+fn line_at(lines: &[Line], pc: usize) -> &Line
+    requires { pc < length lines.now }
+    ensures { slice_get lines.now pc ≡ Some result.now }
 {
-    match lines.get(pc) {
-        Some(line) => Some(line),
-        None => None,
-    }
+    &lines[pc]
 }
 
 /// The next instruction.
@@ -53,18 +51,15 @@ pub(crate) fn step<B: Blocks, W: Write>(
 ) -> Result<(), Ended>
     requires scene { IsScene scene }
     requires simple { IsSimple scene.program.now }
+    requires lawful { IsLawful scene.program.now }
     requires cells { HasCells scene.program.now state.old.cells.room }
     requires ready { IsReady scene.program.now (B.blocks heap.old) state.old }
     ensures cells { state.new.cells.room ≡ state.old.cells.room }
     ensures does { StepsFrom scene.entry.program.now result (B.blocks heap.old) (B.blocks heap.new) state.old state.new
         (state_of W.contents output.old) (state_of W.contents output.new) }
 {
-    let Some(line) = line_at(&scene.emission.lines, state.pc) else {
-        return Err(Ended::Strayed);
-    };
-    if heap.used() >= MOST {
-        return Err(Ended::NoRoom);
-    }
+    let line = line_at(&scene.emission.lines, state.pc);
+    heap.blocks_are_short();
     let place = line.place.unwrap_or(state.here.place);
     match perform(scene, heap, line.act, place, state, output) {
         Ok(()) => Ok(()),

@@ -4,7 +4,7 @@ ghost use Rattle.std.specs.Prelude.{◌≡◌, ◌<◌, ◌≤◌, ◌^◌, leng
 ghost use Rattle.f3_output.specs.Output.{state_of};
 ghost use Rattle.f3_word_cells.specs.Does.{IsAt};
 ghost use Rattle.f3_word_cells.specs.Scenes.{IsScene};
-ghost use Rattle.f3_word_objects.specs.Ranks.{AreRanked, AreShort};
+ghost use Rattle.f3_word_cells.specs.Ranks.{AreRanked, AreShort};
 ghost use Rattle.f3_word_machine.specs.Simple.{IsSimple};
 ghost use Rattle.f3_word_machine.specs.Steps.{PrintsAt};
 
@@ -59,7 +59,7 @@ pub(crate) fn perform<B: Blocks, W: Write>(
         Instruction::Component(a0) => locating::component(scene, state, a0),
         Instruction::Select(a0, a1) => selecting::select(state, a0, a1),
         Instruction::ComponentOf(a0) => locating::component_beside(scene, state, a0),
-        Instruction::SelectOf(a0, a1, a2) => selecting::select_of(state, a0, a1, a2),
+        Instruction::SelectOf(a0, a1, a2) => selecting::select_of(scene, state, a0, a1, a2),
         Instruction::Result => returns::result(state),
         Instruction::Selecting => constructs::selecting(heap, state),
         Instruction::Clear => clearing::clear(state),

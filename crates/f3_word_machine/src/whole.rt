@@ -4,6 +4,7 @@ ghost use Rattle.std.specs.Prelude.{◌≡◌, ◌<◌};
 ghost use Rattle.std.specs.FinMap.{empty};
 ghost use Rattle.f3_gen_values.specs.Emission.{code_in};
 ghost use Rattle.f3_meaning_whole.specs.Formed.{IsWellFormed};
+ghost use Rattle.f3_meaning_whole.specs.Permitted.{IsLawful};
 ghost use Rattle.f3_cell_kinds.specs.Sense.{MakesSense};
 ghost use Rattle.f3_output.specs.Output.{state_of};
 ghost use Rattle.f3_word_cells.specs.Plain.{IsPlain};
@@ -38,6 +39,7 @@ pub fn run_program<B: Blocks, W: Write>(
     requires plain { IsPlain scene.program.now }
     requires formed { IsWellFormed scene.program.now }
     requires sense { MakesSense scene.program.now }
+    requires lawful { IsLawful scene.program.now }
     requires cells { HasCells scene.program.now room.cells }
     requires empty { B.blocks heap.old ≡ empty }
     ensures { RunsWhole scene.entry.program.now steps (state_of W.contents output.old) (state_of W.contents output.new) result }

@@ -83,9 +83,9 @@ extents_levels : (n : ℕ) (h : List CellType) → levels_in (extents_on n h) �
 extents_levels zero h = refl
 extents_levels (suc n) h = extents_levels n (cell.Extent ∷ h)
 
-part_levels : (b : Bool) (rank : ℕ) (k : Kind) (h : List CellType) → levels_in ((if b then cell.Object k else cell.Each rank k) ∷ h) ≡ levels_in h
-part_levels true rank k h = refl
-part_levels false rank k h = refl
+part_levels : (b : Bool) (array : Kind) (n : ℕ) (k : Kind) (h : List CellType) → levels_in ((if b then cell.Object k else cell.Each array n k) ∷ h) ≡ levels_in h
+part_levels true array n k h = refl
+part_levels false array n k h = refl
 
 pub fewer : (x : CellType) (h : List CellType) → levels_in h ≤ levels_in (x ∷ h)
 fewer (cell.Level ks) h = omega arith
@@ -147,8 +147,8 @@ module _ (p : Program) (weigh : List Kind → ℕ) (b : ℕ) where
       select_of_few h k n l.Whole q = cons q none
       select_of_few h k n l.Contents q = cons q (cons q none)
       select_of_few h k n (l.Elements' is_opened m xs) q =
-          let x = part_cell k (component_at p k n) in
-          let same = part_levels (nat_eq k.rank 0) k.rank (component_at p k n) (cell.Object k ∷ h) in
+          let x = part_cell k n (component_at p k n) in
+          let same = part_levels (nat_eq k.rank 0) k n (component_at p k n) (cell.Object k ∷ h) in
           let q' : Above (x ∷ cell.Object k ∷ h) = omega (arith, q, same) in
           cons q (on (chosen_few (x ∷ cell.Object k ∷ h) xs q') (cons (omega (arith, q', choices_levels (triplets xs) (x ∷ cell.Object k ∷ h))) none))
 

@@ -10,4 +10,6 @@ pub mod Cells
 pub mod Rows
 pub mod Emitted
 pub mod Memory
-pub mod Blocks
+pub mod Givens
+pub mod Asked
+pub mod Kept

@@ -47,7 +47,7 @@ many_apart : {A : Type 0} (n : ℕ) (xs : List A) → length xs ≡ length (take
 many_apart n xs =
     ap (λ l. length l) (sym (apart n xs)) ∙ length-append (take n xs) (drop n xs) ∙ ap (λ k. length (take n xs) + k) (sym (length-reverse (drop n xs)))
 
-kept_apart : (n : ℕ) (xs : List Cell) → kept_names xs ≡ kept_names (take n xs) + kept_names (reverse (drop n xs))
+pub kept_apart : (n : ℕ) (xs : List Cell) → kept_names xs ≡ kept_names (take n xs) + kept_names (reverse (drop n xs))
 kept_apart n xs =
     ap kept_names (sym (apart n xs)) ∙ kept_on (take n xs) (drop n xs) ∙ ap (λ k. kept_names (take n xs) + k) (sym (kept_back (drop n xs)))
 

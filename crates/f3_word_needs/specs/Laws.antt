@@ -1,6 +1,7 @@
 -- The laws of how much room stacks want.
 use Rattle.std.specs.Prelude.{◌≡◌, ◌≤◌, ℕ, ◌+◌, ◌*◌, Bool, List, length, Some, slice_get}
 use Rattle.f3_program.specs.declared.program.Program.{Program}
+use Rattle.f3_code.specs.declared.instruction.Instruction.TheVariants as i
 use Rattle.f3_code.specs.Lower.{lowered_program}
 use Rattle.f3_code.specs.State.{Entry, Line, State}
 use Rattle.f3_code.specs.Heap.{with_answers}
@@ -16,7 +17,6 @@ use Rattle.f3_word_cells.specs.Does.{stream, IsTold, GoesOn}
 use Rattle.f3_word_needs.specs.Counts.{all_levels, all_names, all_selectors, kept_names}
 use Rattle.f3_word_needs.specs.Names.{most_dummies, most_names, most_open}
 use Rattle.f3_word_needs.specs.Room.{HasRoom}
-use Rattle.f3_word_needs.specs.Rooms.{HasFewRooms}
 
 -- A program begins in a state with room, whatever the heap answers after it gave some answers.
 abbrev pub StartHasRoom : Type 0
@@ -61,8 +61,22 @@ MemoryIsAsLarge = (p : Program) (live : Live) (w : word.State) (x : Rooms) (t : 
     (length w.cells.items.items ≡ all_cells t) × (length w.callers.items.items ≡ length t.frames) × (length w.levels.items.items ≡ all_levels t)
     × (kept_names w.cells.items.items ≡ all_selectors t)
 
--- Where rooms are for variables and held values alone, there are no more blocks of rooms than activations, dummies of procedures that were
--- called, and names of ASSOCIATEs that are open.
+-- There are no more names in memory than dummies of the procedures that were called, and names that its cells keep for ASSOCIATEs.
+abbrev pub NamesAreKept : Type 0
+NamesAreKept = (p : Program) (live : Live) (w : word.State) (x : Rooms) (t : State) → Stands p live w x t →
+    length w.names.items.items ≤ length t.frames * most_dummies (lowered_program p).procedures + all_selectors t
+
+-- And no more blocks of rooms than these, for values that are held, and one for each activation, for its variables.
 abbrev pub BlocksAreFew : Type 0
-BlocksAreFew = (p : Program) (live : Live) (w : word.State) (x : Rooms) (t : State) (dummies : ℕ) → Stands p live w x t → HasRoom p t → HasFewRooms dummies x t →
-    length w.blocks.items.items ≤ 1 + length t.frames + (length t.frames * dummies + all_selectors t)
+BlocksAreFew = (p : Program) (live : Live) (w : word.State) (x : Rooms) (t : State) → Stands p live w x t →
+    length w.blocks.items.items ≤ 1 + length t.frames + (length t.frames * most_dummies (lowered_program p).procedures + all_selectors t)
+
+-- A procedure is called with an argument for each dummy, and so with no more than these.
+abbrev pub CallsAreFew : Type 0
+CallsAreFew = (p : Program) (t : State) (l : Line) (f k : ℕ) → IsTold p t → slice_get (code_of p).lines t.pc ≡ Some l → l.act ≡ i.Call f k →
+    k ≤ most_dummies (lowered_program p).procedures
+
+-- An ASSOCIATE has no more names than may be open.
+abbrev pub AssociatesAreFew : Type 0
+AssociatesAreFew = (p : Program) (t : State) (l : Line) (n : ℕ) → IsTold p t → slice_get (code_of p).lines t.pc ≡ Some l → l.act ≡ i.Associate n →
+    n ≤ most_open (lowered_program p)

@@ -3,4 +3,3 @@ pub mod Names
 pub mod Room
 pub mod Laws
 pub mod Needs
-pub mod Rooms

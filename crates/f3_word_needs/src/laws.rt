@@ -1,6 +1,6 @@
 //! Laws of how much room stacks want.
 
-ghost use Rattle.f3_word_needs.specs.Laws.{BlocksAreFew, CallersAreFew, CellsAreFew, DummiesAreFew, LevelsAreFew, LinesKeepRoom, MemoryIsAsLarge, NamesAreFew, SelectorsAreFew, StartHasRoom};
+ghost use Rattle.f3_word_needs.specs.Laws.{AssociatesAreFew, BlocksAreFew, CallersAreFew, CallsAreFew, CellsAreFew, DummiesAreFew, LevelsAreFew, LinesKeepRoom, MemoryIsAsLarge, NamesAreFew, NamesAreKept, SelectorsAreFew, StartHasRoom};
 
 /// A program begins in a state with room (own rule).
 pub fn start_has_room()
@@ -48,8 +48,22 @@ pub fn memory_is_as_large()
     ensures { MemoryIsAsLarge }
 {}
 
-/// There are no more blocks of rooms than activations, dummies of procedures that were called, and names of ASSOCIATEs that are open, where
-/// rooms are for variables and held values alone (own rule).
+/// There are no more names in memory than dummies of the procedures that were called, and names of ASSOCIATEs that are open (own rule).
+pub fn names_are_kept()
+    ensures { NamesAreKept }
+{}
+
+/// There are no more blocks of rooms than these, and one for each activation (own rule).
 pub fn blocks_are_few()
     ensures { BlocksAreFew }
+{}
+
+/// A procedure is called with no more arguments than the dummies of the procedure that has most (ISO/IEC 1539-1:2004, 12.4.1).
+pub fn calls_are_few()
+    ensures { CallsAreFew }
+{}
+
+/// An ASSOCIATE has no more names than may be open at once in the activation that has most (8.1.4).
+pub fn associates_are_few()
+    ensures { AssociatesAreFew }
 {}

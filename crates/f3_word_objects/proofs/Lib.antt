@@ -5,9 +5,13 @@ mod Shaping
 mod Members
 mod Popping
 mod Choosing
+mod Picked
+mod Above
 mod Sectioning
+mod Single
+mod Each
+mod Around
 mod Reaching
 mod Beside
-mod Around
 mod Named
 mod Referring

@@ -1,6 +1,6 @@
 -- Components of objects stand where they are located.
 use Rattle.std.proofs.Common.{◌≡◌, ◌∙◌, ℕ, zero, suc, ◌<◌, Bool, true, false, List, [], ◌∷◌, ◌++◌, length, take, refl, sym, ap, subst, arith}
-use Rattle.std.specs.Prelude.{None, Some, Option, slice_get, not, ◌&&◌, nat_eq, nat_lt, if◌then◌else◌}
+use Rattle.std.specs.Prelude.{None, Some, Option, ◌≢◌, slice_get, not, ◌&&◌, nat_eq, nat_lt, if◌then◌else◌}
 use Rattle.std.specs.List.{All}
 use Rattle.std.proofs.lemmas.Bool.{eqb-true, ne_eqb}
 use Rattle.std.proofs.lemmas.Option.{slice_get_within}
@@ -15,6 +15,7 @@ use Rattle.f3_meaning_whole.specs.Formed.{IsWellFormed, is_scalar, only}
 use Rattle.f3_meaning_whole.specs.Reference.{Reference, Reach, One, Many, Maker}
 use Rattle.f3_meaning_whole.specs.Shape.{Shape, Whole, Record, parts_in, shape_in, shapes_of}
 use Rattle.f3_meaning_whole.specs.Store.{Store, Path}
+use Rattle.f3_meaning_whole.specs.Value.{Span}
 use Rattle.f3_cell_kinds.specs.Effect.{part_kind}
 use Rattle.f3_cell_kinds.specs.Holds.{Refers, Reaches}
 use Rattle.f3_rooms.specs.Flat.{is_flat, are_flat}
@@ -30,12 +31,12 @@ use Rattle.f3_room_places.proofs.Trees.{as_many}
 use Rattle.f3_word_cells.specs.declared.cell.Area.{Area}
 use Rattle.f3_word_cells.specs.declared.cell.Object.{Object}
 use Rattle.f3_word_cells.specs.declared.cell.Object.TheVariants as o
-use Rattle.f3_word_cells.specs.Areas.{AreThere, IsObject, shape_for, types_of}
+use Rattle.f3_word_cells.specs.Areas.{AreOfEach, AreThere, IsObject, shape_for, types_of}
 use Rattle.f3_word_areas.specs.Parts.{IsPartOf}
 use Rattle.f3_word_areas.proofs.Types.{known}
 use Rattle.f3_word_areas.proofs.Further.{one-component, each-component}
 use Rattle.f3_word_objects.specs.Parts.{IsComponent, Located}
-use Rattle.f3_word_objects.specs.Ranks.{AreShort}
+use Rattle.f3_word_cells.specs.Ranks.{AreShort}
 
 -- ---- no component is allocatable
 
@@ -98,6 +99,11 @@ settled-one c e = by c.declared.kind.is_allocatable c.declared.kind.rank refl re
 pub scalar-of-each : (k : Kind) (c : component.Component) (j : Kind) → part_kind k c.declared.kind ≡ Some j → nat_lt 0 k.rank ≡ true → settled (form_of c.declared) ≡ Laid 0 []
 scalar-of-each k c j e many = settled-one c (only-if (is_scalar c.declared.kind) _ j (sym (chosen (nat_eq k.rank 0) _ _ (not-none k.rank many)) ∙ e))
 
+-- elements stand there
+pub many-there : (p : Program) (x : Rooms) (a : Area) (q : Path) (reach : Reach) → AreThere p x a q reach → (a.elements).dims.items ≢ [] → (ss : List Span) × (ps : List Path) × (reach ≡ Many ss ps)
+many-there p x a q One there some = absurd (some there.0)
+many-there p x a q (Many ss ps) there some = (ss, ps, refl)
+
 -- ---- components of objects
 
 module _ (p : Program) (m : Live) (x : Rooms) (sound : IsSound (types_of p) m x) (short : AreShort m) (formed : IsWellFormed p) (plain : All (λ s. is_flat s ≡ true) (types_of p))
@@ -150,3 +156,14 @@ module _ (p : Program) (m : Live) (x : Rooms) (sound : IsSound (types_of p) m x)
       let of : component_type p.types.items r.of n ≡ h.part.of = ap (λ b. component_type p.types.items b n) is.0 ∙ ap base_of (is-in a n y h) ∙ sym (typed a n y h r.path r.reach is.1) in
       subst (λ (w : Object). IsObject p x w (component-of r n maker (store_of (types_of p) m x))) (sym h.stands)
       (of, stands-by a n y h r.path r.reach k j refers.1 (subst (λ (d : component.Component). part_kind k d.declared.kind ≡ Some j) here kinds) is.1)
+
+  -- of each element of an array
+  pub each-stands : (a : Area) (r : Reference) (n : ℕ) (maker : Maker) (store : Store) → IsObject p x (o.Stands a) r → (a.elements).dims.items ≢ []
+      → AreOfEach p x a n (component-of r n maker store)
+  each-stands a r n maker store is some =
+      let h = many-there p x a r.path r.reach is.1 some in
+      record {
+        array = r;
+        stands = is;
+        components = record { spans = h.0; paths = h.1; elements = h.2; reach = ap (λ (y : Reach). component_reach y r.path n store) h.2; of = refl };
+      }

@@ -36,10 +36,11 @@ use Rattle.f3_word_cells.proofs.Amid.{Amid, amid_pushed}
 use Rattle.f3_word_cells.proofs.Flat.{IsFlat}
 use Rattle.f3_word_cells.proofs.Lines.{line_goes}
 use Rattle.f3_word_cells.proofs.Moving.{moved_to}
+use Rattle.f3_word_cells.proofs.Orderly.{IsAfter}
 use Rattle.f3_word_cells.proofs.OnTop.{line_kinds}
 use Rattle.f3_word_objects.specs.Shapes.{dims_of}
 use Rattle.f3_word_objects.specs.Taken.{Took}
-use Rattle.f3_word_objects.proofs.Tops.{Taken, object-lost, object-taken, goes-on}
+use Rattle.f3_word_objects.proofs.Tops.{Taken, after-at, object-lost, object-taken, goes-on}
 
 module _ (p : Program) (m : Live) (old : State) where
   -- an object of a kind is on top
@@ -53,7 +54,7 @@ module _ (p : Program) (m : Live) (old : State) where
   -- the object is taken, and a cell without a value comes on top
   module _ (mid new : State) (z : Object) (popped : Popped (c.Object z) old mid) (a : Cell) (pushed : Pushed a (mid.pc + 1) mid new) (none : cell_blocks a ≡ []) where
     pub replaced : (t : s.State) (l : Line) (x : Rooms) → IsTold p t → Stands p m old x t → (k : Kind) (rest : List CellType) (to : CellType) (b : s.Cell)
-        → ((site_at p t.pc).cells ≡ cell.Object k ∷ rest) → ((site_at p (t.pc + 1)).cells ≡ to ∷ rest)
+        → ((site_at p t.pc).cells ≡ cell.Object k ∷ rest) → IsAfter p t.pc (t.pc + 1) (to ∷ rest)
         → IsFlat b → IsKnown p to a
         → (taken : Taken p t m old mid x z k rest) → IsCell p x m old.names.items.items a b
         → GoesOn p l t (moved_to t (t.pc + 1) (b ∷ taken.below) t.here t.world) []
@@ -74,8 +75,8 @@ passes p m old mid new z n popped pushed t l x told there is st =
     let lead = line_kinds p t l (i.PassVariable n) told there is in
     let top = object-taken p t m old x told st lead.0 lead.1.rest lead.1.before mid z popped in
     let b : s.Cell = s.Argument (Lent n top.reference) in
-    replaced p m old mid new z popped (c.Argument (passed.Lent n z)) pushed refl t l x told st lead.0 lead.1.rest _ b lead.1.before (ap (λ h. h.cells) lead.1.next) tt tt top
-    (refl, top.is) (line_goes p l t (i.PassVariable n) (s.Object top.reference ∷ top.below) _ [] [] is top.split (λ rest. refl))
+    replaced p m old mid new z popped (c.Argument (passed.Lent n z)) pushed refl t l x told st lead.0 lead.1.rest _ b lead.1.before (after-at lead.1.next refl refl) tt tt top
+    (refl, top.is) (line_goes p l t (i.PassVariable n) (s.Object top.reference ∷ top.below) _ [] tt [] is top.split (λ rest. refl))
 
 pub on-select : (p : Program) (m : Live) (old : State) → OnObject p m old i.SelectVariable
 on-select p m old t l told there is = let lead = line_kinds p t l i.SelectVariable told there is in (lead.0, lead.2.rest, lead.2.before)
@@ -85,8 +86,8 @@ pub selects : (p : Program) (m : Live) (old mid new : State) (z : Object) → Po
 selects p m old mid new z popped pushed t l x told there is st =
     let lead = line_kinds p t l i.SelectVariable told there is in
     let top = object-taken p t m old x told st lead.0 lead.2.rest lead.2.before mid z popped in
-    replaced p m old mid new z popped (c.Selector (association.Means z)) pushed refl t l x told st lead.0 lead.2.rest _ (s.Selector (Means top.reference)) lead.2.before (ap (λ h. h.cells) lead.2.next) tt tt top
-    top.is (line_goes p l t i.SelectVariable (s.Object top.reference ∷ top.below) _ [] [] is top.split (λ rest. refl))
+    replaced p m old mid new z popped (c.Selector (association.Means z)) pushed refl t l x told st lead.0 lead.2.rest _ (s.Selector (Means top.reference)) lead.2.before (after-at lead.2.next refl refl) tt tt top
+    top.is (line_goes p l t i.SelectVariable (s.Object top.reference ∷ top.below) _ [] tt [] is top.split (λ rest. refl))
 
 -- ---- bounds
 
@@ -106,6 +107,6 @@ pub tells : (p : Program) (m : Live) (old mid new : State) (z : Object) (ds : _)
 tells p m old mid new z ds popped pushed same t l x told there is st =
     let lead = line_kinds p t l i.BoundsOfVariable told there is in
     let top = object-taken p t m old x told st lead.0 lead.2.rest lead.2.before mid z popped in
-    replaced p m old mid new z popped (c.Bounds ds) pushed refl t l x told st lead.0 lead.2.rest _ (s.Bounds (shown (spans top.reference.reach))) lead.2.before (ap (λ h. h.cells) lead.2.next) tt tt top
+    replaced p m old mid new z popped (c.Bounds ds) pushed refl t l x told st lead.0 lead.2.rest _ (s.Bounds (shown (spans top.reference.reach))) lead.2.before (after-at lead.2.next refl refl) tt tt top
     (ap shown (object-spans p x z top.reference top.is) ∙ sym same)
-    (line_goes p l t i.BoundsOfVariable (s.Object top.reference ∷ top.below) _ [] [] is top.split (λ rest. refl))
+    (line_goes p l t i.BoundsOfVariable (s.Object top.reference ∷ top.below) _ [] tt [] is top.split (λ rest. refl))

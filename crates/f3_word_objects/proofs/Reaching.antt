@@ -1,5 +1,5 @@
 -- The line of a component.
-use Rattle.std.proofs.Common.{◌≡◌, ℕ, ◌+◌, [], ◌∷◌, refl, sym, ap, subst}
+use Rattle.std.proofs.Common.{◌≡◌, ℕ, ◌+◌, [], ◌∷◌, refl, sym, subst}
 use Rattle.std.specs.Prelude.{Ok, Err, None, Some}
 use Rattle.f3_program.specs.declared.program.Program.{Program}
 use Rattle.f3_live_blocks.specs.Blocks.{Live}
@@ -19,10 +19,10 @@ use Rattle.f3_word_cells.specs.Moves.{Popped, Pushed}
 use Rattle.f3_word_cells.proofs.Lines.{line_goes, performs_looks}
 use Rattle.f3_word_cells.proofs.OnTop.{line_kinds}
 use Rattle.f3_word_objects.specs.Parts.{Located}
-use Rattle.f3_word_objects.specs.Ranks.{AreShort}
+use Rattle.f3_word_cells.specs.Ranks.{AreShort}
 use Rattle.f3_word_objects.proofs.Members.{component-of, component-stands, some-component}
 use Rattle.f3_word_objects.proofs.Passing.{OnObject, replaced}
-use Rattle.f3_word_objects.proofs.Tops.{object-taken}
+use Rattle.f3_word_objects.proofs.Tops.{after-at, object-taken}
 
 pub on-component : (p : Program) (m : Live) (old : State) (n : ℕ) → OnObject p m old (i.Component n)
 on-component p m old n t l told there is = let lead = line_kinds p t l (i.Component n) told there is in (lead.0, lead.6.rest, lead.6.before)
@@ -43,5 +43,5 @@ module _ (p : Program) (m : Live) (short : AreShort m) (types : Types) (derived 
       let q : Reference = component-of p m x st.sound short told.formed told.plain.types types derived r n maker (t.world).store in
       let stands = component-stands p m x st.sound short told.formed told.plain.types types derived z y r lead.0 lead.2 n maker lead.1 top.is top.refers lead.4 lead.5 located in
       let here = subst (λ (store : Store). IsObject p x y (component-of p m x st.sound short told.formed told.plain.types types derived r n maker store)) (sym st.store) stands in
-      replaced p m old mid new z popped (c.Object y) pushed refl t l x told st lead.0 lead.6.rest _ (s.Object q) lead.6.before (ap (λ h. h.cells) lead.6.next) tt tt top here
-      (line_goes p l t (i.Component n) (s.Object r ∷ top.below) _ [] [] is top.split (λ rest. performs_looks _ _ _))
+      replaced p m old mid new z popped (c.Object y) pushed refl t l x told st lead.0 lead.6.rest _ (s.Object q) lead.6.before (after-at lead.6.next refl refl) tt tt top here
+      (line_goes p l t (i.Component n) (s.Object r ∷ top.below) _ [] tt [] is top.split (λ rest. performs_looks _ _ _))

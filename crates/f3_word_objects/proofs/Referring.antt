@@ -32,6 +32,7 @@ use Rattle.f3_word_cells.specs.Does.{DoesIn, GoesOn, IsTold}
 use Rattle.f3_word_cells.specs.Moves.{Pushed}
 use Rattle.f3_word_cells.specs.Scenes.{IsScene, code_of}
 use Rattle.f3_word_cells.specs.States.{Stands, statics_of}
+use Rattle.f3_word_cells.proofs.Orderly.{IsAfter}
 use Rattle.f3_word_cells.proofs.Amid.{amid_first, amid_pushed}
 use Rattle.f3_word_cells.proofs.Lines.{line_goes, performs_gives, performs_looks}
 use Rattle.f3_word_cells.proofs.Moving.{moved_to}
@@ -39,7 +40,7 @@ use Rattle.f3_word_cells.proofs.OnTop.{line_kinds}
 use Rattle.f3_word_cells.proofs.Within.{here_stands}
 use Rattle.f3_word_objects.specs.Variables.{IsNamed}
 use Rattle.f3_word_objects.proofs.Named.{static-at, static-stands, local-stands, lent-stands, lent-there, block-there}
-use Rattle.f3_word_objects.proofs.Tops.{goes-on}
+use Rattle.f3_word_objects.proofs.Tops.{after-at, goes-on}
 
 -- what is found is there
 found-some : {A B : Type 0} (o : Option A) (f : A → Option B) (y : B) → found o f ≡ Some y → (x : A) × (o ≡ Some x)
@@ -58,7 +59,7 @@ pub record Knows-name (p : Program) (t : s.State) (x : n.Name) : Type 0 where
   pub kind : Kind
   pub rest : List CellType
   pub before : (site_at p t.pc).cells ≡ rest
-  pub next : (site_at p (t.pc + 1)).cells ≡ cell.Object kind ∷ rest
+  pub next : IsAfter p t.pc (t.pc + 1) (cell.Object kind ∷ rest)
   pub variables : t.here.variables ≡ scope.variables
   pub names : AllRefer scope.names t.here.names
   pub is : kind_of_name p scope.variables scope.names x ≡ Some kind
@@ -74,7 +75,7 @@ knows-name p t l x told there is =
       kind = h.0;
       rest = h.2.rest;
       before = h.2.before;
-      next = ap (λ y. y.cells) h.2.next;
+      next = after-at h.2.next refl refl;
       variables = known.0;
       names = known.1;
       is = h.1;
@@ -111,9 +112,9 @@ module _ (x : Scene) (scene : IsScene x) (m : Live) (old : State) (y : n.Name) w
 
   goes-named : (t : s.State) (l : Line) (z : n.Name) → l.act ≡ i.Refer z
       → GoesOn x.program.now l t (moved_to t (t.pc + 1) (s.Object (meant x.program.now (t.world).store t.here z) ∷ t.stack) t.here t.world) []
-  goes-named t l (name.Static k) is = line_goes x.program.now l t (i.Refer (name.Static k)) t.stack _ [] [] is refl (λ rest. performs_looks _ _ _)
-  goes-named t l (name.Local k) is = line_goes x.program.now l t (i.Refer (name.Local k)) t.stack _ [] [] is refl (λ rest. performs_looks _ _ _)
-  goes-named t l (name.Lent k) is = line_goes x.program.now l t (i.Refer (name.Lent k)) t.stack _ [] [] is refl (λ rest. performs_gives _ _ _)
+  goes-named t l (name.Static k) is = line_goes x.program.now l t (i.Refer (name.Static k)) t.stack _ [] tt [] is refl (λ rest. performs_looks _ _ _)
+  goes-named t l (name.Local k) is = line_goes x.program.now l t (i.Refer (name.Local k)) t.stack _ [] tt [] is refl (λ rest. performs_looks _ _ _)
+  goes-named t l (name.Lent k) is = line_goes x.program.now l t (i.Refer (name.Lent k)) t.stack _ [] tt [] is refl (λ rest. performs_gives _ _ _)
 
   pub refers : (z : Object) (new : State) → IsNamed x old y (Some z) → Pushed (c.Object z) (old.pc + 1) old new → DoesIn x.program.now (i.Refer y) (Ok tt) m m old new
   refers z new named pushed t l rooms told there is st =

@@ -17,7 +17,6 @@ use Rattle.f3_code.specs.State as s
 use Rattle.f3_program.specs.declared.declarations.Kind.{Kind}
 use Rattle.f3_cell_kinds.specs.Types.{CellType}
 use Rattle.f3_cell_kinds.specs.Types as cell
-use Rattle.f3_cell_kinds.specs.Laws.{site_at}
 use Rattle.f3_word_cells.specs.declared.cell.Cell.{Cell}
 use Rattle.f3_rooms.specs.Forms.{words_for}
 use Rattle.f3_rooms.specs.Held.{Held, Empty}
@@ -35,6 +34,7 @@ use Rattle.f3_word_cells.specs.Does.{DoesIn, GoesOn, IsTold, StopsSo}
 use Rattle.f3_word_cells.specs.Moves.{Popped, Pushed}
 use Rattle.f3_word_cells.specs.Scenes.{code_of}
 use Rattle.f3_word_cells.specs.States.{Stands, datum_blocks, own, IsKnown}
+use Rattle.f3_word_cells.proofs.Orderly.{IsAfter}
 use Rattle.f3_word_cells.proofs.Amid.{Amid, amid_first, amid_popped, amid_pushed}
 use Rattle.f3_word_cells.proofs.Lines.{line_goes, line_stops, performs_gives, performs_fails, with_stack, answering}
 use Rattle.f3_word_cells.proofs.Moving.{moved_to}
@@ -42,7 +42,7 @@ use Rattle.f3_word_cells.proofs.OnTop.{line_kinds, two_on_top, of_datum, of_obje
 use Rattle.f3_word_objects.specs.Shapes.{conforms_to, dims_of, fits_to}
 use Rattle.f3_word_objects.specs.Taken.{Took}
 use Rattle.f3_word_objects.proofs.Passing.{OnObject, object-spans}
-use Rattle.f3_word_objects.proofs.Tops.{goes-on, top-cell}
+use Rattle.f3_word_objects.proofs.Tops.{after-at, goes-on, top-cell}
 
 -- ---- values
 
@@ -75,7 +75,7 @@ pub record BothTaken (p : Program) (t : s.State) (m : Live) (old last : State) (
   pub kind : Kind
   pub other : Kind
   pub rest : List CellType
-  pub next : (site_at p (t.pc + 1)).cells ≡ cell.Object kind ∷ cell.Datum other ∷ rest
+  pub next : IsAfter p t.pc (t.pc + 1) (cell.Object kind ∷ cell.Datum other ∷ rest)
   pub reference : Reference
   pub value : Value
   pub below : List s.Cell
@@ -95,17 +95,17 @@ module _ (p : Program) (m : Live) (old mid : State) (z : Object) (popped : Poppe
       let v = of_datum p.types.items lead.1 two.next two.next_is in
       (r.0, v.0, two.below, two.split ∙ ap (λ (b : s.Cell). b ∷ two.next ∷ two.below) r.1 ∙ ap (λ (b : s.Cell). s.Object r.0 ∷ b ∷ two.below) v.1)
 
-  first : (k : Kind) × (j : Kind) × (rest : List CellType) × ((site_at p (t.pc + 1)).cells ≡ cell.Object k ∷ cell.Datum j ∷ rest) × IsObject p x z second.0
+  first : (k : Kind) × (j : Kind) × (rest : List CellType) × IsAfter p t.pc (t.pc + 1) (cell.Object k ∷ cell.Datum j ∷ rest) × IsObject p x z second.0
       × Amid p t m old mid x (cell.Datum j ∷ rest) (s.Datum second.1 ∷ second.2) (t.world).store []
   first =
       let lead = line_kinds p t l i.TestShape told there is in
       let all = amid_first p t m old x (cell.Object lead.0 ∷ cell.Datum lead.1 ∷ lead.3.rest) (s.Object second.0 ∷ s.Datum second.1 ∷ second.2) st lead.3.before second.3 in
       let one = amid_popped p t m old old mid x (cell.Object lead.0) (cell.Datum lead.1 ∷ lead.3.rest) (s.Object second.0) (s.Datum second.1 ∷ second.2) (t.world).store [] (c.Object z) all popped tt in
-      (lead.0, lead.1, lead.3.rest, ap (λ h. h.cells) lead.3.next, one.0, one.2)
+      (lead.0, lead.1, lead.3.rest, after-at lead.3.next refl refl, one.0, one.2)
 
   pub datum-lost : (last : State) → Took c.Datum None mid last → ⊥
   datum-lost last none =
-      let a = top-cell p m _ x old.names.items.items old.here t.here (own mid) (s.Datum second.1) second.2 first.5.cells in
+      let a = top-cell p m _ x old.names.items.items old.here t.here (own mid) (s.Datum second.1) second.2 (cell.Datum first.1) first.2 first.5.known first.5.cells in
       let d = datum-cell p m x old.names.items.items a.0 second.1 a.3 in
       none d.0 a.1 (a.2 ∙ ap (λ (y : Cell). y ∷ a.1) d.1)
 
@@ -138,10 +138,10 @@ module _ (p : Program) (l : Line) (t : s.State) (r : Reference) (v : Value) (bel
   tests b rest e = ap (λ y. performs (tested y ShapesDiffer (placed l.place t.here)) (answering (t.world).store rest) (λ done. on (with_answers rest (with_stack all t)) all)) e
 
   pub passes-test : conforms (spans r.reach) v ≡ true → GoesOn p l t (moved_to t (t.pc + 1) all t.here t.world) []
-  passes-test e = line_goes p l t i.TestShape all _ [] [] is split (λ rest. tests true rest e ∙ performs_gives tt _ _)
+  passes-test e = line_goes p l t i.TestShape all _ [] tt [] is split (λ rest. tests true rest e ∙ performs_gives tt _ _)
 
   pub fails-test : conforms (spans r.reach) v ≡ false → StopsSo p l t (Failed ShapesDiffer (placed l.place t.here).place) []
-  fails-test e = line_stops p l t i.TestShape all _ [] is split (λ rest. tests false rest e ∙ performs_fails ShapesDiffer _ _ _)
+  fails-test e = line_stops p l t i.TestShape all _ [] tt is split (λ rest. tests false rest e ∙ performs_fails ShapesDiffer _ _ _)
 
 module _ (p : Program) (m : Live) (old mid last : State) (z : Object) (d : Datum) (popped : Popped (c.Object z) old mid) (then : Popped (c.Datum d) mid last) where
   pub shape-fails : (new : State) → conforms_to (dims_of z) d ≡ false → DoesIn p i.TestShape (Err (stop.Failed ShapesDiffer)) m m old new

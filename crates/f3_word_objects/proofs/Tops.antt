@@ -1,5 +1,5 @@
 -- Objects on top.
-use Rattle.std.proofs.Common.{◌≡◌, ◌∙◌, ◌+◌, List, [], ◌∷◌, refl, sym, ap}
+use Rattle.std.proofs.Common.{◌≡◌, ◌∙◌, ℕ, ◌+◌, List, [], ◌∷◌, refl, sym, ap}
 use Rattle.std.specs.Prelude.{Ok, None}
 use Rattle.f3_program.specs.declared.declarations.Kind.{Kind}
 use Rattle.f3_program.specs.declared.program.Program.{Program}
@@ -8,7 +8,7 @@ use Rattle.f3_meaning_whole.specs.Reference.{Reference}
 use Rattle.f3_meaning_whole.specs.Act as act
 use Rattle.f3_code.specs.State.{Line}
 use Rattle.f3_code.specs.State as s
-use Rattle.f3_cell_kinds.specs.Types.{CellType}
+use Rattle.f3_cell_kinds.specs.Types.{CellType, Site}
 use Rattle.f3_cell_kinds.specs.Types as cell
 use Rattle.f3_cell_kinds.specs.Holds.{Refers}
 use Rattle.f3_cell_kinds.specs.Laws.{site_at}
@@ -23,21 +23,30 @@ use Rattle.f3_word_cells.specs.Areas.{IsObject}
 use Rattle.f3_word_cells.specs.Cells.{AreCells, IsCell}
 use Rattle.f3_word_cells.specs.Does.{Becomes, GoesOn, IsTold}
 use Rattle.f3_word_cells.specs.Moves.{Popped}
-use Rattle.f3_word_cells.specs.States.{Stands, own}
+use Rattle.f3_word_cells.specs.States.{AreKnown, IsKnown, Stands, own}
 use Rattle.f3_word_cells.proofs.Amid.{Amid, amid_first, amid_last, amid_popped}
 use Rattle.f3_word_cells.proofs.Moving.{moved_to}
+use Rattle.f3_word_cells.proofs.Orderly.{IsAfter}
 use Rattle.f3_word_cells.proofs.OnTop.{one_on_top, of_object}
 use Rattle.f3_word_objects.specs.Taken.{Took}
 
 -- the cell in memory of the one on top
 pub top-cell : (p : Program) (m : Live) (Rest : Rooms → List Name → Type 0) (x : Rooms) (ns : List Name) (h : Here) (here : act.Here) (zs : List Cell) (b : s.Cell) (bs : List s.Cell)
-    → AreCells p m Rest x ns h here zs (b ∷ bs) → (a : Cell) × (rest : List Cell) × (zs ≡ a ∷ rest) × IsCell p x m ns a b
-top-cell p m Rest x ns h here [] b bs are = absurd are
-top-cell p m Rest x ns h here (a ∷ zs) b bs are = (a, zs, refl, are.0)
+    (k : CellType) (ks : List CellType) → AreKnown p (k ∷ ks) zs → AreCells p m Rest x ns h here zs (b ∷ bs)
+    → (a : Cell) × (rest : List Cell) × (zs ≡ a ∷ rest) × IsCell p x m ns a b × IsKnown p k a
+top-cell p m Rest x ns h here [] b bs k ks known are = absurd are
+top-cell p m Rest x ns h here (a ∷ zs) b bs k ks known are = (a, zs, refl, are.0, known.0)
 
-pub object-cell : (p : Program) (m : Live) (x : Rooms) (ns : List Name) (a : Cell) (r : Reference) → IsCell p x m ns a (s.Object r) → (o : Object) × (a ≡ c.Object o)
-object-cell p m x ns (c.Object o) r is = (o, refl)
-object-cell p m x ns a r is = absurd is
+pub object-cell : (p : Program) (m : Live) (x : Rooms) (ns : List Name) (a : Cell) (r : Reference) (k : Kind) → IsKnown p (cell.Object k) a
+    → IsCell p x m ns a (s.Object r) → (o : Object) × (a ≡ c.Object o)
+object-cell p m x ns (c.Object o) r k known is = (o, refl)
+object-cell p m x ns (c.Each a n) r k known is = absurd known
+object-cell p m x ns a r k known is = absurd is
+
+-- where a line of the same scope leads
+pub after-at : {p : Program} {from to : ℕ} {z : Site} → site_at p to ≡ z → z.scope ≡ (site_at p from).scope → z.returns ≡ (site_at p from).returns
+    → IsAfter p from to z.cells
+after-at e scope returns = record { cells = ap (λ (y : Site). y.cells) e; scope = ap (λ (y : Site). y.scope) e ∙ scope; returns = ap (λ (y : Site). y.returns) e ∙ returns }
 
 -- an object of a kind that was taken
 pub record Taken (p : Program) (t : s.State) (m : Live) (old mid : State) (x : Rooms) (o : Object) (k : Kind) (rest : List CellType) : Type 0 where
@@ -61,8 +70,8 @@ module _ (p : Program) (t : s.State) (m : Live) (old : State) (x : Rooms) (told 
 
     pub object-lost : (mid : State) → Took c.Object None old mid → ⊥
     object-lost mid none =
-        let a = top-cell p m _ x old.names.items.items old.here t.here (own old) (s.Object top.0) top.1 first.cells in
-        let o = object-cell p m x old.names.items.items a.0 top.0 a.3 in
+        let a = top-cell p m _ x old.names.items.items old.here t.here (own old) (s.Object top.0) top.1 (cell.Object k) rest first.known first.cells in
+        let o = object-cell p m x old.names.items.items a.0 top.0 k a.4 a.3 in
         none o.0 a.1 (a.2 ∙ ap (λ (y : Cell). y ∷ a.1) o.1)
 
     pub object-taken : (mid : State) (o : Object) → Popped (c.Object o) old mid → Taken p t m old mid x o k rest
@@ -72,7 +81,7 @@ module _ (p : Program) (t : s.State) (m : Live) (old : State) (x : Rooms) (told 
 
   -- the next line comes, with these cells
   pub goes-on : (l : Line) (new : State) (ks : List CellType) (stack : List s.Cell) → Amid p t m old new x ks stack (t.world).store []
-      → (site_at p (t.pc + 1)).cells ≡ ks → new.pc ≡ old.pc + 1 → GoesOn p l t (moved_to t (t.pc + 1) stack t.here t.world) []
+      → IsAfter p t.pc (t.pc + 1) ks → new.pc ≡ old.pc + 1 → GoesOn p l t (moved_to t (t.pc + 1) stack t.here t.world) []
       → Becomes p l t (Ok tt) m new
   goes-on l new ks stack amid kinds line goes = record {
     next = moved_to t (t.pc + 1) stack t.here t.world;

@@ -1,7 +1,6 @@
 pub mod Taken
-pub mod Ranks
 pub mod Shapes
 pub mod Parts
 pub mod Variables
 pub mod Picks
-pub mod Ones
+pub mod Each

@@ -18,7 +18,7 @@ use Rattle.f3_word_cells.specs.Cells.{names_in}
 use Rattle.f3_word_cells.specs.Areas.{types_of}
 use Rattle.f3_word_cells.specs.Scenes.{IsFrame}
 use Rattle.f3_word_cells.specs.States.{statics_of}
-use Rattle.f3_word_objects.specs.Ranks.{HaveRanks}
+use Rattle.f3_word_cells.specs.Ranks.{HaveRanks}
 
 -- the procedure whose variables are at hand, and how they stand
 pub record IsProcedure (x : Scene) (w : State) (q : Procedure) (f : Frame) : Type 0 where

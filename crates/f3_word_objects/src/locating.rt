@@ -6,12 +6,13 @@ ghost use Rattle.f3_live_blocks.specs.Blocks.{Live};
 ghost use Rattle.f3_room_places.specs.Places.{HasTables};
 ghost use Rattle.f3_word_cells.specs.Does.{DoesIn, Keeps};
 ghost use Rattle.f3_word_cells.specs.Scenes.{IsScene};
-ghost use Rattle.f3_word_objects.specs.Ones.{AreOfOne};
+ghost use Rattle.f3_word_objects.specs.Each.{IsBeside};
 ghost use Rattle.f3_word_objects.specs.Parts.{Located};
-ghost use Rattle.f3_word_objects.specs.Ranks.{AreRanked, AreShort, ComponentsHaveRanks};
+ghost use Rattle.f3_word_cells.specs.Ranks.{AreRanked, AreShort, ComponentsHaveRanks};
 
 use crate::taking::pop_object;
 use f3_room_places::types::Types;
+use f3_word_areas::copies::copied;
 use f3_word_areas::parts::{component_of, part};
 use f3_word_cells::cell::{Cell, Object};
 use f3_word_cells::scene::Scene;
@@ -53,7 +54,24 @@ pub fn component(scene: Scene<'_>, state: &mut State, number: usize) -> Result<(
     Ok(())
 }
 
-/// The component of a number, and the object stays beneath. So far for single objects.
+/// The component of a number of an object, as a cell: of an array, it is that of each element.
+fn beside(types: Types<'_>, object: &Object, number: usize) -> Option<Cell>
+    requires tables { HasTables types }
+    requires ranks { ComponentsHaveRanks types.derived.now }
+    ensures { IsBeside types.entry number object.now result }
+{
+    if let Object::Stands(area) = object {
+        if !area.elements.dims.is_empty() {
+            return Some(Cell::Each(copied(area), number));
+        }
+    }
+    match located(types, object, number) {
+        Some(part) => Some(Cell::Object(part)),
+        None => None,
+    }
+}
+
+/// The component of a number, and the object stays beneath; elements of the component are selected next.
 #[inline(never)]
 pub fn component_beside(scene: Scene<'_>, state: &mut State, number: usize) -> Result<(), Stop>
     requires scene { IsScene scene }
@@ -61,16 +79,16 @@ pub fn component_beside(scene: Scene<'_>, state: &mut State, number: usize) -> R
     requires pc { state.old.pc < 2 ^ 63 }
     requires room { length state.old.cells.items.items < state.old.cells.room }
     requires bottom { state.old.base ≤ length state.old.cells.items.items }
-    ensures does { (live : Live) → AreShort live → AreOfOne scene.entry.program.now → DoesIn scene.entry.program.now (i.ComponentOf number) result live live state.old state.new }
+    ensures does { (live : Live) → AreShort live → DoesIn scene.entry.program.now (i.ComponentOf number) result live live state.old state.new }
     ensures keeps { Keeps state.old state.new }
 {
     let Some(object) = pop_object(state) else {
         return Err(Stop::Lost);
     };
-    let Some(part) = located(scene.types, &object, number) else {
+    let Some(part) = beside(scene.types, &object, number) else {
         return Err(Stop::Lost);
     };
     state.push(Cell::Object(object));
-    state.go_on_with(Cell::Object(part));
+    state.go_on_with(part);
     Ok(())
 }

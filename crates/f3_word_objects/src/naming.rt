@@ -10,7 +10,7 @@ ghost use Rattle.f3_word_cells.specs.Areas.{types_of};
 ghost use Rattle.f3_word_cells.specs.Does.{DoesIn, Keeps};
 ghost use Rattle.f3_word_cells.specs.Scenes.{IsFrame, IsScene};
 ghost use Rattle.f3_word_cells.specs.States.{statics_of};
-ghost use Rattle.f3_word_objects.specs.Ranks.{AreRanked, HasRank};
+ghost use Rattle.f3_word_cells.specs.Ranks.{AreRanked, HasRank};
 ghost use Rattle.f3_cells.specs.Cells.{variables_of};
 ghost use Rattle.f3_word_objects.specs.Variables.{IsLent, IsLocal, IsNamed, IsProcedure, IsStatic, IsVariable};
 

@@ -1,4 +1,6 @@
 pub mod Plains
+pub mod Ranked
 pub mod Framing
 pub mod Taking
+pub mod FirstSite
 pub mod Starting

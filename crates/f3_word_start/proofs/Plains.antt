@@ -23,7 +23,8 @@ use Rattle.f3_gen_values.specs.declared.emission.Emission.{Emission}
 use Rattle.f3_gen_values.specs.declared.line.Line.{Line}
 use Rattle.f3_gen_values.specs.Emitted.{line_in}
 use Rattle.f3_gen_values.specs.Emission.{code_in}
-use Rattle.f3_word_cells.specs.Plain.{ArePlain, IsPlain, is_plain_act, is_plain_scalar}
+use Rattle.f3_word_cells.specs.Plain.{ArePlain, IsPlain, is_plain_act}
+use Rattle.f3_word_cells.specs.Scalars.{is_plain_scalar}
 use Rattle.f3_word_cells.specs.Scenes.{code_of}
 use Rattle.f3_word_start.specs.Inner.Declared.{IsDeclaredPlain}
 
@@ -86,7 +87,7 @@ types_plain ts flat i d lt =
 
 -- ---- variables
 
-unmapped : {X Y : Type 0} (P : X → Type 0) (f : Y → X) (ys : List Y) → All P (map f ys) → All (λ y. P (f y)) ys
+pub unmapped : {X Y : Type 0} (P : X → Type 0) (f : Y → X) (ys : List Y) → All P (map f ys) → All (λ y. P (f y)) ys
 unmapped P f [] h = All-nil (λ y. P (f y))
 unmapped P f (y ∷ ys) h = All-cons (λ z. P (f z)) y ys (All-head P (f y) (map f ys) h) (unmapped P f ys (All-tail P (f y) (map f ys) h))
 
@@ -96,12 +97,12 @@ IsPlainStatic y = y.declared.kind.is_allocatable ≡ false
 abbrev pub IsPlainProcedure : Procedure → Type 0
 IsPlainProcedure q = ArePlain (declared_in q)
 
-at_each : {X : Type 0} (P : X → Type 0) (qs : List X) → All P qs → (f : ℕ) (q : X) → slice_get qs f ≡ Some q → P q
+pub at_each : {X : Type 0} (P : X → Type 0) (qs : List X) → All P qs → (f : ℕ) (q : X) → slice_get qs f ≡ Some q → P q
 at_each P [] h f q e = absurd (cc)
 at_each P (r ∷ qs) h zero q e = let same : r ≡ q = cc in subst P same (All-head P r qs h)
 at_each P (r ∷ qs) h (suc f) q e = at_each P qs (All-tail P r qs h) f q e
 
-of_each : {X : Type 0} (P : X → Type 0) (qs : List X) → ((f : ℕ) (q : X) → slice_get qs f ≡ Some q → P q) → All P qs
+pub of_each : {X : Type 0} (P : X → Type 0) (qs : List X) → ((f : ℕ) (q : X) → slice_get qs f ≡ Some q → P q) → All P qs
 of_each P [] h = All-nil P
 of_each P (r ∷ qs) h = All-cons P r qs (h 0 r refl) (of_each P qs (λ f q e. h (suc f) q e))
 
@@ -110,10 +111,10 @@ of_each P (r ∷ qs) h = All-cons P r qs (h 0 r refl) (of_each P qs (λ f q e. h
 abbrev pub Tells : {X : Type 0} → (X → Type 0) → List X → Bool → Type 0
 Tells P xs b = (b ≡ true) ↔ All P xs
 
-no : {P : Type 0} → (P → ⊥) → (false ≡ true) ↔ P
+pub no : {P : Type 0} → (P → ⊥) → (false ≡ true) ↔ P
 no h = (λ e. absurd (cc), λ q. absurd (h q))
 
-failed : {P : Type 0} (b : Bool) → (b ≡ true) ↔ P → b ≡ false → P → ⊥
+pub failed : {P : Type 0} (b : Bool) → (b ≡ true) ↔ P → b ≡ false → P → ⊥
 failed b test e p = let f : b ≡ true = test.1 p in absurd (cc)
 
 -- what is declared

@@ -1,5 +1,5 @@
 -- How a run begins.
-use Rattle.std.proofs.Common.{◌≡◌, ◌≢◌, inl, inr, ℕ, zero, suc, ◌+◌, ◌<◌, Bool, true, false, List, [], ◌∷◌, ◌++◌, map, take, drop, reverse, refl, sym, ap, subst, ◌∙◌, arith}
+use Rattle.std.proofs.Common.{◌≡◌, ◌≢◌, inl, inr, ℕ, zero, suc, ◌+◌, ◌<◌, Bool, true, false, List, [], ◌∷◌, ◌++◌, length, map, take, drop, reverse, refl, sym, ap, subst, ◌∙◌, arith}
 use Rattle.std.proofs.lemmas.Bool.{cases_eq}
 use Rattle.std.proofs.lemmas.Bool.Decides.{nat_tests}
 use Rattle.std.proofs.Math.Path.{fun_ext}
@@ -41,7 +41,11 @@ use Rattle.f3_word_cells.specs.Areas.{types_of}
 use Rattle.f3_word_cells.specs.Cells.{IsHere, AreCells}
 use Rattle.f3_word_cells.specs.Does.{stream}
 use Rattle.f3_word_cells.specs.Scenes.{code_of}
-use Rattle.f3_word_cells.specs.States.{Stands, AreCallers, AreKnown, beneath, own, loose_blocks, cells_blocks, statics_of}
+use Rattle.f3_word_cells.specs.Scalars.{is_plain_scalar}
+use Rattle.f3_cell_kinds.specs.Types.{Around, Told, Untold, InRoutine}
+use Rattle.f3_cell_kinds.specs.Holds.{InScope}
+use Rattle.f3_word_start.proofs.FirstSite.{first_returns}
+use Rattle.f3_word_cells.specs.States.{AreAtHand, AreCalled, AreTight, end_of, Stands, AreCallers, AreKnown, beneath, own, loose_blocks, cells_blocks, statics_of}
 use Rattle.f3_cell_kinds.specs.Types.{CellType}
 use Rattle.f3_cell_kinds.specs.Laws.{site_at}
 use Rattle.f3_word_start.specs.Begins.{Begins, IsRefused, first, first_state, first_events, further}
@@ -224,6 +228,25 @@ module _ (p : Program) (mid k : Live) (us vs : List Declared) (x y a b : ℕ) (s
     no_callers = subst (λ (cs : List Cell). AreCallers p k cs (reverse w.callers.items.items) [] rooms names) (sym beneath_none)
         (subst (λ (fs : List Caller). AreCallers p k [] fs [] rooms names) (sym callers_none) refl)
 
+    no_names : length names ≡ 0
+    no_names = ap (λ (ns : List Name). length ns) f.names
+
+    at_hand : AreAtHand (length names) w.here (own w)
+    at_hand = subst (λ (cs : List Cell). AreAtHand (length names) w.here cs) (sym own_none)
+        (ap (λ (h : Here). end_of h.names) f.here ∙ sym no_names)
+
+    orderly_first : (o : Around) → InScope p.types.items (λ z. AreAtHand (length names) w.here (own w)) o
+    orderly_first (Told z) = at_hand
+    orderly_first Untold = tt
+    orderly_first InRoutine = tt
+
+    abbrev Called : List Cell → List Caller → Type 0
+    Called cs fs = AreCalled p cs fs rooms.levels (length names)
+
+    tight_first : AreTight (AreCalled p (beneath w) (reverse w.callers.items.items)) rooms.levels (length names) (own w)
+    tight_first = subst (λ (cs : List Cell). AreTight (AreCalled p (beneath w) (reverse w.callers.items.items)) rooms.levels (length names) cs) (sym own_none)
+        (subst (λ (fs : List Caller). Called (beneath w) fs) (sym callers_none) (no_names, refl, omega arith))
+
     stands : (answers : ℕ → Bool) → Stands p k w rooms (first_state p answers)
     stands answers = record {
       sound = sound;
@@ -238,6 +261,8 @@ module _ (p : Program) (mid k : Live) (us vs : List Declared) (x y a b : ℕ) (s
       bottom = let e = f.base in omega arith;
       known = subst (AreKnown p (site_at p 0).cells) (sym own_none) (none_known p (site_at p 0).cells);
       stack = subst (λ (cs : List Cell). AreCells p k Callers rooms names w.here (core_here (lowered_program p)) cs []) (sym own_none) (first_here, no_callers);
+      orderly = (ap is_plain_scalar (first_returns p), orderly_first (site_at p 0).scope);
+      tight = tight_first;
       once = λ q. let e = same_times q in let once = sound.apart q in omega arith;
       all = λ q live. let e = same_times q in let some = all_counted q live in omega arith;
       live = λ q some. let e = ap (times q) loose_none in absurd (omega arith);

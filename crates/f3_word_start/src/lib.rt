@@ -5,4 +5,5 @@ pub mod beginning;
 mod declared;
 pub mod frames;
 pub mod plain;
+pub mod ranks;
 pub mod stacks;

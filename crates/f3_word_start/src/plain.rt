@@ -9,7 +9,8 @@ ghost use Rattle.f3_meaning_whole.specs.Exec.{declared_in};
 ghost use Rattle.f3_cell_kinds.specs.Effect.{declared_kind};
 ghost use Rattle.f3_gen_values.specs.declared.line.Line as l;
 ghost use Rattle.f3_gen_values.specs.Emission.{code_in};
-ghost use Rattle.f3_word_cells.specs.Plain.{ArePlain, IsPlain, is_plain_act, is_plain_scalar};
+ghost use Rattle.f3_word_cells.specs.Plain.{ArePlain, IsPlain, is_plain_act};
+ghost use Rattle.f3_word_cells.specs.Scalars.{is_plain_scalar};
 ghost use Rattle.f3_word_cells.specs.Scenes.{code_of};
 ghost use Rattle.f3_word_start.specs.Inner.Declared.{IsDeclaredPlain};
 
@@ -101,7 +102,8 @@ fn is_plain_act(act: Instruction) -> bool
     ensures { result ≡ is_plain_act act }
 {
     match act {
-        Instruction::Select(is_opened, _) | Instruction::SelectOf(is_opened, _, _) => !is_opened,
+        Instruction::Select(is_opened, _) => !is_opened,
+        Instruction::SelectOf(is_opened, _, count) => !is_opened && count > 0,
         Instruction::Structure(_, _)
         | Instruction::IsAllocated
         | Instruction::Contents

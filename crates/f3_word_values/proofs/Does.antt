@@ -22,7 +22,7 @@ use Rattle.f3_meaning_whole.specs.Act.{Here, Given, claim_for, needs_storage}
 use Rattle.f3_meaning_whole.specs.Exec.{Holds}
 use Rattle.f3_meaning_whole.specs.Store.{Store}
 use Rattle.f3_meaning_whole.specs.Ran.{Ran, World}
-use Rattle.f3_word_cells.specs.Does.{GoesOn, stream}
+use Rattle.f3_word_cells.specs.Does.{AreGranted, GoesOn, stream}
 use Rattle.f3_word_cells.proofs.Lines.{answering, claim_for_block, claim_for_scalar, claim_granted, line_goes, performs_gives}
 use Rattle.f3_word_control.proofs.Lines.{does, with_stack}
 use Rattle.f3_word_values.proofs.Ending.{Computes}
@@ -83,6 +83,10 @@ module _ (p : Program) (l : Line) (t : s.State) where
     claimed true = false ∷ []
     claimed false = []
 
+    granted_claimed : (b : Bool) → AreGranted (claimed b)
+    granted_claimed true = tt
+    granted_claimed false = tt
+
     claims : (b : Bool) (here : Here) (store : Store) (rest : ℕ → Bool) (f : ⊤ → World → s.State) → needs_storage v ≡ b
         → performs (claim_for v here) (answering store (stream (claimed b) rest)) f ≡ Goes [] (f tt (answering store rest))
     claims true here store rest f e =
@@ -91,9 +95,9 @@ module _ (p : Program) (l : Line) (t : s.State) where
         ap (λ (r : Ran ⊤). performs r (answering store (stream [] rest)) f) (claim_for_scalar v here e) ∙ performs_gives tt (answering store (stream [] rest)) f
 
     pub passed_so : (k : ℕ) → GoesTo (i.PassValue k) (s.Argument (Given k v) ∷ below)
-    passed_so k is = line_goes p l t (i.PassValue k) (s.Datum v ∷ below) (with_stack (t.pc + 1) (s.Argument (Given k v) ∷ below) t) (claimed (needs_storage v)) [] is split
+    passed_so k is = line_goes p l t (i.PassValue k) (s.Datum v ∷ below) (with_stack (t.pc + 1) (s.Argument (Given k v) ∷ below) t) (claimed (needs_storage v)) (granted_claimed (needs_storage v)) [] is split
         (λ rest. claims (needs_storage v) (placed l.place t.here) t.world.store rest _ refl)
 
     pub selected_so : (of : Base) → GoesTo (i.SelectValue of) (s.Selector (Holds of v) ∷ below)
-    selected_so of is = line_goes p l t (i.SelectValue of) (s.Datum v ∷ below) (with_stack (t.pc + 1) (s.Selector (Holds of v) ∷ below) t) (claimed (needs_storage v)) [] is split
+    selected_so of is = line_goes p l t (i.SelectValue of) (s.Datum v ∷ below) (with_stack (t.pc + 1) (s.Selector (Holds of v) ∷ below) t) (claimed (needs_storage v)) (granted_claimed (needs_storage v)) [] is split
         (λ rest. claims (needs_storage v) (placed l.place t.here) t.world.store rest _ refl)

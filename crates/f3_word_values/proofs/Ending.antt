@@ -17,7 +17,6 @@ use Rattle.f3_code.specs.Machine.{performs, on}
 use Rattle.f3_code.specs.Heap.{with_answers}
 use Rattle.f3_cell_kinds.specs.Types.{CellType}
 use Rattle.f3_cell_kinds.specs.Types as cell
-use Rattle.f3_cell_kinds.specs.Laws.{site_at}
 use Rattle.f3_rooms.specs.Rooms.{Rooms}
 use Rattle.f3_word_cells.specs.declared.state.State.{State}
 use Rattle.f3_word_cells.specs.declared.state.Stop.{Stop}
@@ -25,6 +24,7 @@ use Rattle.f3_word_cells.specs.declared.state.Stop.TheVariants as stop
 use Rattle.f3_word_cells.specs.States.{Stands}
 use Rattle.f3_word_cells.specs.Does.{Becomes}
 use Rattle.f3_word_cells.proofs.Amid.{Amid}
+use Rattle.f3_word_cells.proofs.Orderly.{IsAfter}
 use Rattle.f3_word_cells.proofs.Lines.{performs_gives, performs_fails}
 use Rattle.f3_word_control.specs.Operands.{scalar_cell}
 use Rattle.f3_word_control.proofs.Lines.{does, goes, stops, goes_with}
@@ -41,7 +41,7 @@ module _ (p : Program) (l : Line) (t : s.State) where
 
   pub finished : (m n : Live) (old : State) (x : Rooms) (st : Stands p m old x t) {i : Instruction} {mid : State} (new : State) {k : Kind} {ks : List CellType} (below : List s.Cell)
       (given : Result Constant RunError) (r : Result ⊤ Stop) (ran : Ran Value) → l.act ≡ i → scalar_ran given (placed l.place t.here).place ≡ ran
-      → Computes i ran below → Amid p t n old mid x ks below t.world.store [] → mid.pc ≡ old.pc → (site_at p (t.pc + 1)).cells ≡ cell.Datum k ∷ ks
+      → Computes i ran below → Amid p t n old mid x ks below t.world.store [] → mid.pc ≡ old.pc → IsAfter p t.pc (t.pc + 1) (cell.Datum k ∷ ks)
       → Finishes given r mid new → Becomes p l t r n new
   finished m n old x st new below (Ok y) (Ok done) ran is e h amid line kinds ends =
       goes_with p l t m n old x st below (scalar_cell y) (s.Datum (constant_value y))

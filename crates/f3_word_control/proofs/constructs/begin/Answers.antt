@@ -1,12 +1,11 @@
-use Rattle.std.proofs.Common.{[], refl, ap}
-use Rattle.f3_cell_kinds.specs.Types.{Site}
+use Rattle.std.proofs.Common.{[], refl}
 use Rattle.f3_word_cells.proofs.OnTop.{line_kinds}
 use Rattle.f3_word_cells.proofs.Amid.{amid_first}
-use Rattle.f3_word_control.proofs.Lines.{prints, goes_so}
+use Rattle.f3_word_control.proofs.Lines.{after_at, prints, goes_so}
 use Rattle.f3_word_control.proofs.Does.{begun}
 use Rattle.f3_word_control.proofs.constructs.begin.Goals as goal
 
 pub returns-clause-does : goal.returns-clause-does
 returns-clause-does c = λ p m t l x told there is st.
     let lead = line_kinds p t l _ told there is in
-    prints p l t m m _ x st t.stack _ (goes_so p l t _ [] is refl (λ rest. begun p l t rest)) (amid_first p t m _ x _ t.stack st lead.before refl) refl (ap (λ (z : Site). z.cells) lead.next) c.advance.ensures
+    prints p l t m m _ x st t.stack _ (goes_so p l t _ [] tt is refl (λ rest. begun p l t rest)) (amid_first p t m _ x _ t.stack st lead.before refl) refl (after_at lead.next refl refl) c.advance.ensures

@@ -19,6 +19,6 @@ returns-clause-does c = λ p m size t l x told there is st.
     let at = left_at p m x t _ told st l c.args.way c.args.distance (line_kinds p t l _ told there is) in
     let top = outside_of p l t m _ x st _ c.in-Some.ensures.taken in
     let here = here_stands p m _ x _ _ _ _ _ st.stack in
-    left_ahead p l t m _ x st _ _ _ _ at.0 at.1 _ _ c.ahead.result top.0 top.1 at.2 at.3 c.in-Some.ensures.taken c.push.ensures
+    left_ahead p l t m _ x st _ _ _ _ at.0 at.1 _ _ c.ahead.result top.0 top.1 at.2 at.3 at.4 c.in-Some.ensures.taken c.push.ensures
     (ap (flow_of c.args.way) (here.place ∙ ap (λ (h : Here). h.place) (sym c.in-Some.ensures.taken.same.here)) ∙ sym c.flow_of-flow.ensures)
     top.3 size c.ahead.ensures (goes p l t is (λ rest. left_so p l t rest _ _ _ _ top.2))

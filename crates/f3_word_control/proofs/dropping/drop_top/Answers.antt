@@ -1,13 +1,12 @@
-use Rattle.std.proofs.Common.{[], ap, sym, subst}
+use Rattle.std.proofs.Common.{[], sym, subst, refl}
 use Rattle.std.specs.Prelude.{Ok}
 use Rattle.f3_rooms.specs.Laws.{without}
-use Rattle.f3_cell_kinds.specs.Types.{Site}
 use Rattle.f3_word_cells.specs.States.{cell_blocks}
 use Rattle.f3_word_cells.specs.Does.{Becomes}
 use Rattle.f3_word_cells.proofs.OnTop.{line_kinds, one_on_top}
 use Rattle.f3_word_cells.proofs.Amid.{amid_first, amid_popped}
 use Rattle.f3_word_cells.proofs.InHand.{amid_without}
-use Rattle.f3_word_control.proofs.Lines.{advances, goes}
+use Rattle.f3_word_control.proofs.Lines.{after_at, advances, goes}
 use Rattle.f3_word_control.proofs.Tops.{drop_flat, no_top}
 use Rattle.f3_word_control.proofs.Does.{dropped}
 use Rattle.f3_word_control.proofs.dropping.drop_top.Goals as goal
@@ -30,4 +29,4 @@ returns-clause-does g c = λ p t l x told there is st.
     let gone = amid_without p t m old _ x lead.1.rest top.below t.world.store (cell_blocks cell) [] amid.2 in
     subst (λ n. Becomes p l t (Ok tt) n c.advance.new.self) (sym c.let_go.ensures)
     (advances p l t m (without (cell_blocks cell) m) old x st top.below (goes p l t is (λ rest. dropped p l t rest _ _ top.split)) gone c.in-Some.ensures.pc
-    (ap (λ (z : Site). z.cells) lead.1.next) c.advance.ensures)
+    (after_at lead.1.next refl refl) c.advance.ensures)

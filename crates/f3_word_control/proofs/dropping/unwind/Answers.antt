@@ -1,9 +1,9 @@
-use Rattle.std.proofs.Common.{◌≡◌, [], ◌+◌, ◌∙◌, refl, ap, sym, subst, drop, arith}
-use Rattle.f3_cell_kinds.specs.Types.{Site}
+use Rattle.std.proofs.Common.{◌≡◌, [], ◌+◌, ◌∙◌, refl, sym, subst, drop, arith}
 use Rattle.f3_cell_kinds.specs.Laws.{site_at}
 use Rattle.f3_word_cells.proofs.OnTop.{line_kinds}
 use Rattle.f3_word_cells.proofs.Amid.{Amid, amid_first}
-use Rattle.f3_word_control.proofs.Lines.{advances, goes}
+use Rattle.f3_word_cells.proofs.Orderly.{after_cells}
+use Rattle.f3_word_control.proofs.Lines.{after_at, advances, goes}
 use Rattle.f3_word_control.proofs.Does.{unwound}
 use Rattle.f3_word_control.proofs.Unwinding.{one_more, free_then, less_by_one, rest_of}
 use Rattle.f3_word_control.proofs.dropping.unwind.Goals as goal
@@ -55,4 +55,4 @@ returns-clause-does g c = λ p t l x told there is st.
     subst (λ k. Amid p t (g.B.Blocks.blocks c.loop.heap) c.args.state.now c.loop.state x (drop k (site_at p t.pc).cells) (drop k t.stack) t.world.store []) same amid in
     advances p l t (g.B.Blocks.blocks c.args.heap.now) (g.B.Blocks.blocks c.loop.heap) c.args.state.now x st (drop c.args.count t.stack)
     (goes p l t is (λ rest. unwound p l t rest _)) done c.loop.invariant.0
-    (ap (λ (z : Site). z.cells) lead.2.next ∙ sym (rest_of p t l _ told there is)) c.advance.ensures
+    (after_cells (after_at lead.2.next refl refl) (sym (rest_of p t l _ told there is))) c.advance.ensures

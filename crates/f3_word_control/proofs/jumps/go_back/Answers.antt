@@ -1,8 +1,7 @@
 use Rattle.std.proofs.Common.{[], ap, refl, sym, ◌-◌, ◌∙◌}
-use Rattle.f3_cell_kinds.specs.Types.{Site}
 use Rattle.f3_word_cells.proofs.OnTop.{line_kinds}
 use Rattle.f3_word_cells.proofs.Amid.{amid_first, amid_line, amid_last}
-use Rattle.f3_word_control.proofs.Lines.{goes, with_stack}
+use Rattle.f3_word_control.proofs.Lines.{after_at, goes, with_stack}
 use Rattle.f3_word_control.proofs.Does.{went_back}
 use Rattle.f3_word_control.proofs.jumps.go_back.Goals as goal
 
@@ -15,6 +14,6 @@ returns-clause-does c = λ p m t l x told there is st.
       next = with_stack (t.pc - c.args.distance) t.stack t;
       rooms = x;
       goes = goes p l t is (λ rest. went_back p l t rest _);
-      stands = amid_last p t m m old new x _ (t.pc - c.args.distance) t.stack t.world st amid (ap (λ (z : Site). z.cells) (line_kinds p t l _ told there is))
+      stands = amid_last p t m m old new x _ (t.pc - c.args.distance) t.stack t.world st amid (after_at (line_kinds p t l _ told there is) refl refl)
           (ap (λ k. k - c.args.distance) st.pc ∙ sym c.saturating_sub-state.ensures);
     }

@@ -1,9 +1,8 @@
-use Rattle.std.proofs.Common.{refl, ap}
-use Rattle.f3_cell_kinds.specs.Types.{Site}
+use Rattle.std.proofs.Common.{refl}
 use Rattle.f3_word_cells.proofs.OnTop.{line_kinds}
 use Rattle.f3_word_cells.proofs.Amid.{amid_first}
 use Rattle.f3_word_cells.proofs.Lines.{becomes_ahead}
-use Rattle.f3_word_control.proofs.Lines.{goes}
+use Rattle.f3_word_control.proofs.Lines.{after_at, goes}
 use Rattle.f3_word_control.proofs.Does.{went_on}
 use Rattle.f3_word_control.proofs.jumps.go_on.Goals as goal
 
@@ -11,4 +10,4 @@ pub returns-clause-does : goal.returns-clause-does
 returns-clause-does c = λ p m size t l x told there is st.
     let lead = line_kinds p t l _ told there is in
     becomes_ahead p m m _ _ _ x _ t l t.stack _ _ c.ahead.result st (amid_first p t m _ x _ t.stack st lead.before refl) refl
-    (ap (λ (z : Site). z.cells) lead.far.0) size c.ahead.ensures (goes p l t is (λ rest. went_on p l t rest _))
+    (after_at lead.far.0 refl refl) size c.ahead.ensures (goes p l t is (λ rest. went_on p l t rest _))

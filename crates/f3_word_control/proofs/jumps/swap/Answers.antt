@@ -1,11 +1,10 @@
-use Rattle.std.proofs.Common.{[], ap, ◌∙◌, ◌++◌, arith}
-use Rattle.f3_cell_kinds.specs.Types.{Site}
+use Rattle.std.proofs.Common.{[], ◌∙◌, ◌++◌, arith, refl}
 use Rattle.f3_rooms.proofs.Framing.{times_append}
 use Rattle.f3_word_cells.specs.States.{cell_blocks}
 use Rattle.f3_word_cells.proofs.OnTop.{line_kinds, two_on_top}
 use Rattle.f3_word_cells.proofs.Amid.{amid_first, amid_popped, amid_pushed}
 use Rattle.f3_word_control.proofs.Moving.{in_order}
-use Rattle.f3_word_control.proofs.Lines.{goes_with, goes}
+use Rattle.f3_word_control.proofs.Lines.{after_at, goes_with, goes}
 use Rattle.f3_word_control.proofs.Tops.{swap_flat}
 use Rattle.f3_word_control.proofs.Does.{swapped}
 use Rattle.f3_word_control.proofs.jumps.swap.Goals as goal
@@ -26,4 +25,4 @@ returns-clause-does c = λ p m t l x told there is st.
     let h = times_append q (cell_blocks a) [] in let k = times_append q (cell_blocks b) [] in omega (arith, e, f, h, k)) two.2 in
     let again = amid_pushed p t m old _ _ x lead.0 by.rest top.cell top.below t.world.store (cell_blocks b ++ []) a _ turned c.push.ensures flat.0 one.0 one.1 in
     goes_with p l t m m old x st _ b top.next (goes p l t is (λ rest. swapped p l t rest _ _ _ top.split)) again
-    (c.push.ensures.pc ∙ c.in-Some-pop.ensures.pc ∙ c.in-Some.ensures.pc) (ap (λ (z : Site). z.cells) by.next) c.go_on_with.ensures flat.1 two.0 two.1
+    (c.push.ensures.pc ∙ c.in-Some-pop.ensures.pc ∙ c.in-Some.ensures.pc) (after_at by.next refl refl) c.go_on_with.ensures flat.1 two.0 two.1

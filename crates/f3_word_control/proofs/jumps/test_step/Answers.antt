@@ -1,9 +1,8 @@
-use Rattle.std.proofs.Common.{refl, sym, ap, ◌∙◌}
-use Rattle.f3_cell_kinds.specs.Types.{Site}
+use Rattle.std.proofs.Common.{refl, sym, ◌∙◌}
 use Rattle.f3_word_cells.proofs.OnTop.{line_kinds}
 use Rattle.f3_word_cells.proofs.Amid.{amid_first}
 use Rattle.f3_word_control.proofs.Moving.{scalar_taken}
-use Rattle.f3_word_control.proofs.Lines.{stops, goes_with, goes}
+use Rattle.f3_word_control.proofs.Lines.{after_at, stops, goes_with, goes}
 use Rattle.f3_word_control.proofs.Tops.{whole_on}
 use Rattle.f3_word_control.proofs.Does.{step_fails, step_stays}
 use Rattle.f3_word_control.proofs.jumps.test_step.Goals as goal
@@ -25,4 +24,4 @@ returns-clause-does c = λ p m t l x told there is st.
     let lead = line_kinds p t l _ told there is in
     let top = scalar_taken p t m _ x _ c.in-Some.ensures.taken (amid_first p t m _ x _ t.stack st lead.2.before refl) in
     goes_with p l t m m _ x st top.below _ _ (goes p l t is (λ rest. step_stays p l t rest _ _ top.split (sym c.is_zero.ensures ∙ c.if-is_zero.false))) top.amid
-    c.in-Some.ensures.taken.pc (ap (λ (z : Site). z.cells) lead.2.next) c.go_on_with.ensures tt refl tt
+    c.in-Some.ensures.taken.pc (after_at lead.2.next refl refl) c.go_on_with.ensures tt refl tt

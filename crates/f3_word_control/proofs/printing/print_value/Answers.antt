@@ -1,14 +1,13 @@
-use Rattle.std.proofs.Common.{[], ◌+◌, refl, ap, sym, subst}
+use Rattle.std.proofs.Common.{[], ◌+◌, refl, sym, subst}
 use Rattle.f3_rooms.specs.Laws.{without}
 use Rattle.f3_shaping.specs.Results.{value_text}
-use Rattle.f3_cell_kinds.specs.Types.{Site}
 use Rattle.f3_word_cells.specs.States.{datum_blocks}
 use Rattle.f3_word_cells.specs.Does.{Follows}
 use Rattle.f3_word_cells.proofs.OnTop.{line_kinds}
 use Rattle.f3_word_cells.proofs.Amid.{amid_first}
 use Rattle.f3_word_cells.proofs.InHand.{amid_without}
 use Rattle.f3_word_control.proofs.Moving.{datum_taken}
-use Rattle.f3_word_control.proofs.Lines.{prints, goes_so, with_stack}
+use Rattle.f3_word_control.proofs.Lines.{after_at, prints, goes_so, with_stack}
 use Rattle.f3_word_control.proofs.Tops.{datum_on}
 use Rattle.f3_word_control.proofs.Does.{value_printed}
 use Rattle.f3_word_control.proofs.Shown.{printed, shown}
@@ -31,8 +30,8 @@ returns-in-Ok-clause-does g c = λ p t l x told there is st.
       value_text top.value,
       subst (λ n. Follows p l t (value_text top.value) n c.advance.new.self) (sym c.let_go_datum.ensures)
           (prints p l t m (without (datum_blocks d) m) _ x st top.below (value_text top.value)
-          (goes_so p l t _ [] is (printed (value_text top.value)) (λ rest. value_printed p l t rest _ _ top.split)) gone
-          c.in-Some.ensures.taken.pc (ap (λ (z : Site). z.cells) lead.2.next) c.advance.ensures),
+          (goes_so p l t _ [] tt is (printed (value_text top.value)) (λ rest. value_printed p l t rest _ _ top.split)) gone
+          c.in-Some.ensures.taken.pc (after_at lead.2.next refl refl) c.advance.ensures),
       rw (sym text) (c.in-Ok.ensures {u = tt}).all,
     )
 
@@ -44,6 +43,6 @@ returns-in-Err-clause-does g c = λ p t l x told there is st.
     let text = shown p m lead.0 c.in-Some.datum top.value lead.1 top.known top.is in (
       with_stack (t.pc + 1) top.below t,
       value_text top.value,
-      goes_so p l t _ [] is (printed (value_text top.value)) (λ rest. value_printed p l t rest _ _ top.split),
+      goes_so p l t _ [] tt is (printed (value_text top.value)) (λ rest. value_printed p l t rest _ _ top.split),
       rw (sym text) (c.in-Err.ensures {u = tt}).front,
     )

@@ -1,8 +1,5 @@
-use Rattle.std.proofs.Common.{subst, refl, inl, inr}
-use Rattle.f3_word_cells.specs.declared.cell.Object.{Object}
-use Rattle.f3_word_cells.specs.declared.cell.Cell.TheVariants as cell
-use Rattle.f3_word_cells.specs.Moves.{Popped}
-use Rattle.f3_word_copies.proofs.Assigned.{lost-first, lost-second, overflows, ready, frees, assigns, assign-at}
+use Rattle.std.proofs.Common.{refl, inl, inr}
+use Rattle.f3_word_copies.proofs.Assigned.{lost-first, lost-second, overflows, forbids, ready, can, frees, assigns, assign-at}
 use Rattle.f3_word_copies.proofs.assigning.assign.Goals as goal
 
 pub returns-in_default-clause-take : goal.returns-in_default-clause-take
@@ -25,10 +22,9 @@ pub fits-requires-clause-can : goal.fits-requires-clause-can
 fits-requires-clause-can g c =
     let p = c.args.scene.program.now in
     let m = g.B.Blocks.blocks c.args.heap.now in
-    let first = subst (λ (w : Object). Popped (cell.Object w) c.args.state.now c.pop_object.new.state) c.in-Stands.is c.in-Some.ensures in
     let which = assign-at p c.args.of m c.args.state.now c.requires.at in
     let at = which.2 in
-    let is = ready p m c.args.state.now c.pop_object.new.state c.pop_datum.new.state c.in-Stands.area first c.in-Some-pop_datum.datum c.in-Some-pop_datum.ensures c.args.scene.types c.requires.scene.types
+    let is = ready p m c.args.state.now c.pop_object.new.state c.pop_datum.new.state c.in-Some.object c.in-Some.ensures c.in-Some-pop_datum.datum c.in-Some-pop_datum.ensures c.args.scene.types c.requires.scene.types
     at.state at.line at.rooms c.args.of which.0 which.1 at.told at.there at.act at.stands in
     (p, is.0.other, is.0.value, is.1.fit)
 
@@ -36,51 +32,65 @@ pub returns-then-not-fits-clause-take : goal.returns-then-not-fits-clause-take
 returns-then-not-fits-clause-take g c =
     let p = c.args.scene.program.now in
     let m = g.B.Blocks.blocks c.args.heap.now in
-    let first = subst (λ (w : Object). Popped (cell.Object w) c.args.state.now c.pop_object.new.state) c.in-Stands.is c.in-Some.ensures in
-    overflows p m c.args.state.now c.pop_object.new.state c.pop_datum.new.state c.in-Stands.area first c.in-Some-pop_datum.datum c.in-Some-pop_datum.ensures c.args.scene.types c.requires.scene.types
+    overflows p m c.args.state.now c.pop_object.new.state c.pop_datum.new.state c.in-Some.object c.in-Some.ensures c.in-Some-pop_datum.datum c.in-Some-pop_datum.ensures c.args.scene.types c.requires.scene.types
     m c.pop_datum.new.state c.args.of _ (inl refl) (λ k v can. c.if-not-fits.ensures p k v can)
 
 pub returns-then-not-fits-clause-fill : goal.returns-then-not-fits-clause-fill
 returns-then-not-fits-clause-fill g c =
     let p = c.args.scene.program.now in
     let m = g.B.Blocks.blocks c.args.heap.now in
-    let first = subst (λ (w : Object). Popped (cell.Object w) c.args.state.now c.pop_object.new.state) c.in-Stands.is c.in-Some.ensures in
-    overflows p m c.args.state.now c.pop_object.new.state c.pop_datum.new.state c.in-Stands.area first c.in-Some-pop_datum.datum c.in-Some-pop_datum.ensures c.args.scene.types c.requires.scene.types
+    overflows p m c.args.state.now c.pop_object.new.state c.pop_datum.new.state c.in-Some.object c.in-Some.ensures c.in-Some-pop_datum.datum c.in-Some-pop_datum.ensures c.args.scene.types c.requires.scene.types
     m c.pop_datum.new.state c.args.of _ (inr refl) (λ k v can. c.if-not-fits.ensures p k v can)
+
+pub returns-in_default-object-clause-take : goal.returns-in_default-object-clause-take
+returns-in_default-object-clause-take g c =
+    let p = c.args.scene.program.now in
+    let m = g.B.Blocks.blocks c.args.heap.now in
+    forbids p m c.args.state.now c.pop_object.new.state c.pop_datum.new.state c.in-Some.object c.in-Some.ensures c.in-Some-pop_datum.datum c.in-Some-pop_datum.ensures c.args.scene.types c.requires.scene.types
+    c.in_default-object.field-0 c.in_default-object.field-1 c.in_default-object.is m c.pop_datum.new.state c.args.of _ (inl refl) (λ k v can. c.if-not-fits.ensures p k v can)
+
+pub returns-in_default-object-clause-fill : goal.returns-in_default-object-clause-fill
+returns-in_default-object-clause-fill g c =
+    let p = c.args.scene.program.now in
+    let m = g.B.Blocks.blocks c.args.heap.now in
+    forbids p m c.args.state.now c.pop_object.new.state c.pop_datum.new.state c.in-Some.object c.in-Some.ensures c.in-Some-pop_datum.datum c.in-Some-pop_datum.ensures c.args.scene.types c.requires.scene.types
+    c.in_default-object.field-0 c.in_default-object.field-1 c.in_default-object.is m c.pop_datum.new.state c.args.of _ (inr refl) (λ k v can. c.if-not-fits.ensures p k v can)
 
 pub put-requires-clause-can : goal.put-requires-clause-can
 put-requires-clause-can g c =
     let p = c.args.scene.program.now in
     let m = g.B.Blocks.blocks c.args.heap.now in
-    let first = subst (λ (w : Object). Popped (cell.Object w) c.args.state.now c.pop_object.new.state) c.in-Stands.is c.in-Some.ensures in
     let which = assign-at p c.args.of m c.args.state.now c.requires.at in
     let at = which.2 in
-    let is = ready p m c.args.state.now c.pop_object.new.state c.pop_datum.new.state c.in-Stands.area first c.in-Some-pop_datum.datum c.in-Some-pop_datum.ensures c.args.scene.types c.requires.scene.types
-    at.state at.line at.rooms c.args.of which.0 which.1 at.told at.there at.act at.stands in
-    (p, at.rooms, is.0.reference, is.0.value, is.1.can)
+    let is = ready p m c.args.state.now c.pop_object.new.state c.pop_datum.new.state c.in-Some.object c.in-Some.ensures c.in-Some-pop_datum.datum c.in-Some-pop_datum.ensures c.args.scene.types c.requires.scene.types
+    at.state at.line at.rooms c.args.of which.0 which.1 at.told at.there at.act at.stands in (
+      p,
+      at.rooms,
+      is.0.reference,
+      is.0.value,
+      can p m c.args.state.now c.pop_object.new.state c.pop_datum.new.state c.in-Some.object c.in-Some.ensures c.in-Some-pop_datum.datum c.in-Some-pop_datum.ensures c.args.scene.types c.requires.scene.types
+          c.in-Stands.area c.in-Stands.is at.state at.rooms is.0 at.told at.stands is.1,
+    )
 
 pub let_go_datum-requires : goal.let_go_datum-requires
 let_go_datum-requires g c =
     let p = c.args.scene.program.now in
     let m = g.B.Blocks.blocks c.args.heap.now in
-    let first = subst (λ (w : Object). Popped (cell.Object w) c.args.state.now c.pop_object.new.state) c.in-Stands.is c.in-Some.ensures in
     let which = assign-at p c.args.of m c.args.state.now c.requires.at in
     let at = which.2 in
-    frees p m c.args.state.now c.pop_object.new.state c.pop_datum.new.state c.in-Stands.area first c.in-Some-pop_datum.datum c.in-Some-pop_datum.ensures c.args.scene.types c.requires.scene.types
-    (g.B.Blocks.blocks c.put.new.heap) (λ x r v can. c.put.ensures p x r v can) at.state at.line at.rooms c.args.of which.0 which.1 at.told at.there at.act at.stands
+    frees p m c.args.state.now c.pop_object.new.state c.pop_datum.new.state c.in-Some.object c.in-Some.ensures c.in-Some-pop_datum.datum c.in-Some-pop_datum.ensures c.args.scene.types c.requires.scene.types
+    c.in-Stands.area c.in-Stands.is (g.B.Blocks.blocks c.put.new.heap) (λ x r v can. c.put.ensures p x r v can) at.state at.line at.rooms c.args.of which.0 which.1 at.told at.there at.act at.stands
 
 pub returns-clause-take : goal.returns-clause-take
 returns-clause-take g c =
     let p = c.args.scene.program.now in
     let m = g.B.Blocks.blocks c.args.heap.now in
-    let first = subst (λ (w : Object). Popped (cell.Object w) c.args.state.now c.pop_object.new.state) c.in-Stands.is c.in-Some.ensures in
-    assigns p m c.args.state.now c.pop_object.new.state c.pop_datum.new.state c.in-Stands.area first c.in-Some-pop_datum.datum c.in-Some-pop_datum.ensures c.args.scene.types c.requires.scene.types
-    (g.B.Blocks.blocks c.put.new.heap) (λ x r v can. c.put.ensures p x r v can) (g.B.Blocks.blocks c.let_go_datum.new.heap) c.advance.new.self c.args.of _ (inl refl) (λ k v can. c.if-not-fits.ensures p k v can) c.let_go_datum.ensures c.advance.ensures
+    assigns p m c.args.state.now c.pop_object.new.state c.pop_datum.new.state c.in-Some.object c.in-Some.ensures c.in-Some-pop_datum.datum c.in-Some-pop_datum.ensures c.args.scene.types c.requires.scene.types
+    c.in-Stands.area c.in-Stands.is (g.B.Blocks.blocks c.put.new.heap) (λ x r v can. c.put.ensures p x r v can) (g.B.Blocks.blocks c.let_go_datum.new.heap) c.advance.new.self c.args.of _ (inl refl) (λ k v can. c.if-not-fits.ensures p k v can) c.let_go_datum.ensures c.advance.ensures
 
 pub returns-clause-fill : goal.returns-clause-fill
 returns-clause-fill g c =
     let p = c.args.scene.program.now in
     let m = g.B.Blocks.blocks c.args.heap.now in
-    let first = subst (λ (w : Object). Popped (cell.Object w) c.args.state.now c.pop_object.new.state) c.in-Stands.is c.in-Some.ensures in
-    assigns p m c.args.state.now c.pop_object.new.state c.pop_datum.new.state c.in-Stands.area first c.in-Some-pop_datum.datum c.in-Some-pop_datum.ensures c.args.scene.types c.requires.scene.types
-    (g.B.Blocks.blocks c.put.new.heap) (λ x r v can. c.put.ensures p x r v can) (g.B.Blocks.blocks c.let_go_datum.new.heap) c.advance.new.self c.args.of _ (inr refl) (λ k v can. c.if-not-fits.ensures p k v can) c.let_go_datum.ensures c.advance.ensures
+    assigns p m c.args.state.now c.pop_object.new.state c.pop_datum.new.state c.in-Some.object c.in-Some.ensures c.in-Some-pop_datum.datum c.in-Some-pop_datum.ensures c.args.scene.types c.requires.scene.types
+    c.in-Stands.area c.in-Stands.is (g.B.Blocks.blocks c.put.new.heap) (λ x r v can. c.put.ensures p x r v can) (g.B.Blocks.blocks c.let_go_datum.new.heap) c.advance.new.self c.args.of _ (inr refl) (λ k v can. c.if-not-fits.ensures p k v can) c.let_go_datum.ensures c.advance.ensures

@@ -1,8 +1,18 @@
-use Rattle.f3_word_copies.proofs.Reset.{set-lost, set-can, sets}
+use Rattle.f3_word_copies.proofs.Reset.{set-lost, set-forbids, set-can, sets}
+use Rattle.std.proofs.Common.{subst}
+use Rattle.f3_word_cells.specs.declared.cell.Object.{Object}
+use Rattle.f3_word_cells.specs.declared.cell.Cell.TheVariants as cell
+use Rattle.f3_word_cells.specs.Moves.{Popped}
 use Rattle.f3_word_copies.proofs.setting.set.Goals as goal
 
 pub returns-in_default-clause-does : goal.returns-in_default-clause-does
 returns-in_default-clause-does g c = let m = g.B.Blocks.blocks c.args.heap.now in set-lost c.args.scene.program.now m m c.args.state.now c.pop_object.new.state c.pop_object.new.state c.in_default.ensures
+
+pub returns-in_default-object-clause-does : goal.returns-in_default-object-clause-does
+returns-in_default-object-clause-does g c =
+    let m = g.B.Blocks.blocks c.args.heap.now in
+    let popped = subst (λ (w : Object). Popped (cell.Object w) c.args.state.now c.pop_object.new.state) c.in_default-object.is c.in-Some.ensures in
+    set-forbids c.args.scene.program.now m m c.args.state.now c.pop_object.new.state c.pop_object.new.state c.in_default-object.field-0 c.in_default-object.field-1 popped
 
 pub begin-requires-clause-can : goal.begin-requires-clause-can
 begin-requires-clause-can g c =

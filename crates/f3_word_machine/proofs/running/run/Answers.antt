@@ -1,7 +1,6 @@
-use Rattle.std.proofs.Common.{◌≡◌, ◌∙◌, refl, ℕ, ◌+◌, ◌<◌, ◌≤◌, subst, sym, arith, Fits, w64}
+use Rattle.std.proofs.Common.{◌≡◌, ◌∙◌, refl, subst, arith}
 use Rattle.f3_output.specs.Output.{state_of}
-use Rattle.f3_word_machine.specs.Runs.{RunsFrom}
-use Rattle.f3_word_machine.specs.Steps.{IsReady, Steps}
+use Rattle.f3_word_machine.specs.Steps.{Steps}
 use Rattle.f3_word_machine.proofs.Course.{Reached, begun, goes_on, stops, at_limit}
 use Rattle.f3_word_machine.proofs.running.run.Goals as goal
 

@@ -1,18 +1,14 @@
-use Rattle.std.proofs.Common.{◌≡◌, ◌<◌, ◌^◌, ℕ, Some, Ok, Err, sym, ◌∙◌, subst, ap, length, arith}
-use Rattle.std.specs.Prelude.{slice_get, unwrap_or}
-use Rattle.f3_code.specs.State.{Line}
+use Rattle.std.proofs.Common.{◌<◌, sym, ◌∙◌, subst, ap, length, arith}
+use Rattle.std.specs.Prelude.{slice_get}
 use Rattle.f3_output.specs.Output.{state_of}
 use Rattle.f3_word_needs.proofs.Memory.{memory_is_as_large}
-use Rattle.f3_word_machine.specs.Steps.{Steps}
-use Rattle.f3_word_control.specs.Doing.{Prints}
-use Rattle.f3_word_machine.proofs.Doing.{all_short, steps, stops, line_of, at_place}
+use Rattle.f3_word_machine.proofs.Doing.{steps, stops, not_lost, not_forbidden, line_of, is_line, at_place}
 use Rattle.f3_word_machine.proofs.step.step.Goals as goal
 
-pub perform-requires-clause-short : goal.perform-requires-clause-short
-perform-requires-clause-short g c =
-    let e = c.used.ensures in
-    let few = c.if-used-ge-MOST.false in
-    all_short (g.B.Blocks.blocks c.args.heap.now) (2 ^ 63) (omega (arith, e, few)) (omega arith)
+pub line_at-line-requires : goal.line_at-line-requires
+line_at-line-requires g c =
+    let r = c.requires.ready in
+    subst (λ ls. c.args.state.now.pc < length ls) (sym c.deref.ensures.value) (is_line c.args.scene c.requires.scene r.state (r.roomy).run c.args.state.now.pc (r.stands).pc)
 
 pub perform-requires-clause-room : goal.perform-requires-clause-room
 perform-requires-clause-room g c =
@@ -25,7 +21,7 @@ perform-requires-clause-room g c =
 pub perform-requires-clause-at : goal.perform-requires-clause-at
 perform-requires-clause-at g c =
     let r = c.requires.ready in
-    let there = line_of c.args.scene c.requires.scene c.in-Some.line.now c.args.state.now.pc (sym (rw c.deref.ensures.value at c.in-Some.ensures)) in
+    let there = line_of c.args.scene c.requires.scene c.line_at-line.result.now c.args.state.now.pc (sym (rw c.deref.ensures.value at c.line_at-line.ensures)) in
     record {
       state = r.state;
       line = there.0;
@@ -39,9 +35,9 @@ perform-requires-clause-at g c =
 pub returns-in-Ok-clause-does : goal.returns-in-Ok-clause-does
 returns-in-Ok-clause-does g c = λ t x told stands.
     let p = c.args.scene.program.now in
-    let there = line_of c.args.scene c.requires.scene c.in-Some.line.now c.args.state.now.pc (sym (rw c.deref.ensures.value at c.in-Some.ensures)) in
+    let there = line_of c.args.scene c.requires.scene c.line_at-line.result.now c.args.state.now.pc (sym (rw c.deref.ensures.value at c.line_at-line.ensures)) in
     let line = ap (slice_get _) stands.pc ∙ there.1 in
-    let place = at_place p (g.B.Blocks.blocks c.args.heap.now) c.args.state.now x t stands (there.0).place c.in-Some.line.now.place there.3 c.unwrap_or-place.result
+    let place = at_place p (g.B.Blocks.blocks c.args.heap.now) c.args.state.now x t stands (there.0).place c.line_at-line.result.now.place there.3 c.unwrap_or-place.result
     c.unwrap_or-place.ensures in
     steps p t there.0 line c.unwrap_or-place.result place (g.B.Blocks.blocks c.perform.new.heap) c.perform.new.state
     (state_of g.W.Write.contents c.args.output.now) (state_of g.W.Write.contents c.perform.new.output)
@@ -50,11 +46,35 @@ returns-in-Ok-clause-does g c = λ t x told stands.
 pub returns-in-Err-clause-does : goal.returns-in-Err-clause-does
 returns-in-Err-clause-does g c = λ t x told stands.
     let p = c.args.scene.program.now in
-    let there = line_of c.args.scene c.requires.scene c.in-Some.line.now c.args.state.now.pc (sym (rw c.deref.ensures.value at c.in-Some.ensures)) in
+    let there = line_of c.args.scene c.requires.scene c.line_at-line.result.now c.args.state.now.pc (sym (rw c.deref.ensures.value at c.line_at-line.ensures)) in
     let line = ap (slice_get _) stands.pc ∙ there.1 in
-    let place = at_place p (g.B.Blocks.blocks c.args.heap.now) c.args.state.now x t stands (there.0).place c.in-Some.line.now.place there.3 c.unwrap_or-place.result
+    let place = at_place p (g.B.Blocks.blocks c.args.heap.now) c.args.state.now x t stands (there.0).place c.line_at-line.result.now.place there.3 c.unwrap_or-place.result
     c.unwrap_or-place.ensures in
-    rw c.end_of.ensures
-    (stops p t there.0 line c.unwrap_or-place.result place (g.B.Blocks.blocks c.perform.new.heap) c.perform.new.state
-    (state_of g.W.Write.contents c.args.output.now) (state_of g.W.Write.contents c.perform.new.output) c.in-Err.stop
-    (c.in-Err.ensures.does t there.0 x told line there.2 place stands))
+    stops p t there.0 line c.unwrap_or-place.result place (g.B.Blocks.blocks c.perform.new.heap) c.perform.new.state
+    (state_of g.W.Write.contents c.args.output.now) (state_of g.W.Write.contents c.perform.new.output) c.in-Err.stop c.end_of.result c.end_of.ensures
+    (c.in-Err.ensures.does t there.0 x told line there.2 place stands)
+
+-- what the instruction says of the state of the run
+pub end_of-requires-clause-found : goal.end_of-requires-clause-found
+end_of-requires-clause-found g c =
+    let p = c.args.scene.program.now in
+    let r = c.requires.ready in
+    let there = line_of c.args.scene c.requires.scene c.line_at-line.result.now c.args.state.now.pc (sym (rw c.deref.ensures.value at c.line_at-line.ensures)) in
+    let line = ap (slice_get _) (r.stands).pc ∙ there.1 in
+    let place = at_place p (g.B.Blocks.blocks c.args.heap.now) c.args.state.now r.rooms r.state r.stands (there.0).place c.line_at-line.result.now.place there.3 c.unwrap_or-place.result
+    c.unwrap_or-place.ensures in
+    not_lost p r.state there.0 line c.unwrap_or-place.result place (g.B.Blocks.blocks c.perform.new.heap) c.perform.new.state
+    (state_of g.W.Write.contents c.args.output.now) (state_of g.W.Write.contents c.perform.new.output) (r.roomy).run c.in-Err.stop
+    (c.in-Err.ensures.does r.state there.0 r.rooms r.told line there.2 place r.stands)
+
+pub end_of-requires-clause-permitted : goal.end_of-requires-clause-permitted
+end_of-requires-clause-permitted g c =
+    let p = c.args.scene.program.now in
+    let r = c.requires.ready in
+    let there = line_of c.args.scene c.requires.scene c.line_at-line.result.now c.args.state.now.pc (sym (rw c.deref.ensures.value at c.line_at-line.ensures)) in
+    let line = ap (slice_get _) (r.stands).pc ∙ there.1 in
+    let place = at_place p (g.B.Blocks.blocks c.args.heap.now) c.args.state.now r.rooms r.state r.stands (there.0).place c.line_at-line.result.now.place there.3 c.unwrap_or-place.result
+    c.unwrap_or-place.ensures in
+    not_forbidden p r.state there.0 line c.unwrap_or-place.result place (g.B.Blocks.blocks c.perform.new.heap) c.perform.new.state
+    (state_of g.W.Write.contents c.args.output.now) (state_of g.W.Write.contents c.perform.new.output) (r.roomy).run c.in-Err.stop
+    (c.in-Err.ensures.does r.state there.0 r.rooms r.told line there.2 place r.stands) c.requires.lawful

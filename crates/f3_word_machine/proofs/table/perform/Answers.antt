@@ -57,10 +57,10 @@ pub returns-in-Select-clause-does : goal.returns-in-Select-clause-does
 returns-in-Select-clause-does g c = by_in c.args.scene.program.now c.args.act c.args.place c.args.state.now c.select.new.state c.select.result (g.B.Blocks.blocks c.args.heap.now) (g.B.Blocks.blocks c.args.heap.now) (state_of g.W.Write.contents c.args.output.now) (i.Select c.in-Select.a0 c.in-Select.a1) c.in-Select.is (c.select.ensures.does c.args.scene.program.now (g.B.Blocks.blocks c.args.heap.now) c.requires.short)
 
 pub returns-in-ComponentOf-clause-does : goal.returns-in-ComponentOf-clause-does
-returns-in-ComponentOf-clause-does g c = by_in c.args.scene.program.now c.args.act c.args.place c.args.state.now c.component_beside.new.state c.component_beside.result (g.B.Blocks.blocks c.args.heap.now) (g.B.Blocks.blocks c.args.heap.now) (state_of g.W.Write.contents c.args.output.now) (i.ComponentOf c.in-ComponentOf.a0) c.in-ComponentOf.is (c.component_beside.ensures.does (g.B.Blocks.blocks c.args.heap.now) c.requires.short c.requires.simple.ones)
+returns-in-ComponentOf-clause-does g c = by_in c.args.scene.program.now c.args.act c.args.place c.args.state.now c.component_beside.new.state c.component_beside.result (g.B.Blocks.blocks c.args.heap.now) (g.B.Blocks.blocks c.args.heap.now) (state_of g.W.Write.contents c.args.output.now) (i.ComponentOf c.in-ComponentOf.a0) c.in-ComponentOf.is (c.component_beside.ensures.does (g.B.Blocks.blocks c.args.heap.now) c.requires.short)
 
 pub returns-in-SelectOf-clause-does : goal.returns-in-SelectOf-clause-does
-returns-in-SelectOf-clause-does g c = by_in c.args.scene.program.now c.args.act c.args.place c.args.state.now c.select_of.new.state c.select_of.result (g.B.Blocks.blocks c.args.heap.now) (g.B.Blocks.blocks c.args.heap.now) (state_of g.W.Write.contents c.args.output.now) (i.SelectOf c.in-SelectOf.a0 c.in-SelectOf.a1 c.in-SelectOf.a2) c.in-SelectOf.is (c.select_of.ensures.does c.args.scene.program.now (g.B.Blocks.blocks c.args.heap.now) c.requires.short c.requires.simple.ones)
+returns-in-SelectOf-clause-does g c = by_in c.args.scene.program.now c.args.act c.args.place c.args.state.now c.select_of.new.state c.select_of.result (g.B.Blocks.blocks c.args.heap.now) (g.B.Blocks.blocks c.args.heap.now) (state_of g.W.Write.contents c.args.output.now) (i.SelectOf c.in-SelectOf.a0 c.in-SelectOf.a1 c.in-SelectOf.a2) c.in-SelectOf.is (c.select_of.ensures.does (g.B.Blocks.blocks c.args.heap.now) c.requires.short)
 
 pub returns-in-Result-clause-does : goal.returns-in-Result-clause-does
 returns-in-Result-clause-does g c = by_does c.args.scene.program.now c.args.act c.args.place c.args.state.now c.result.new.state c.result.result (g.B.Blocks.blocks c.args.heap.now) (g.B.Blocks.blocks c.args.heap.now) (state_of g.W.Write.contents c.args.output.now) i.Result c.in-Result.is c.result.ensures.does

@@ -1,4 +1,4 @@
-use Rattle.std.proofs.Common.{◌≡◌, ◌<◌, ℕ, suc, ◌-◌, ◌≤◌, subst, sym, ap, Err, arith}
+use Rattle.std.proofs.Common.{◌≡◌, suc, ◌-◌, ap, Err, arith}
 use Rattle.f3_output.specs.Output.{state_of}
 use Rattle.f3_word_machine.proofs.Beginning.{first, first_told, first_ready, whole, no_steps, no_memory, refused}
 use Rattle.f3_word_machine.proofs.whole.run_program.Goals as goal

@@ -1,11 +1,13 @@
 use Rattle.std.proofs.Common.{◌≡◌, ◌∙◌, ◌++◌, ◌∷◌, ℕ, sym, ap, true, false, List, length, reverse, take, ⊎_elim, arith}
 use Rattle.std.specs.Prelude.{Some}
 use Rattle.f3_code.specs.declared.instruction.Instruction.TheVariants as i
+use Rattle.f3_cell_kinds.specs.Types as cell
 use Rattle.f3_word_cells.specs.declared.cell.Cell.{Cell}
 use Rattle.f3_word_cells.specs.declared.cell.Cell.TheVariants as c
 use Rattle.f3_word_cells.specs.declared.cell.Object.{Object}
 use Rattle.f3_word_objects.specs.Shapes.{dims_of}
-use Rattle.f3_word_objects.proofs.Sectioning.{array-on-top, rank-is, choices-there, object-beneath, section-passes, section-fails}
+use Rattle.f3_word_objects.proofs.Sectioning.{array-on-top, rank-is, object-beneath, section-passes, section-fails}
+use Rattle.f3_word_objects.proofs.Above.{choices-there}
 use Rattle.f3_word_objects.proofs.Popping.{choice-cells, popped-pc}
 use Rattle.f3_word_objects.proofs.selecting.select.Goals as goal
 
@@ -31,7 +33,8 @@ returns-then-is_opened-clause-does c = λ p live short t l x told there is st.
 
 pub returns-in_default-pop_choices-clause-does : goal.returns-in_default-pop_choices-clause-does
 returns-in_default-pop_choices-clause-does c = λ p live short t l x told there is st.
-    absurd (choices-there p live c.args.state.now c.args.count t x st (array-on-top p t l c.args.is_opened c.args.count told there is).1 c.pop_choices.new.state c.in_default-pop_choices.ensures.taken)
+    let h = (array-on-top p t l c.args.is_opened c.args.count told there is).1 in
+    absurd (choices-there p t live c.args.state.now x c.args.count (cell.Object h.kind) h.rest st h.top c.pop_choices.new.state c.in_default-pop_choices.ensures.taken)
 
 pub returns-in_default-pop_object-clause-does : goal.returns-in_default-pop_object-clause-does
 returns-in_default-pop_object-clause-does c = λ p live short t l x told there is st.
@@ -51,7 +54,7 @@ returns-in-Ok-clause-does c = λ p live short t l x told there is st.
     let found = array-on-top p t l c.args.is_opened c.args.count told there is in
     let line : l.act ≡ i.Select false c.args.count = is ∙ ap (λ b. i.Select b c.args.count) found.0 in
     section-passes p live short c.args.state.now c.pop_choices.new.state c.pop_object.new.state c.args.count c.in-Some-pop_choices.chosen c.in-Some-pop_object.object taken.0 taken.1 c.in-Some-pop_object.ensures.taken
-    t l x told st line found.1 c.in-Ok.part _ found.2 found.3 c.in-Ok.ensures c.go_on_with.ensures
+    t l x told st line found.1 c.in-Ok.part _ c.in-Ok.ensures c.go_on_with.ensures
 
 pub returns-in-Err-clause-does : goal.returns-in-Err-clause-does
 returns-in-Err-clause-does c = λ p live short t l x told there is st.

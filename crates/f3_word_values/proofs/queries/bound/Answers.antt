@@ -7,9 +7,9 @@ use Rattle.f3_meaning_whole.specs.Eval.{asked}
 use Rattle.f3_code.specs.State as s
 use Rattle.f3_code.specs.State.{placed}
 use Rattle.f3_word_cells.specs.Areas.{spans_of}
-use Rattle.f3_cell_kinds.specs.Types.{Site}
 use Rattle.f3_word_cells.proofs.OnTop.{line_kinds, two_on_top}
 use Rattle.f3_word_cells.proofs.Amid.{amid_first}
+use Rattle.f3_word_control.proofs.Lines.{after_at}
 use Rattle.f3_word_control.proofs.Moving.{scalar_taken, bounds_taken}
 use Rattle.f3_word_control.proofs.Tops.{whole_on, bounds_under, below_is}
 use Rattle.f3_word_values.proofs.Ending.{finished}
@@ -40,4 +40,4 @@ returns-clause-does c = λ p m t l x told there is st.
     ((rw (← c.as_slice.ensures.value) (c.asked.ensures (placed l.place t.here)))
     ∙ ap (λ z. asked c.args.query (spans_of c.in-Some-pop_bounds.dims.items) z (placed l.place t.here)) (to_z-of_z w64 _ fits ∙ c.number_of.ensures))
     (bound_does p l t _ _ _ _ (top.split ∙ ap (λ bs. s.Datum (constant_value c.in-Some.dimension) ∷ bs) next.split))
-    next.amid (c.in-Some-pop_bounds.ensures.taken.pc ∙ c.in-Some.ensures.taken.pc) (ap (λ (z : Site). z.cells) lead.3.next) c.finish.ensures.finishes
+    next.amid (c.in-Some-pop_bounds.ensures.taken.pc ∙ c.in-Some.ensures.taken.pc) (after_at lead.3.next refl refl) c.finish.ensures.finishes

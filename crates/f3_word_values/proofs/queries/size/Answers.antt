@@ -3,10 +3,10 @@ use Rattle.f3_meaning_whole.specs.Value.{Number, count}
 use Rattle.f3_meaning_whole.specs.Arithmetic.{converted}
 use Rattle.f3_code.specs.State.{placed}
 use Rattle.f3_word_cells.specs.Areas.{spans_of}
-use Rattle.std.proofs.Common.{pos, refl, ap}
-use Rattle.f3_cell_kinds.specs.Types.{Site}
+use Rattle.std.proofs.Common.{pos, refl}
 use Rattle.f3_word_cells.proofs.OnTop.{line_kinds, one_on_top}
 use Rattle.f3_word_cells.proofs.Amid.{amid_first}
+use Rattle.f3_word_control.proofs.Lines.{after_at}
 use Rattle.f3_word_control.proofs.Moving.{bounds_taken}
 use Rattle.f3_word_control.proofs.Tops.{bounds_under}
 use Rattle.f3_word_values.proofs.Ending.{finished}
@@ -26,4 +26,4 @@ returns-clause-does c = λ p m t l x told there is st.
     let top = bounds_taken p t m _ x _ c.in-Some.ensures.taken (amid_first p t m _ x _ t.stack st lead.1.before refl) in
     finished p l t m m _ x st _ top.below _ _
     (converted Integer (Number (pos (count (spans_of c.in-Some.dims.items)))) (placed l.place t.here).place) is (rw (← c.as_slice.ensures.value) (c.size_of.ensures _)) (size_does p l t _ _ top.split) top.amid c.in-Some.ensures.taken.pc
-    (ap (λ (z : Site). z.cells) lead.1.next) c.finish.ensures.finishes
+    (after_at lead.1.next refl refl) c.finish.ensures.finishes

@@ -3,11 +3,10 @@ use Rattle.std.proofs.lemmas.Int.{to_z-of_z}
 use mir.Val.{SFits}
 use mir.Syntax.{w64}
 use Rattle.std.specs.Prelude.{Some}
-use Rattle.f3_cell_kinds.specs.Types.{Site}
 use Rattle.f3_word_cells.proofs.OnTop.{line_kinds}
 use Rattle.f3_word_cells.proofs.Amid.{amid_first}
 use Rattle.f3_word_control.proofs.Moving.{scalar_taken}
-use Rattle.f3_word_control.proofs.Lines.{goes_with, goes}
+use Rattle.f3_word_control.proofs.Lines.{after_at, goes_with, goes}
 use Rattle.f3_word_control.proofs.Tops.{whole_on}
 use Rattle.f3_word_values.proofs.Does.{limit_so}
 use Rattle.f3_word_values.proofs.values.limit.Goals as goal
@@ -24,4 +23,4 @@ returns-clause-does c = λ p m t l x told there is st.
     let fits : SFits w64 c.number_of.result = search rules in
     let top = scalar_taken p t m _ x _ c.in-Some.ensures.taken (amid_first p t m _ x _ t.stack st lead.2.before refl) in
     goes_with p l t m m _ x st top.below _ _ (goes p l t is (λ rest. limit_so p l t rest _ _ top.split)) top.amid c.in-Some.ensures.taken.pc
-    (ap (λ (z : Site). z.cells) lead.2.next) c.go_on_with.ensures tt (ap (λ z. Some z) (sym (to_z-of_z w64 _ fits ∙ c.number_of.ensures))) tt
+    (after_at lead.2.next refl refl) c.go_on_with.ensures tt (ap (λ z. Some z) (sym (to_z-of_z w64 _ fits ∙ c.number_of.ensures))) tt

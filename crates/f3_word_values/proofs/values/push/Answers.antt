@@ -1,12 +1,11 @@
-use Rattle.std.proofs.Common.{refl, ap}
-use Rattle.f3_cell_kinds.specs.Types.{Site}
+use Rattle.std.proofs.Common.{refl}
 use Rattle.f3_word_cells.proofs.OnTop.{line_kinds}
 use Rattle.f3_word_cells.proofs.Amid.{amid_first}
-use Rattle.f3_word_control.proofs.Lines.{goes_with, goes}
+use Rattle.f3_word_control.proofs.Lines.{after_at, goes_with, goes}
 use Rattle.f3_word_values.proofs.Does.{pushed}
 use Rattle.f3_word_values.proofs.values.push.Goals as goal
 
 pub returns-clause-does : goal.returns-clause-does
 returns-clause-does c = λ p m t l x told there is st.
     let lead = line_kinds p t l _ told there is in
-    goes_with p l t m m _ x st t.stack _ _ (goes p l t is (λ rest. pushed p l t rest _)) (amid_first p t m _ x _ t.stack st lead.1.before refl) refl (ap (λ (z : Site). z.cells) lead.1.next) c.go_on_with.ensures tt refl tt
+    goes_with p l t m m _ x st t.stack _ _ (goes p l t is (λ rest. pushed p l t rest _)) (amid_first p t m _ x _ t.stack st lead.1.before refl) refl (after_at lead.1.next refl refl) c.go_on_with.ensures tt refl tt

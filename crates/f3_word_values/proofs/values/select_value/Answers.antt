@@ -1,9 +1,8 @@
-use Rattle.std.proofs.Common.{refl, ap}
-use Rattle.f3_cell_kinds.specs.Types.{Site}
+use Rattle.std.proofs.Common.{refl}
 use Rattle.f3_word_cells.proofs.OnTop.{line_kinds}
 use Rattle.f3_word_cells.proofs.Amid.{amid_first}
 use Rattle.f3_word_control.proofs.Moving.{datum_taken}
-use Rattle.f3_word_control.proofs.Lines.{goes_with}
+use Rattle.f3_word_control.proofs.Lines.{after_at, goes_with}
 use Rattle.f3_word_control.proofs.Tops.{datum_on}
 use Rattle.f3_word_values.proofs.Does.{selected_so}
 use Rattle.f3_word_values.proofs.Widths.{laid_alike}
@@ -20,4 +19,4 @@ returns-clause-does c = λ p m t l x told there is st.
     let lead = line_kinds p t l _ told there is in
     let top = datum_taken p t m _ x _ c.in-Some.ensures.taken (amid_first p t m _ x _ t.stack st lead.3.before refl) in
     goes_with p l t m m _ x st top.below _ _ (selected_so p l t _ _ top.split _ is) top.amid c.in-Some.ensures.taken.pc
-    (ap (λ (z : Site). z.cells) lead.3.next) c.go_on_with.ensures tt (refl, top.is) (laid_alike p _ lead.0 _ lead.2 top.known)
+    (after_at lead.3.next refl refl) c.go_on_with.ensures tt (refl, top.is) (laid_alike p _ lead.0 _ lead.2 top.known)

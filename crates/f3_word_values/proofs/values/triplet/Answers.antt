@@ -5,11 +5,10 @@ use mir.Syntax.{w64}
 use Rattle.f3_meaning_whole.specs.Act as act
 use Rattle.f3_meaning_whole.specs.Arithmetic.{constant_value}
 use Rattle.f3_code.specs.State as s
-use Rattle.f3_cell_kinds.specs.Types.{Site}
 use Rattle.f3_word_cells.proofs.OnTop.{line_kinds, three_on_top}
 use Rattle.f3_word_cells.proofs.Amid.{amid_first}
 use Rattle.f3_word_control.proofs.Moving.{scalar_taken, bound_taken}
-use Rattle.f3_word_control.proofs.Lines.{goes_with, goes}
+use Rattle.f3_word_control.proofs.Lines.{after_at, goes_with, goes}
 use Rattle.f3_word_control.proofs.Tops.{whole_on, bound_under, below_is}
 use Rattle.f3_word_values.proofs.Does.{triplet_so}
 use Rattle.f3_word_values.proofs.values.triplet.Goals as goal
@@ -47,5 +46,5 @@ returns-clause-does c = λ p m t l x told there is st.
     goes_with p l t m m _ x st third.below _ _ (goes p l t is (λ rest. triplet_so p l t rest _ _ _ _
     (top.split ∙ ap (λ bs. s.Datum (constant_value c.in-Some.step) ∷ bs) (second.split ∙ ap (λ bs. s.Bound c.in-Some-pop_bound.upper ∷ bs) third.split))))
     third.amid (c.in-Some-pop_bound-2.ensures.taken.pc ∙ c.in-Some-pop_bound.ensures.taken.pc ∙ c.in-Some.ensures.taken.pc)
-    (ap (λ (z : Site). z.cells) lead.2.next) c.go_on_with.ensures tt
+    (after_at lead.2.next refl refl) c.go_on_with.ensures tt
     (ap (λ z. act.Range c.in-Some-pop_bound-2.lower c.in-Some-pop_bound.upper z) (sym (to_z-of_z w64 _ fits ∙ c.number_of.ensures))) tt
