@@ -5,11 +5,12 @@ use Rattle.std.specs.declared.alloc.Global.{Global}
 use Rattle.std.specs.FinMap.{get as find}
 use Rattle.std.proofs.lemmas.Bool.{cases_eq, cases_lt}
 use Rattle.std.proofs.lemmas.List.{append-nil, length-append, length-map, reverse-append, take-append-le}
+use Rattle.std.proofs.Math.Seq.{drop-append_seam, take-append_seam}
 use Rattle.f3_places.specs.declared.source.Place.{Place}
 use Rattle.f3_program.specs.declared.declarations.Kind.{Kind}
 use Rattle.f3_program.specs.declared.program.Procedure.{Procedure}
 use Rattle.f3_program.specs.declared.program.Program.{Program}
-use Rattle.f3_live_blocks.specs.Blocks.{Live, IsLive}
+use Rattle.f3_program.specs.declared.declarations.Base.{Base}
 use Rattle.f3_meaning_whole.specs.Value.{Unallocated, Value}
 use Rattle.f3_meaning_whole.specs.Reference.{Reference}
 use Rattle.f3_meaning_whole.specs.Store.{Store}
@@ -18,10 +19,11 @@ use Rattle.f3_meaning_whole.specs.Act.{passed_at}
 use Rattle.f3_meaning_whole.specs.Exec.{declared_in, dummies, held, variables}
 use Rattle.f3_meaning_whole.specs.Formed as formed
 use Rattle.f3_meaning_whole.specs.Run.{setting_of}
+use Rattle.f3_meaning_whole.specs.Shape.{Shape}
 use Rattle.f3_code.specs.Exec.{is_held}
 use Rattle.f3_code.specs.State.{Entry, Line, placed}
 use Rattle.f3_code.specs.State as s
-use Rattle.f3_cells.specs.Cells.{declared_by, variables_of}
+use Rattle.f3_code.specs.Machine.{entered}
 use Rattle.f3_cell_kinds.specs.Types.{CellType, arguments_on}
 use Rattle.f3_cell_kinds.specs.Types as cell
 use Rattle.f3_cell_kinds.specs.Kinds.{arrived, first_site}
@@ -29,6 +31,7 @@ use Rattle.f3_cell_kinds.specs.Effect.{way}
 use Rattle.f3_cell_kinds.specs.Laws.{site_at}
 use Rattle.f3_cell_kinds.proofs.Given.{arguments_over}
 use Rattle.f3_cell_kinds.proofs.Reaching.{AllPassed}
+use Rattle.f3_cell_kinds.specs.Holds.{InScope}
 use Rattle.f3_rooms.specs.Held.{times}
 use Rattle.f3_rooms.specs.Laws.{before_level, with_level}
 use Rattle.f3_rooms.specs.Rooms.{Rooms, Slot, Stands as Stood, blocks_of, level_blocks, store_of}
@@ -37,8 +40,11 @@ use Rattle.f3_rooms.proofs.Allocating.{at_most_one, only_one}
 use Rattle.f3_rooms.proofs.Framing.{Kept, one_here, times_append}
 use Rattle.f3_rooms.proofs.Keeping.{as_it_was}
 use Rattle.f3_rooms.proofs.Living.{all_live as rooms_live}
+use Rattle.f3_rooms.specs.Flat.{is_flat}
+use Rattle.f3_live_blocks.specs.Blocks.{Live, IsLive}
 use Rattle.f3_room_levels.specs.Initial.{initial_values}
 use Rattle.f3_room_levels.specs.Levels.{Begins, begun}
+use Rattle.f3_cells.specs.Cells.{declared_by, variables_of}
 use Rattle.f3_word_cells.specs.declared.cell.Here.{Here}
 use Rattle.f3_word_cells.specs.declared.cell.Range.{Range}
 use Rattle.f3_word_cells.specs.declared.cell.Cell.{Cell}
@@ -46,16 +52,11 @@ use Rattle.f3_word_cells.specs.declared.state.Name.{Name}
 use Rattle.f3_word_cells.specs.declared.state.Caller.{Caller}
 use Rattle.f3_word_cells.specs.declared.state.State.{State}
 use Rattle.f3_word_cells.specs.Areas.{shape_for, types_of}
-use Rattle.f3_rooms.specs.Flat.{is_flat}
-use Rattle.f3_meaning_whole.specs.Shape.{Shape}
-use Rattle.f3_program.specs.declared.declarations.Base.{Base}
 use Rattle.f3_word_cells.specs.Cells.{AreCells, AreNames, IsHere, names_in}
 use Rattle.f3_word_cells.specs.Does.{IsTold}
 use Rattle.f3_word_cells.specs.States.{AreAtHand, AreCalled, AreCallers, AreKnown, AreTight, IsCalled, IsCaller, IsOrderly, Stands, beneath, cells_blocks, cells_from, is_held_at, level_rooms, levels_rooms, loose_blocks, own, rooms_at, starts_of}
-use Rattle.f3_code.specs.Machine.{entered}
 use Rattle.f3_word_cells.proofs.Lines.{answering}
 use Rattle.f3_word_cells.specs.Scalars.{is_plain_scalar}
-use Rattle.f3_cell_kinds.specs.Holds.{InScope}
 use Rattle.f3_word_cells.proofs.Moving.{Beneath}
 use Rattle.f3_word_cells.proofs.Orderly.{after_way, in_scope}
 use Rattle.f3_word_cells.proofs.Stacks.{cells_blocks_append, cells_blocks_reverse, cells_blocks_split}
@@ -67,24 +68,9 @@ use Rattle.f3_word_entries.proofs.Arguments.{Correspond, IsCut, Split, cells_spl
 use Rattle.f3_word_entries.proofs.Counted.{IsFor, none_behind}
 use Rattle.f3_word_entries.proofs.Cutting.{blocks_few}
 use Rattle.f3_word_entries.proofs.Data.{all_flat, blocks_are, data_are, data_short}
-use Rattle.f3_word_entries.proofs.Dummies.{all_named, held_data}
+use Rattle.f3_word_entries.proofs.Dummies.{all_named, held_data, index_amid}
 use Rattle.f3_word_entries.proofs.Going.{with_levels}
 use Rattle.f3_word_entries.proofs.Rooming.{all_unpinned, elsewhere, held_rooms, not_there, other_block, times_two, two_bare, two_before, two_more, two_rooms, two_starts, two_taken, variable_rooms, variables_stand, with_two}
-
-take_part : {A : Type 0} (k : ℕ) (xs ys : List A) → k ≤ length xs → take k (xs ++ ys) ≡ take k xs
-take_part k xs ys less = take-append-le k xs ys less
-
-take_whole : {A : Type 0} (xs ys : List A) → take (length xs) (xs ++ ys) ≡ xs
-take_whole [] ys = refl
-take_whole (x ∷ xs) ys = ap (λ l. x ∷ l) (take_whole xs ys)
-
-drop_whole : {A : Type 0} (xs ys : List A) → drop (length xs) (xs ++ ys) ≡ ys
-drop_whole [] ys = refl
-drop_whole (x ∷ xs) ys = drop_whole xs ys
-
-index_last : {A : Type 0} (xs : List A) (y d : A) → slice_index_or (xs ++ y ∷ []) (length xs) d ≡ y
-index_last [] y d = refl
-index_last (x ∷ xs) y d = index_last xs y d
 
 starts_many : (n : ℕ) (ls : List (List Slot)) → length (starts_of n ls) ≡ length ls
 starts_many n [] = refl
@@ -138,7 +124,7 @@ module _ (p : Program) (h : Global) (t : s.State) (m n : Live) (old new : State)
   own_left = cut.left_is
 
   beneath_left : take old.base into.left ≡ beneath old
-  beneath_left = sym (ap (take old.base) into.split ∙ take_part old.base into.left args cut.bottom)
+  beneath_left = sym (ap (take old.base) into.split ∙ take-append-le old.base into.left args cut.bottom)
 
   -- ---- the rooms
 
@@ -267,7 +253,7 @@ module _ (p : Program) (h : Global) (t : s.State) (m n : Live) (old new : State)
   reads =
       let many : length x.levels ≡ length (store_of ts m x).levels = sym (length-map x.levels _) in
       ap (λ (z : Store). slice_index_or z.levels (length x.levels) []) held_level.0
-      ∙ ap (λ i. slice_index_or ((store_of ts m x).levels ++ values ∷ []) i []) many ∙ index_last (store_of ts m x).levels values []
+      ∙ ap (λ i. slice_index_or ((store_of ts m x).levels ++ values ∷ []) i []) many ∙ index_amid (store_of ts m x).levels [] values []
 
   named : AreNames p inner into.added (dummies 0 q.dummies.items ps (length x.levels) t.here.unit)
       × (length into.added ≡ length q.dummies.items)
@@ -284,8 +270,8 @@ module _ (p : Program) (h : Global) (t : s.State) (m n : Live) (old new : State)
 
   names_are : names_in range (ns ++ into.added) ≡ into.added
   names_are =
-      ap (take (length q.dummies.items)) (drop_whole ns into.added)
-      ∙ ap (λ k. take k into.added) (sym named.1) ∙ ap (take (length into.added)) (sym (append-nil into.added)) ∙ take_whole into.added []
+      ap (take (length q.dummies.items)) (drop-append_seam ns into.added)
+      ∙ ap (λ k. take k into.added) (sym named.1) ∙ ap (take (length into.added)) (sym (append-nil into.added)) ∙ take-append_seam into.added []
 
   names_many : length (ns ++ into.added) ≡ length ns + length q.dummies.items
   names_many = length-append ns into.added ∙ ap (λ k. length ns + k) named.1
@@ -371,7 +357,7 @@ module _ (p : Program) (h : Global) (t : s.State) (m n : Live) (old new : State)
       subst (λ (zs : List Cell). AreCells p n (Before zs) (before_level both level) (take (length ns) (ns ++ into.added)) old.here t.here (cells_from old.base into.left) below)
           (sym beneath_left)
           (subst (λ (zs : List Cell). AreCells p n (Before (beneath old)) (before_level both level) (take (length ns) (ns ++ into.added)) old.here t.here zs below) (sym own_left)
-          (subst (λ (ms : List Name). AreCells p n (Before (beneath old)) (before_level both level) ms old.here t.here split.left below) (sym (take_whole ns into.added))
+          (subst (λ (ms : List Name). AreCells p n (Before (beneath old)) (before_level both level) ms old.here t.here split.left below) (sym (take-append_seam ns into.added))
           (subst (λ (y : Rooms). AreCells p n (Before (beneath old)) y ns old.here t.here split.left below)
           (sym (ap (before_level both) levels_are ∙ two_before x slots (begun block (declared_in q)))) cells_left))),
     )
@@ -437,11 +423,11 @@ module _ (p : Program) (h : Global) (t : s.State) (m n : Live) (old new : State)
 
     own_none : own new ≡ []
     own_none = ap (λ k. cells_from k new.cells.items.items) into.base ∙ ap (cells_from (length into.left)) into.cells
-        ∙ ap reverse (ap (drop (length into.left)) (sym (append-nil into.left)) ∙ drop_whole into.left [])
+        ∙ ap reverse (ap (drop (length into.left)) (sym (append-nil into.left)) ∙ drop-append_seam into.left [])
 
     beneath_new : beneath new ≡ into.left
     beneath_new = ap (λ k. take k new.cells.items.items) into.base ∙ ap (take (length into.left)) into.cells
-        ∙ ap (take (length into.left)) (sym (append-nil into.left)) ∙ take_whole into.left []
+        ∙ ap (take (length into.left)) (sym (append-nil into.left)) ∙ take-append_seam into.left []
 
     callers_new : reverse new.callers.items.items ≡ caller ∷ reverse old.callers.items.items
     callers_new = ap reverse into.callers ∙ reverse-append old.callers.items.items (caller ∷ [])

@@ -8,7 +8,6 @@ use Rattle.f3_places.specs.declared.source.Place.{Place}
 use Rattle.f3_program.specs.declared.declarations.Kind.{Kind}
 use Rattle.f3_program.specs.declared.program.Procedure.{Procedure}
 use Rattle.f3_program.specs.declared.program.Program.{Program}
-use Rattle.f3_live_blocks.specs.Blocks.{Live}
 use Rattle.f3_meaning_whole.specs.declared.run_error.RunError.TheVariants.{CallsTooDeep}
 use Rattle.f3_meaning_whole.specs.Act as meaning
 use Rattle.f3_meaning_whole.specs.Act.{Setting}
@@ -20,8 +19,6 @@ use Rattle.f3_code.specs.declared.instruction.Instruction.TheVariants as i
 use Rattle.f3_code.specs.State.{Code, Entry, Failed, Line, placed}
 use Rattle.f3_code.specs.State as s
 use Rattle.f3_code.specs.Machine.{entered}
-use Rattle.f3_gen_values.specs.Emission.{code_in, entries_in}
-use Rattle.f3_gen_values.specs.declared.emission.Emission.{Emission}
 use Rattle.f3_cell_kinds.specs.Types.{CellType, arguments_on}
 use Rattle.f3_cell_kinds.specs.Types as cell
 use Rattle.f3_cell_kinds.specs.Kinds.{Leads, first_site}
@@ -33,8 +30,11 @@ use Rattle.f3_cell_kinds.proofs.Given.{arguments_over}
 use Rattle.f3_cell_kinds.proofs.Standing.{entry_at}
 use Rattle.f3_rooms.specs.Rooms.{Rooms}
 use Rattle.f3_rooms.specs.Laws.{before_level}
-use Rattle.f3_word_cells.specs.declared.state.Name.{Name}
+use Rattle.f3_gen_values.specs.Emission.{code_in, entries_in}
+use Rattle.f3_gen_values.specs.declared.emission.Emission.{Emission}
+use Rattle.f3_live_blocks.specs.Blocks.{Live}
 use Rattle.f3_room_levels.specs.Levels.{Begins}
+use Rattle.f3_word_cells.specs.declared.state.Name.{Name}
 use Rattle.f3_word_cells.specs.declared.cell.Cell.{Cell}
 use Rattle.f3_word_cells.specs.declared.state.Caller.{Caller}
 use Rattle.f3_word_cells.specs.declared.state.State.{State}
@@ -65,9 +65,13 @@ many_frames p live zs (f ∷ fs) (g ∷ gs) x ns are =
 
 -- ---- where procedures begin
 
+-- an entry of a procedure that begins at a line
+abbrev pub entry_for : Setting → Procedure → ℕ → Entry
+entry_for g q at = record { at = at; unit = q.unit; dummies = q.dummies.items; variables = declared_in q; initial = variables g q }
+
 pub record IsStart (g : Setting) (qs : List Procedure) (ks : List ℕ) (f : ℕ) (q : Procedure) (at : ℕ) : Type 0 where
   pub line : slice_get ks f ≡ Some at
-  pub entry : slice_get (entries_in g qs ks) f ≡ Some (record { at = at; unit = q.unit; dummies = q.dummies.items; variables = declared_in q; initial = variables g q })
+  pub entry : slice_get (entries_in g qs ks) f ≡ Some (entry_for g q at)
 
 start_of : (g : Setting) (qs : List Procedure) (ks : List ℕ) (f : ℕ) (q : Procedure) (e : Entry) → slice_get qs f ≡ Some q → slice_get (entries_in g qs ks) f ≡ Some e
     → IsStart g qs ks f q e.at
@@ -75,12 +79,12 @@ start_of g [] ks f q e at is = absurd (cc)
 start_of g (x ∷ qs) [] f q e at is = absurd (cc)
 start_of g (x ∷ qs) (k ∷ ks) zero q e at is =
     let same : x ≡ q = cc in
-    let made : record { at = k; unit = x.unit; dummies = x.dummies.items; variables = declared_in x; initial = variables g x } ≡ e = some_same is in
+    let made : entry_for g x k ≡ e = some_same is in
     let line : k ≡ e.at = ap (λ (y : Entry). y.at) made in
     record {
       line = ap Some line;
-      entry = ap (λ (z : Procedure). Some (record { at = k; unit = z.unit; dummies = z.dummies.items; variables = declared_in z; initial = variables g z })) same
-          ∙ ap (λ j. Some (record { at = j; unit = q.unit; dummies = q.dummies.items; variables = declared_in q; initial = variables g q })) line;
+      entry = subst (λ (z : Procedure). Some (entry_for g x k) ≡ Some (entry_for g z e.at)) same
+          (subst (λ j. Some (entry_for g x k) ≡ Some (entry_for g x j)) line refl);
     }
 start_of g (x ∷ qs) (k ∷ ks) (suc f) q e at is =
     let more = start_of g qs ks f q e at is in
@@ -181,7 +185,7 @@ module _ (p : Program) (t : s.State) (l : Line) (number count : ℕ) (q : Proced
     module _ (few : length old.callers.items.items < 1000) (e : Emission) (code : code_in p e ≡ code_of p) (at : ℕ)
         (start : IsStart (setting_of p) p.procedures.items e.procedures.items number q at) where
       abbrev entry : Entry
-      entry = record { at = at; unit = q.unit; dummies = q.dummies.items; variables = declared_in q; initial = variables (setting_of p) q }
+      entry = entry_for (setting_of p) q at
 
       entry_there : slice_get (code_of p).procedures number ≡ Some entry
       entry_there = ap (λ (c : Code). slice_get c.procedures number) (sym code) ∙ start.entry

@@ -5,13 +5,13 @@ use Rattle.std.specs.List.{All}
 use Rattle.f3_program.specs.declared.declarations.Base.{Base}
 use Rattle.f3_program.specs.declared.declarations.Base.TheVariants as base
 use Rattle.f3_program.specs.declared.program.Program.{Program}
-use Rattle.f3_live_blocks.specs.Blocks.{Live}
 use Rattle.f3_meaning_whole.specs.Act as m
 use Rattle.f3_meaning_whole.specs.Exec.{held}
 use Rattle.f3_meaning_whole.specs.Formed as formed
 use Rattle.f3_meaning_whole.specs.Shape.{Shape, Whole}
 use Rattle.f3_rooms.specs.Flat.{is_flat}
 use Rattle.f3_rooms.specs.Rooms.{Rooms}
+use Rattle.f3_live_blocks.specs.Blocks.{Live}
 use Rattle.f3_word_cells.specs.declared.cell.Datum.{Datum}
 use Rattle.f3_word_cells.specs.declared.cell.Datum.TheVariants as datum
 use Rattle.f3_word_cells.specs.declared.cell.Passed.TheVariants as passed

@@ -1,7 +1,6 @@
 -- Dummies are for the objects that the machine over values has.
 use Rattle.std.proofs.Common.{◌≡◌, ◌∙◌, inr, ℕ, zero, suc, ◌+◌, ◌<◌, Bool, true, false, List, [], ◌∷◌, ◌++◌, length, map, refl, sym, ap, subst, arith, append_assoc, if◌then◌else◌}
-use Rattle.std.specs.Prelude.{◌⊎◌}
-use Rattle.std.specs.Prelude.{⊤, nat_eq, Some, slice_get, slice_index_or, pos}
+use Rattle.std.specs.Prelude.{⊤, ◌⊎◌, nat_eq, Some, slice_get, slice_index_or, pos}
 use Rattle.std.specs.declared.alloc.Global.{Global}
 use Rattle.std.proofs.lemmas.Bool.{eqb-true}
 use Rattle.std.proofs.lemmas.List.{length-append}
@@ -13,7 +12,6 @@ use Rattle.f3_program.specs.declared.declarations.Derived.{Derived}
 use Rattle.f3_program.specs.declared.declarations.Kind.{Kind}
 use Rattle.f3_program.specs.declared.program.Dummy.{Dummy}
 use Rattle.f3_program.specs.declared.program.Program.{Program}
-use Rattle.f3_live_blocks.specs.Blocks.{Live}
 use Rattle.f3_meaning_whole.specs.Arithmetic.{constant_value}
 use Rattle.f3_meaning_whole.specs.Value.{Value, Unallocated}
 use Rattle.f3_meaning_whole.specs.Store.{Local, get}
@@ -24,19 +22,20 @@ use Rattle.f3_meaning_whole.specs.Exec.{argument_at, bound, dummies, held}
 use Rattle.f3_meaning_whole.specs.Formed.{all, all_given, alike, dummy_takes, fits_dummy, given_for, is_number, is_scalar}
 use Rattle.f3_meaning_whole.specs.Permitted.{same_type}
 use Rattle.f3_meaning_whole.specs.Formed as formed
+use Rattle.f3_meaning_whole.specs.Shape.{spans_declared}
 use Rattle.f3_code.specs.Exec.{is_held}
-use Rattle.f3_desc.specs.declared.descriptor.Dim.{Dim}
-use Rattle.f3_desc.specs.Laws.{IsContiguous, size_of}
 use Rattle.f3_cell_kinds.specs.Holds.{IsOf}
 use Rattle.f3_cell_kinds.proofs.Asked.{and_is, some_is, some_same}
 use Rattle.f3_cell_kinds.proofs.Reaching.{AllPassed}
-use Rattle.f3_meaning_whole.specs.Shape.{spans_declared}
 use Rattle.f3_rooms.specs.Forms.{Laid, words_for}
 use Rattle.f3_rooms.specs.Places.{found, is_scalar_shape}
 use Rattle.f3_rooms.specs.Rooms.{Known, Rooms, Slot, Stands as Stood, store_of}
 use Rattle.f3_rooms.specs.Laws.{with_level}
 use Rattle.f3_rooms.specs.Ways.{numbers, settled, variable_in}
 use Rattle.f3_rooms.proofs.Whole.{locals_stand}
+use Rattle.f3_live_blocks.specs.Blocks.{Live}
+use Rattle.f3_desc.specs.declared.descriptor.Dim.{Dim}
+use Rattle.f3_desc.specs.Laws.{IsContiguous, size_of}
 use Rattle.f3_word_cells.specs.declared.cell.Area.{Area}
 use Rattle.f3_word_cells.specs.declared.cell.Datum.{Datum}
 use Rattle.f3_word_cells.specs.declared.cell.Datum.TheVariants as datum
@@ -109,7 +108,7 @@ get_last : {A : Type 0} (xs : List A) (y : A) → slice_get (xs ++ y ∷ []) (le
 get_last [] y = refl
 get_last (x ∷ xs) y = get_last xs y
 
-index_amid : {A : Type 0} (xs ys : List A) (y d : A) → slice_index_or (xs ++ y ∷ ys) (length xs) d ≡ y
+pub index_amid : {A : Type 0} (xs ys : List A) (y d : A) → slice_index_or (xs ++ y ∷ ys) (length xs) d ≡ y
 index_amid [] ys y d = refl
 index_amid (x ∷ xs) ys y d = index_amid xs ys y d
 

@@ -4,15 +4,16 @@ use Rattle.std.specs.Prelude.{Some, slice_get, slice_index_or, take}
 use Rattle.std.specs.FinMap.{get as find}
 use Rattle.std.proofs.lemmas.Bool.{cases_eq}
 use Rattle.std.proofs.lemmas.List.{length-append}
+use Rattle.std.proofs.Math.Seq.{take-append_seam}
 use Rattle.f3_program.specs.declared.declarations.Declared.{Declared}
-use Rattle.f3_live_blocks.specs.Blocks.{Live, IsLive, pins_in, pins_of, with_taken}
-use Rattle.f3_live_blocks.proofs.Laws.{get-insert_other, pins-insert_same}
 use Rattle.f3_meaning_whole.specs.Shape.{Shape}
 use Rattle.f3_rooms.specs.Held.{times}
 use Rattle.f3_rooms.specs.Places.{with_word}
 use Rattle.f3_rooms.specs.Rooms.{Room, Rooms, Slot, Stands as Stood, blocks_of, level_blocks, levels_blocks, room_blocks}
 use Rattle.f3_rooms.specs.Laws.{before_level, with_level}
 use Rattle.f3_rooms.proofs.Framing.{times_append}
+use Rattle.f3_live_blocks.specs.Blocks.{Live, IsLive, pins_in, pins_of, with_taken}
+use Rattle.f3_live_blocks.proofs.Laws.{get-insert_other, pins-insert_same}
 use Rattle.f3_room_levels.specs.Initial.{initial_words}
 use Rattle.f3_room_levels.specs.Levels.{Begins, begun}
 use Rattle.f3_room_levels.specs.Writing.{with_words_from}
@@ -31,10 +32,6 @@ two_more x slots room =
     let f = length-append x.levels (slots ∷ (Stood room ∷ []) ∷ []) in
     omega (arith, e, f)
 
-take_front : {A : Type 0} (xs ys : List A) → take (length xs) (xs ++ ys) ≡ xs
-take_front [] ys = refl
-take_front (x ∷ xs) ys = ap (λ l. x ∷ l) (take_front xs ys)
-
 get_past : {A : Type 0} (xs ys : List A) (i : ℕ) → slice_get (xs ++ ys) (length xs + i) ≡ slice_get ys i
 get_past [] ys i = let e : 0 + i ≡ i = omega arith in ap (slice_get ys) e
 get_past (x ∷ xs) ys i =
@@ -50,7 +47,7 @@ index_past (x ∷ xs) ys i d =
 module _ (x : Rooms) (slots : List Slot) (room : Room) where
   -- beneath them stands what stood
   pub two_taken : take (length x.levels) (with_two x slots room).levels ≡ x.levels
-  two_taken = ap (take (length x.levels)) (two_levels x slots room) ∙ take_front x.levels (slots ∷ (Stood room ∷ []) ∷ [])
+  two_taken = ap (take (length x.levels)) (two_levels x slots room) ∙ take-append_seam x.levels (slots ∷ (Stood room ∷ []) ∷ [])
 
   pub two_before : before_level (with_two x slots room) (length x.levels) ≡ x
   two_before = ap (λ ls. let y : Rooms = record { statics = x.statics; levels = ls } in y) two_taken

@@ -2,12 +2,12 @@
 use Rattle.std.proofs.Common.{◌≡◌, ◌∙◌, ℕ, zero, suc, ◌<◌, List, [], ◌∷◌, length, sym, ap, subst, arith}
 use Rattle.std.specs.Prelude.{Some, slice_get, slice_index_or}
 use Rattle.f3_program.specs.declared.program.Procedure.{Procedure}
-use Rattle.f3_cells.specs.Cells.{declared_by}
 use Rattle.f3_meaning_whole.specs.Exec.{declared_in}
 use Rattle.f3_meaning_whole.specs.Shape.{shapes_of}
 use Rattle.f3_rooms.specs.Forms.{total}
-use Rattle.f3_room_levels.specs.Initial.{AllCanBegin}
 use Rattle.f3_room_places.specs.Places.{shapes}
+use Rattle.f3_room_levels.specs.Initial.{AllCanBegin}
+use Rattle.f3_cells.specs.Cells.{declared_by}
 use Rattle.f3_word_cells.specs.declared.scene.Frame.{Frame}
 use Rattle.f3_word_cells.specs.declared.scene.Scene.{Scene}
 use Rattle.f3_word_cells.specs.Areas.{types_of}

@@ -2,20 +2,20 @@
 use Rattle.std.proofs.Common.{◌≡◌, ◌∙◌, append_assoc, Option, ℕ, ◌+◌, ◌-◌, ◌≤◌, ℤ, List, [], ◌∷◌, ◌++◌, length, sym, ap, subst, arith}
 use Rattle.std.specs.Prelude.{None, Some}
 use Rattle.std.specs.FinMap.{get as find}
+use Rattle.std.proofs.lemmas.List.{append-nil}
 use Rattle.f3_program.specs.declared.declarations.Declared.{Declared}
 use Rattle.f3_program.specs.declared.program.Procedure.{Procedure}
-use Rattle.f3_live_blocks.specs.Blocks.{Live, IsLive, words_of, with_taken}
 use Rattle.f3_meaning_whole.specs.Exec.{declared_in, with_result}
 use Rattle.f3_meaning_whole.specs.Shape.{Shape, shape_in}
 use Rattle.f3_rooms.specs.Forms.{room, total}
 use Rattle.f3_rooms.specs.Places.{with_word}
+use Rattle.f3_live_blocks.specs.Blocks.{Live, IsLive, words_of, with_taken}
 use Rattle.f3_room_levels.specs.Initial.{AllCanBegin, CanBegin, initial_words, variable_words}
 use Rattle.f3_room_levels.specs.Levels.{Begins}
 use Rattle.f3_room_levels.specs.Writing.{IsBlank, with_words_from}
 use Rattle.f3_room_levels.proofs.Begun.{begins, taken_blank}
 use Rattle.f3_room_levels.proofs.Widths.{initial_many, variable_many}
 use Rattle.f3_room_levels.proofs.Written.{written_from, written_long, written_on}
-use Rattle.std.proofs.lemmas.List.{append-nil}
 
 module _ (ts : List Shape) where
   total_more : (ds : List Declared) (d : Declared) → total ts (ds ++ d ∷ []) ≡ total ts ds + room ts d
