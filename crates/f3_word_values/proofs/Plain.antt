@@ -82,6 +82,10 @@ same_strides : (w : ℤ) (ds : List Dim) → IsContiguous w ds → IsContiguous 
 same_strides w [] h = h
 same_strides w (d ∷ ds) h = (h.0, same_strides (pos d.extent *ℤ w) ds h.1)
 
+same_distances : (w : ℤ) (ds : List Dim) → (size_of ds ≡ 0) ⊎ IsContiguous w ds → (size_of (map from_one ds) ≡ 0) ⊎ IsContiguous w (map from_one ds)
+same_distances w ds (inl none) = inl (same_size ds ∙ none)
+same_distances w ds (inr are) = inr (same_strides w ds are)
+
 plain_laid : (m : Live) (s : Shape) (ds : List Dim) (n b o : ℕ) (h : Held)
     → laid (length (map from_one ds)) (spans_of (map from_one ds)) n (object m s) b o h ≡ plain (laid (length ds) (spans_of ds) n (object m s) b o h)
 plain_laid m s [] n b o h = sym (plain_object m s b o h)
@@ -99,7 +103,7 @@ plain_block p m a ds b of block offset new old h =
       record {
         offset = offset ∙ h.offset;
         large = rw (new', of) large;
-        contiguous = rw (new', of) (same_strides _ a.elements.dims.items h.contiguous);
+        contiguous = rw (new', of) (same_distances _ a.elements.dims.items h.contiguous);
         live = rw block h.live;
         words = rw (new', of, block) (h.words ∙ ap (λ k. k * words_for (shape_for p a.of)) (sym (same_size a.elements.dims.items)));
       },
