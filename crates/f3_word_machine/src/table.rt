@@ -16,8 +16,9 @@ use f3_word_calls::{associates, dummies, returns};
 use f3_word_cells::scene::Scene;
 use f3_word_cells::state::{State, Stop};
 use f3_word_control::{constructs, dropping, jumps, printing};
-use f3_word_copies::{assigning, clearing, counting, reading, setting};
+use f3_word_copies::{assigning, clearing, counting, setting};
 use f3_word_objects::{asking, locating, naming, selecting, shapes};
+use f3_word_reads::reading;
 use f3_word_values::{operations, queries, values};
 use std::io::Write;
 

@@ -40,7 +40,7 @@ use Rattle.f3_word_cells.specs.declared.cell.Datum.TheVariants as datum
 use Rattle.f3_word_cells.specs.declared.cell.Object.TheVariants as o
 use Rattle.f3_word_cells.specs.Areas.{types_of, shape_for, spans_of, value_in, AreThere, IsBlock}
 use Rattle.f3_word_reads.specs.Packed.{packed_from}
-use Rattle.f3_word_reads.specs.Reads.{IsLarge, IsThere, IsNew, IsRead}
+use Rattle.f3_word_reads.specs.Reads.{asked_words, IsLarge, IsThere, IsNew, IsRead}
 use Rattle.f3_word_reads.proofs.Strides.{packed-contiguous, packed-spans, packed-size}
 use Rattle.f3_word_reads.proofs.Flatness.{flat_for}
 use Rattle.f3_word_reads.proofs.Areas.{tells-all, many-all, count-size, among, all-within}
@@ -92,6 +92,10 @@ taken-short m n b k is short = subst (λ j. j < 2 ^ 63) (ap (λ (l : Live). leng
 pub total-is : (words size n : ℕ) (es ds : List Dim) → words ≡ min (size_of es * size) (2 ^ 64 - 1) → es ≡ ds → size ≡ n → words < 2 ^ 63 → words ≡ size_of ds * n
 total-is words size n es ds e f g short =
     let h : size_of es * size ≡ size_of ds * n = ap (λ (us : List Dim). size_of us * size) f ∙ ap (λ k. size_of ds * k) g in omega (arith, e, h, short)
+
+pub asked-is : (words size : ℕ) (es : List Dim) (a : Area) (types : Types) → words ≡ min (size_of es * size) (2 ^ 64 - 1) → es ≡ (a.elements).dims.items
+    → size ≡ words_for (shape_in (shapes types) a.of) → words ≡ asked_words types (o.Stands a)
+asked-is words size es a types e f g = e ∙ ap (λ (us : List Dim). min (size_of us * size) (2 ^ 64 - 1)) f ∙ ap (λ k. min (size_of (a.elements).dims.items * k) (2 ^ 64 - 1)) g
 
 packed-none : (w : ℕ) (ds : List Dim) → packed_from w ds ≡ [] → ds ≡ []
 packed-none w [] e = refl

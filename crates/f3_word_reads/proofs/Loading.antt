@@ -6,6 +6,7 @@ use Rattle.f3_program.specs.declared.declarations.Constant.TheVariants as consta
 use Rattle.f3_program.specs.declared.declarations.Kind.{Kind}
 use Rattle.f3_program.specs.declared.program.Program.{Program}
 use Rattle.f3_live_blocks.specs.Blocks.{Live}
+use Rattle.f3_heap_laws.specs.Answers.{Answer, Memory, Sizes, sizes}
 use Rattle.f3_meaning_whole.specs.Value.{Value}
 use Rattle.f3_meaning_whole.specs.Store.{Store}
 use Rattle.f3_meaning_whole.specs.Reference.{Reference, held_at}
@@ -26,15 +27,16 @@ use Rattle.f3_room_places.specs.declared.types.Types.{Types}
 use Rattle.f3_word_cells.specs.declared.cell.Datum.{Datum}
 use Rattle.f3_word_cells.specs.declared.cell.Datum.TheVariants as datum
 use Rattle.f3_word_cells.specs.declared.cell.Object.{Object}
+use Rattle.f3_word_cells.specs.declared.cell.Cell.{Cell}
 use Rattle.f3_word_cells.specs.declared.cell.Cell.TheVariants as c
 use Rattle.f3_word_cells.specs.declared.state.State.{State}
 use Rattle.f3_word_cells.specs.declared.state.Stop.{Stop}
 use Rattle.f3_word_cells.specs.declared.state.Stop.TheVariants as stop
 use Rattle.f3_word_cells.specs.Areas.{shape_for, IsDatum}
 use Rattle.f3_word_cells.specs.Scenes.{code_of}
-use Rattle.f3_word_cells.specs.States.{Stands, IsLaid, datum_blocks}
+use Rattle.f3_word_cells.specs.States.{Stands, IsLaid, datum_blocks, own}
 use Rattle.f3_word_cells.specs.Moves.{Popped, Pushed}
-use Rattle.f3_word_cells.specs.Does.{DoesOver, GoesOn, IsTold, RefusedAt, stream}
+use Rattle.f3_word_cells.specs.Does.{DoesOver, GoesOn, HasNoMemory, HasNoRoom, IsTold, RefusedAt, stream}
 use Rattle.f3_word_cells.proofs.Scalars.{Large, IsComposite, IsArray, large_block}
 use Rattle.f3_word_cells.proofs.OnTop.{line_kinds}
 use Rattle.f3_word_cells.proofs.Moving.{moved_to}
@@ -42,7 +44,7 @@ use Rattle.f3_word_cells.proofs.Amid.{Amid, amid_first, amid_last, amid_popped, 
 use Rattle.f3_word_cells.proofs.Orderly.{IsAfter, after_way}
 use Rattle.f3_word_cells.proofs.Lines.{answering, with_stack, line_goes, line_refused, performs_gives, first_looks, first_gives, first_granted, first_refused, claim_for_block, claim_for_scalar}
 use Rattle.f3_word_reads.specs.Taken.{TookObject}
-use Rattle.f3_word_reads.specs.Reads.{IsThere, IsOf, Gains, Reads}
+use Rattle.f3_word_reads.specs.Reads.{IsThere, IsOf, Gains, Reads, RefusesFor}
 use Rattle.f3_word_reads.proofs.Tops.{ObjectOnTop, object-on-top, object-there}
 
 -- ---- an object on top
@@ -178,3 +180,24 @@ module _ (p : Program) (m : Live) (old mid : State) (o : Object) (popped : Poppe
         (refused p t l top.reference top.below act top.split (ap (λ store. needs_storage (held_at store top.reference.path top.reference.reach)) st.store ∙ no.0), no.1)
     fails-load new stop.Memory reads t l x told at act st = let there = there-load t l x told at act st in reads x (there.0).top.reference there.1
     fails-load new e reads t l x told at act st = let there = there-load t l x told at act st in absurd (reads x (there.0).top.reference there.1)
+
+-- ---- what was asked for
+
+pub refuses : (has_room : ℕ → Bool) (Spent : ℕ → Type 0) (words : ℕ) (p : Program) (m n : Live) (x : Rooms) (r : Reference) (e : Stop)
+    → Reads (has_room words ≡ false) (Spent words) p m n x r (Err e) → RefusesFor has_room Spent words (Err e)
+refuses has_room Spent words p m n x r (stop.Failed HeapHasNoRoom) reads = reads.1
+refuses has_room Spent words p m n x r stop.Memory reads = reads
+refuses has_room Spent words p m n x r e reads = absurd reads
+
+-- for some request
+pub some-request : {H R : Type 0} (has_room : H → ℕ → Bool) (h : H) (allows : R → Sizes → ℕ → Answer → Type 0) (kept : R) (words : ℕ) (p : Program) (m n : Live) (x : Rooms) (r : Reference) (e : Stop)
+    → Reads (has_room h words ≡ false) (allows kept (sizes m) words Memory) p m n x r (Err e) → Reads (HasNoRoom has_room h) (HasNoMemory allows kept m) p m n x r (Err e)
+some-request has_room h allows kept words p m n x r (stop.Failed HeapHasNoRoom) reads = (reads.0, (words, reads.1))
+some-request has_room h allows kept words p m n x r stop.Memory reads = (words, reads)
+some-request has_room h allows kept words p m n x r e reads = absurd reads
+
+pub one-object : (old new : State) (w o : Object) (rest : List Cell) → Popped (c.Object o) old new → own old ≡ c.Object w ∷ rest → o ≡ w
+one-object old new w o rest popped e = same (sym popped.cells ∙ e)
+  where
+    same : c.Object o ∷ own new ≡ c.Object w ∷ rest → o ≡ w
+    same f = cc

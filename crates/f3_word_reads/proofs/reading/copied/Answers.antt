@@ -1,18 +1,32 @@
-use Rattle.std.proofs.Common.{◌≡◌, ◌∙◌, sym, ap, subst, refl, ℕ, ◌+◌, ◌*◌, ◌≤◌, length, arith}
+use Rattle.std.proofs.Common.{◌≡◌, ◌∙◌, sym, ap, subst, refl, ℕ, ◌+◌, ◌*◌, ◌≤◌, false, length, arith}
 use Rattle.std.specs.Prelude.{pos, Err}
 use Rattle.f3_live_blocks.specs.Blocks.{words_of, with_words}
+use Rattle.f3_heap_laws.specs.Answers.{Memory, sizes}
+use Rattle.f3_heap.specs.Answers.{answer_of}
+use Rattle.f3_heap.specs.declared.blocks.TakeFault.{TakeFault}
 use Rattle.f3_desc.specs.Descriptor.{places}
 use Rattle.f3_room_arrays.specs.Changes.{LieWithin}
 use Rattle.f3_room_arrays.specs.Words.{copied}
 use Rattle.f3_desc.specs.Descriptor.{progression}
 use Rattle.f3_word_reads.specs.Packed.{packed_from}
-use Rattle.f3_word_reads.proofs.Copying.{needs-storage, words-same, large-as, taken-short, total-is, mid-live, gather-within, gather-apart, gather-room, was-read, none-copied, none-written}
+use Rattle.f3_word_reads.proofs.Copying.{needs-storage, words-same, large-as, taken-short, total-is, asked-is, mid-live, gather-within, gather-apart, gather-room, was-read, none-copied, none-written}
 use Rattle.f3_word_reads.proofs.Strides.{part-short}
 use Rattle.f3_word_reads.proofs.reading.copied.Goals as goal
 use Rattle.f3_word_reads.proofs.reading.copied.Goals.{then-packed-gt0, else-packed-gt0}
 
 pub returns-in-Err-Full : goal.returns-in-Err-Full
-returns-in-Err-Full g c p x r there = (needs-storage p c.args.types _ x c.args.area.now r there c.requires.large, (c.pack-packed.result.words, c.in-Err-Full.ensures.full.0 (ap Err c.in-Err-Full.field-0-is)))
+returns-in-Err-Full g c p x r there =
+    let asked = asked-is _ _ _ c.args.area.now c.args.types c.pack-packed.ensures.words c.deref.ensures.0 c.words-size.ensures in (
+      needs-storage p c.args.types _ x c.args.area.now r there c.requires.large,
+      subst (λ n. g.B.Blocks.has_room c.args.heap.now n ≡ false) asked (c.in-Err-Full.ensures.full.0 (ap Err c.in-Err-Full.field-0-is)),
+    )
+
+pub returns-in-Err-Memory : goal.returns-in-Err-Memory
+returns-in-Err-Memory g c p x r there =
+    let asked = asked-is _ _ _ c.args.area.now c.args.types c.pack-packed.ensures.words c.deref.ensures.0 c.words-size.ensures in
+    subst (λ n. g.B.Blocks.allows (g.B.Blocks.kept c.args.heap.now) (sizes (g.B.Blocks.blocks c.args.heap.now)) n Memory) asked
+    (subst (λ (f : TakeFault). g.B.Blocks.allows (g.B.Blocks.kept c.args.heap.now) (sizes (g.B.Blocks.blocks c.args.heap.now)) c.pack-packed.result.words (answer_of (Err f)))
+    c.in-Err-Memory.field-0-is c.in-Err-Memory.ensures.allowed)
 
 pub gather-requires-clause-within : goal.gather-requires-clause-within
 gather-requires-clause-within g c =
