@@ -1,6 +1,6 @@
 -- The course of the machine, instruction by instruction.
-use Rattle.std.proofs.Common.{◌≡◌, ◌<◌, ℕ, false, ◌+◌, Bool, List, [], ◌++◌, sym, ap, ◌∙◌, subst, append-nil, arith}
-use Rattle.std.specs.Prelude.{Ok, Err, Some, slice_get}
+use Rattle.std.proofs.Common.{◌≡◌, ◌<◌, ◌≤◌, inl, inr, ℕ, true, false, ◌+◌, Bool, List, [], ◌∷◌, ◌++◌, length, sym, ap, ◌∙◌, subst, append-nil, refl, arith}
+use Rattle.std.specs.Prelude.{◌⊎◌, Ok, Err, Some, slice_get}
 use Rattle.f3_program.specs.declared.program.Program.{Program}
 use Rattle.f3_live_blocks.specs.Blocks.{Live}
 use Rattle.f3_meaning_whole.specs.Run.{output}
@@ -8,7 +8,10 @@ use Rattle.f3_code.specs.State as s
 use Rattle.f3_code.specs.State.{Line, Goes, Stays, Next, Halt, Running, Course}
 use Rattle.f3_code.specs.Machine as machine
 use Rattle.f3_code.specs.Machine.{before, advance, run}
-use Rattle.f3_code.specs.Heap.{with_answers}
+use Rattle.f3_code.specs.Heap.{granted, with_answers}
+use Rattle.f3_places.specs.declared.source.Place.{Place}
+use Rattle.f3_meaning_whole.specs.declared.run_error.RunError.{RunError}
+use Rattle.f3_meaning_whole.specs.declared.run_error.RunError.TheVariants as error
 use Rattle.f3_cells.specs.States.{setting}
 use Rattle.f3_courses.proofs.Coming.{output_both}
 use Rattle.f3_output.specs.Output as o
@@ -21,17 +24,33 @@ use Rattle.f3_rooms.specs.Rooms.{Rooms}
 use Rattle.f3_word_cells.specs.declared.state.State.{State}
 use Rattle.f3_word_cells.specs.Scenes.{code_of}
 use Rattle.f3_word_cells.specs.States.{Stands}
-use Rattle.f3_word_cells.specs.Does.{IsTold, stream}
+use Rattle.f3_word_cells.specs.Does.{AreGranted, IsTold, stream}
 use Rattle.f3_word_laws.specs.Comes.{Comes}
 use Rattle.f3_word_laws.proofs.Coming.{runs_go_on}
 use Rattle.f3_word_laws.proofs.Telling.{runs_are_told}
 use Rattle.f3_word_needs.specs.Room.{HasRoom}
 use Rattle.f3_word_needs.proofs.Keeping.{lines_keep_room}
-use Rattle.f3_word_machine.specs.Steps.{Ends, Steps}
-use Rattle.f3_word_machine.specs.Runs.{course_from, AnswersSo}
+use Rattle.f3_word_machine.specs.Steps.{Ends, IsRefused, Steps}
+use Rattle.f3_word_machine.specs.Runs.{AnswersSo, IsRefusedIn, course_from, refusing}
+use Rattle.f3_word_machine.proofs.Answering.{granted_all, refused_next}
 
 abbrev pub none_more : ℕ → Bool
-none_more n = false
+none_more = granted
+
+-- what a heap has no room or no memory for, told otherwise
+module _ (Full More Spent Less : Type 0) (f : Full → More) (g : Spent → Less) (p : Program) (t : s.State) (n : Live) (w : State) (a b : o.State) where
+  fails_to : (e : RunError) (place : Place) → Steps Full Spent p t (Err (end.Failed e place)) n w a b → Steps More Less p t (Err (end.Failed e place)) n w a b
+  fails_to error.HeapHasNoRoom place (inl h) = inl (h.0, f h.1)
+  fails_to error.HeapHasNoRoom place (inr h) = inr h
+  fails_to e place h = h
+
+  pub steps_to : (e : Ended) → Steps Full Spent p t (Err e) n w a b → Steps More Less p t (Err e) n w a b
+  steps_to end.Done h = h
+  steps_to (end.Stopped number) h = h
+  steps_to (end.Failed e place) h = fails_to e place h
+  steps_to end.StepLimit h = h
+  steps_to end.WriteFault h = h
+  steps_to end.Memory h = (g h.0, h.1)
 
 module _ (p : Program) (t : s.State) where
   -- after so many instructions blocks and a state in memory stand for a state, and all that was printed until then was written
@@ -58,8 +77,8 @@ module _ (p : Program) (t : s.State) where
   }
 
   module _ (done : ℕ) (m : Live) (old : State) (a b : o.State) (r : Reached done m old a b) where
-    pub goes_on : (n : Live) (new : State) (c : o.State) → Steps p r.to (Ok tt) n new b c → Reached (done + 1) n new a c
-    goes_on n new c w = record {
+    pub goes_on : (n : Live) (new : State) (c : o.State) (Full Spent : Type 0) → Steps Full Spent p r.to (Ok tt) n new b c → Reached (done + 1) n new a c
+    goes_on n new c Full Spent w = record {
       to = w.next;
       rooms = w.rooms;
       bytes = r.bytes ++ w.bytes;
@@ -105,23 +124,52 @@ module _ (p : Program) (t : s.State) where
           (sym (ap (λ (y : Course). output y.out) so_far ∙ ap output (append-nil (r.comes).out) ∙ (r.comes).printed ∙ sym (append-nil r.bytes))) (wrote_more r.wrote more);
     }
 
-    pub stops : (n : Live) (new : State) (c : o.State) (steps : ℕ) (e : Ended) → done < steps → Steps p r.to (Err e) n new b c → AnswersSo p t steps a c e
-    stops n new c steps end.Done left e = record { answers = stream (r.comes).given (stream (e.stops).given none_more); so = halts steps s.Done c left e }
-    stops n new c steps (end.Stopped number) left e =
-        record { answers = stream (r.comes).given (stream (e.stops).given none_more); so = halts steps (s.Stopped number) c left e }
-    stops n new c steps (end.Failed error place) left e =
-        record { answers = stream (r.comes).given (stream (e.stops).given none_more); so = halts steps (s.Failed error place) c left e }
-    stops n new c steps end.StepLimit left e = absurd e
-    stops n new c steps end.WriteFault left e =
-        let at = next (e.goes).given e.line (Goes (e.goes).out (with_answers none_more e.next)) e.there ((e.goes).goes none_more) in
-        let printed : output ((r.comes).out ++ ((e.goes).out ++ [])) ≡ r.bytes ++ e.bytes =
-        output_both (r.comes).out ((e.goes).out ++ []) ∙ ap (λ y. y ++ output ((e.goes).out ++ [])) (r.comes).printed
-        ∙ ap (λ y. r.bytes ++ output y) (append-nil (e.goes).out) ∙ ap (λ y. r.bytes ++ y) (e.goes).printed in
-        record {
-          answers = stream (r.comes).given (stream (e.goes).given none_more);
-          so = (done + 1, omega arith, subst (λ bytes. Faulted a c bytes) (sym (ap (λ (y : Course). output y.out) at ∙ printed)) (faulted_behind r.wrote e.faulted));
-        }
-    stops n new c steps end.Memory left e = record { answers = stream (r.comes).given none_more; so = (done, omega arith, until c e) }
+    -- what is so where the heap gives these answers is so where it grants all
+    all_granted : (given : List Bool) → AreGranted given → stream (r.comes).given (stream given none_more) ≡ granted
+    all_granted given a = ap (stream (r.comes).given) (granted_all given a) ∙ granted_all (r.comes).given (r.comes).granted
 
-  pub at_limit : (steps : ℕ) (m : Live) (old : State) (a b : o.State) → Reached steps m old a b → AnswersSo p t steps a b end.StepLimit
-  at_limit steps m old a b r = record { answers = stream (r.comes).given none_more; so = until steps m old a b r b wrote_none }
+    ends : (steps : ℕ) (halt : Halt) (c : o.State) → done < steps → Ends p r.to halt b c → EndsSo (course_from p t granted) steps a c halt
+    ends steps halt c left e = subst (λ answers. EndsSo (course_from p t answers) steps a c halt) (all_granted (e.stops).given (e.stops).granted) (halts steps halt c left e)
+
+    -- the heap refuses the next request
+    refuses : (steps : ℕ) (place : Place) (c : o.State) → done < steps → IsRefused p r.to place b c → IsRefusedIn (course_from p t) steps a c place
+    refuses steps place c left e =
+        let at = next (true ∷ []) e.line (Stays [] (s.Failed error.HeapHasNoRoom place)) e.there
+        ((e.refused).stops none_more ∙ ap (λ q. Stays [] (s.Failed error.HeapHasNoRoom q)) e.at) in
+        let printed : output ((r.comes).out ++ []) ≡ r.bytes ++ [] = ap output (append-nil (r.comes).out) ∙ (r.comes).printed ∙ sym (append-nil r.bytes) in
+        record {
+          before = length (r.comes).given;
+          so = subst (λ answers. EndsSo (course_from p t answers) steps a c (s.Failed error.HeapHasNoRoom place)) (refused_next (r.comes).given (r.comes).granted) (record {
+            last = done + 1;
+            within = omega arith;
+            ends = ap (λ (y : Course). y.halt) at;
+            wrote = subst (λ bytes. Wrote a c bytes) (sym (ap (λ (y : Course). output y.out) at ∙ printed)) (wrote_more r.wrote e.wrote);
+          });
+        }
+
+    still : (c : o.State) → Wrote b c [] → GoesOnAfter (course_from p t granted) done a c
+    still c more = subst (λ answers. GoesOnAfter (course_from p t answers) done a c) (granted_all (r.comes).given (r.comes).granted) (until c more)
+
+    module _ (Full Spent : Type 0) (n : Live) (new : State) (c : o.State) (steps : ℕ) (left : done < steps) where
+      fails : (e : RunError) (place : Place) → Steps Full Spent p r.to (Err (end.Failed e place)) n new b c
+          → AnswersSo Full Spent (course_from p t) steps a c (end.Failed e place)
+      fails error.HeapHasNoRoom place (inl e) = inl (refuses steps place c left e.0, e.1)
+      fails error.HeapHasNoRoom place (inr e) = inr (ends steps (s.Failed error.HeapHasNoRoom place) c left e)
+      fails e place f = ends steps (s.Failed e place) c left f
+
+      pub stops : (e : Ended) → Steps Full Spent p r.to (Err e) n new b c → AnswersSo Full Spent (course_from p t) steps a c e
+      stops end.Done e = ends steps s.Done c left e
+      stops (end.Stopped number) e = ends steps (s.Stopped number) c left e
+      stops (end.Failed error place) e = fails error place e
+      stops end.StepLimit e = absurd e
+      stops end.WriteFault e =
+          let at = next (e.goes).given e.line (Goes (e.goes).out (with_answers none_more e.next)) e.there ((e.goes).goes none_more) in
+          let printed : output ((r.comes).out ++ ((e.goes).out ++ [])) ≡ r.bytes ++ e.bytes =
+          output_both (r.comes).out ((e.goes).out ++ []) ∙ ap (λ y. y ++ output ((e.goes).out ++ [])) (r.comes).printed
+          ∙ ap (λ y. r.bytes ++ output y) (append-nil (e.goes).out) ∙ ap (λ y. r.bytes ++ y) (e.goes).printed in
+          subst (λ answers. (k : ℕ) × (k ≤ steps) × Faulted a c (output (course_from p t answers k).out)) (all_granted (e.goes).given (e.goes).granted)
+          (done + 1, omega arith, subst (λ bytes. Faulted a c bytes) (sym (ap (λ (y : Course). output y.out) at ∙ printed)) (faulted_behind r.wrote e.faulted))
+      stops end.Memory e = (e.0, (done, omega arith, still c e.1))
+
+  pub at_limit : (Full Spent : Type 0) (steps : ℕ) (m : Live) (old : State) (a b : o.State) → Reached steps m old a b → AnswersSo Full Spent (course_from p t) steps a b end.StepLimit
+  at_limit Full Spent steps m old a b r = still steps m old a b r b wrote_none

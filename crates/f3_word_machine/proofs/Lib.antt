@@ -1,4 +1,6 @@
+pub mod Answering
 pub mod Course
 pub mod Beginning
-pub mod Doing
 mod Never
+pub mod Doing
+pub mod Roomy

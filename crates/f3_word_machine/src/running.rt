@@ -3,9 +3,11 @@
 ghost use Rattle.f3_meaning_whole.specs.Permitted.{IsLawful};
 ghost use Rattle.f3_output.specs.Output.{state_of};
 ghost use Rattle.f3_word_cells.specs.Scenes.{IsScene};
-ghost use Rattle.f3_word_machine.specs.Simple.{IsSimple};
-ghost use Rattle.f3_word_machine.specs.Runs.{RunsFrom};
-ghost use Rattle.f3_word_machine.specs.Steps.{HasCells, IsReady};
+ghost use Rattle.f3_word_cells.specs.Plain.{IsPlain};
+ghost use Rattle.f3_word_cells.specs.Ranks.{AreRanked};
+ghost use Rattle.f3_word_machine.specs.Room.{IsRoomy, room_of};
+ghost use Rattle.f3_word_machine.specs.Runs.{IsFull, IsSpent, RunsFrom};
+ghost use Rattle.f3_word_machine.specs.Steps.{IsReady};
 
 use crate::ended::Ended;
 use crate::step::step;
@@ -24,11 +26,13 @@ pub fn run<B: Blocks, W: Write>(
     output: &mut Output<W>,
 ) -> Ended
     requires scene { IsScene scene }
-    requires simple { IsSimple scene.program.now }
+    requires plain { IsPlain scene.program.now }
+    requires ranks { AreRanked scene.program.now }
     requires lawful { IsLawful scene.program.now }
-    requires cells { HasCells scene.program.now state.old.cells.room }
+    requires roomy { IsRoomy scene.program.now (room_of state.old) }
     requires ready { IsReady scene.program.now (B.blocks heap.old) state.old }
-    ensures { RunsFrom scene.entry.program.now steps (B.blocks heap.old) state.old (state_of W.contents output.old) (state_of W.contents output.new) result }
+    ensures { RunsFrom (IsFull B.blocks B.has_room scene.entry.program.now) (IsSpent B.blocks B.kept B.allows scene.entry.program.now)
+        scene.entry.program.now steps (B.blocks heap.old) state.old (state_of W.contents output.old) (state_of W.contents output.new) result }
 {
     for _done in 0..steps {
         match step(scene, heap, state, output) {

@@ -4,8 +4,11 @@ ghost use Rattle.std.specs.Prelude.{◌≡◌, ◌≢◌, ◌<◌, Some, length,
 ghost use Rattle.f3_meaning_whole.specs.Permitted.{IsLawful};
 ghost use Rattle.f3_output.specs.Output.{state_of};
 ghost use Rattle.f3_word_cells.specs.Scenes.{IsScene};
-ghost use Rattle.f3_word_machine.specs.Simple.{IsSimple};
-ghost use Rattle.f3_word_machine.specs.Steps.{EndsBy, HasCells, IsReady, StepsFrom};
+ghost use Rattle.f3_word_cells.specs.Does.{HasNoMemory, HasNoRoom, KeepsRoom};
+ghost use Rattle.f3_word_cells.specs.Plain.{IsPlain};
+ghost use Rattle.f3_word_cells.specs.Ranks.{AreRanked};
+ghost use Rattle.f3_word_machine.specs.Room.{IsRoomy, room_of};
+ghost use Rattle.f3_word_machine.specs.Steps.{EndsBy, IsReady, StepsFrom};
 
 use crate::ended::Ended;
 use crate::table::perform;
@@ -50,12 +53,14 @@ pub(crate) fn step<B: Blocks, W: Write>(
     output: &mut Output<W>,
 ) -> Result<(), Ended>
     requires scene { IsScene scene }
-    requires simple { IsSimple scene.program.now }
+    requires plain { IsPlain scene.program.now }
+    requires ranks { AreRanked scene.program.now }
     requires lawful { IsLawful scene.program.now }
-    requires cells { HasCells scene.program.now state.old.cells.room }
+    requires roomy { IsRoomy scene.program.now (room_of state.old) }
     requires ready { IsReady scene.program.now (B.blocks heap.old) state.old }
-    ensures cells { state.new.cells.room ≡ state.old.cells.room }
-    ensures does { StepsFrom scene.entry.program.now result (B.blocks heap.old) (B.blocks heap.new) state.old state.new
+    ensures rooms { KeepsRoom state.old state.new }
+    ensures does { StepsFrom (HasNoRoom B.has_room heap.old) (HasNoMemory B.allows (B.kept heap.old) (B.blocks heap.old))
+        scene.entry.program.now result (B.blocks heap.old) (B.blocks heap.new) state.old state.new
         (state_of W.contents output.old) (state_of W.contents output.new) }
 {
     let line = line_at(&scene.emission.lines, state.pc);

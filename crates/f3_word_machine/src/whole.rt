@@ -1,6 +1,6 @@
 //! Runs of programs.
 
-ghost use Rattle.std.specs.Prelude.{◌≡◌, ◌<◌};
+ghost use Rattle.std.specs.Prelude.{◌≡◌, ◌⊎◌};
 ghost use Rattle.std.specs.FinMap.{empty};
 ghost use Rattle.f3_gen_values.specs.Emission.{code_in};
 ghost use Rattle.f3_meaning_whole.specs.Formed.{IsWellFormed};
@@ -9,8 +9,10 @@ ghost use Rattle.f3_cell_kinds.specs.Sense.{MakesSense};
 ghost use Rattle.f3_output.specs.Output.{state_of};
 ghost use Rattle.f3_word_cells.specs.Plain.{IsPlain};
 ghost use Rattle.f3_word_cells.specs.Scenes.{IsScene, code_of};
-ghost use Rattle.f3_word_machine.specs.Simple.{IsSimple};
-ghost use Rattle.f3_word_machine.specs.Steps.{HasCells};
+ghost use Rattle.f3_word_cells.specs.Ranks.{AreRanked};
+ghost use Rattle.f3_word_start.specs.Begins.{LacksRoom};
+ghost use Rattle.f3_word_machine.specs.Room.{IsRoomy};
+ghost use Rattle.f3_word_machine.specs.Runs.{IsFull, IsSpent};
 ghost use Rattle.f3_word_machine.specs.Whole.{RunsWhole};
 
 use crate::ended::Ended;
@@ -35,14 +37,16 @@ pub fn run_program<B: Blocks, W: Write>(
     output: &mut Output<W>,
 ) -> Ended
     requires scene { IsScene scene }
-    requires simple { IsSimple scene.program.now }
     requires plain { IsPlain scene.program.now }
+    requires ranks { AreRanked scene.program.now }
     requires formed { IsWellFormed scene.program.now }
     requires sense { MakesSense scene.program.now }
     requires lawful { IsLawful scene.program.now }
-    requires cells { HasCells scene.program.now room.cells }
+    requires roomy { IsRoomy scene.program.now room }
     requires empty { B.blocks heap.old ≡ empty }
-    ensures { RunsWhole scene.entry.program.now steps (state_of W.contents output.old) (state_of W.contents output.new) result }
+    ensures { RunsWhole (IsFull B.blocks B.has_room scene.entry.program.now
+        ⊎ LacksRoom B.blocks B.has_room heap.old scene.entry.statics.now.words scene.entry.main.now.words)
+        (IsSpent B.blocks B.kept B.allows scene.entry.program.now) scene.entry.program.now steps (state_of W.contents output.old) (state_of W.contents output.new) result }
 {
     if steps == 0 {
         return Ended::StepLimit;

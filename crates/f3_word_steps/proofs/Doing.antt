@@ -22,4 +22,4 @@ module _ (act : Instruction) (place : Place) (total : ℕ) (old new : State) (r 
 
   -- no other is meant
   pub not_cells : is_cells_act act ≡ false → is_cells_act act ≡ true → DoesCells place total act r old new
-  not_cells other yes = absurd (true≢false (sym yes ∙ other))
+  not_cells other one = absurd (true≢false (sym one ∙ other))
