@@ -28,7 +28,7 @@ use f3_word_cells::state::{State, Stop};
 
 /// A copy of what stands there, in a block of its own. No heap has one of 2 to the 63 words or more.
 ///
-/// `Stop::Failed` where the heap has no room for it, `Stop::Memory` where the host refused memory.
+/// `Stop::Failed` where the heap has no room for it, `Stop::Memory` where the host refused memory for it.
 fn copied<B: Blocks>(heap: &mut B, types: Types<'_>, area: &Area) -> Result<Datum, Stop>
     requires tables { HasTables types }
     requires large { IsLarge types area.now }
@@ -74,6 +74,9 @@ fn held<B: Blocks>(heap: &mut B, types: Types<'_>, object: Object) -> Result<Dat
 }
 
 /// What an object holds (ISO/IEC 1539-1:2004, 7.1.8).
+///
+/// `Stop::Failed` where the heap has no room for a copy, `Stop::Memory` where the host refused memory for it, `Stop::Lost` where no object
+/// is on top.
 pub fn load<B: Blocks>(scene: Scene<'_>, heap: &mut B, state: &mut State) -> Result<(), Stop>
     requires scene { IsScene scene }
     requires pc { state.old.pc < 2 ^ 63 }
