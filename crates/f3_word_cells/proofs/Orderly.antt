@@ -1,18 +1,17 @@
 -- Names and levels stand one behind another, whatever cells of no construct come and go.
-use Rattle.std.proofs.Common.{◌≡◌, ◌∙◌, ℕ, ◌+◌, List, [], ◌∷◌, ◌++◌, refl, sym, ap, subst}
+use Rattle.std.proofs.Common.{◌≡◌, ◌∙◌, ℕ, List, [], ◌∷◌, ◌++◌, refl, sym, ap, subst}
 use Rattle.std.specs.Prelude.{⊤}
 use Rattle.f3_program.specs.declared.declarations.Derived.{Derived}
 use Rattle.f3_program.specs.declared.program.Program.{Program}
 use Rattle.f3_live_blocks.specs.Blocks.{Live}
 use Rattle.f3_code.specs.State as s
-use Rattle.f3_cell_kinds.specs.Types.{Scope, Around, Told, Untold, InRoutine, CellType, Site}
-use Rattle.f3_cell_kinds.specs.Effect.{way, Way}
+use Rattle.f3_cell_kinds.specs.Types.{Scope, Around, Told, Untold, InRoutine, CellType}
+use Rattle.f3_cell_kinds.specs.Effect.{way}
 use Rattle.f3_cell_kinds.specs.Kinds.{arrived}
 use Rattle.f3_cell_kinds.specs.Holds.{InScope}
 use Rattle.f3_cell_kinds.specs.Laws.{site_at}
 use Rattle.f3_rooms.specs.Rooms.{Rooms, Slot}
 use Rattle.f3_word_cells.specs.declared.cell.Here.{Here}
-use Rattle.f3_word_cells.specs.declared.cell.Range.{Range}
 use Rattle.f3_word_cells.specs.declared.cell.Cell.{Cell}
 use Rattle.f3_word_cells.specs.declared.cell.Cell.TheVariants as c
 use Rattle.f3_word_cells.specs.declared.state.Name.{Name}

@@ -1,5 +1,5 @@
 -- Activations at another place, or within a SELECT CASE.
-use Rattle.std.proofs.Common.{◌≡◌, List, refl}
+use Rattle.std.proofs.Common.{List, refl}
 use Rattle.std.specs.Prelude.{Option}
 use Rattle.f3_places.specs.declared.source.Place.{Place}
 use Rattle.f3_program.specs.declared.declarations.Constant.{Constant}

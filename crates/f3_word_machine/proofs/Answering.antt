@@ -1,5 +1,5 @@
 -- Answers of a heap that grants all requests, or refuses one.
-use Rattle.std.proofs.Common.{◌≡◌, ℕ, zero, suc, Bool, true, false, List, [], ◌∷◌, ◌++◌, length, refl, sym, ap, ◌∙◌}
+use Rattle.std.proofs.Common.{◌≡◌, ℕ, zero, suc, Bool, true, false, List, [], ◌∷◌, length, refl}
 use Rattle.std.proofs.Math.Path.{fun_ext}
 use Rattle.f3_code.specs.Heap.{granted}
 use Rattle.f3_word_cells.specs.Does.{AreGranted, stream}

@@ -1,6 +1,6 @@
 -- The course of the machine, instruction by instruction.
-use Rattle.std.proofs.Common.{◌≡◌, ◌<◌, ◌≤◌, inl, inr, ℕ, true, false, ◌+◌, Bool, List, [], ◌∷◌, ◌++◌, length, sym, ap, ◌∙◌, subst, append-nil, refl, arith}
-use Rattle.std.specs.Prelude.{◌⊎◌, Ok, Err, Some, slice_get}
+use Rattle.std.proofs.Common.{◌≡◌, ◌<◌, ◌≤◌, inl, inr, ℕ, true, ◌+◌, Bool, List, [], ◌∷◌, ◌++◌, length, sym, ap, ◌∙◌, subst, append-nil, arith}
+use Rattle.std.specs.Prelude.{Ok, Err, Some, slice_get}
 use Rattle.f3_program.specs.declared.program.Program.{Program}
 use Rattle.f3_live_blocks.specs.Blocks.{Live}
 use Rattle.f3_meaning_whole.specs.Run.{output}
@@ -31,7 +31,7 @@ use Rattle.f3_word_laws.proofs.Telling.{runs_are_told}
 use Rattle.f3_word_needs.specs.Room.{HasRoom}
 use Rattle.f3_word_needs.proofs.Keeping.{lines_keep_room}
 use Rattle.f3_word_machine.specs.Steps.{Ends, IsRefused, Steps}
-use Rattle.f3_word_machine.specs.Runs.{AnswersSo, IsRefusedIn, course_from, refusing}
+use Rattle.f3_word_machine.specs.Runs.{AnswersSo, IsRefusedIn, course_from}
 use Rattle.f3_word_machine.proofs.Answering.{granted_all, refused_next}
 
 abbrev pub none_more : ℕ → Bool

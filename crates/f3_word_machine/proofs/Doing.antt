@@ -1,6 +1,6 @@
 -- What an instruction does, by what its call says.
-use Rattle.std.proofs.Common.{◌≡◌, ◌≢◌, ◌<◌, ◌≤◌, ◌+◌, ◌*◌, ℕ, true, false, [], ◌∷◌, List, length, refl, sym, ◌∙◌, subst, ap, inl, inr, reverse, vec_len, arith}
-use Rattle.std.specs.Prelude.{⊤, ◌⊎◌, Bool, Result, Ok, Err, Option, Some, None, slice_get, unwrap_or}
+use Rattle.std.proofs.Common.{◌≡◌, ◌≢◌, ◌<◌, ℕ, true, [], length, refl, sym, ◌∙◌, subst, ap, inl, inr, reverse, vec_len, arith}
+use Rattle.std.specs.Prelude.{⊤, ◌⊎◌, Result, Ok, Err, Option, Some, None, slice_get, unwrap_or}
 use Rattle.std.proofs.lemmas.List.{length-map}
 use Rattle.std.specs.Option.{option_map}
 use Rattle.std.proofs.lemmas.Option.{slice_get-map, slice_get_cases}
@@ -28,7 +28,7 @@ use Rattle.f3_word_cells.specs.declared.state.Stop.TheVariants as stop
 use Rattle.f3_word_cells.specs.Plain.{IsPlain, is_plain_act}
 use Rattle.f3_word_cells.specs.Scenes.{IsScene, code_of}
 use Rattle.f3_word_cells.specs.States.{Stands, AreCallers, beneath, own}
-use Rattle.f3_word_cells.specs.Does.{Becomes, BecomesOver, DoesIn, DoesOver, IsAt, IsForbidden, IsLost, Keeps, KeepsRoom, RefusedAt, StopsSo}
+use Rattle.f3_word_cells.specs.Does.{Becomes, BecomesOver, DoesIn, DoesOver, IsAt, Keeps, KeepsRoom, RefusedAt, StopsSo}
 use Rattle.f3_word_cells.proofs.Within.{here_stands}
 use Rattle.f3_word_control.specs.Doing.{DoesWith, DoesPrint, Prints}
 use Rattle.f3_word_entries.specs.Doing.{DoesOverAt}

@@ -1,5 +1,5 @@
 -- Stacks have room for what each instruction of a run puts there.
-use Rattle.std.proofs.Common.{◌≡◌, ◌≤◌, ℕ, ◌+◌, ◌*◌, length, refl, arith}
+use Rattle.std.proofs.Common.{◌≡◌, ◌≤◌, ◌+◌, ◌*◌, refl, arith}
 use Rattle.std.specs.Prelude.{Some, slice_get}
 use Rattle.f3_program.specs.declared.program.Program.{Program}
 use Rattle.f3_live_blocks.specs.Blocks.{Live}
@@ -14,6 +14,9 @@ use Rattle.f3_word_cells.specs.Scenes.{code_of}
 use Rattle.f3_word_cells.specs.States.{Stands}
 use Rattle.f3_word_cells.specs.Does.{IsTold, KeepsRoom}
 use Rattle.f3_word_needs.specs.Names.{most_dummies, most_open}
+use Rattle.f3_sizes.specs.declared.answer.Needs.{Needs}
+use Rattle.f3_word_needs.specs.declared.needs.StackNeeds.{StackNeeds}
+use Rattle.f3_word_needs.specs.Needs.{AreEnough, AreTold}
 use Rattle.f3_word_needs.specs.Room.{HasRoom}
 use Rattle.f3_word_needs.proofs.Asked.{associates_are_few, calls_are_few}
 use Rattle.f3_word_needs.proofs.Kept.{blocks_are_few, names_are_kept}
@@ -74,4 +77,18 @@ keeps_both h k = record {
   callers = (let e = h.callers in let f = k.callers in omega (arith, e, f));
   blocks = (let e = h.blocks in let f = k.blocks in omega (arith, e, f));
   levels = (let e = h.levels in let f = k.levels in omega (arith, e, f));
+}
+
+-- what is told is enough, with as much again for what one instruction wants
+pub told_room : (x : StackNeeds) (r : Room) → r.cells ≡ x.cells + 2 → r.names ≡ x.kept * 2 → r.callers ≡ 1000 → r.blocks ≡ r.names + 1002 → r.levels ≡ x.levels + 2
+    → (p : Program) (n : Needs) → AreTold p n x → AreEnough p x → IsRoomy p r
+told_room x r cells names callers blocks levels p n told enough = record {
+  needs = x;
+  enough = enough;
+  kept = let k = told.kept in omega (arith, k);
+  cells = omega (arith, cells);
+  names = omega (arith, names);
+  callers = omega (arith, callers);
+  blocks = omega (arith, blocks, names);
+  levels = omega (arith, levels);
 }

@@ -2,6 +2,7 @@
 #![tactic(auto)]
 
 pub mod ended;
+pub mod rooms;
 pub mod running;
 mod step;
 mod table;

@@ -1,22 +1,16 @@
 -- What calls and ASSOCIATEs want.
-use Rattle.std.proofs.Common.{◌≡◌, ◌∙◌, ℕ, suc, ◌+◌, ◌≤◌, List, [], ◌∷◌, ◌++◌, length, map, max, refl, sym, ap, subst, arith}
-use Rattle.std.specs.Prelude.{zero, Some, None, slice_get, ◌&&◌}
-use Rattle.std.proofs.lemmas.List.{length-map}
-use Rattle.f3_program.specs.declared.declarations.Kind.{Kind}
+use Rattle.std.proofs.Common.{◌≡◌, ◌∙◌, ℕ, suc, ◌+◌, ◌≤◌, List, [], ◌∷◌, length, map, sym, ap, subst, arith}
+use Rattle.std.specs.Prelude.{zero, Some, slice_get}
 use Rattle.f3_program.specs.declared.program.Procedure as x
 use Rattle.f3_program.specs.declared.program.Program.{Program}
 use Rattle.f3_meaning_whole.specs.Act.{Setting}
 use Rattle.f3_meaning_whole.specs.Run.{setting_of}
-use Rattle.f3_meaning_whole.specs.Formed.{all, all_given, fits_dummy, result_kind}
 use Rattle.f3_code.specs.declared.instruction.Instruction.TheVariants as i
 use Rattle.f3_code.specs.Lower.{lowered_procedure, lowered_program}
-use Rattle.f3_code.specs.State.{Line, State}
-use Rattle.f3_cell_kinds.specs.Types.{Around, Scope, Told, Outside, Level, CellType, Site}
+use Rattle.f3_cell_kinds.specs.Types.{Around, Scope, Told, Site}
 use Rattle.f3_cell_kinds.specs.Laws.{site_at}
 use Rattle.f3_cell_kinds.proofs.Asked.{and_is, found_is, only_is}
 use Rattle.f3_cell_kinds.proofs.Standing.{in_is}
-use Rattle.f3_word_cells.specs.Scenes.{code_of}
-use Rattle.f3_word_cells.specs.Does.{IsTold}
 use Rattle.f3_word_cells.proofs.OnTop.{line_kinds}
 use Rattle.f3_word_needs.specs.Names.{most_dummies, most_open}
 use Rattle.f3_word_needs.specs.Laws.{AssociatesAreFew, CallsAreFew}

@@ -1,6 +1,5 @@
 -- Names and rooms are those of procedures that were called, and of ASSOCIATEs that are open.
-use Rattle.std.proofs.Common.{◌≡◌, ◌∙◌, ℕ, zero, suc, ◌+◌, ◌*◌, ◌≤◌, List, [], ◌∷◌, ◌++◌, length, take, drop, reverse, refl, sym, ap, subst, arith, length-append}
-use Rattle.std.specs.Prelude.{Some, slice_get, slice_index_or}
+use Rattle.std.proofs.Common.{◌≡◌, ◌∙◌, ℕ, zero, suc, ◌+◌, ◌*◌, ◌≤◌, List, [], ◌∷◌, length, take, reverse, refl, ap, arith, length-append}
 use Rattle.std.proofs.lemmas.List.{length-reverse}
 use Rattle.f3_program.specs.declared.program.Program.{Program}
 use Rattle.f3_code.specs.Lower.{lowered_program}
@@ -8,7 +7,7 @@ use Rattle.f3_rooms.specs.Rooms.{Slot}
 use Rattle.f3_word_cells.specs.declared.cell.Cell.{Cell}
 use Rattle.f3_word_cells.specs.declared.cell.Cell.TheVariants as c
 use Rattle.f3_word_cells.specs.declared.state.Caller.{Caller}
-use Rattle.f3_word_cells.specs.States.{AreCalled, AreTight, IsCalled, beneath, cells_from, end_of, level_rooms, levels_rooms, own, rooms_at}
+use Rattle.f3_word_cells.specs.States.{AreCalled, AreTight, IsCalled, beneath, cells_from, level_rooms, levels_rooms, own, rooms_at}
 use Rattle.f3_word_needs.specs.Names.{most_dummies}
 use Rattle.f3_word_needs.specs.Counts.{kept_names}
 use Rattle.f3_word_needs.specs.Laws.{NamesAreKept, BlocksAreFew}

@@ -1,5 +1,5 @@
 -- With what the main program returns at its first line: of a subroutine's value none is used.
-use Rattle.std.proofs.Common.{◌≡◌, ◌∙◌, ℕ, true, false, List, [], ◌∷◌, ◌++◌, Option, Some, None, length, refl, sym, ap}
+use Rattle.std.proofs.Common.{◌≡◌, ℕ, true, false, List, [], ◌∷◌, ◌++◌, length, refl}
 use Rattle.std.specs.Prelude.{⊤, slice_index_or}
 use Rattle.f3_program.specs.declared.declarations.Kind.{Kind}
 use Rattle.f3_program.specs.declared.expression.Argument as a
@@ -12,10 +12,9 @@ use Rattle.f3_program.specs.declared.statement.Range.{Range}
 use Rattle.f3_code.specs.Core as c
 use Rattle.f3_code.specs.Lower.{lowered_program}
 use Rattle.f3_cell_kinds.specs.Types.{CellType, Scope, Site}
-use Rattle.f3_cell_kinds.specs.Types as cell
 use Rattle.f3_cell_kinds.specs.Effect.{truth}
 use Rattle.f3_cell_kinds.specs.Values.{argument_sites, arguments_sites, bounds_sites, locate_sites, value_sites}
-use Rattle.f3_cell_kinds.specs.Program.{allocate_sites, bytes_sites, code_sites, deallocate_sites, items_sites, program_sites, ranges_sites, returns_of, scope_of, selectors_sites}
+use Rattle.f3_cell_kinds.specs.Program.{allocate_sites, code_sites, deallocate_sites, items_sites, program_sites, ranges_sites, returns_of, scope_of, selectors_sites}
 use Rattle.f3_cell_kinds.specs.Laws.{nowhere, site_at}
 
 -- the first site is one of a procedure that returns so, if there is one

@@ -1,8 +1,7 @@
 -- Programs whose arrays have few dimensions.
-use Rattle.std.proofs.Common.{◌≡◌, ℕ, zero, suc, Bool, true, false, List, [], ◌∷◌, map, refl, sym, subst, ap, ◌∙◌}
+use Rattle.std.proofs.Common.{◌≡◌, Bool, true, false, List, map, refl, sym, subst, ap, ◌∙◌}
 use Rattle.std.specs.Prelude.{◌↔◌, Some, slice_get, All}
 use Rattle.std.proofs.lemmas.List.Elements.{All-map}
-use Rattle.f3_program.specs.declared.declarations.Base.{Base}
 use Rattle.f3_program.specs.declared.declarations.Base.TheVariants as base
 use Rattle.f3_program.specs.declared.declarations.Component.{Component}
 use Rattle.f3_program.specs.declared.declarations.Declared.{Declared}
@@ -10,10 +9,9 @@ use Rattle.f3_program.specs.declared.declarations.Derived.{Derived}
 use Rattle.f3_program.specs.declared.program.Procedure.{Procedure}
 use Rattle.f3_program.specs.declared.program.Program.{Program}
 use Rattle.f3_program.specs.declared.program.Static as static
-use Rattle.f3_meaning_whole.specs.Act.{component_in, component_of}
+use Rattle.f3_meaning_whole.specs.Act.{component_in}
 use Rattle.f3_meaning_whole.specs.Exec.{declared_in}
 use Rattle.f3_word_cells.specs.Ranks.{AreRanked, ComponentsHaveRanks, HasRank, HaveRanks}
-use Rattle.f3_word_cells.specs.States.{statics_of}
 use Rattle.f3_word_start.proofs.Plains.{Tells, at_each, failed, no, of_each, unmapped}
 
 abbrev pub IsRankedOne : Component → Type 0

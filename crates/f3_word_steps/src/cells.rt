@@ -7,11 +7,11 @@ ghost use Rattle.f3_word_steps.specs.Cells.{DoesCells, is_cells_act};
 use f3_code::instruction::Instruction;
 use f3_places::source::Place;
 use f3_word_calls::{associates, dummies, returns};
+use f3_word_cells::state::{State, Stop};
 use f3_word_control::{constructs, jumps};
 use f3_word_copies::clearing;
 use f3_word_objects::{asking, shapes};
 use f3_word_values::{operations, queries, values};
-use f3_word_cells::state::{State, Stop};
 
 /// An instruction that takes cells from the stack and puts others there, jumps to another of so many lines, or goes on elsewhere in its
 /// activation, at a place.

@@ -1,4 +1,4 @@
-use Rattle.std.proofs.Common.{◌≡◌, ◌∙◌, refl, subst, arith}
+use Rattle.std.proofs.Common.{◌≡◌, refl, subst, arith}
 use Rattle.f3_output.specs.Output.{state_of}
 use Rattle.f3_word_cells.specs.Does.{HasNoMemory, HasNoRoom}
 use Rattle.f3_word_machine.specs.Steps.{Steps}

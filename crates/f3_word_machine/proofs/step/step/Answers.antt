@@ -1,4 +1,4 @@
-use Rattle.std.proofs.Common.{◌<◌, sym, ◌∙◌, subst, ap, length, arith}
+use Rattle.std.proofs.Common.{◌<◌, sym, ◌∙◌, subst, ap, length}
 use Rattle.std.specs.Prelude.{slice_get}
 use Rattle.f3_output.specs.Output.{state_of}
 use Rattle.f3_word_cells.specs.Does.{HasNoMemory, HasNoRoom}

@@ -1,4 +1,4 @@
-use Rattle.f3_word_start.proofs.Ranked.{types_not, statics_not, main_not, all_ranked}
+use Rattle.f3_word_start.proofs.Ranked.{types_not, statics_not, all_ranked}
 use Rattle.f3_word_start.proofs.ranks.is_ranked.Goals as goal
 
 pub returns-then-not-types_have_ranks : goal.returns-then-not-types_have_ranks

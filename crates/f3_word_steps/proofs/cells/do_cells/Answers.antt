@@ -1,4 +1,4 @@
-use Rattle.std.proofs.Common.{◌≡◌, false, refl, ap, ◌∙◌, Err}
+use Rattle.std.proofs.Common.{◌≡◌, false, refl, Err}
 use Rattle.f3_code.specs.declared.instruction.Instruction.{Instruction}
 use Rattle.f3_code.specs.declared.instruction.Instruction.TheVariants as i
 use Rattle.f3_word_cells.specs.declared.state.Stop.TheVariants as stop
