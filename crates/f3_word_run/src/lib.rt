@@ -1,0 +1,4 @@
+//! Runs the code of programs without allocatables over words.
+#![tactic(auto)]
+
+pub mod run;
