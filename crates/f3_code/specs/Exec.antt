@@ -231,6 +231,7 @@ module _ (g : Setting) (n : ℕ) (types : List Work) (calls : Calls) where
     place ← left_at flow p.end inner
     done ← finish_from 0 p.finish (at place inner)
     v ← looks (result_at p.result (suc level))
+    done ← claim_for v (at place inner)
     done ← discard_arguments 0 p.discard rs ps here
     done ← leave level
     gives v

@@ -43,7 +43,7 @@ asked q [] z here = fails SubscriptOutOfBounds here.place
 asked q (s ∷ ss) z here = if int_le z (pos 0) then fails SubscriptOutOfBounds here.place
     else (if int_le z (pos 1) then converted base.Integer (Number (ask q s)) here.place else asked q ss (z -ℤ pos 1) here)
 
--- a value that is built, or that leaves an activation
+-- a value of array or derived type that is built
 abbrev pub built : Value → Here → Ran Value
 built v here = claim_for v here >>= λ done. gives v
 
@@ -75,12 +75,11 @@ module _ (g : Setting) (calls : Calls) where
     value (e.Structure' t k xs) here = do
       ps ← arguments xs here
       vs ← structure (components_of (slice_index_or g.shapes t Whole)) 0 ps here
-      gives (Composite vs)
+      built (Composite vs) here
     value (e.Call' f k xs) here = do
       ps ← arguments xs here
       v ← calls here f ps
-      v ← result v here
-      built v here
+      result v here
     value (e.Allocated' p x) here = do
       r ← locate x here
       looks (λ store. Truth (is_allocated (get store r.path)))

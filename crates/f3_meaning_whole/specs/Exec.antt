@@ -453,5 +453,6 @@ module _ (g : Setting) (n : ℕ) (calls : Calls) where
     place ← left_at flow p.end inner
     done ← finish_locals p.locals.items 0 (at place inner)
     v ← looks (λ store. result_in p.result (get store (whole (Local (suc level) (length p.locals.items)))))
+    done ← claim_for v (at place inner)
     done ← leave level
     gives v
