@@ -16,50 +16,58 @@ use Rattle.f3_meaning_whole.specs.Ran.{Event, World, End, Gives, Fails, Stops, B
 use Rattle.f3_meaning_whole.specs.Shape.{Shape, Whole, Record, parts_in, shapes_from, shapes_of, shape_in, initial_of, initial_declared}
 use Rattle.f3_meaning_whole.specs.Act.{fitted_contents, Here, Passed, Lent, claim}
 use Rattle.f3_meaning_whole.specs.Act.{claim_for, needs_storage, passed_at, fitted_argument, structure, components_of}
-use Rattle.f3_code.specs.State.{State, Goes, Stays, Failed}
+use Rattle.f3_meaning_whole.specs.Eval.{built}
+use Rattle.f3_code.specs.State.{State, Stays, Failed}
 use Rattle.f3_code.specs.Machine.{ends_so, performs}
 use Rattle.f3_data.specs.declared.value.Value.{Value}
 use Rattle.f3_data.specs.Values.{value_of, values_of}
 use Rattle.f3_shaping.specs.Results.{value_ran}
 use Rattle.std.proofs.Math.Path.{fun_ext}
-use Rattle.f3_value_steps.proofs.Ends.{performs_gives, performs_fails}
+use Rattle.f3_value_steps.proofs.Ends.{performs_gives, performs_fails, built_granted}
 use Rattle.f3_value_steps.specs.Inner.Structures.{world_with, Takes, Builds}
 
 -- ---- what follows a component
 
-then_so : {A B : Type 0} (out : List Event) (e : End A) (h : A → B) (f : B → World → State)
-    → ends_so (after (record { out = out; end = e }) (λ x. gives (h x))).out
-    (after (record { out = out; end = e }) (λ x. gives (h x))).end f ≡ ends_so out e (λ x. f (h x))
+then_so : (out : List Event) (e : End m.Values) (v : m.Value) (k : m.Values → Ran m.Value) (f : m.Value → World → State)
+    → ends_so (after (after (record { out = out; end = e }) (λ vs. gives (more v vs))) k).out
+    (after (after (record { out = out; end = e }) (λ vs. gives (more v vs))) k).end f
+    ≡ ends_so (after (record { out = out; end = e }) (λ vs. k (more v vs))).out (after (record { out = out; end = e }) (λ vs. k (more v vs))).end f
 unfolding gives
-then_so out (Gives x w) h f = ap (λ es. Goes es (f (h x) w)) (append-nil out)
-then_so out (Fails error place) h f = refl
-then_so out (Stops code) h f = refl
-then_so out Beyond h f = refl
+then_so out (Gives x w) v k f = ap (λ es. ends_so (es ++ ((k (more v x)).from w).out) ((k (more v x)).from w).end f) (append-nil out)
+then_so out (Fails error place) v k f = refl
+then_so out (Stops code) v k f = refl
+then_so out Beyond v k f = refl
 
-claimed : (v : m.Value) (here : Here) (store : Store) (b : Bool) (r : Ran m.Values) (f : m.Values → World → State)
-    → performs ((if b then claim here else gives tt) >>= λ done. r >>= λ vs. gives (more v vs)) (world_with store) f ≡ performs r (world_with store)
-    (λ vs. f (more v vs))
+claimed : (v : m.Value) (here : Here) (store : Store) (b : Bool) (r : Ran m.Values) (k : m.Values → Ran m.Value) (f : m.Value → World → State)
+    → performs (((if b then claim here else gives tt) >>= λ done. r >>= λ vs. gives (more v vs)) >>= k) (world_with store) f
+    ≡ performs (r >>= λ vs. k (more v vs)) (world_with store) f
 unfolding ◌>>=◌ gives asks fails
-claimed v here store true r f = then_so (r.from (world_with store)).out (r.from (world_with store)).end (more v) f
-claimed v here store false r f = then_so (r.from (world_with store)).out (r.from (world_with store)).end (more v) f
+claimed v here store true r k f = then_so (r.from (world_with store)).out (r.from (world_with store)).end v k f
+claimed v here store false r k f = then_so (r.from (world_with store)).out (r.from (world_with store)).end v k f
 
 -- a component took a value
-pub takes_one : (r : Ran m.Value) (v : m.Value) (rest : Ran m.Values) (here : Here) (store : Store) (f : m.Values → World → State)
+pub takes_one : (r : Ran m.Value) (v : m.Value) (rest : Ran m.Values) (here : Here) (store : Store) (k : m.Values → Ran m.Value) (f : m.Value → World → State)
     → r.from (world_with store) ≡ (gives v).from (world_with store)
-    → performs (r >>= λ v. claim_for v here >>= λ done. rest >>= λ vs. gives (more v vs)) (world_with store) f ≡ performs rest (world_with store)
-    (λ vs. f (more v vs))
+    → performs ((r >>= λ v. claim_for v here >>= λ done. rest >>= λ vs. gives (more v vs)) >>= k) (world_with store) f
+    ≡ performs (rest >>= λ vs. k (more v vs)) (world_with store) f
 unfolding ◌>>=◌ gives
-takes_one r v rest here store f e =
+takes_one r v rest here store k f e =
     let g : m.Value → Ran m.Values = λ v. claim_for v here >>= λ done. rest >>= λ vs. gives (more v vs) in
-    ap (λ (o : Outcome m.Value). ends_so (after o g).out (after o g).end f) e ∙ claimed v here store (needs_storage v) rest f
+    ap (λ (o : Outcome m.Value). ends_so (after (after o g) k).out (after (after o g) k).end f) e ∙ claimed v here store (needs_storage v) rest k f
 
-pub takes_none : (r : Ran m.Value) (error : RunError) (rest : Ran m.Values) (here : Here) (store : Store) (f : m.Values → World → State)
+pub takes_none : (r : Ran m.Value) (error : RunError) (rest : Ran m.Values) (here : Here) (store : Store) (k : m.Values → Ran m.Value)
+    (f : m.Value → World → State)
     → r.from (world_with store) ≡ (fails error here.place).from (world_with store)
-    → performs (r >>= λ v. claim_for v here >>= λ done. rest >>= λ vs. gives (more v vs)) (world_with store) f ≡ Stays [] (Failed error here.place)
+    → performs ((r >>= λ v. claim_for v here >>= λ done. rest >>= λ vs. gives (more v vs)) >>= k) (world_with store) f ≡ Stays [] (Failed error here.place)
 unfolding ◌>>=◌ fails
-takes_none r error rest here store f e =
+takes_none r error rest here store k f e =
     let g : m.Value → Ran m.Values = λ v. claim_for v here >>= λ done. rest >>= λ vs. gives (more v vs) in
-    ap (λ (o : Outcome m.Value). ends_so (after o g).out (after o g).end f) e
+    ap (λ (o : Outcome m.Value). ends_so (after (after o g) k).out (after (after o g) k).end f) e
+
+-- all have taken theirs
+gives_then : (vs : m.Values) (k : m.Values → Ran m.Value) (w : World) (f : m.Value → World → State) → performs (gives vs >>= k) w f ≡ performs (k vs) w f
+unfolding ◌>>=◌ gives
+gives_then vs k w f = refl
 
 -- ---- a constructor
 
@@ -82,25 +90,25 @@ values_more (y ∷ xs) x = ap (λ vs. value_of y ∷ vs) (values_more xs x)
 
 -- so many components have taken these values
 abbrev pub SoFar : List Shape → List Component → List Passed → Store → ℕ → List Value → Type 0
-SoFar shapes cs ps store i found = (here : Here) (f : m.Values → World → State)
-    → performs (structure (parts_in shapes cs) 0 ps here) (world_with store) f
-    ≡ performs (structure (parts_in shapes (drop i cs)) i ps here) (world_with store) (λ vs. f (ahead (values_of found) vs))
+SoFar shapes cs ps store i found = (here : Here) (k : m.Values → Ran m.Value) (f : m.Value → World → State)
+    → performs (structure (parts_in shapes cs) 0 ps here >>= k) (world_with store) f
+    ≡ performs (structure (parts_in shapes (drop i cs)) i ps here >>= λ vs. k (ahead (values_of found) vs)) (world_with store) f
 
 pub so_far_more : (types : List Derived) (cs : List Component) (ps : List Passed) (store : Store) (i : ℕ) (found : List Value) (c d : Component) (v : Value)
     → i < length cs → c ≡ get_or cs i d → SoFar (shapes_of types) cs ps store i found → Takes types c.declared ps i store (Ok v)
     → SoFar (shapes_of types) cs ps store (i + 1) (found ++ v ∷ [])
-so_far_more types cs ps store i found c d v h e before took = λ here f.
+so_far_more types cs ps store i found c d v h e before took = λ here k f.
     let shapes : List Shape = shapes_of types in
     let rest : Ran m.Values = structure (parts_in shapes (drop (suc i) cs)) (suc i) ps here in
     let is : Component → Ran m.Value = λ c. fitted_argument c.declared (initial_declared c.declared (initial_of (shape_in shapes c.declared.kind.of)))
     (passed_at i ps) here in
-    let g : m.Values → World → State = λ vs. f (ahead (values_of found) vs) in
-    before here f
-    ∙ ap (λ xs. performs (structure (parts_in shapes xs) i ps here) (world_with store) g) (drop-cons cs i d h)
-    ∙ ap (λ (x : Component). performs (is x >>= λ v. claim_for v here >>= λ done. rest >>= λ vs. gives (more v vs)) (world_with store) g) (sym e)
-    ∙ takes_one (is c) (value_of v) rest here store g (took here)
-    ∙ ap (λ n. performs (structure (parts_in shapes (drop n cs)) n ps here) (world_with store) (λ vs. g (more (value_of v) vs))) (sym (add-one i))
-    ∙ ap (λ (h : m.Values → m.Values). performs (structure (parts_in shapes (drop (i + 1) cs)) (i + 1) ps here) (world_with store) (λ vs. f (h vs)))
+    let g : m.Values → Ran m.Value = λ vs. k (ahead (values_of found) vs) in
+    before here k f
+    ∙ ap (λ xs. performs (structure (parts_in shapes xs) i ps here >>= g) (world_with store) f) (drop-cons cs i d h)
+    ∙ ap (λ (x : Component). performs ((is x >>= λ v. claim_for v here >>= λ done. rest >>= λ vs. gives (more v vs)) >>= g) (world_with store) f) (sym e)
+    ∙ takes_one (is c) (value_of v) rest here store g f (took here)
+    ∙ ap (λ n. performs (structure (parts_in shapes (drop n cs)) n ps here >>= λ vs. g (more (value_of v) vs)) (world_with store) f) (sym (add-one i))
+    ∙ ap (λ (h : m.Values → m.Values). performs (structure (parts_in shapes (drop (i + 1) cs)) (i + 1) ps here >>= λ vs. k (h vs)) (world_with store) f)
     (fun_ext (λ vs. sym (ahead_more (values_of found) (value_of v) vs) ∙ ap (λ xs. ahead xs vs) (sym (values_more found v))))
 
 pub so_far_fails : (types : List Derived) (cs : List Component) (ps : List Passed) (store : Store) (i : ℕ) (found : List Value) (c d : Component)
@@ -112,23 +120,30 @@ so_far_fails types cs ps store i found c d error h e before took = λ here f.
     let rest : Ran m.Values = structure (parts_in shapes (drop (suc i) cs)) (suc i) ps here in
     let is : Component → Ran m.Value = λ c. fitted_argument c.declared (initial_declared c.declared (initial_of (shape_in shapes c.declared.kind.of)))
     (passed_at i ps) here in
-    let g : m.Values → World → State = λ vs. f (m.Composite (ahead (values_of found) vs)) in
-    before here (λ vs. f (m.Composite vs))
-    ∙ ap (λ xs. performs (structure (parts_in shapes xs) i ps here) (world_with store) g) (drop-cons cs i d h)
-    ∙ ap (λ (x : Component). performs (is x >>= λ v. claim_for v here >>= λ done. rest >>= λ vs. gives (more v vs)) (world_with store) g) (sym e)
-    ∙ takes_none (is c) error rest here store g (took here)
+    let g : m.Values → Ran m.Value = λ vs. built (m.Composite (ahead (values_of found) vs)) here in
+    before here (λ vs. built (m.Composite vs) here) f
+    ∙ ap (λ xs. performs (structure (parts_in shapes xs) i ps here >>= g) (world_with store) f) (drop-cons cs i d h)
+    ∙ ap (λ (x : Component). performs ((is x >>= λ v. claim_for v here >>= λ done. rest >>= λ vs. gives (more v vs)) >>= g) (world_with store) f) (sym e)
+    ∙ takes_none (is c) error rest here store g f (took here)
     ∙ sym (performs_fails error here.place (world_with store) f)
+
+-- the value of a type that is built stands where its storage is granted
+type_built : (vs : m.Values) (v : Value) (here : Here) (store : Store) (f : m.Value → World → State) → value_of v ≡ m.Composite vs
+    → performs (built (m.Composite vs) here) (world_with store) f ≡ performs (value_ran (Ok v) here.place) (world_with store) f
+type_built vs v here store f is =
+    ap (λ x. performs (built x here) (world_with store) f) (sym is)
+    ∙ built_granted (value_of v) here store f
+    ∙ sym (performs_gives (value_of v) (world_with store) f)
 
 pub so_far_all : (types : List Derived) (cs : List Component) (ps : List Passed) (store : Store) (i : ℕ) (found : List Value) (v : Value) → length cs ≤ i
     → SoFar (shapes_of types) cs ps store i found → value_of v ≡ m.Composite (joined (values_of found)) → Builds (parts_in (shapes_of types) cs) ps store (Ok v)
 so_far_all types cs ps store i found v h before is = λ here f.
-    let g : m.Values → World → State = λ vs. f (m.Composite (ahead (values_of found) vs)) in
-    before here (λ vs. f (m.Composite vs))
-    ∙ ap (λ xs. performs (structure (parts_in (shapes_of types) xs) i ps here) (world_with store) g) (drop_all i cs h)
-    ∙ performs_gives none (world_with store) g
-    ∙ ap (λ vs. Goes [] (f (m.Composite vs) (world_with store))) (ahead_none (values_of found))
-    ∙ ap (λ x. Goes [] (f x (world_with store))) (sym is)
-    ∙ sym (performs_gives (value_of v) (world_with store) f)
+    let g : m.Values → Ran m.Value = λ vs. built (m.Composite (ahead (values_of found) vs)) here in
+    before here (λ vs. built (m.Composite vs) here) f
+    ∙ ap (λ xs. performs (structure (parts_in (shapes_of types) xs) i ps here >>= g) (world_with store) f) (drop_all i cs h)
+    ∙ gives_then none g (world_with store) f
+    ∙ ap (λ vs. performs (built (m.Composite vs) here) (world_with store) f) (ahead_none (values_of found))
+    ∙ type_built (joined (values_of found)) v here store f is
 
 -- ---- types
 
@@ -162,18 +177,17 @@ pub of_type : (ts : List Derived) (t : ℕ) (x d : Derived) (cs : List Component
     → cs ≡ x.components.items → Builds (parts_in (shapes_of (take t ts)) cs) ps store r → Builds
     (components_of (slice_index_or (shapes_of ts) t Whole)) ps store r
 of_type ts t x d cs ps store r h e is built = λ here f.
-    ap (λ (s : Shape). performs (structure (components_of s) 0 ps here) (world_with store) (λ vs. f (m.Composite vs))) (tree_at [] ts t t x d (omega arith) h e)
-    ∙ ap (λ xs. performs (structure (parts_in (shapes_of (take t ts)) xs) 0 ps here) (world_with store) (λ vs. f (m.Composite vs))) (sym is)
+    ap (λ (s : Shape). performs (structure (components_of s) 0 ps here >>= λ vs. built (m.Composite vs) here) (world_with store) f) (tree_at [] ts t t x d (omega arith) h e)
+    ∙ ap (λ xs. performs (structure (parts_in (shapes_of (take t ts)) xs) 0 ps here >>= λ vs. built (m.Composite vs) here) (world_with store) f) (sym is)
     ∙ built here f
 
 pub of_none : (ts : List Derived) (t : ℕ) (v : Value) (ps : List Passed) (store : Store) → length ts ≤ t → value_of v ≡ m.Composite none
     → Builds (components_of (slice_index_or (shapes_of ts) t Whole)) ps store (Ok v)
 of_none ts t v ps store h is = λ here f.
-    ap (λ (s : Shape). performs (structure (components_of s) 0 ps here) (world_with store) (λ vs. f (m.Composite vs)))
+    ap (λ (s : Shape). performs (structure (components_of s) 0 ps here >>= λ vs. built (m.Composite vs) here) (world_with store) f)
     (get_or_past (shapes_of ts) t Whole (omega (arith, lengths [] ts)))
-    ∙ performs_gives none (world_with store) (λ vs. f (m.Composite vs))
-    ∙ ap (λ x. Goes [] (f x (world_with store))) (sym is)
-    ∙ sym (performs_gives (value_of v) (world_with store) f)
+    ∙ gives_then none (λ vs. built (m.Composite vs) here) (world_with store) f
+    ∙ type_built none v here store f is
 
 -- an object is read from the store
 pub takes_lent : {X : Type 0} (types : List Derived) (d : Declared) (ps : List Passed) (k : ℕ) (store : Store) (r : Result (Result Value RunError) X)

@@ -52,6 +52,10 @@ unfolding ◌>>=◌ gives asks fails
 claimed v here store f true e = refl
 claimed v here store f false e = refl
 
+pub built_granted : (v : m.Value) (here : Here) (store : Store) (f : m.Value → World → s.State)
+    → performs (built v here) (granted_world store) f ≡ Goes [] (f v (granted_world store))
+built_granted v here store f = claimed v here store f (needs_storage v) refl
+
 pub performs_built : (v : m.Value) (here : Here) (store : Store) (f : m.Value → World → s.State)
     → performs (gives v >>= λ x. built x here) (granted_world store) f ≡ Goes [] (f v (granted_world store))
 unfolding ◌>>=◌ gives

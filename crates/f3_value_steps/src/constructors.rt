@@ -8,7 +8,7 @@ ghost use Rattle.f3_cells.specs.Cells.{passed_of};
 ghost use Rattle.f3_cells.specs.Follows.{Does};
 ghost use Rattle.f3_value_steps.specs.Ends.{vector_of};
 
-use crate::results::finish_built;
+use crate::finish::finish_built;
 use f3_cells::cell::Passed;
 use f3_cells::many::pop_arguments;
 use f3_cells::state::{State, Stop};

@@ -7,7 +7,6 @@ ghost use Rattle.f3_code.specs.declared.instruction.Instruction.TheVariants as i
 ghost use Rattle.f3_data.specs.Values.{value_of};
 ghost use Rattle.f3_shaping.specs.Results.{value_ran};
 ghost use Rattle.f3_cells.specs.Follows.{Does};
-ghost use Rattle.f3_value_steps.specs.Ends.{FinishesBuilt};
 
 use crate::finish::finish;
 use f3_cells::stacks::pop_datum;
@@ -29,15 +28,7 @@ fn result_of(value: Value) -> Result<Value, RunError>
     }
 }
 
-/// What was built goes on top, where the heap grants its storage, or its error ends the run.
-pub(crate) fn finish_built(state: &mut State, given: Result<Value, RunError>) -> Result<(), Stop>
-    requires { state.old.pc < 2 ^ 63 }
-    ensures { FinishesBuilt given result state.old state.new }
-{
-    finish(state, given)
-}
-
-/// The value of a function's result (ISO/IEC 1539-1:2004, 12.5.2.1), which leaves its activation.
+/// The value of a function reference, by what the function returned (ISO/IEC 1539-1:2004, 12.5.2.1).
 ///
 /// `NotAllocated` where it is unallocated (own rule).
 #[inline(never)]
@@ -48,5 +39,5 @@ pub fn result(state: &mut State) -> Result<(), Stop>
     let Some(value) = pop_datum(&mut state.stack) else {
         return Err(Stop::Stuck);
     };
-    finish_built(state, result_of(value))
+    finish(state, result_of(value))
 }

@@ -5,9 +5,10 @@ use Rattle.f3_program.specs.declared.declarations.Derived.{Derived}
 use Rattle.f3_meaning_whole.specs.Value as m
 use Rattle.f3_meaning_whole.specs.Store.{Store}
 use Rattle.f3_meaning_whole.specs.declared.run_error.RunError.{RunError}
-use Rattle.f3_meaning_whole.specs.Ran.{World}
+use Rattle.f3_meaning_whole.specs.Ran.{World, ◌>>=◌}
 use Rattle.f3_meaning_whole.specs.Shape.{Parts, shape_in, shapes_of, initial_of, initial_declared}
 use Rattle.f3_meaning_whole.specs.Act.{Here, Passed, Given, Lent, passed_at, fitted_argument, structure}
+use Rattle.f3_meaning_whole.specs.Eval.{built}
 use Rattle.f3_code.specs.State.{State}
 use Rattle.f3_code.specs.Machine.{performs}
 use Rattle.f3_data.specs.declared.value.Value.{Value}
@@ -32,4 +33,4 @@ Takes types d ps k store r = (here : Here)
 -- a structure constructor with these components makes this of the arguments
 abbrev pub Builds : Parts → List Passed → Store → Result Value RunError → Type 0
 Builds parts ps store r = (here : Here) (f : m.Value → World → State)
-    → performs (structure parts 0 ps here) (world_with store) (λ vs. f (m.Composite vs)) ≡ performs (value_ran r here.place) (world_with store) f
+    → performs (structure parts 0 ps here >>= λ vs. built (m.Composite vs) here) (world_with store) f ≡ performs (value_ran r here.place) (world_with store) f
