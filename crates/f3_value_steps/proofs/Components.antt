@@ -94,6 +94,9 @@ SoFar shapes cs ps store i found = (here : Here) (k : m.Values → Ran m.Value) 
     → performs (structure (parts_in shapes cs) 0 ps here >>= k) (world_with store) f
     ≡ performs (structure (parts_in shapes (drop i cs)) i ps here >>= λ vs. k (ahead (values_of found) vs)) (world_with store) f
 
+pub so_far_none : (shapes : List Shape) (cs : List Component) (ps : List Passed) (store : Store) (found : List Value) → found ≡ [] → SoFar shapes cs ps store 0 found
+so_far_none shapes cs ps store found e = λ here k f. rw e refl
+
 pub so_far_more : (types : List Derived) (cs : List Component) (ps : List Passed) (store : Store) (i : ℕ) (found : List Value) (c d : Component) (v : Value)
     → i < length cs → c ≡ get_or cs i d → SoFar (shapes_of types) cs ps store i found → Takes types c.declared ps i store (Ok v)
     → SoFar (shapes_of types) cs ps store (i + 1) (found ++ v ∷ [])
@@ -176,10 +179,10 @@ pub of_type : (ts : List Derived) (t : ℕ) (x d : Derived) (cs : List Component
     → t < length ts → x ≡ get_or ts t d
     → cs ≡ x.components.items → Builds (parts_in (shapes_of (take t ts)) cs) ps store r → Builds
     (components_of (slice_index_or (shapes_of ts) t Whole)) ps store r
-of_type ts t x d cs ps store r h e is built = λ here f.
+of_type ts t x d cs ps store r h e is builds = λ here f.
     ap (λ (s : Shape). performs (structure (components_of s) 0 ps here >>= λ vs. built (m.Composite vs) here) (world_with store) f) (tree_at [] ts t t x d (omega arith) h e)
     ∙ ap (λ xs. performs (structure (parts_in (shapes_of (take t ts)) xs) 0 ps here >>= λ vs. built (m.Composite vs) here) (world_with store) f) (sym is)
-    ∙ built here f
+    ∙ builds here f
 
 pub of_none : (ts : List Derived) (t : ℕ) (v : Value) (ps : List Passed) (store : Store) → length ts ≤ t → value_of v ≡ m.Composite none
     → Builds (components_of (slice_index_or (shapes_of ts) t Whole)) ps store (Ok v)
