@@ -6,7 +6,7 @@ use Rattle.f3_meaning_whole.specs.Arithmetic.{converted, divided}
 use Rattle.f3_meaning_whole.specs.Act.{fitted}
 use Rattle.f3_meaning_whole.specs.Run.{calls_of, runs, run_of}
 use Rattle.f3_meaning_whole.specs.Permitted.{IsLawful}
-use Rattle.f3_meaning_rows.specs.More.{MoreShow, allocation_by_assignment, allocation_by_assignment_2_shows, allocation_by_assignment_shows, array_constructor, array_constructor_shows, array_result, array_result_2_shows, array_result_shows, asked_for_objects, asked_for_objects_asks, asked_for_objects_shows, associate_from_one, associate_from_one_shows, bounds_before_variable, bounds_before_variable_shows, component_values, component_values_2_shows, component_values_shows, held_is_not_final, held_is_not_final_shows, held_value, held_value_2_shows, held_value_3_shows, held_value_shows, locals_at_end, locals_at_end_shows, locals_at_return, locals_at_return_shows, move_lends, move_lends_shows, out_while_lent, out_while_lent_shows, shapes_before_destroying, shapes_before_destroying_shows, stat_last, stat_last_shows, step_before_bounds, step_before_bounds_shows, subscripts_before_contents, subscripts_before_contents_shows}
+use Rattle.f3_meaning_rows.specs.More.{MoreShow, allocation_by_assignment, allocation_by_assignment_2_shows, allocation_by_assignment_shows, array_constructor, array_constructor_shows, array_result, array_result_2_shows, array_result_shows, asked_for_objects, asked_for_objects_asks, asked_for_objects_shows, associate_from_one, associate_from_one_shows, bounds_before_variable, bounds_before_variable_shows, component_values, component_values_2_shows, component_values_3_shows, component_values_shows, held_is_not_final, held_is_not_final_shows, held_value, held_value_2_shows, held_value_3_shows, held_value_shows, locals_at_end, locals_at_end_shows, locals_at_return, locals_at_return_shows, move_lends, move_lends_shows, out_while_lent, out_while_lent_shows, shapes_before_destroying, shapes_before_destroying_shows, stat_last, stat_last_shows, step_before_bounds, step_before_bounds_shows, subscripts_before_contents, subscripts_before_contents_shows}
 
 stat_last_run : (h : Global) → stat_last_shows h
 unfolding digits converted divided prints_bytes fitted run_of runs calls_of ◌>>=◌ gives fails stops beyond looks does asks
@@ -128,6 +128,10 @@ component_values_2_run : (h : Global) → component_values_2_shows h
 unfolding digits converted divided prints_bytes fitted run_of runs calls_of ◌>>=◌ gives fails stops beyond looks does asks
 component_values_2_run h = refl
 
+component_values_3_run : (h : Global) → component_values_3_shows h
+unfolding digits converted divided prints_bytes fitted run_of runs calls_of ◌>>=◌ gives fails stops beyond looks does asks
+component_values_3_run h = refl
+
 held_value_2_run : (h : Global) → held_value_2_shows h
 unfolding digits converted divided prints_bytes fitted run_of runs calls_of ◌>>=◌ gives fails stops beyond looks does asks
 held_value_2_run h = refl
@@ -152,4 +156,4 @@ unfolding digits converted divided prints_bytes fitted run_of runs calls_of ◌>
 asked_for_objects_asks_is h = refl
 
 pub more_show : MoreShow
-more_show h = (stat_last_run h, stat_last_lawful h, out_while_lent_run h, out_while_lent_lawful h, held_is_not_final_run h, held_is_not_final_lawful h, move_lends_run h, move_lends_lawful h, bounds_before_variable_run h, bounds_before_variable_lawful h, shapes_before_destroying_run h, shapes_before_destroying_lawful h, step_before_bounds_run h, step_before_bounds_lawful h, subscripts_before_contents_run h, subscripts_before_contents_lawful h, associate_from_one_run h, associate_from_one_lawful h, locals_at_return_run h, locals_at_return_lawful h, locals_at_end_run h, locals_at_end_lawful h, asked_for_objects_run h, asked_for_objects_lawful h, array_constructor_run h, array_constructor_lawful h, array_result_run h, array_result_lawful h, component_values_run h, component_values_lawful h, held_value_run h, held_value_lawful h, array_result_2_run h, component_values_2_run h, held_value_2_run h, held_value_3_run h, allocation_by_assignment_run h, allocation_by_assignment_lawful h, allocation_by_assignment_2_run h, asked_for_objects_asks_is h)
+more_show h = (stat_last_run h, stat_last_lawful h, out_while_lent_run h, out_while_lent_lawful h, held_is_not_final_run h, held_is_not_final_lawful h, move_lends_run h, move_lends_lawful h, bounds_before_variable_run h, bounds_before_variable_lawful h, shapes_before_destroying_run h, shapes_before_destroying_lawful h, step_before_bounds_run h, step_before_bounds_lawful h, subscripts_before_contents_run h, subscripts_before_contents_lawful h, associate_from_one_run h, associate_from_one_lawful h, locals_at_return_run h, locals_at_return_lawful h, locals_at_end_run h, locals_at_end_lawful h, asked_for_objects_run h, asked_for_objects_lawful h, array_constructor_run h, array_constructor_lawful h, array_result_run h, array_result_lawful h, component_values_run h, component_values_lawful h, held_value_run h, held_value_lawful h, array_result_2_run h, component_values_2_run h, component_values_3_run h, held_value_2_run h, held_value_3_run h, allocation_by_assignment_run h, allocation_by_assignment_lawful h, allocation_by_assignment_2_run h, asked_for_objects_asks_is h)

@@ -248,7 +248,7 @@ array_constructor h = program h [] tt
 abbrev pub array_constructor_shows : Global → Type 0
 array_constructor_shows h = shown (run_of (array_constructor h) 20 (refusing (2 ∷ []))) ≡ record { bytes = []; verdict = Failed 6 1 12 }
 
--- Where the heap refuses the third time, or never.
+-- Where the heap refuses the third time, or never: the first is the start, the second the call, the third the value at the END.
 --     module m; contains; function f(n); integer, intent(in) :: n; integer :: f(2); f = n; end; end
 --     program p; use m; print *, f(3); end
 abbrev pub array_result : Global → Program
@@ -263,9 +263,10 @@ array_result h = program h [] tt
     (place 2 1)
 
 abbrev pub array_result_shows : Global → Type 0
-array_result_shows h = shown (run_of (array_result h) 20 (refusing (3 ∷ []))) ≡ record { bytes = []; verdict = Failed 6 2 19 }
+array_result_shows h = shown (run_of (array_result h) 20 (refusing (3 ∷ []))) ≡ record { bytes = []; verdict = Failed 6 1 86 }
 
--- Where the heap refuses the third time, or never.
+-- Where the heap refuses the third time, the fourth, or the fifth: the first is the start, the second the ALLOCATE, the third what
+-- the component takes, the fourth the constructor.
 --     module m; type t; integer, allocatable :: v(:); end type; end
 --     program p; use m; type(t) :: a(2); integer, allocatable :: v(:); integer :: k; k = 5; allocate(v(2))
 --     a(k) = t(v); end
@@ -303,7 +304,10 @@ abbrev pub array_result_2_shows : Global → Type 0
 array_result_2_shows h = shown (run_of (array_result h) 20 granted) ≡ record { bytes = (lines (codes " 3 3" ∷ [])); verdict = Finished }
 
 abbrev pub component_values_2_shows : Global → Type 0
-component_values_2_shows h = shown (run_of (component_values h) 20 (refusing (4 ∷ []))) ≡ record { bytes = []; verdict = Failed 3 3 1 }
+component_values_2_shows h = shown (run_of (component_values h) 20 (refusing (5 ∷ []))) ≡ record { bytes = []; verdict = Failed 3 3 1 }
+
+abbrev pub component_values_3_shows : Global → Type 0
+component_values_3_shows h = shown (run_of (component_values h) 20 (refusing (4 ∷ []))) ≡ record { bytes = []; verdict = Failed 6 3 1 }
 
 abbrev pub held_value_2_shows : Global → Type 0
 held_value_2_shows h = shown (run_of (held_value h) 20 (refusing (5 ∷ []))) ≡ record { bytes = []; verdict = Finished }
@@ -368,6 +372,7 @@ MoreShow = (h : Global) →
     × IsLawful (held_value h)
     × array_result_2_shows h
     × component_values_2_shows h
+    × component_values_3_shows h
     × held_value_2_shows h
     × held_value_3_shows h
     × allocation_by_assignment_shows h
