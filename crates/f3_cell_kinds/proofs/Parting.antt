@@ -60,7 +60,7 @@ module _ (types : List Derived) where
   component_is [] vs n c are e = cc
   component_is (x ∷ cs) none n c are e = absurd are
   component_is (x ∷ cs) (more v vs) zero c are e = let same : x ≡ c = cc in subst (λ (y : m.Component). IsOf types y.declared.kind v) same are.0
-  component_is (x ∷ cs) (more v vs) (suc n) c are e = component_is cs vs n c are.1 e
+  component_is (x ∷ cs) (more v vs) (suc n) c are e = component_is cs vs n c are.2 e
 
   -- a component of a value of a derived type
   part_of : (k : Kind) (v : Value) (n : ℕ) (c : m.Component) → k.is_allocatable ≡ false → nat_eq k.rank 0 ≡ true → component_of types k.of n ≡ Some c → IsOf types k v →
