@@ -230,10 +230,10 @@ module _ (limit : ℕ) (w : Setting) (p : Program) (code : Code) (sites : ℕ �
 
   -- ---- cells
 
-  part_cell_on : (b : Bool) (k : Kind) (n : ℕ) (c : Kind) (q : Reference) (xs : List CellType) (stack : List Cell) → nat_eq k.rank 0 ≡ b → PartLeads types g k c q → Below xs stack →
+  part_cell_on : (b : Bool) (k : Kind) (n : ℕ) (c : Kind) (q : Reference) (xs : List CellType) (stack : List Cell) → nat_eq k.rank 0 ≡ b → PartLeads types g k n c q → Below xs stack →
       Below ((if b then cell.Object c else cell.Each k n c) ∷ xs) (state.Object q ∷ stack)
   part_cell_on true k n c q xs stack e h f = (h.0 e, f)
-  part_cell_on false k n c q xs stack e h f = ((h.1 e).0, f)
+  part_cell_on false k n c q xs stack e h f = let a = h.1 e in ((a.0, a.2), f)
 
   -- ---- constructs
 
@@ -451,7 +451,7 @@ module _ (limit : ℕ) (w : Setting) (p : Program) (code : Code) (sites : ℕ �
       (λ q u h e. there lead.next e (h, (had lead.before).leads))
   act_leads (i.Component n) (k, c, j, held, at_n, part, b) cl = object s.stack (had b.before) (λ q st h e d.
       performing_calm p sites g (component w n (Selected here.unit) q) s.world (component_calm types g w k n c (Selected here.unit) q s.world.store acc.store held at_n h.1 e)
-      (λ y u f e'. there b.next e' (part_kind_leads types g k c.declared.kind j y part f, d.leads)))
+      (λ y u f e'. there b.next e' (part_kind_leads types g k n c.declared.kind j y part f, d.leads)))
   act_leads (i.ComponentOf n) (k, c, held, at_n, b) cl = object s.stack (had b.before) (λ q st h e d.
       performing_calm p sites g (component w n (Selected here.unit) q) s.world (component_calm types g w k n c (Selected here.unit) q s.world.store acc.store held at_n h.1 e)
       (λ y u f e'. there b.next e' (part_cell_on (nat_eq k.rank 0) k n c.declared.kind y (cell.Object k ∷ b.rest) (state.Object q ∷ st) refl f (e, d.leads))))
@@ -474,7 +474,7 @@ module _ (limit : ℕ) (w : Setting) (p : Program) (code : Code) (sites : ℕ �
           (λ z u f e'. there b.next e' (f, d2.leads))))
       by_rank false one cs st are d part =
           let a = only_is _ _ j part in let b1 = and_is _ _ a.0 in let b2 = and_is _ _ b1.1 in
-          at_each p sites g Rest s.here.level s.here.names K o r fits.end st d (λ q st1 h e d1. object st1 d1 (λ y st2 h2 e2 d2.
+          at_each p sites g Rest s.here.level s.here.names K o r fits.end st d (λ q st1 h e parts d1. object st1 d1 (λ y st2 h2 e2 d2.
           performing_calm p sites g _ s.world (reach_many k y.reach _ _ s.world.store held h2.1 one
           (subst (λ (z : Kind). Calm (typing.Leads types g z) s.world.store (picks_in_each (spans_of_component (component_of w.program.types.items y.of m)) q cs here)) a.1
           (each_calm types g c.declared.kind k.rank _ q cs here s.world.store (not_is _ b2.0) one h.1 e)))
