@@ -75,7 +75,7 @@ module _ (types : List Derived) where
   scalars_same k (Array ss vs) (Array ts ws) one h = absurd (no_rank k.rank one h.1)
   scalars_same k v w one h = tt
 
-  composite_no : (k : Kind) (y : Derived) (x : Value) → is_scalar k ≡ true → derived_of types k.of ≡ Some y → IsOf types k x → (vs : Values) × (x ≡ Composite vs)
+  pub composite_no : (k : Kind) (y : Derived) (x : Value) → is_scalar k ≡ true → derived_of types k.of ≡ Some y → IsOf types k x → (vs : Values) × (x ≡ Composite vs)
   composite_no k y (Composite vs) one e h = (vs, refl)
   composite_no k y (Number z) one e h = absurd (no_derived types k.of y (and_is _ _ h.0).1 e)
   composite_no k y (Truth b) one e h = absurd (no_logical types k.of y (and_is _ _ h).1 e)
@@ -83,7 +83,7 @@ module _ (types : List Derived) where
   composite_no k y Unallocated one e h = absurd (no_both k.is_allocatable h (scalar_held k one))
   composite_no k y (Allocated v) one e h = absurd (no_both k.is_allocatable h.0 (scalar_held k one))
 
-  array_no : (k : Kind) (x : Value) → k.is_allocatable ≡ false → nat_lt 0 k.rank ≡ true → IsOf types k x → (ss : List Span) × (vs : Values) × (x ≡ Array ss vs)
+  pub array_no : (k : Kind) (x : Value) → k.is_allocatable ≡ false → nat_lt 0 k.rank ≡ true → IsOf types k x → (ss : List Span) × (vs : Values) × (x ≡ Array ss vs)
   array_no k (Array ss vs) held some h = (ss, vs, refl)
   array_no k (Number z) held some h = absurd (no_rank k.rank (scalar_rank k (and_is _ _ h.0).0) some)
   array_no k (Truth b) held some h = absurd (no_rank k.rank (scalar_rank k (and_is _ _ h).0) some)

@@ -1,3 +1,4 @@
 pub mod Forms
 pub mod Roots
 pub mod Everywhere
+pub mod Finding
