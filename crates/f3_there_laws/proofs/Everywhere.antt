@@ -34,6 +34,14 @@ abbrev pub SelectorIs : (Path → Type 0) → Association → Type 0
 SelectorIs Q (Holds of v) = IsSet v
 SelectorIs Q (Means r) = AllAre Q (paths r)
 
+abbrev pub AllPasseds : (Path → Type 0) → List Passed → Type 0
+AllPasseds Q [] = Unit {0}
+AllPasseds Q (x ∷ xs) = PassedIs Q x × AllPasseds Q xs
+
+abbrev pub AllSelectors : (Path → Type 0) → List Association → Type 0
+AllSelectors Q [] = Unit {0}
+AllSelectors Q (x ∷ xs) = SelectorIs Q x × AllSelectors Q xs
+
 abbrev pub CellIs : (Path → Type 0) → Cell → Type 0
 CellIs Q (state.Datum v) = IsSet v
 CellIs Q (state.Object r) = AllAre Q (paths r)

@@ -43,7 +43,7 @@ use Rattle.f3_store_kinds.proofs.Objects.{get_map, one_rank, IsMany}
 use Rattle.f3_store_kinds.proofs.Stores.{root_is, read_is}
 use Rattle.f3_there_laws.proofs.Forms.{IsSet, AreFlat, set_there, set_of_kind, held_of_set, composite_no, array_no}
 use Rattle.f3_there_laws.proofs.Roots.{RootsSet, root_is_set}
-use Rattle.f3_there_laws.proofs.Everywhere.{AllAre, AllRefs, PassedIs, SelectorIs}
+use Rattle.f3_there_laws.proofs.Everywhere.{AllAre, AllRefs, AllPasseds, AllSelectors}
 
 -- ---- what stands at a path
 
@@ -282,14 +282,6 @@ module _ (types : List Derived) (flat : AreFlat types) where
         (λ ns inside. gives_calm _ (in_each_there bs cs ns r.path r.reach rank one some are inside parts there)))
 
   -- ---- dummies and associate names
-
-  abbrev pub AllPasseds : (Path → Type 0) → List Passed → Type 0
-  AllPasseds Q [] = Unit {0}
-  AllPasseds Q (x ∷ xs) = PassedIs Q x × AllPasseds Q xs
-
-  abbrev pub AllSelectors : (Path → Type 0) → List Association → Type 0
-  AllSelectors Q [] = Unit {0}
-  AllSelectors Q (x ∷ xs) = SelectorIs Q x × AllSelectors Q xs
 
   by_number : {X : Type 0} (b : Bool) (x y : X) (P : X → Type 0) → (b ≡ true → P x) → (b ≡ false → P y) → P (if b then x else y)
   by_number true x y P h k = h refl

@@ -2,3 +2,4 @@ pub mod Forms
 pub mod Roots
 pub mod Everywhere
 pub mod Finding
+pub mod Holding
