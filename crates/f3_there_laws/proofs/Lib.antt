@@ -3,3 +3,4 @@ pub mod Roots
 pub mod Everywhere
 pub mod Finding
 pub mod Holding
+pub mod Stepping
