@@ -1,5 +1,5 @@
 -- All objects to which anything in a state refers are there.
-use Rattle.std.proofs.Common.{◌≡◌, ℕ, List, [], ◌∷◌, ◌++◌, refl}
+use Rattle.std.proofs.Common.{ℕ, List, [], ◌∷◌, ◌++◌}
 use Rattle.f3_meaning_whole.specs.Store.{Path}
 use Rattle.f3_meaning_whole.specs.Reference.{Reference, paths}
 use Rattle.f3_meaning_whole.specs.Act.{Passed, Given, Lent}

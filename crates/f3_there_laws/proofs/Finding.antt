@@ -1,8 +1,7 @@
 -- Objects to which statements come are there.
-use Rattle.std.proofs.Common.{◌≡◌, ◌∙◌, sym, ap, ℕ, zero, suc, ◌+◌, ◌<◌, ℤ, Bool, true, false, ◌&&◌, ◌||◌, List, [], ◌∷◌, ◌++◌, map, length, Option, Some, None, refl, subst, arith, if◌then◌else◌, length-append, inl, inr}
+use Rattle.std.proofs.Common.{◌≡◌, ◌∙◌, sym, ap, ℕ, zero, suc, ◌+◌, ◌<◌, ℤ, Bool, true, false, List, [], ◌∷◌, ◌++◌, map, length, Option, Some, None, refl, subst, arith, if◌then◌else◌, length-append, inl, inr}
 use Rattle.std.specs.Prelude.{nat_eq, nat_lt, slice_get, slice_index_or}
-use Rattle.std.proofs.lemmas.Bool.{eqb-true, ltb-true}
-use Rattle.f3_places.specs.declared.source.Place.{Place}
+use Rattle.std.proofs.lemmas.Bool.{eqb-true}
 use Rattle.f3_program.specs.declared.declarations.Base.{Base}
 use Rattle.f3_program.specs.declared.declarations.Component as m
 use Rattle.f3_program.specs.declared.declarations.Declared.{Declared}
@@ -18,7 +17,6 @@ use Rattle.f3_meaning_whole.specs.Value.{Span, Value, Number, Truth, Composite, 
 use Rattle.f3_meaning_whole.specs.Store as stores
 use Rattle.f3_meaning_whole.specs.Store.{Store, Root, Local, Step, Component, Element, Contents, Path, within, get, part, part_at, at_root}
 use Rattle.f3_meaning_whole.specs.Reference.{Reach, One, Many, Reference, Maker, elements_from, reach_of, paths_by, paths, held_at}
-use Rattle.f3_meaning_whole.specs.Ran.{Ran, ◌>>=◌}
 use Rattle.f3_meaning_whole.specs.Shape.{spans_declared}
 use Rattle.f3_meaning_whole.specs.Act.{Setting, Here, Passed, Given, Lent, Chosen, named, whole, component, component_of, component_reach, component_path, added, elements_at, first_of, picked, picks, picks_in_each, in_each, places, places_in, spans_in, some_zero_step, all_inside}
 use Rattle.f3_meaning_whole.specs.Exec.{held, argument_at, based_reach, dummies, shown_reach, Association, Holds, Means, held_by, associates}
@@ -27,19 +25,18 @@ use Rattle.f3_meaning_whole.specs.Formed as formed
 use Rattle.f3_code.specs.Machine.{selects}
 use Rattle.f3_code.specs.Exec.{result_at}
 use Rattle.f3_cell_kinds.specs.Holds.{Reaches, AllRefer, HasBounds, IsOf, AreComponents, AreElements}
-use Rattle.f3_cell_kinds.specs.Stands.{VariablesStand}
 use Rattle.f3_cell_kinds.specs.Types.{Scope}
 use Rattle.f3_cell_kinds.specs.Effect.{result_in}
 use Rattle.f3_cell_kinds.proofs.Asked.{some_same, found_is, only_is, and_is}
 use Rattle.f3_cell_kinds.proofs.Calm.{Calm, gives_calm, fails_calm, looks_calm, bind_calm, if_calm}
-use Rattle.f3_cell_kinds.proofs.Parting.{missing, part_append, component_found, part_of}
+use Rattle.f3_cell_kinds.proofs.Parting.{part_append, component_found, part_of}
 use Rattle.f3_cell_kinds.proofs.Picking.{AllBelow, AllChosen, places_below, places_count}
 use Rattle.f3_cell_kinds.proofs.Reaching.{AllPassed, AllSelected}
-use Rattle.f3_cell_kinds.proofs.Scalars.{no_rank, no_both}
+use Rattle.f3_cell_kinds.proofs.Scalars.{no_both}
 use Rattle.f3_store_kinds.specs.There.{PathThere}
 use Rattle.f3_store_kinds.specs.Typing.{Typing, kind_at, IsTyped, IsOrNone, AreParts, PartsBy}
 use Rattle.f3_store_kinds.specs.Accords.{IsNamed}
-use Rattle.f3_store_kinds.proofs.Objects.{get_map, one_rank, IsMany}
+use Rattle.f3_store_kinds.proofs.Objects.{get_map, one_rank}
 use Rattle.f3_store_kinds.proofs.Stores.{root_is, read_is}
 use Rattle.f3_there_laws.proofs.Forms.{IsSet, AreFlat, set_there, set_of_kind, held_of_set, composite_no, array_no}
 use Rattle.f3_there_laws.proofs.Roots.{RootsSet, root_is_set}

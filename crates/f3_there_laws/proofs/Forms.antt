@@ -1,5 +1,5 @@
 -- Values of one kind have the same parts where nothing is allocatable.
-use Rattle.std.proofs.Common.{◌≡◌, ◌∙◌, sym, ap, ℕ, zero, suc, ◌<◌, Bool, true, false, ◌||◌, List, [], ◌∷◌, length, Option, Some, None, refl, subst, arith}
+use Rattle.std.proofs.Common.{◌≡◌, ◌∙◌, sym, ap, ℕ, zero, suc, true, false, List, [], ◌∷◌, length, Option, Some, refl, subst, arith}
 use Rattle.std.specs.Prelude.{nat_eq, nat_lt, slice_get}
 use Rattle.f3_program.specs.declared.declarations.Base.{Base}
 use Rattle.f3_program.specs.declared.declarations.Base.TheVariants as base
@@ -14,7 +14,7 @@ use Rattle.f3_meaning_whole.specs.Permitted.{same_type}
 use Rattle.f3_meaning_whole.specs.Formed.{of_kind, is_scalar}
 use Rattle.f3_cell_kinds.specs.Holds.{HasBounds, IsOf, AreComponents, AreElements}
 use Rattle.f3_cell_kinds.proofs.Asked.{some_same, and_is, not_is}
-use Rattle.f3_cell_kinds.proofs.Scalars.{no_derived, no_rank, no_both, rank_is}
+use Rattle.f3_cell_kinds.proofs.Scalars.{no_derived, no_rank, no_both}
 use Rattle.f3_store_kinds.specs.Typing.{kind_by}
 use Rattle.f3_store_kinds.proofs.Ways.{components_as, component_way, element_way, contents_way}
 

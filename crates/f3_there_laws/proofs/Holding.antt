@@ -11,7 +11,7 @@ use Rattle.f3_meaning_whole.specs.declared.run_error.RunError.{RunError}
 use Rattle.f3_meaning_whole.specs.Ran.{Event, World, End, Gives, Fails, Stops, Beyond, Ran}
 use Rattle.f3_meaning_whole.specs.Act.{Here, Passed, Chosen}
 use Rattle.f3_meaning_whole.specs.Exec.{Flow, Association}
-use Rattle.f3_meaning_whole.specs.Formed.{Given, of_kind}
+use Rattle.f3_meaning_whole.specs.Formed.{Given}
 use Rattle.f3_code.specs.State as state
 use Rattle.f3_code.specs.State.{Cell, State, Next, Goes, Stays}
 use Rattle.f3_code.specs.Machine.{ends_so, performs, on_datum, on_object, on_bound, on_bounds, on_status, on_turns, on_elements, on_objects, on_level, on_outside, on_going, on_any, on_many, extent_of, argument_of, choice_of, selector_of}
@@ -25,7 +25,7 @@ use Rattle.f3_cell_kinds.proofs.Given.{arguments_over}
 use Rattle.f3_cell_kinds.proofs.OfActions.{selectors_over}
 use Rattle.f3_cell_kinds.proofs.Picking.{AllChosen}
 use Rattle.f3_cell_kinds.proofs.Reaching.{AllPassed, AllSelected}
-use Rattle.f3_store_kinds.specs.Typing.{Typing, EachLeads, PartsBy, Leads}
+use Rattle.f3_store_kinds.specs.Typing.{Typing, PartsBy, Leads}
 use Rattle.f3_store_kinds.specs.Accords.{CellsLead, FramesLead}
 use Rattle.f3_store_kinds.specs.Clean.{IsPlain}
 use Rattle.f3_store_kinds.specs.There.{PathThere}

@@ -4,3 +4,4 @@ pub mod Everywhere
 pub mod Finding
 pub mod Holding
 pub mod Stepping
+pub mod Running

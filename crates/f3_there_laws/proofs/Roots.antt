@@ -1,15 +1,15 @@
 -- Stores without allocatables: what is there stays there.
-use Rattle.std.proofs.Common.{◌≡◌, ◌∙◌, sym, ap, ℕ, zero, suc, ◌+◌, ◌<◌, Bool, true, false, ◌||◌, List, [], ◌∷◌, ◌++◌, map, length, take, Option, Some, None, refl, subst, arith}
+use Rattle.std.proofs.Common.{◌≡◌, ℕ, zero, suc, ◌<◌, Bool, true, false, ◌||◌, List, [], ◌∷◌, ◌++◌, length, take, Some, refl, subst, arith}
 use Rattle.std.specs.Prelude.{nat_eq, slice_get, slice_set, slice_index_or}
 use Rattle.f3_program.specs.declared.declarations.Derived.{Derived}
 use Rattle.f3_program.specs.declared.declarations.Kind.{Kind}
 use Rattle.f3_meaning_whole.specs.Value.{Value, Composite, Array, Unallocated, Allocated}
-use Rattle.f3_meaning_whole.specs.Store.{Store, Root, Static, Local, Path, Step, Component, Element, Contents, part, with_part, at_root, with_root, get, put, put_all}
+use Rattle.f3_meaning_whole.specs.Store.{Store, Root, Static, Local, Path, Step, Component, Element, Contents, part, with_part, at_root, with_root, put, put_all}
 use Rattle.f3_cell_kinds.specs.Holds.{IsOf}
 use Rattle.f3_cell_kinds.proofs.Asked.{found_is}
 use Rattle.f3_cell_kinds.proofs.Parting.{missing}
 use Rattle.f3_store_kinds.specs.There.{PathThere}
-use Rattle.f3_store_kinds.specs.Typing.{Typing, kind_at, kind_by, AreOf, AreLevels, AllOf, IsTyped, IsBefore, LeadsTo, AllLeadTo}
+use Rattle.f3_store_kinds.specs.Typing.{Typing, kind_at, AreOf, AreLevels, AllOf, IsTyped, IsBefore, LeadsTo, AllLeadTo}
 use Rattle.f3_store_kinds.proofs.Stores.{root_is, put_is, root_of_path}
 use Rattle.f3_there_laws.proofs.Forms.{IsSet, IsThere, AreFlat, set_of_kind, held_of_set, with_there, part_held}
 

@@ -1,8 +1,7 @@
 -- Each step of a program without allocatables leaves everything there.
-use Rattle.std.proofs.Common.{◌≡◌, ◌∙◌, sym, ap, ℕ, zero, suc, ◌+◌, ℤ, pos, Bool, true, false, ◌||◌, List, [], ◌∷◌, ◌++◌, map, length, take, drop, Option, Some, None, refl, subst, arith, if◌then◌else◌}
+use Rattle.std.proofs.Common.{◌≡◌, ◌∙◌, sym, ap, ℕ, zero, suc, ◌+◌, ℤ, pos, Bool, true, false, ◌||◌, List, [], ◌∷◌, ◌++◌, map, length, take, drop, Option, Some, None, refl, subst, if◌then◌else◌}
 use Rattle.std.specs.Prelude.{◌+ℤ◌, nat_eq, nat_lt, slice_get, slice_index_or}
 use Rattle.std.proofs.lemmas.Bool.{eqb-true}
-use Rattle.f3_places.specs.declared.source.Place.{Place}
 use Rattle.f3_program.specs.declared.declarations.Base.{Base}
 use Rattle.f3_program.specs.declared.declarations.Base.TheVariants as base
 use Rattle.f3_program.specs.declared.declarations.Component as m
@@ -12,24 +11,23 @@ use Rattle.f3_program.specs.declared.declarations.Derived.{Derived}
 use Rattle.f3_program.specs.declared.declarations.Kind.{Kind}
 use Rattle.f3_program.specs.declared.program.Procedure.{Procedure}
 use Rattle.f3_program.specs.declared.program.Program.{Program}
-use Rattle.f3_meaning_whole.specs.Value.{Span, Value, Number, Truth, Composite, Array, Unallocated, Allocated, joined, number_of, truth_of, is_allocated, count, plain, conforms, spans_of, spread, cleared}
+use Rattle.f3_meaning_whole.specs.Value.{Value, Number, Truth, Composite, Array, joined, number_of, truth_of, is_allocated, count, plain, conforms, spans_of, spread, cleared}
 use Rattle.f3_meaning_whole.specs.Store.{Store, Path, get}
 use Rattle.f3_meaning_whole.specs.Reference.{Selected, Language, Reach, One, Many, Reference, spans, held_at, paths, paths_by}
 use Rattle.f3_meaning_whole.specs.declared.run_error.RunError.{RunError}
 use Rattle.f3_meaning_whole.specs.declared.run_error.RunError.TheVariants.{NotAllocated, ShapesDiffer}
 use Rattle.f3_meaning_whole.specs.Ran.{Event, Ran, World, ◌>>=◌, gives, looks, prints_bytes}
 use Rattle.f3_meaning_whole.specs.Arithmetic.{apply, change_of, constant_value, converted}
-use Rattle.f3_meaning_whole.specs.Shape.{Whole, shape_in, shapes_of, spans_declared}
+use Rattle.f3_meaning_whole.specs.Shape.{Whole, shape_in}
 use Rattle.f3_meaning_whole.specs.Act.{Setting, Here, Passed, Given, Lent, Chosen, given, begins, enter, claim, claim_for, set, clear, leave, passed_at, structure, components_of, named, component, component_of, read, moved, picks_in_each}
 use Rattle.f3_meaning_whole.specs.Act as meaning
 use Rattle.f3_meaning_whole.specs.Eval.{result, built, asked, by_reach, spans_of_component}
-use Rattle.f3_meaning_whole.specs.Exec.{Flow, Onward, Cycled, Left, Returned, unless_zero, print_value, status_number, held, dummies, Association, Holds, Means, held_by, associates, declared_in}
+use Rattle.f3_meaning_whole.specs.Exec.{Flow, Onward, Cycled, Left, Returned, unless_zero, print_value, status_number, held, dummies, Association, Holds, Means, held_by, associates}
 use Rattle.f3_meaning_whole.specs.Formed.{takes, is_number, of_kind, sectioned, element_of_each, IsWellFormed}
 use Rattle.f3_meaning_whole.specs.Run.{setting_of}
 use Rattle.f3_code.specs.Exec.{is_held, result_at}
 use Rattle.f3_code.specs.declared.instruction.Instruction.{Instruction}
 use Rattle.f3_code.specs.declared.instruction.Instruction.TheVariants as i
-use Rattle.f3_code.specs.declared.instruction.Way.{Way}
 use Rattle.f3_code.specs.State as state
 use Rattle.f3_code.specs.State.{Line, placed, Entry, Code, Cell, To, Frame, State, Next}
 use Rattle.f3_code.specs.Machine.{act, checked, tested, performs, on_datum, on_object, on_to, passed_in, departs, branches, next_turn_at, next_element, next_object, next_argument, skips_failed, selects, begun, called_at, returned, outward, routine_at}
@@ -53,14 +51,14 @@ use Rattle.f3_cell_kinds.proofs.Calm.{Calm, gives_calm, looks_calm, bind_calm, c
 use Rattle.f3_cell_kinds.proofs.Standing.{in_is, EntryAt, entry_at}
 use Rattle.f3_store_kinds.specs.Typing.{Typing, each_kind, AreOf, AllOf, IsTyped, PartsBy}
 use Rattle.f3_store_kinds.specs.Typing as typing
-use Rattle.f3_store_kinds.specs.Accords.{declared_kinds, IsNamed, CellsLead, FramesLead, Accords}
+use Rattle.f3_store_kinds.specs.Accords.{IsNamed, CellsLead, FramesLead, Accords}
 use Rattle.f3_store_kinds.specs.Clean.{ArePlain, IsClean}
 use Rattle.f3_store_kinds.specs.There.{PathThere}
 use Rattle.f3_store_kinds.proofs.After.{After, bind_after, calm_then, gives_after, does_after}
 use Rattle.f3_store_kinds.proofs.Holding.{named_there}
 use Rattle.f3_store_kinds.proofs.Objects.{one_rank}
 use Rattle.f3_store_kinds.proofs.Reading.{paths_lead}
-use Rattle.f3_store_kinds.proofs.Still.{Still, looks_still, then_still, claim_still, converted_still, apply_still, change_still, claim_for_still, read_still, result_still, asked_still, structure_still, unless_still, checked_still, tested_still, begins_still, prints_still, print_still}
+use Rattle.f3_store_kinds.proofs.Still.{Still, looks_still, claim_still, converted_still, apply_still, change_still, claim_for_still, read_still, result_still, asked_still, structure_still, unless_still, checked_still, tested_still, begins_still, prints_still, print_still}
 use Rattle.f3_store_kinds.proofs.Taking.{taken_all, set_all, number_calm, status_is, converted_calm, cleared_is}
 use Rattle.f3_there_laws.specs.Plain.{has_subscripts}
 use Rattle.f3_there_laws.proofs.Forms.{IsSet, AreFlat, set_of_kind}
@@ -296,8 +294,7 @@ module _ (limit : ℕ) (w : Setting) (p : Program) (code : Code) (sites : ℕ �
           let one = more_level store (held ps) in
           let two = more_level one x.entry.initial in
           let kept : IsKept store two = λ q h. begun_there one (x.entry.initial ∷ []) q (begun_there store (held ps ∷ []) q h) in
-          let beneath : (q : Path) → Q q → Beneath (length store.levels) (PathThere two) q = λ q h. (there_before store q h, kept q h) in
-          (
+          let beneath : (q : Path) → Q q → Beneath (length store.levels) (PathThere two) q = λ q h. (there_before store q h, kept q h) in (
             more_set one x.entry.initial (more_set store (held ps) whole.roots (held_set Q ps lent)) (starts f q x.entry at_f x.at),
             subst (λ ds. AllRefs (PathThere two) (dummies 0 ds ps (length store.levels) here.unit)) (sym x.dummies)
                 (called_there types flat two (length store.levels) p f gs ps q k here.unit at_f is (index_first store.levels (held ps) x.entry.initial []) passed
@@ -339,8 +336,7 @@ module _ (limit : ℕ) (w : Setting) (p : Program) (code : Code) (sites : ℕ �
       inner ks xs st chosen lent c =
           let one = more_level store (held_by xs) in
           let kept : IsKept store one = begun_there store (held_by xs ∷ []) in
-          let beneath : (q : Path) → Q q → Beneath (length store.levels) (PathThere one) q = λ q h. (there_before store q h, kept q h) in
-          (
+          let beneath : (q : Path) → Q q → Beneath (length store.levels) (PathThere one) q = λ q h. (there_before store q h, kept q h) in (
             more_set store (held_by xs) whole.roots (chosen_set Q xs lent),
             refs_map Q (PathThere one) kept s.here.names names,
             associates_there types flat one (length store.levels) ks xs [] 0 here.unit refl (index_last store.levels (held_by xs) []) chosen (selectors_map Q (PathThere one) kept xs lent),
@@ -377,8 +373,11 @@ module _ (limit : ℕ) (w : Setting) (p : Program) (code : Code) (sites : ℕ �
     where
       by_frames : (frames : List Frame) → s.frames ≡ frames → Kept (outward frames s)
       by_frames [] e = stays_so p sites g
-      by_frames (f ∷ fs) e = goes_so p sites g (found whole.roots (names, renamed (FramesAre s.frames) (frames_map s.frames) f.caller.names
-          (λ R h. refs_map (Beneath f.level R) R (λ q k. k.1) f.caller.names (subst (λ frames. FramesAre frames R) e h).0) Q s.here.names s.stack whole.stack))
+      by_frames (f ∷ fs) e = goes_so p sites g (found whole.roots (
+        names,
+        renamed (FramesAre s.frames) (frames_map s.frames) f.caller.names
+            (λ R h. refs_map (Beneath f.level R) R (λ q k. k.1) f.caller.names (subst (λ frames. FramesAre frames R) e h).0) Q s.here.names s.stack whole.stack,
+      ))
 
   routine_whole : (t : ℕ) → kinds.Goes p sites s.pc l (i.Routine t) → Kept (act limit w code (i.Routine t) l.value here s)
   routine_whole t b = object s.stack (had b.before) (λ q st h e is lent c. by_routines code.routines q st lent c.whole)
