@@ -17,13 +17,14 @@ use Rattle.f3_meaning_whole.specs.Act.{Here, Passed, Given, Lent, passed_at, lai
 use Rattle.f3_meaning_whole.specs.Formed.{all, some, alike, of_kind, takes, component_takes, fits_component, at_most_once, is_before, is_declared}
 use Rattle.f3_meaning_whole.specs.Formed as formed
 use Rattle.f3_cell_kinds.specs.Effect.{held_kind, is_whole_for}
-use Rattle.f3_cell_kinds.specs.Holds.{Reaches, IsOf, AreComponents, AreElements}
+use Rattle.f3_cell_kinds.specs.Holds.{Reaches, HasBounds, IsOf, AreComponents, AreElements}
 use Rattle.f3_cell_kinds.specs.Stands.{PassedStands}
 use Rattle.f3_cell_kinds.proofs.Asked.{and_is, or_is, not_is, kind_same}
 use Rattle.f3_cell_kinds.proofs.Scalars.{no_rank, no_both, rank_is, alike_is}
 use Rattle.f3_cell_kinds.proofs.Calm.{Calm, gives_calm, fails_calm, looks_calm, bind_calm, if_calm, claim_for_calm}
 use Rattle.f3_cell_kinds.proofs.Reaching.{AllPassed, shown_length, shown_count}
-use Rattle.f3_cell_kinds.proofs.Initials.{spans_count, PartsFit}
+use Rattle.f3_cell_kinds.proofs.Initials.{spans_count, initial_bounds, PartsFit}
+use Rattle.f3_cell_kinds.proofs.Changing.{one_bounds}
 
 joined_listed : (vs : Values) → joined (listed vs) ≡ vs
 joined_listed none = refl
@@ -87,22 +88,38 @@ module _ (types : List Derived) where
       let some : nat_lt 0 k.rank ≡ true = ap (λ n. nat_lt 0 n) e ∙ lt-ltb 0 (suc rank) (omega arith) in
       (held, some, many, f.0, f.1)
 
+  laid_bounds : (d : Declared) (rank : ℕ) (v : Value) → d.kind.rank ≡ rank → IsOf types d.kind (laid_out rank (spans_declared d.dimensions.items) v) →
+      HasBounds d (laid_out rank (spans_declared d.dimensions.items) v)
+  laid_bounds d zero v e h = one_bounds types d d.kind v (ap (λ n. d.kind.is_allocatable || nat_eq n 0) e ∙ or_true d.kind.is_allocatable) h
+    where
+      or_true : (b : Bool) → (b || true) ≡ true
+      or_true true = refl
+      or_true false = refl
+  laid_bounds d (suc rank) v e h = refl
+
+  -- what a component holds
+  abbrev pub IsPart : Declared → Value → Type 0
+  IsPart d v = IsOf types d.kind v × HasBounds d v
+
   -- a value that a component takes
   fitted_calm : {store : Store} (n : ℕ) (d : Declared) (k : Kind) (v : Value) (here : Here) → is_declared n d ≡ true → alike d.kind.of k.of ≡ true → k.is_allocatable ≡ false →
       (d.kind.is_allocatable ≡ true → d.kind.rank ≡ k.rank) → (d.kind.is_allocatable ≡ false → (nat_eq k.rank 0 || nat_eq k.rank d.kind.rank) ≡ true) → IsOf types k v →
-      Calm (IsOf types d.kind) store (fitted d v here)
+      Calm (IsPart d) store (fitted d v here)
   unfolding fitted
   fitted_calm {store = store} n d k v here declared same held whole part h =
       let is = alike_is types d.kind.of k v same held h in
       if_calm d.kind.is_allocatable
       (λ e. bind_calm (converted_calm d.kind.of v here.place) (λ x f. gives_calm _ (
-        e,
-        subst (λ y. IsOf types (held_kind d.kind) y) (sym f) (subst (λ m. IsOf types (of_kind d.kind.of m) v) (sym (whole e)) is),
+        (
+          e,
+          subst (λ y. IsOf types (held_kind d.kind) y) (sym f) (subst (λ m. IsOf types (of_kind d.kind.of m) v) (sym (whole e)) is),
+        ),
+        tt,
       )))
       (λ e. if_calm (conforms (spans_declared d.dimensions.items) v)
       (λ c. bind_calm (converted_calm d.kind.of v here.place) (λ x f. gives_calm _
-      (subst (λ y. IsOf types d.kind (laid_out d.kind.rank (spans_declared d.dimensions.items) y)) (sym f)
-      (laid_is d.kind d.kind.rank k.rank (spans_declared d.dimensions.items) v refl e (many e) (part e) c is))))
+      (subst (λ y. IsPart d (laid_out d.kind.rank (spans_declared d.dimensions.items) y)) (sym f)
+      (let a = laid_is d.kind d.kind.rank k.rank (spans_declared d.dimensions.items) v refl e (many e) (part e) c is in (a, laid_bounds d d.kind.rank v refl a)))))
       (λ c. fails_calm _ here.place))
     where
       many : d.kind.is_allocatable ≡ false → length (spans_declared d.dimensions.items) ≡ d.kind.rank
@@ -113,7 +130,7 @@ module _ (types : List Derived) where
 
   -- what a whole allocatable holds
   contents_calm : {store : Store} (n : ℕ) (d : Declared) (k : Kind) (v : Value) (here : Here) → is_declared n d ≡ true → alike d.kind.of k.of ≡ true → d.kind.is_allocatable ≡ true →
-      d.kind.rank ≡ k.rank → k.is_allocatable ≡ true → IsOf types k v → Calm (IsOf types d.kind) store (fitted_contents d v here)
+      d.kind.rank ≡ k.rank → k.is_allocatable ≡ true → IsOf types k v → Calm (IsPart d) store (fitted_contents d v here)
   contents_calm n d k (Allocated (Array ss vs)) here declared same whole rank held h =
       fitted_calm n d (held_kind k) (Array (shown ss) vs) here declared same refl (λ e. rank) (λ e. absurd (no_both d.kind.is_allocatable whole e))
       (refl, h.1.1, shown_length types ss ∙ h.1.2, h.1.3 ∙ sym (shown_count types ss), h.1.4)
@@ -125,11 +142,11 @@ module _ (types : List Derived) where
       fitted_calm n d (held_kind k) (Composite vs) here declared same refl (λ e. rank) (λ e. absurd (no_both d.kind.is_allocatable whole e)) h.1
   contents_calm n d k (Allocated Unallocated) here declared same whole rank held h = absurd (no_both false h.1 refl)
   contents_calm n d k (Allocated (Allocated v)) here declared same whole rank held h = absurd (no_both false h.1.0 refl)
-  contents_calm n d k Unallocated here declared same whole rank held h = gives_calm Unallocated whole
-  contents_calm n d k (Number z) here declared same whole rank held h = gives_calm Unallocated whole
-  contents_calm n d k (Truth b) here declared same whole rank held h = gives_calm Unallocated whole
-  contents_calm n d k (Composite vs) here declared same whole rank held h = gives_calm Unallocated whole
-  contents_calm n d k (Array ss vs) here declared same whole rank held h = gives_calm Unallocated whole
+  contents_calm n d k Unallocated here declared same whole rank held h = gives_calm Unallocated (whole, tt)
+  contents_calm n d k (Number z) here declared same whole rank held h = gives_calm Unallocated (whole, tt)
+  contents_calm n d k (Truth b) here declared same whole rank held h = gives_calm Unallocated (whole, tt)
+  contents_calm n d k (Composite vs) here declared same whole rank held h = gives_calm Unallocated (whole, tt)
+  contents_calm n d k (Array ss vs) here declared same whole rank held h = gives_calm Unallocated (whole, tt)
 
   -- ---- arguments
 
@@ -149,7 +166,7 @@ module _ (types : List Derived) where
 
   value_by : (store : Store) (b : Bool) (m : ℕ) (d : Declared) (g : formed.Given) (v : Value) (here : Here) → d.kind.is_allocatable ≡ b → is_declared m d ≡ true →
       (if b then alike d.kind.of g.kind.of && nat_eq d.kind.rank g.kind.rank && (not g.kind.is_allocatable || g.is_variable) else takes d.kind g.kind) ≡ true →
-      g.is_variable ≡ false → IsOf types g.kind v → Calm (IsOf types d.kind) store (fitted d v here)
+      g.is_variable ≡ false → IsOf types g.kind v → Calm (IsPart d) store (fitted d v here)
   value_by store true m d g v here e declared fit is_value h =
       let a = and_is _ _ fit in let b = and_is _ _ a.0 in
       fitted_calm m d g.kind v here declared b.0 (not_is _ (left_or _ _ a.1 is_value)) (λ f. eqb-true d.kind.rank g.kind.rank b.1)
@@ -160,15 +177,15 @@ module _ (types : List Derived) where
 
   whole_by : (store : Store) (b : Bool) (m : ℕ) (d : Declared) (g : formed.Given) (v : Value) (here : Here) → d.kind.is_allocatable ≡ b → b ≡ true → is_declared m d ≡ true →
       (if b then alike d.kind.of g.kind.of && nat_eq d.kind.rank g.kind.rank && (not g.kind.is_allocatable || g.is_variable) else takes d.kind g.kind) ≡ true →
-      g.kind.is_allocatable ≡ true → IsOf types g.kind v → Calm (IsOf types d.kind) store (fitted_contents d v here)
+      g.kind.is_allocatable ≡ true → IsOf types g.kind v → Calm (IsPart d) store (fitted_contents d v here)
   whole_by store true m d g v here e f declared fit held h =
       let a = and_is _ _ fit in let b = and_is _ _ a.0 in
       contents_calm m d g.kind v here declared b.0 e (eqb-true d.kind.rank g.kind.rank b.1) held h
   whole_by store false m d g v here e f declared fit held h = cc
 
   some_by : (store : Store) (b : Bool) (d : Declared) (init : Value) (x : Passed) (o : Option Passed) (here : Here) →
-      (b ≡ true → Calm (IsOf types d.kind) store (fitted_argument d init (Some x) here)) → (b ≡ false → Calm (IsOf types d.kind) store (fitted_argument d init o here)) →
-      Calm (IsOf types d.kind) store (fitted_argument d init (if b then Some x else o) here)
+      (b ≡ true → Calm (IsPart d) store (fitted_argument d init (Some x) here)) → (b ≡ false → Calm (IsPart d) store (fitted_argument d init o here)) →
+      Calm (IsPart d) store (fitted_argument d init (if b then Some x else o) here)
   some_by store true d init x o here h k = h refl
   some_by store false d init x o here h k = k refl
 
@@ -181,8 +198,8 @@ module _ (types : List Derived) where
       by (Many ss ps) h is = absurd (no_both k.is_allocatable held h.0)
 
   -- what a component begins with, or the argument of its number
-  argument_calm : (store : Store) (m n : ℕ) (d : Declared) (init : Value) (gs : List formed.Given) (ps : List Passed) (here : Here) → is_declared m d ≡ true → IsOf types d.kind init →
-      AllPassed types gs ps → AllStand store gs ps → TakesAll d n gs → Calm (IsOf types d.kind) store (fitted_argument d init (passed_at n ps) here)
+  argument_calm : (store : Store) (m n : ℕ) (d : Declared) (init : Value) (gs : List formed.Given) (ps : List Passed) (here : Here) → is_declared m d ≡ true → IsPart d init →
+      AllPassed types gs ps → AllStand store gs ps → TakesAll d n gs → Calm (IsPart d) store (fitted_argument d init (passed_at n ps) here)
   argument_calm store m n d init [] [] here declared begin are stand fit = gives_calm init begin
   argument_calm store m n d init [] (x ∷ ps) here declared begin are stand fit = absurd are
   argument_calm store m n d init (g ∷ gs) [] here declared begin are stand fit = absurd are
@@ -211,11 +228,11 @@ module _ (types : List Derived) where
   structure_calm store m n (c ∷ cs) nothing gs ps here declared parts are stand fit = absurd parts
   structure_calm store m n (c ∷ cs) (and x s rest) gs ps here declared parts are stand fit =
       let a = and_is _ _ declared in
-      bind_calm {Q = IsOf types c.declared.kind}
-      (subst (λ (y : Component). Calm (IsOf types c.declared.kind) store (fitted_argument y.declared (initial_declared y.declared (initial_of s)) (passed_at n ps) here)) (sym parts.0)
-      (argument_calm store m n c.declared (initial_declared c.declared (initial_of s)) gs ps here a.0 parts.1 are stand fit.0))
+      bind_calm {Q = IsPart c.declared}
+      (subst (λ (y : Component). Calm (IsPart c.declared) store (fitted_argument y.declared (initial_declared y.declared (initial_of s)) (passed_at n ps) here)) (sym parts.0)
+      (argument_calm store m n c.declared (initial_declared c.declared (initial_of s)) gs ps here a.0 (parts.1, initial_bounds c.declared s) are stand fit.0))
       (λ v h. bind_calm (claim_for_calm v here) (λ done t.
-      bind_calm (structure_calm store m (suc n) cs rest gs ps here a.1 parts.2 are stand fit.1) (λ vs f. gives_calm (more v vs) (h, f))))
+      bind_calm (structure_calm store m (suc n) cs rest gs ps here a.1 parts.2 are stand fit.1) (λ vs f. gives_calm (more v vs) (h.0, h.1, f))))
 
   -- ---- what a structure constructor is given
 

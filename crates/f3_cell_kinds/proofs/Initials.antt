@@ -18,14 +18,14 @@ use Rattle.f3_program.specs.declared.program.Program.{Program}
 use Rattle.f3_program.specs.declared.program.Static.{Static}
 use Rattle.f3_meaning_whole.specs.Value.{Span, Value, Unallocated, listed, joined, count}
 use Rattle.f3_meaning_whole.specs.Arithmetic.{constant_value}
-use Rattle.f3_meaning_whole.specs.Shape.{Shape, Whole, Record, Parts, nothing, and, shape_in, parts_in, shapes_from, shapes_of, spans_declared, initialized, arranged, initial_declared, initial_of, initial_parts}
+use Rattle.f3_meaning_whole.specs.Shape.{Shape, Whole, Logical, Record, Parts, nothing, and, shape_in, parts_in, shapes_from, shapes_of, spans_declared, initialized, arranged, initial_declared, initial_of, initial_parts}
 use Rattle.f3_meaning_whole.specs.Act.{components_of}
 use Rattle.f3_meaning_whole.specs.Exec.{declared_in, initial_value}
 use Rattle.f3_meaning_whole.specs.Formed.{all, of_kind, is_before, is_declared, is_final, are_types, are_declared, is_procedure, IsWellFormed}
 use Rattle.f3_meaning_whole.specs.Run.{setting_of}
 use Rattle.f3_code.specs.Lower.{initial}
 use Rattle.f3_cell_kinds.specs.Sense.{constant_fits, initial_fits, MakesSense}
-use Rattle.f3_cell_kinds.specs.Holds.{IsOf, AreComponents, AreElements}
+use Rattle.f3_cell_kinds.specs.Holds.{HasBounds, IsOf, AreComponents, AreElements}
 use Rattle.f3_cell_kinds.proofs.Asked.{some_same, and_is, or_is, kind_same}
 use Rattle.f3_cell_kinds.proofs.Reaching.{listed_joined}
 
@@ -59,6 +59,22 @@ each_more P xs x f h u less = by_place (nat_lt u (length xs)) refl
         subst (λ y. P u y) (sym (index_front xs (x ∷ []) u Whole g)) (f u g)
     by_place false e = subst (λ v. P v (slice_index_or (xs ++ x ∷ []) v Whole)) (other e)
         (subst (λ y. P (length xs) y) (sym (get_or-append_seam xs x [] Whole)) h)
+
+-- what a component begins with has the bounds that are declared
+arranged_bounds : (d : Declared) (rank : ℕ) (cs : List Constant) (s : Shape) → HasBounds d (arranged rank (spans_declared d.dimensions.items) cs (initial_of s))
+arranged_bounds d zero [] Whole = tt
+arranged_bounds d zero [] Logical = tt
+arranged_bounds d zero [] (Record t parts) = tt
+arranged_bounds d zero (constant.Number z ∷ cs) s = tt
+arranged_bounds d zero (constant.Truth b ∷ cs) s = tt
+arranged_bounds d (suc rank) cs s = refl
+
+pub initial_bounds : (d : Declared) (s : Shape) → HasBounds d (initial_declared d (initial_of s))
+initial_bounds d s = by d.kind.is_allocatable
+  where
+    by : (b : Bool) → HasBounds d (if b then Unallocated else arranged d.kind.rank (spans_declared d.dimensions.items) d.initial.items (initial_of s))
+    by true = tt
+    by false = arranged_bounds d d.kind.rank d.initial.items s
 
 module _ (types : List Derived) where
   constant_is : (of : Base) (c : Constant) → constant_fits of c ≡ true → IsOf types (of_kind of 0) (constant_value c)
@@ -138,7 +154,7 @@ module _ (types : List Derived) where
   parts_are shapes n [] fit e declared initials = tt
   parts_are shapes n (c ∷ cs) fit e declared initials =
       let a = and_is _ _ declared in let b = and_is _ _ initials in
-      (declared_is n c.declared _ a.0 b.0 (type_is shapes n c.declared.kind.of fit e (and_is _ _ a.0).0), parts_are shapes n cs fit e a.1 b.1)
+      (declared_is n c.declared _ a.0 b.0 (type_is shapes n c.declared.kind.of fit e (and_is _ _ a.0).0), initial_bounds c.declared (shape_in shapes c.declared.kind.of), parts_are shapes n cs fit e a.1 b.1)
 
   parts_fit : (shapes : List Shape) (n : ℕ) (cs : List Component) → Fit shapes → n ≡ length shapes → all (λ (c : Component). is_declared n c.declared) cs ≡ true →
       all (λ (c : Component). initial_fits c.declared) cs ≡ true → PartsFit cs (parts_in shapes cs)

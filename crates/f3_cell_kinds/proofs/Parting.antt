@@ -19,12 +19,12 @@ use Rattle.f3_cell_kinds.proofs.Reaching.{reach_is}
 
 -- ---- parts, one behind another
 
-missing : (way : List Step) → part Unallocated way ≡ Unallocated
+pub missing : (way : List Step) → part Unallocated way ≡ Unallocated
 missing [] = refl
 missing (s ∷ way) = refl
 
 mutual
-  part_append : (v : Value) (a b : List Step) → part v (a ++ b) ≡ part (part v a) b
+  pub part_append : (v : Value) (a b : List Step) → part v (a ++ b) ≡ part (part v a) b
   part_append v [] b = refl
   part_append (Composite vs) (Component n ∷ a) b = part_at_append vs n a b
   part_append (Array ss vs) (Element n ∷ a) b = part_at_append vs n a b
@@ -56,14 +56,14 @@ no_less : (n : ℕ) → nat_eq n 0 ≡ false → nat_eq n 0 ≡ true → ⊥
 no_less n e f = no_both (nat_eq n 0) f e
 
 module _ (types : List Derived) where
-  component_is : (cs : List m.Component) (vs : Values) (n : ℕ) (c : m.Component) → AreComponents types cs vs → slice_get cs n ≡ Some c → IsOf types c.declared.kind (part_at vs n [])
+  pub component_is : (cs : List m.Component) (vs : Values) (n : ℕ) (c : m.Component) → AreComponents types cs vs → slice_get cs n ≡ Some c → IsOf types c.declared.kind (part_at vs n [])
   component_is [] vs n c are e = cc
   component_is (x ∷ cs) none n c are e = absurd are
   component_is (x ∷ cs) (more v vs) zero c are e = let same : x ≡ c = cc in subst (λ (y : m.Component). IsOf types y.declared.kind v) same are.0
-  component_is (x ∷ cs) (more v vs) (suc n) c are e = component_is cs vs n c are.1 e
+  component_is (x ∷ cs) (more v vs) (suc n) c are e = component_is cs vs n c are.2 e
 
   -- a component of a value of a derived type
-  part_of : (k : Kind) (v : Value) (n : ℕ) (c : m.Component) → k.is_allocatable ≡ false → nat_eq k.rank 0 ≡ true → component_of types k.of n ≡ Some c → IsOf types k v →
+  pub part_of : (k : Kind) (v : Value) (n : ℕ) (c : m.Component) → k.is_allocatable ≡ false → nat_eq k.rank 0 ≡ true → component_of types k.of n ≡ Some c → IsOf types k v →
       IsOf types c.declared.kind (part v (Component n ∷ []))
   part_of k (Composite vs) n c held one e h =
       let f = component_found (derived_of types k.of) n c e in

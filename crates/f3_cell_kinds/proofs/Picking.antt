@@ -33,7 +33,7 @@ inside_below s z h k =
 row_place : (a e k n : ℕ) → a < e → k < n → a + e * k < e * n
 row_place a e k n h f = let m : e * suc k ≤ e * n = mul-le-mul_left e (omega (arith, f)) in omega (arith, m, h)
 
-abbrev AllBelow : ℕ → List ℕ → Type 0
+abbrev pub AllBelow : ℕ → List ℕ → Type 0
 AllBelow n [] = Unit {0}
 AllBelow n (k ∷ ks) = (k < n) × AllBelow n ks
 
@@ -57,7 +57,7 @@ AllChosen [] [] = Unit {0}
 AllChosen (b ∷ bs) (c ∷ cs) = IsChoice b c × AllChosen bs cs
 AllChosen bs cs = ⊥
 
-places_below : (ss : List Span) (bs : List Bool) (cs : List Chosen) → length ss ≡ length bs → AllChosen bs cs → all_inside ss cs ≡ true → AllBelow (count ss) (places_in ss cs)
+pub places_below : (ss : List Span) (bs : List Bool) (cs : List Chosen) → length ss ≡ length bs → AllChosen bs cs → all_inside ss cs ≡ true → AllBelow (count ss) (places_in ss cs)
 places_below [] [] [] many are e = (omega arith, tt)
 places_below [] [] (c ∷ cs) many are e = absurd are
 places_below [] (b ∷ bs) cs many are e = absurd (omega (arith, many))
@@ -71,7 +71,7 @@ flat_length : (f : ℕ → List ℕ) (m : ℕ) (ks : List ℕ) → ((k : ℕ) �
 flat_length f m [] h = let e : 0 ≡ m * 0 = omega arith in e
 flat_length f m (k ∷ ks) h = omega (arith, length-append (f k) (flat_map f ks), h k, flat_length f m ks h)
 
-places_count : (ss : List Span) (bs : List Bool) (cs : List Chosen) → length ss ≡ length bs → AllChosen bs cs →
+pub places_count : (ss : List Span) (bs : List Bool) (cs : List Chosen) → length ss ≡ length bs → AllChosen bs cs →
     (length (places_in ss cs) ≡ count (spans_in ss cs)) × (length (spans_in ss cs) ≡ count_ranges bs)
 places_count [] [] [] many are = (refl, refl)
 places_count [] [] (c ∷ cs) many are = absurd are

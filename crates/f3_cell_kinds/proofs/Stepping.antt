@@ -31,7 +31,7 @@ use Rattle.f3_cell_kinds.specs.Kinds as kinds
 use Rattle.f3_cell_kinds.specs.Holds.{Refers, AllRefer, IsOf, Knows, Is, InScope, Stand, Fits}
 use Rattle.f3_cell_kinds.specs.Reading.{is_reading}
 use Rattle.f3_cell_kinds.proofs.OfActions.{extents_over}
-use Rattle.f3_cell_kinds.proofs.Yielding.{gives_yields, fails_yields, looks_yields, bind_yields, if_yields}
+use Rattle.f3_cell_kinds.proofs.Yielding.{gives_yields, fails_yields, looks_yields, if_yields}
 use Rattle.f3_cell_kinds.proofs.Scalars.{apply_yields, change_yields, plain_is, result_yields, built_yields, asked_yields, size_yields, convert_yields, rank_is, alike_is}
 use Rattle.f3_cell_kinds.proofs.Piled.{at_arguments}
 use Rattle.f3_cell_kinds.proofs.Holding.{Has, fit, Keeps, stays_so, goes_so, performing, if_keeps, at_bound, at_bounds, at_status, at_turns, at_elements, at_objects, at_level, at_going, at_any, at_extents}

@@ -48,7 +48,7 @@ pub fn parts_hold()
     ensures { PartsHold }
 {}
 
-/// A value in which such a part is another one of its kind is of the same kind as before (own rule).
+/// A value in which such a part, one object, is another one of its kind is of the same kind as before (own rule).
 pub fn changes_hold()
     ensures { ChangesHold }
 {}

@@ -85,7 +85,7 @@ module _ (types : List Derived) where
     component_along (x ∷ cs) j (more v vs) zero c way h at e =
         let same : x ≡ c = some_same at in
         by_along c.declared.kind j v way (subst (λ (z : m.Component). IsOf types z.declared.kind v) same h.0) e
-    component_along (x ∷ cs) j (more v vs) (suc n) c way h at e = component_along cs j vs n c way h.1 at e
+    component_along (x ∷ cs) j (more v vs) (suc n) c way h at e = component_along cs j vs n c way h.2 at e
 
     element_along : (k j : Kind) (vs : Values) (n : ℕ) (way : List Step) → AreElements types k vs → kind_by types way k ≡ Some j → Agrees way k j (part_at vs n way)
     element_along k j none n way h e = inr refl

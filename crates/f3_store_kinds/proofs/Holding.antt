@@ -26,10 +26,10 @@ use Rattle.f3_cell_kinds.proofs.Given.{arguments_over}
 use Rattle.f3_cell_kinds.proofs.OfActions.{selectors_over}
 use Rattle.f3_cell_kinds.proofs.Picking.{AllChosen}
 use Rattle.f3_cell_kinds.proofs.Reaching.{AllPassed, AllSelected}
-use Rattle.f3_store_kinds.specs.Typing.{Typing, cut, AllLeadTo, EachLeads, Leads, AllLead, IsTyped}
+use Rattle.f3_store_kinds.specs.Typing.{Typing, cut, AllLeadTo, EachLeads, PartsBy, Leads, AllLead, IsTyped}
 use Rattle.f3_store_kinds.specs.Accords.{AllKnown, LevelsKnown, IsNamed, PassedLeads, SelectorLeads, CellLeads, CellsLead, FramesLead, Accords, Follows, Stays}
 use Rattle.f3_store_kinds.specs.Clean.{IsPlain}
-use Rattle.f3_store_kinds.proofs.Leading.{Within, within_cut, within_both, path_more, leads_more, each_more, all_more}
+use Rattle.f3_store_kinds.proofs.Leading.{Within, within_cut, within_both, path_more, leads_more, each_more, parts_by_more, all_more}
 use Rattle.f3_store_kinds.proofs.After.{IsAfter, After}
 use Rattle.f3_store_kinds.proofs.Calling.{AllPassedLead, AllSelectedLead}
 
@@ -85,7 +85,7 @@ module _ (types : List Derived) (sites : ℕ → Site) where
 
   cell_more : (g h : Typing) (x : CellType) (c : Cell) → Within g h → CellLeads types g x c → CellLeads types h x c
   cell_more g h (cell.Object k) (state.Object r) w e = leads_more types g h k r w e
-  cell_more g h (cell.Each array number k) (state.Object r) w e = each_more types g h k r w e
+  cell_more g h (cell.Each array number k) (state.Object r) w e = (each_more types g h k r w e.0, parts_by_more types g h array.of number r.reach w e.1)
   cell_more g h (cell.Argument x) (state.Argument y) w e = passed_more g h x y w e
   cell_more g h (cell.Elements of) (state.Elements ps) w e = paths_more g h (of_kind of 0) ps w e
   cell_more g h (cell.Objects ks) (state.Objects rs) w e = all_more types g h ks rs w e
@@ -247,9 +247,9 @@ module _ (p : Program) (sites : ℕ → Site) (g : Typing) where
     at_object (c ∷ st) s h = stays_so
 
     pub at_each : {a : Kind} {n : ℕ} {k : Kind} {rest : List CellType} {f : Reference → List Cell → Next} (stack : List Cell) → Has (cell.Each a n k ∷ rest) stack →
-        ((q : Reference) (st : List Cell) → Refers (of_kind k.of a.rank) q → EachLeads types g k q → Has rest st → Keeps (f q st)) → Keeps (on_object stack f)
+        ((q : Reference) (st : List Cell) → Refers (of_kind k.of a.rank) q → EachLeads types g k q → PartsBy types g a.of n q.reach → Has rest st → Keeps (f q st)) → Keeps (on_object stack f)
     at_each [] s h = absurd s.by
-    at_each (state.Object q ∷ st) s h = h q st s.by.0 s.leads.0 (record { by = s.by.1; leads = s.leads.1 })
+    at_each (state.Object q ∷ st) s h = h q st s.by.0 s.leads.0.0 s.leads.0.1 (record { by = s.by.1; leads = s.leads.1 })
     at_each (c ∷ st) s h = stays_so
 
     pub at_bound : {rest : List CellType} {f : (Option ℤ) → List Cell → Next} (stack : List Cell) → Has (cell.Bound ∷ rest) stack →

@@ -1,13 +1,14 @@
 -- References that lead by one typing lead by those that have more.
 use Rattle.std.proofs.Common.{◌≡◌, ◌∙◌, ap, ℕ, zero, suc, ◌<◌, List, [], ◌∷◌, ◌++◌, length, take, Option, Some, refl, arith}
 use Rattle.std.specs.Prelude.{slice_get}
+use Rattle.f3_program.specs.declared.declarations.Base.{Base}
 use Rattle.f3_program.specs.declared.declarations.Derived.{Derived}
 use Rattle.f3_program.specs.declared.declarations.Kind.{Kind}
 use Rattle.f3_meaning_whole.specs.Store.{Root, Static, Local, Path}
 use Rattle.f3_meaning_whole.specs.Reference.{Reach, One, Many, Reference}
 use Rattle.f3_meaning_whole.specs.Formed.{found, of_kind}
 use Rattle.f3_cell_kinds.proofs.Asked.{found_is}
-use Rattle.f3_store_kinds.specs.Typing.{Typing, kind_by, kind_at, cut, extended, IsBefore, LeadsTo, AllLeadTo, IsArray, LeadsBy, Leads, EachBy, EachLeads, AllLead}
+use Rattle.f3_store_kinds.specs.Typing.{Typing, kind_by, kind_at, cut, extended, IsBefore, LeadsTo, AllLeadTo, IsArray, LeadsBy, Leads, EachBy, EachLeads, AreParts, PartsBy, AllLead}
 
 -- what one has on its levels, the other has there too
 pub record Within (g h : Typing) : Type 0 where
@@ -140,6 +141,14 @@ module _ (types : List Derived) where
 
   pub each_more : (g h : Typing) (k : Kind) (r : Reference) → Within g h → EachLeads types g k r → EachLeads types h k r
   each_more g h k r w e = each_by_more g h k r.path r.reach w e
+
+  parts_more : (g h : Typing) (of : Base) (n : ℕ) (ps : List Path) → Within g h → AreParts types g of n ps → AreParts types h of n ps
+  parts_more g h of n [] w e = tt
+  parts_more g h of n (p ∷ ps) w e = ((e.0.0, e.0.1, path_more g h (of_kind of 0) e.0.0 w e.0.2), parts_more g h of n ps w e.1)
+
+  pub parts_by_more : (g h : Typing) (of : Base) (n : ℕ) (reach : Reach) → Within g h → PartsBy types g of n reach → PartsBy types h of n reach
+  parts_by_more g h of n One w e = tt
+  parts_by_more g h of n (Many ss ps) w e = parts_more g h of n ps w e
 
   pub all_more : (g h : Typing) (ks : List Kind) (rs : List Reference) → Within g h → AllLead types g ks rs → AllLead types h ks rs
   all_more g h [] [] w e = tt

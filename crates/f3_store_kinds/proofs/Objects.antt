@@ -27,7 +27,7 @@ use Rattle.f3_cell_kinds.specs.Types.{Scope}
 use Rattle.f3_cell_kinds.proofs.Scalars.{no_rank, no_both}
 use Rattle.f3_cell_kinds.proofs.Reaching.{reach_is}
 use Rattle.f3_cell_kinds.proofs.Calm.{Calm, gives_calm, fails_calm, looks_calm, bind_calm, if_calm}
-use Rattle.f3_store_kinds.specs.Typing.{Typing, kind_at, kind_by, IsTyped, LeadsTo, AllLeadTo, IsArray, LeadsBy, Leads, EachBy, EachLeads, AllLead, IsOrNone}
+use Rattle.f3_store_kinds.specs.Typing.{Typing, kind_at, kind_by, IsTyped, LeadsTo, AllLeadTo, IsArray, LeadsBy, Leads, EachBy, EachLeads, AreParts, PartsBy, AllLead, IsOrNone}
 use Rattle.f3_store_kinds.specs.Accords.{IsNamed}
 use Rattle.f3_store_kinds.proofs.Stores.{read_is}
 use Rattle.f3_store_kinds.proofs.After.{both, calm_so}
@@ -116,13 +116,18 @@ module _ (types : List Derived) where
     IsMany One = ⊥
     IsMany (Many ss ps) = Unit {0}
 
-    abbrev pub PartLeads : Kind → Kind → Reference → Type 0
-    PartLeads k c q = (nat_eq k.rank 0 ≡ true → Leads types g c q) × (nat_eq k.rank 0 ≡ false → EachLeads types g c q × IsMany q.reach)
+    abbrev pub PartLeads : Kind → ℕ → Kind → Reference → Type 0
+    PartLeads k n c q = (nat_eq k.rank 0 ≡ true → Leads types g c q) × (nat_eq k.rank 0 ≡ false → EachLeads types g c q × IsMany q.reach × PartsBy types g k.of n q.reach)
+
+    are_parts : (of : Base) (n : ℕ) (ps : List Path) → AllLeadTo types g (of_kind of 0) ps → AreParts types g of n (map (λ q. within q (Component n)) ps)
+    are_parts of n [] e = tt
+    are_parts of n (p ∷ ps) e = ((p, refl, e.0), are_parts of n ps e.1)
 
     part_leads : (k : Kind) (n : ℕ) (c : m.Component) (p : Path) (reach : Reach) (store : Store) → IsTyped types g store → k.is_allocatable ≡ false →
         component_of types k.of n ≡ Some c → Reaches k reach → LeadsBy types g k p reach →
         (nat_eq k.rank 0 ≡ true → LeadsBy types g c.declared.kind (component_path reach p n) (component_reach reach p n store))
-        × (nat_eq k.rank 0 ≡ false → EachBy types g c.declared.kind (component_path reach p n) (component_reach reach p n store) × IsMany (component_reach reach p n store))
+        × (nat_eq k.rank 0 ≡ false → EachBy types g c.declared.kind (component_path reach p n) (component_reach reach p n store) × IsMany (component_reach reach p n store)
+        × PartsBy types g k.of n (component_reach reach p n store))
     part_leads k n c p One store typed held at h e =
         let one = one_rank k held h in
         let scalar : is_scalar k ≡ true = ap (λ (b : Bool). not b && nat_eq k.rank 0) held ∙ one in
@@ -132,11 +137,11 @@ module _ (types : List Derived) where
         )
     part_leads k n c p (Many ss ps) store typed held at h e = (
       (λ t. absurd (no_rank k.rank t h.1)),
-      λ t. ((e.0, components_lead (of_kind k.of 0) n c ps refl at e.1), tt),
+      λ t. ((e.0, components_lead (of_kind k.of 0) n c ps refl at e.1), tt, are_parts k.of n ps e.1),
     )
 
     pub component_calm : (w : Setting) (k : Kind) (n : ℕ) (c : m.Component) (maker : Maker) (r : Reference) (store : Store) → IsTyped types g store → k.is_allocatable ≡ false →
-        component_of types k.of n ≡ Some c → Reaches k r.reach → Leads types g k r → Calm (PartLeads k c.declared.kind) store (component w n maker r)
+        component_of types k.of n ≡ Some c → Reaches k r.reach → Leads types g k r → Calm (PartLeads k n c.declared.kind) store (component w n maker r)
     component_calm w k n c maker r store typed held at h e = looks_calm _ (part_leads k n c r.path r.reach store typed held at h e)
 
     -- ---- contents
@@ -223,15 +228,15 @@ module _ (types : List Derived) where
     each_scalar k rank p One one some e = absurd some
     each_scalar k rank p (Many ss ps) one some e = (e.0, subst (λ (z : Kind). AllLeadTo types g z ps) (scalar_is k (not_is _ (and_is _ _ one).0) (and_is _ _ one).1) e.1)
 
-    part_kind_by : (b : Bool) (k c j : Kind) (q : Reference) → nat_eq k.rank 0 ≡ b → (if b then Some c else only (is_scalar c) (of_kind c.of k.rank)) ≡ Some j → PartLeads k c q →
+    part_kind_by : (b : Bool) (k : Kind) (n : ℕ) (c j : Kind) (q : Reference) → nat_eq k.rank 0 ≡ b → (if b then Some c else only (is_scalar c) (of_kind c.of k.rank)) ≡ Some j → PartLeads k n c q →
         Leads types g j q
-    part_kind_by true k c j q one e h = subst (λ (z : Kind). Leads types g z q) (some_same e) (h.0 one)
-    part_kind_by false k c j q one e h =
+    part_kind_by true k n c j q one e h = subst (λ (z : Kind). Leads types g z q) (some_same e) (h.0 one)
+    part_kind_by false k n c j q one e h =
         let a = only_is _ _ j e in let f = h.1 one in
         subst (λ (z : Kind). Leads types g z q) a.1 (each_scalar c k.rank q.path q.reach a.0 f.1 f.0)
 
-    pub part_kind_leads : (k c j : Kind) (q : Reference) → part_kind k c ≡ Some j → PartLeads k c q → Leads types g j q
-    part_kind_leads k c j q e h = part_kind_by (nat_eq k.rank 0) k c j q refl e h
+    pub part_kind_leads : (k : Kind) (n : ℕ) (c j : Kind) (q : Reference) → part_kind k c ≡ Some j → PartLeads k n c q → Leads types g j q
+    part_kind_leads k n c j q e h = part_kind_by (nat_eq k.rank 0) k n c j q refl e h
 
     -- elements of what is an array, or of what an allocatable holds
     section_calm : (k : Kind) (r : Reference) (bs : List Bool) (cs : List Chosen) (here : Here) (store : Store) → k.is_allocatable ≡ false → length bs ≡ k.rank → nat_lt 0 k.rank ≡ true →

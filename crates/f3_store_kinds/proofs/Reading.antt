@@ -1,5 +1,5 @@
 -- What is read at references.
-use Rattle.std.proofs.Common.{◌≡◌, List, [], ◌∷◌, map, refl, subst}
+use Rattle.std.proofs.Common.{◌≡◌, true, List, [], ◌∷◌, map, refl, subst}
 use Rattle.f3_program.specs.declared.declarations.Derived.{Derived}
 use Rattle.f3_program.specs.declared.declarations.Kind.{Kind}
 use Rattle.f3_meaning_whole.specs.Value.{Value, joined, listed}
@@ -7,6 +7,7 @@ use Rattle.f3_meaning_whole.specs.Store.{Store, Path, get, put_all}
 use Rattle.f3_meaning_whole.specs.Reference.{Reach, One, Many, Reference, paths_by, paths}
 use Rattle.f3_meaning_whole.specs.Formed.{of_kind}
 use Rattle.f3_meaning_whole.specs.Ran.{World, End, Gives, Ran}
+use Rattle.f3_cell_kinds.specs.Holds.{Reaches, is_one}
 use Rattle.f3_cell_kinds.proofs.Calm.{Calm, IsCalm}
 use Rattle.f3_store_kinds.specs.Typing.{Typing, cut, extended, each_kind, AllOf, IsTyped, AllLeadTo, LeadsBy, Leads, AllOrNone}
 use Rattle.f3_store_kinds.specs.Laws.{PutsKeep, ChangesKeep, LevelsBegin, LevelsEnd, ReadsHold, ComponentsLead, ContentsLead, ElementsLead}
@@ -23,19 +24,24 @@ module _ (types : List Derived) (g : Typing) where
   pub paths_lead : (k : Kind) (r : Reference) → Leads types g k r → AllLeadTo types g (each_kind k r.reach) (paths r)
   paths_lead k r h = paths_lead_by k r.path r.reach h
 
-  pub changes_are : (store : Store) (k : Kind) (r : Reference) (vs : List Value) → IsTyped types g store → Leads types g k r → AllOf types (each_kind k r.reach) vs →
+  -- each of them is one
+  pub one_each : (k : Kind) (reach : Reach) → Reaches k reach → is_one (each_kind k reach) ≡ true
+  one_each k One h = h
+  one_each k (Many ss ps) h = refl
+
+  pub changes_are : (store : Store) (k : Kind) (r : Reference) (vs : List Value) → IsTyped types g store → Reaches k r.reach → Leads types g k r → AllOf types (each_kind k r.reach) vs →
       IsTyped types g (put_all (paths r) vs store)
-  changes_are store k r vs h e f = puts_are types g store (each_kind k r.reach) (paths r) vs h (paths_lead k r e) f
+  changes_are store k r vs h reached e f = puts_are types g store (each_kind k r.reach) (paths r) vs h (paths_lead k r e) (one_each k r.reach reached) f
 
   pub all_read : (store : Store) (k : Kind) (ps : List Path) → IsTyped types g store → AllLeadTo types g k ps → AllOrNone types k (listed (joined (map (get store) ps)))
   all_read store k [] h e = tt
   all_read store k (p ∷ ps) h e = (read_is types g store k p h e.0, all_read store k ps h e.1)
 
 pub puts_keep : PutsKeep
-puts_keep types g store k p v h e f = put_is types g store k p v h e f
+puts_keep types g store k p v h e one f = put_is types g store k p v h e one f
 
 pub changes_keep : ChangesKeep
-changes_keep types g store k r vs h e f = changes_are types g store k r vs h e f
+changes_keep types g store k r vs h reached e f = changes_are types g store k r vs h reached e f
 
 pub levels_begin : LevelsBegin
 levels_begin types g store ks vs h f = (begun_is types g store ks vs h f, λ k r e. leads_more types g (extended g ks) k r (within_more g ks) e)

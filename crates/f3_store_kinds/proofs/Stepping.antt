@@ -198,7 +198,7 @@ module _ (limit : ℕ) (w : Setting) (p : Program) (code : Code) (sites : ℕ �
 
   new_after : (k : Kind) (q : Reference) (ss : List Span) (v : Value) (rank : ℕ) → k.is_allocatable ≡ true → k.rank ≡ rank → length ss ≡ rank → v ≡ initial (setting_of p) k.of →
       Refers k q → typing.Leads types g k q → After (λ y st. IsTyped types g st) s.world.store (set q (Allocated (vacant rank ss v)) here)
-  new_after k q ss v rank held same many start h e = set_after types g s.world.store k q (Allocated (vacant rank ss v)) here acc.store e
+  new_after k q ss v rank held same many start h e = set_after types g s.world.store k q (Allocated (vacant rank ss v)) here acc.store h.1 e
       (held_all types k q (Allocated (vacant rank ss v)) held h.1 (new_is k q ss v rank held same many start h e))
 
   allocate_after : (k : Kind) (q : Reference) (ss : List Span) (rank : ℕ) → k.is_allocatable ≡ true → k.rank ≡ rank → length ss ≡ rank → l.value ≡ initial (setting_of p) k.of →
@@ -213,15 +213,15 @@ module _ (limit : ℕ) (w : Setting) (p : Program) (code : Code) (sites : ℕ �
       (y : Value) → y ≡ x → After (λ z st. IsTyped types g st) s.world.store (set q y here)
   take_after k j of q x same held fit is h e y f =
       let a = and_is _ _ fit in let b = and_is _ _ a.1 in
-      set_after types g s.world.store k q y here acc.store e (taken_all types k q j.rank y held h.1 b.1
+      set_after types g s.world.store k q y here acc.store h.1 e (taken_all types k q j.rank y held h.1 b.1
       (subst (λ z. IsOf types (of_kind k.of j.rank) z) (sym f) (alike_is types k.of j x a.0 (not_is _ b.0) is)))
 
   over_after : (k : Kind) (from to : Reference) (x : Value) → k.is_allocatable ≡ true → IsOrNone types k x → Refers k from → typing.Leads types g k from → Refers k to →
       typing.Leads types g k to → After (λ z st. IsTyped types g st) s.world.store (take_over w 0 no_calls from to x here)
   over_after k from to (Allocated v) held (inl f) hf ef ht et = cc
   over_after k from to (Allocated v) held (inr is) hf ef ht et = if_after (is_pinned from.path here.lent) (λ t. fails_after InUse here.place)
-      (λ t. bind_after (λ z st. IsTyped types g st) (set_after types g s.world.store k from Unallocated here acc.store ef (held_all types k from Unallocated held hf.1 held))
-      (λ z st u. set_after types g st k to (Allocated v) here u et (held_all types k to (Allocated v) held ht.1 is)))
+      (λ t. bind_after (λ z st. IsTyped types g st) (set_after types g s.world.store k from Unallocated here acc.store hf.1 ef (held_all types k from Unallocated held hf.1 held))
+      (λ z st u. set_after types g st k to (Allocated v) here u ht.1 et (held_all types k to (Allocated v) held ht.1 is)))
   over_after k from to (Number z) held h hf ef ht et = gives_after tt acc.store
   over_after k from to (Truth b) held h hf ef ht et = gives_after tt acc.store
   over_after k from to (Composite vs) held h hf ef ht et = gives_after tt acc.store
@@ -230,10 +230,10 @@ module _ (limit : ℕ) (w : Setting) (p : Program) (code : Code) (sites : ℕ �
 
   -- ---- cells
 
-  part_cell_on : (b : Bool) (k : Kind) (n : ℕ) (c : Kind) (q : Reference) (xs : List CellType) (stack : List Cell) → nat_eq k.rank 0 ≡ b → PartLeads types g k c q → Below xs stack →
+  part_cell_on : (b : Bool) (k : Kind) (n : ℕ) (c : Kind) (q : Reference) (xs : List CellType) (stack : List Cell) → nat_eq k.rank 0 ≡ b → PartLeads types g k n c q → Below xs stack →
       Below ((if b then cell.Object c else cell.Each k n c) ∷ xs) (state.Object q ∷ stack)
   part_cell_on true k n c q xs stack e h f = (h.0 e, f)
-  part_cell_on false k n c q xs stack e h f = ((h.1 e).0, f)
+  part_cell_on false k n c q xs stack e h f = let a = h.1 e in ((a.0, a.2), f)
 
   -- ---- constructs
 
@@ -451,7 +451,7 @@ module _ (limit : ℕ) (w : Setting) (p : Program) (code : Code) (sites : ℕ �
       (λ q u h e. there lead.next e (h, (had lead.before).leads))
   act_leads (i.Component n) (k, c, j, held, at_n, part, b) cl = object s.stack (had b.before) (λ q st h e d.
       performing_calm p sites g (component w n (Selected here.unit) q) s.world (component_calm types g w k n c (Selected here.unit) q s.world.store acc.store held at_n h.1 e)
-      (λ y u f e'. there b.next e' (part_kind_leads types g k c.declared.kind j y part f, d.leads)))
+      (λ y u f e'. there b.next e' (part_kind_leads types g k n c.declared.kind j y part f, d.leads)))
   act_leads (i.ComponentOf n) (k, c, held, at_n, b) cl = object s.stack (had b.before) (λ q st h e d.
       performing_calm p sites g (component w n (Selected here.unit) q) s.world (component_calm types g w k n c (Selected here.unit) q s.world.store acc.store held at_n h.1 e)
       (λ y u f e'. there b.next e' (part_cell_on (nat_eq k.rank 0) k n c.declared.kind y (cell.Object k ∷ b.rest) (state.Object q ∷ st) refl f (e, d.leads))))
@@ -474,7 +474,7 @@ module _ (limit : ℕ) (w : Setting) (p : Program) (code : Code) (sites : ℕ �
           (λ z u f e'. there b.next e' (f, d2.leads))))
       by_rank false one cs st are d part =
           let a = only_is _ _ j part in let b1 = and_is _ _ a.0 in let b2 = and_is _ _ b1.1 in
-          at_each p sites g Rest s.here.level s.here.names K o r fits.end st d (λ q st1 h e d1. object st1 d1 (λ y st2 h2 e2 d2.
+          at_each p sites g Rest s.here.level s.here.names K o r fits.end st d (λ q st1 h e parts d1. object st1 d1 (λ y st2 h2 e2 d2.
           performing_calm p sites g _ s.world (reach_many k y.reach _ _ s.world.store held h2.1 one
           (subst (λ (z : Kind). Calm (typing.Leads types g z) s.world.store (picks_in_each (spans_of_component (component_of w.program.types.items y.of m)) q cs here)) a.1
           (each_calm types g c.declared.kind k.rank _ q cs here s.world.store (not_is _ b2.0) one h.1 e)))
@@ -549,7 +549,7 @@ module _ (limit : ℕ) (w : Setting) (p : Program) (code : Code) (sites : ℕ �
       still (checked x here) (checked_still s.world.store x here) (λ y u e. there b.next e q.leads))
   act_leads i.StoreStatus (k, whole, b) cl = object s.stack (had b.before) (λ q st h e c. at_status p sites g Rest s.here.level s.here.names K o r fits.end st c (λ x st' c'.
       let a = and_is _ _ whole in
-      changed (set q (Number (pos (status_number x))) here) (set_after types g s.world.store k q (Number (pos (status_number x))) here acc.store e
+      changed (set q (Number (pos (status_number x))) here) (set_after types g s.world.store k q (Number (pos (status_number x))) here acc.store h.1 e
       (taken_all types k q 0 (Number (pos (status_number x))) (not_is _ (and_is _ _ a.0).0) h.1 refl (status_is types (of_kind k.of 0) x a.1)))
       (λ y u right. accord p sites g b.next right c'.leads)))
   act_leads i.PrintValue (k, shows, b) cl = datum s.stack (had b.before) (λ x st h q. still (print_value x) (print_still s.world.store x) (λ y u e. there b.next e q.leads))
@@ -588,7 +588,7 @@ module _ (limit : ℕ) (w : Setting) (p : Program) (code : Code) (sites : ℕ �
   act_leads i.TestStep (k, whole, b) cl = datum s.stack (had b.before) (λ x st h q.
       still (unless_zero (number_of x) here) (unless_still s.world.store (number_of x) here) (λ y u e. there b.next e (had b.before).leads))
   act_leads i.CountBegin (k, whole, b) cl = object s.stack (had b.before) (λ q st h e c. datum st c (λ by st1 h1 c1. datum st1 c1 (λ last st2 h2 c2.
-      datum st2 c2 (λ start st3 h3 c3. changed (set q start here) (set_after types g s.world.store k q start here acc.store e
+      datum st2 c2 (λ start st3 h3 c3. changed (set q start here) (set_after types g s.world.store k q start here acc.store h.1 e
       (taken_all types k q 0 start (not_is _ (and_is _ _ (and_is _ _ whole).0).0) h.1 refl h3)) (λ y u right. accord p sites g b.next right (tt, c3.leads))))))
   act_leads (i.CountNext d) b cl = at_turns p sites g Rest s.here.level s.here.names K o r fits.end s.stack (had b.before) (λ n by st q. by_turns n by st q)
     where
@@ -600,7 +600,7 @@ module _ (limit : ℕ) (w : Setting) (p : Program) (code : Code) (sites : ℕ �
       changed (looks (λ store. get store q.path) >>= λ old. converted of (Number (number_of old +ℤ by)) here.place >>= λ x. set q x here)
       (calm_then (looks_still s.world.store (λ store. get store q.path)) (λ old t.
       calm_then (number_calm types of (number_of old +ℤ by) here.place (subst (λ x. is_number x ≡ true) same a.1)) (λ x is.
-      set_after types g s.world.store k q x here acc.store e (taken_all types k q 0 x (not_is _ (and_is _ _ a.0).0) h.1 refl (subst (λ y. IsOf types (of_kind y 0) x) (sym same) is)))))
+      set_after types g s.world.store k q x here acc.store h.1 e (taken_all types k q 0 x (not_is _ (and_is _ _ a.0).0) h.1 refl (subst (λ y. IsOf types (of_kind y 0) x) (sym same) is)))))
       (λ y u right. accord p sites g b.next right c.leads)))
   act_leads i.Lend (k, b) cl = object s.stack (had b.before) (λ q st h e c. goes_by _ _ b.next (had b.before).leads)
   act_leads i.Unlend b cl = goes_by _ _ b.next (had b.before).leads
@@ -631,12 +631,12 @@ module _ (limit : ℕ) (w : Setting) (p : Program) (code : Code) (sites : ℕ �
   act_leads i.OpenContents (k, held, b) cl = object s.stack (had b.before) (λ q st h e c.
       performing_calm p sites g (opens q here) s.world (opens_calm types g k q here s.world.store acc.store held h e) (λ y u f e'. there b.next e' (f.1, (had b.before).leads)))
   act_leads i.Free (k, held, b) cl = object s.stack (had b.before) (λ q st h e c.
-      changed (set q Unallocated here) (set_after types g s.world.store k q Unallocated here acc.store e (held_all types k q Unallocated held h.1 held))
+      changed (set q Unallocated here) (set_after types g s.world.store k q Unallocated here acc.store h.1 e (held_all types k q Unallocated held h.1 held))
       (λ y u right. accord p sites g b.next right (had b.before).leads))
   act_leads i.Clear (k, b) cl = standing b.before (λ q st h e is c.
-      changed (clear q here) (clear_after types g s.world.store k q here acc.store e is) (λ y u right. accord p sites g b.next right (had b.before).leads))
+      changed (clear q here) (clear_after types g s.world.store k q here acc.store h.1 e is) (λ y u right. accord p sites g b.next right (had b.before).leads))
   act_leads i.Set (k, held, start, b) cl = standing b.before (λ q st h e is c.
-      changed (set q l.value here) (set_after types g s.world.store k q l.value here acc.store e
+      changed (set q l.value here) (set_after types g s.world.store k q l.value here acc.store h.1 e
       (subst (λ v. AllOf types (each_kind k q.reach) (spread (length (paths q)) v)) (sym start)
       (set_all types k q s.world.store (shape_in (setting_of p).shapes k.of) held h.1 is (λ known. initial_is p formed sense k.of known))))
       (λ y u right. accord p sites g b.next right (had b.before).leads))

@@ -1,11 +1,11 @@
 -- Stores of kinds: objects that are read and changed, levels that begin and end.
-use Rattle.std.proofs.Common.{◌≡◌, ap, ℕ, zero, suc, List, [], ◌∷◌, ◌++◌, length, take, Some, refl, subst}
+use Rattle.std.proofs.Common.{◌≡◌, ap, ℕ, zero, suc, true, List, [], ◌∷◌, ◌++◌, length, take, Some, refl, subst}
 use Rattle.std.specs.Prelude.{slice_get, slice_set, slice_index_or}
 use Rattle.f3_program.specs.declared.declarations.Derived.{Derived}
 use Rattle.f3_program.specs.declared.declarations.Kind.{Kind}
 use Rattle.f3_meaning_whole.specs.Value.{Value, Unallocated}
 use Rattle.f3_meaning_whole.specs.Store.{Store, Root, Static, Local, Path, at_root, with_root, get, put, put_all}
-use Rattle.f3_cell_kinds.specs.Holds.{IsOf}
+use Rattle.f3_cell_kinds.specs.Holds.{is_one, IsOf}
 use Rattle.f3_cell_kinds.proofs.Asked.{found_is}
 use Rattle.f3_store_kinds.proofs.Ways.{part_is, changed_is}
 use Rattle.f3_store_kinds.specs.Typing.{Typing, kind_by, kind_at, cut, extended, AreOf, AreLevels, AllOf, IsTyped, LeadsTo, AllLeadTo, IsOrNone}
@@ -69,16 +69,16 @@ module _ (types : List Derived) where
       let q = root_of_path g p k e in
       part_is types q.0 k (at_root store p.root) p.steps (root_is g store p.root q.0 h q.1) q.2
 
-  pub put_is : (g : Typing) (store : Store) (k : Kind) (p : Path) (v : Value) → IsTyped types g store → LeadsTo types g k p → IsOf types k v → IsTyped types g (put store p v)
-  put_is g store k p v h e f =
+  pub put_is : (g : Typing) (store : Store) (k : Kind) (p : Path) (v : Value) → IsTyped types g store → LeadsTo types g k p → is_one k ≡ true → IsOf types k v → IsTyped types g (put store p v)
+  put_is g store k p v h e one f =
       let q = root_of_path g p k e in
-      root_set g store p.root q.0 _ h q.1 (changed_is types q.0 k (at_root store p.root) v p.steps (root_is g store p.root q.0 h q.1) q.2 f)
+      root_set g store p.root q.0 _ h q.1 (changed_is types q.0 k (at_root store p.root) v p.steps (root_is g store p.root q.0 h q.1) q.2 one f)
 
-  pub puts_are : (g : Typing) (store : Store) (k : Kind) (ps : List Path) (vs : List Value) → IsTyped types g store → AllLeadTo types g k ps → AllOf types k vs →
+  pub puts_are : (g : Typing) (store : Store) (k : Kind) (ps : List Path) (vs : List Value) → IsTyped types g store → AllLeadTo types g k ps → is_one k ≡ true → AllOf types k vs →
       IsTyped types g (put_all ps vs store)
-  puts_are g store k [] vs h e f = h
-  puts_are g store k (p ∷ ps) [] h e f = h
-  puts_are g store k (p ∷ ps) (v ∷ vs) h e f = puts_are g (put store p v) k ps vs (put_is g store k p v h e.0 f.0) e.1 f.1
+  puts_are g store k [] vs h e one f = h
+  puts_are g store k (p ∷ ps) [] h e one f = h
+  puts_are g store k (p ∷ ps) (v ∷ vs) h e one f = puts_are g (put store p v) k ps vs (put_is g store k p v h e.0 one f.0) e.1 one f.1
 
   -- ---- levels
 

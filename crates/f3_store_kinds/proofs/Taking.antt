@@ -7,6 +7,7 @@ use Rattle.f3_places.specs.declared.source.Place.{Place}
 use Rattle.f3_program.specs.declared.declarations.Base.{Base}
 use Rattle.f3_program.specs.declared.declarations.Base.TheVariants as base
 use Rattle.f3_program.specs.declared.declarations.Component as m
+use Rattle.f3_program.specs.declared.declarations.Declared.{Declared}
 use Rattle.f3_program.specs.declared.declarations.Derived.{Derived}
 use Rattle.f3_program.specs.declared.declarations.Kind.{Kind}
 use Rattle.f3_meaning_whole.specs.Value.{Span, Value, Number, Truth, Composite, Array, Unallocated, Allocated, Values, none, more, listed, joined, count, spread, cleared, all_cleared}
@@ -21,7 +22,7 @@ use Rattle.f3_meaning_whole.specs.Shape.{Shape, Whole, Logical, initial_of}
 use Rattle.f3_meaning_whole.specs.Exec.{vacant, status_number}
 use Rattle.f3_meaning_whole.specs.Formed.{alike, is_before, of_kind, is_scalar, is_number, is_whole_number}
 use Rattle.f3_cell_kinds.specs.Effect.{held_kind}
-use Rattle.f3_cell_kinds.specs.Holds.{Reaches, IsOf, AreComponents, AreElements}
+use Rattle.f3_cell_kinds.specs.Holds.{Reaches, HasBounds, IsOf, AreComponents, AreElements}
 use Rattle.f3_cell_kinds.proofs.Asked.{and_is, not_is, kind_same}
 use Rattle.f3_cell_kinds.proofs.Scalars.{no_rank, no_both, rank_is, alike_is}
 use Rattle.f3_cell_kinds.proofs.Reaching.{listed_joined}
@@ -120,6 +121,14 @@ module _ (types : List Derived) where
   cleared_many none = refl
   cleared_many (more v vs) = ap suc (cleared_many vs)
 
+  cleared_bounds : (d : Declared) (v : Value) → HasBounds d v → HasBounds d (cleared v)
+  cleared_bounds d (Number z) h = tt
+  cleared_bounds d (Truth b) h = tt
+  cleared_bounds d (Composite vs) h = tt
+  cleared_bounds d (Array ss vs) h = h
+  cleared_bounds d Unallocated h = tt
+  cleared_bounds d (Allocated v) h = tt
+
   mutual
     pub cleared_is : (k : Kind) (v : Value) → IsOf types k v → IsOf types k (cleared v)
     cleared_is k (Number z) h = h
@@ -133,7 +142,7 @@ module _ (types : List Derived) where
     components_cleared [] none h = tt
     components_cleared [] (more v vs) h = absurd h
     components_cleared (c ∷ cs) none h = absurd h
-    components_cleared (c ∷ cs) (more v vs) h = (cleared_is c.declared.kind v h.0, components_cleared cs vs h.1)
+    components_cleared (c ∷ cs) (more v vs) h = (cleared_is c.declared.kind v h.0, cleared_bounds c.declared v h.1, components_cleared cs vs h.2)
 
     elements_cleared : (k : Kind) (vs : Values) → AreElements types k vs → AreElements types k (all_cleared vs)
     elements_cleared k none h = tt
@@ -254,14 +263,14 @@ module _ (types : List Derived) where
   -- ---- changes, levels
 
   module _ (g : Typing) where
-    pub set_after : (store : Store) (k : Kind) (r : Reference) (v : Value) (here : Here) → IsTyped types g store → Leads types g k r →
+    pub set_after : (store : Store) (k : Kind) (r : Reference) (v : Value) (here : Here) → IsTyped types g store → Reaches k r.reach → Leads types g k r →
         AllOf types (each_kind k r.reach) (spread (length (paths r)) v) → After (λ x st. IsTyped types g st) store (set r v here)
-    set_after store k r v here h e f = does_after {P = λ x st. IsTyped types g st} _ (changes_are types g store k r (spread (length (paths r)) v) h e f)
+    set_after store k r v here h reached e f = does_after {P = λ x st. IsTyped types g st} _ (changes_are types g store k r (spread (length (paths r)) v) h reached e f)
 
-    pub clear_after : (store : Store) (k : Kind) (r : Reference) (here : Here) → IsTyped types g store → Leads types g k r → IsOf types k (held_at store r.path r.reach) →
+    pub clear_after : (store : Store) (k : Kind) (r : Reference) (here : Here) → IsTyped types g store → Reaches k r.reach → Leads types g k r → IsOf types k (held_at store r.path r.reach) →
         After (λ x st. IsTyped types g st) store (clear r here)
-    clear_after store k r here h e f = does_after {P = λ x st. IsTyped types g st} _
-        (changes_are types g store k r (map (λ p. cleared (get store p)) (paths r)) h e (gone_by k store r.path r.reach f))
+    clear_after store k r here h reached e f = does_after {P = λ x st. IsTyped types g st} _
+        (changes_are types g store k r (map (λ p. cleared (get store p)) (paths r)) h reached e (gone_by k store r.path r.reach f))
 
     pub enter_after : (store : Store) (ks : List Kind) (vs : List Value) → IsTyped types g store → AreOf types ks vs → After (λ x st. IsTyped types (extended g ks) st) store (enter vs)
     enter_after store ks vs h f = does_after {P = λ x st. IsTyped types (extended g ks) st} _ (begun_is types g store ks vs h f)

@@ -9,10 +9,11 @@ use Rattle.f3_meaning_whole.specs.Store.{Step, Component, Element, Contents, par
 use Rattle.f3_meaning_whole.specs.Act.{component_of, derived_of}
 use Rattle.f3_meaning_whole.specs.Formed.{found, of_kind, is_scalar}
 use Rattle.f3_cell_kinds.specs.Effect.{held_kind}
-use Rattle.f3_cell_kinds.specs.Holds.{IsOf, AreComponents, AreElements}
+use Rattle.f3_cell_kinds.specs.Holds.{is_one, IsOf, AreComponents, AreElements}
 use Rattle.f3_store_kinds.specs.Typing.{kind_by, IsOrNone}
 use Rattle.f3_cell_kinds.proofs.Asked.{some_same, found_is}
 use Rattle.f3_cell_kinds.proofs.Parting.{component_found}
+use Rattle.f3_cell_kinds.proofs.Changing.{with_bounds}
 
 module _ (types : List Derived) where
   same_count : (vs : Values) (n : ℕ) (way : List Step) (x : Value) → length (listed (with_part_at vs n way x)) ≡ length (listed vs)
@@ -64,7 +65,7 @@ module _ (types : List Derived) where
     component_part (x ∷ cs) j (more v vs) zero c way h at e =
         let same : x ≡ c = some_same at in
         part_is c.declared.kind j v way (subst (λ (z : m.Component). IsOf types z.declared.kind v) same h.0) e
-    component_part (x ∷ cs) j (more v vs) (suc n) c way h at e = component_part cs j vs n c way h.1 at e
+    component_part (x ∷ cs) j (more v vs) (suc n) c way h at e = component_part cs j vs n c way h.2 at e
 
     element_part : (k j : Kind) (vs : Values) (n : ℕ) (way : List Step) → AreElements types k vs → kind_by types way k ≡ Some j → IsOrNone types j (part_at vs n way)
     element_part k j none n way h e = inl refl
@@ -72,27 +73,27 @@ module _ (types : List Derived) where
     element_part k j (more v vs) (suc n) way h e = element_part k j vs n way h.1 e
 
   mutual
-    pub changed_is : (k j : Kind) (v x : Value) (way : List Step) → IsOf types k v → kind_by types way k ≡ Some j → IsOf types j x → IsOf types k (with_part v way x)
-    changed_is k j v x [] h e f = subst (λ (z : Kind). IsOf types z x) (sym (some_same e)) f
-    changed_is k j (Composite vs) x (Component n ∷ way) h e f =
+    pub changed_is : (k j : Kind) (v x : Value) (way : List Step) → IsOf types k v → kind_by types way k ≡ Some j → is_one j ≡ true → IsOf types j x → IsOf types k (with_part v way x)
+    changed_is k j v x [] h e one f = subst (λ (z : Kind). IsOf types z x) (sym (some_same e)) f
+    changed_is k j (Composite vs) x (Component n ∷ way) h e one f =
         let q = component_way k j n way e in
-        (h.0, h.1, h.2, component_changed h.1.components.items j vs n q.0 x way h.3 (components_as k h.1 n q.0 h.2 q.1) q.2 f)
-    changed_is k j (Array ss vs) x (Element n ∷ way) h e f =
-        (h.0, h.1, h.2, same_count vs n way x ∙ h.3, element_changed (of_kind k.of 0) j vs n x way h.4 (element_way k j n way e) f)
-    changed_is k j (Allocated v) x (Contents ∷ way) h e f = (h.0, changed_is (held_kind k) j v x way h.1 (contents_way k j way e) f)
-    changed_is k j v x (s ∷ way) h e f = h
+        (h.0, h.1, h.2, component_changed h.1.components.items j vs n q.0 x way h.3 (components_as k h.1 n q.0 h.2 q.1) q.2 one f)
+    changed_is k j (Array ss vs) x (Element n ∷ way) h e one f =
+        (h.0, h.1, h.2, same_count vs n way x ∙ h.3, element_changed (of_kind k.of 0) j vs n x way h.4 (element_way k j n way e) one f)
+    changed_is k j (Allocated v) x (Contents ∷ way) h e one f = (h.0, changed_is (held_kind k) j v x way h.1 (contents_way k j way e) one f)
+    changed_is k j v x (s ∷ way) h e one f = h
 
     component_changed : (cs : List m.Component) (j : Kind) (vs : Values) (n : ℕ) (c : m.Component) (x : Value) (way : List Step) → AreComponents types cs vs → slice_get cs n ≡ Some c →
-        kind_by types way c.declared.kind ≡ Some j → IsOf types j x → AreComponents types cs (with_part_at vs n way x)
-    component_changed [] j vs n c x way h at e f = cc
-    component_changed (y ∷ cs) j none n c x way h at e f = absurd h
-    component_changed (y ∷ cs) j (more v vs) zero c x way h at e f =
+        kind_by types way c.declared.kind ≡ Some j → is_one j ≡ true → IsOf types j x → AreComponents types cs (with_part_at vs n way x)
+    component_changed [] j vs n c x way h at e one f = cc
+    component_changed (y ∷ cs) j none n c x way h at e one f = absurd h
+    component_changed (y ∷ cs) j (more v vs) zero c x way h at e one f =
         let same : y ≡ c = some_same at in
-        (changed_is y.declared.kind j v x way h.0 (subst (λ (z : m.Component). kind_by types way z.declared.kind ≡ Some j) (sym same) e) f, h.1)
-    component_changed (y ∷ cs) j (more v vs) (suc n) c x way h at e f = (h.0, component_changed cs j vs n c x way h.1 at e f)
+        (changed_is y.declared.kind j v x way h.0 (subst (λ (z : m.Component). kind_by types way z.declared.kind ≡ Some j) (sym same) e) one f, with_bounds types y.declared j v x way one f h.1, h.2)
+    component_changed (y ∷ cs) j (more v vs) (suc n) c x way h at e one f = (h.0, h.1, component_changed cs j vs n c x way h.2 at e one f)
 
-    element_changed : (k j : Kind) (vs : Values) (n : ℕ) (x : Value) (way : List Step) → AreElements types k vs → kind_by types way k ≡ Some j → IsOf types j x →
+    element_changed : (k j : Kind) (vs : Values) (n : ℕ) (x : Value) (way : List Step) → AreElements types k vs → kind_by types way k ≡ Some j → is_one j ≡ true → IsOf types j x →
         AreElements types k (with_part_at vs n way x)
-    element_changed k j none n x way h e f = tt
-    element_changed k j (more v vs) zero x way h e f = (changed_is k j v x way h.0 e f, h.1)
-    element_changed k j (more v vs) (suc n) x way h e f = (h.0, element_changed k j vs n x way h.1 e f)
+    element_changed k j none n x way h e one f = tt
+    element_changed k j (more v vs) zero x way h e one f = (changed_is k j v x way h.0 e one f, h.1)
+    element_changed k j (more v vs) (suc n) x way h e one f = (h.0, element_changed k j vs n x way h.1 e one f)

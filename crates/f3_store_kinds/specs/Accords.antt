@@ -15,7 +15,7 @@ use Rattle.f3_code.specs.State as state
 use Rattle.f3_cell_kinds.specs.Types.{Scope, Around, Told, CellType, Site}
 use Rattle.f3_cell_kinds.specs.Types as cell
 use Rattle.f3_cell_kinds.specs.Holds.{InScope}
-use Rattle.f3_store_kinds.specs.Typing.{Typing, cut, AllLeadTo, EachLeads, Leads, AllLead, IsTyped}
+use Rattle.f3_store_kinds.specs.Typing.{Typing, cut, AllLeadTo, EachLeads, PartsBy, Leads, AllLead, IsTyped}
 
 -- the kinds of variables
 abbrev pub declared_kinds : List Declared → List Kind
@@ -50,7 +50,7 @@ module _ (types : List Derived) where
 
   abbrev pub CellLeads : Typing → CellType → Cell → Type 0
   CellLeads g (cell.Object k) (state.Object r) = Leads types g k r
-  CellLeads g (cell.Each array number k) (state.Object r) = EachLeads types g k r
+  CellLeads g (cell.Each array number k) (state.Object r) = EachLeads types g k r × PartsBy types g array.of number r.reach
   CellLeads g (cell.Argument x) (state.Argument y) = PassedLeads g x y
   CellLeads g (cell.Elements of) (state.Elements ps) = AllLeadTo types g (of_kind of 0) ps
   CellLeads g (cell.Objects ks) (state.Objects rs) = AllLead types g ks rs

@@ -26,7 +26,7 @@ use Rattle.f3_cell_kinds.specs.Sense.{MakesSense}
 use Rattle.f3_cell_kinds.specs.Stands.{Stands}
 use Rattle.f3_cell_kinds.specs.Laws.{site_at}
 use Rattle.f3_cell_kinds.specs.Effect.{held_kind}
-use Rattle.f3_cell_kinds.specs.Holds.{IsOf, Refers, Fits}
+use Rattle.f3_cell_kinds.specs.Holds.{Reaches, Refers, is_one, IsOf, Fits}
 use Rattle.f3_cell_kinds.specs.Ways.{kind_along}
 use Rattle.f3_store_kinds.specs.Accords.{declared_kinds, Accords, Follows}
 use Rattle.f3_store_kinds.specs.Clean.{AreClean}
@@ -40,15 +40,15 @@ WaysAgree = (types : List Derived) (k j : Kind) (way : List Step) →
     (kind_along types way k ≡ Some j → kind_by types way k ≡ Some j)
     × ((v : Value) → IsOf types k v → kind_by types way k ≡ Some j → (kind_along types way k ≡ Some j) ⊎ (part v way ≡ Unallocated))
 
--- Where an object of a kind takes a value of its kind, the store is of the same kinds as before.
+-- Where one object of a kind takes a value of its kind, the store is of the same kinds as before.
 abbrev pub PutsKeep : Type 0
 PutsKeep = (types : List Derived) (g : Typing) (store : Store) (k : Kind) (p : Path) (v : Value) →
-    IsTyped types g store → LeadsTo types g k p → IsOf types k v → IsTyped types g (put store p v)
+    IsTyped types g store → LeadsTo types g k p → is_one k ≡ true → IsOf types k v → IsTyped types g (put store p v)
 
 -- So where the objects that a reference reaches take each a value of its kind.
 abbrev pub ChangesKeep : Type 0
 ChangesKeep = (types : List Derived) (g : Typing) (store : Store) (k : Kind) (r : Reference) (vs : List Value) →
-    IsTyped types g store → Leads types g k r → AllOf types (each_kind k r.reach) vs → IsTyped types g (put_all (paths r) vs store)
+    IsTyped types g store → Reaches k r.reach → Leads types g k r → AllOf types (each_kind k r.reach) vs → IsTyped types g (put_all (paths r) vs store)
 
 -- A level that begins adds its kinds, and references lead to where they led.
 abbrev pub LevelsBegin : Type 0

@@ -1,11 +1,12 @@
 -- Of which kinds the objects of a store are, and where references lead.
 use Rattle.std.specs.Prelude.{⊤, ◌≡◌, ◌⊎◌, ◌<◌, ℕ, true, false, nat_lt, if◌then◌else◌}
 use Rattle.std.specs.Prelude.{List, [], ◌∷◌, ◌++◌, take, Option, Some, None, slice_get}
+use Rattle.f3_program.specs.declared.declarations.Base.{Base}
 use Rattle.f3_program.specs.declared.declarations.Component as m
 use Rattle.f3_program.specs.declared.declarations.Derived.{Derived}
 use Rattle.f3_program.specs.declared.declarations.Kind.{Kind}
 use Rattle.f3_meaning_whole.specs.Value.{Value, Unallocated}
-use Rattle.f3_meaning_whole.specs.Store.{Store, Root, Static, Local, Path, Step, Component, Element, Contents}
+use Rattle.f3_meaning_whole.specs.Store.{Store, Root, Static, Local, Path, Step, Component, Element, Contents, within}
 use Rattle.f3_meaning_whole.specs.Reference.{Reach, One, Many, Reference}
 use Rattle.f3_meaning_whole.specs.Act.{component_of}
 use Rattle.f3_meaning_whole.specs.Formed.{found, of_kind, is_scalar}
@@ -105,6 +106,19 @@ module _ (types : List Derived) where
 
   abbrev pub EachLeads : Typing → Kind → Reference → Type 0
   EachLeads g k r = EachBy g k r.path r.reach
+
+  -- the component of a number of an object of a type
+  abbrev pub IsPart : Typing → Base → ℕ → Path → Type 0
+  IsPart g of n p = (q : Path) × (p ≡ within q (Component n)) × LeadsTo g (of_kind of 0) q
+
+  abbrev pub AreParts : Typing → Base → ℕ → List Path → Type 0
+  AreParts g of n [] = ⊤
+  AreParts g of n (p ∷ ps) = IsPart g of n p × AreParts g of n ps
+
+  -- what is reached of each element of an array is its component of this number
+  abbrev pub PartsBy : Typing → Base → ℕ → Reach → Type 0
+  PartsBy g of n One = ⊤
+  PartsBy g of n (Many ss ps) = AreParts g of n ps
 
   -- one for each
   abbrev pub AllLead : Typing → List Kind → List Reference → Type 0

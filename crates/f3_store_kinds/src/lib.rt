@@ -9,7 +9,7 @@ pub fn ways_agree()
     ensures { WaysAgree }
 {}
 
-/// Where an object of a kind takes a value of its kind, the store is of the same kinds as before (own rule).
+/// Where one object of a kind takes a value of its kind, the store is of the same kinds as before (own rule).
 pub fn puts_keep()
     ensures { PutsKeep }
 {}
