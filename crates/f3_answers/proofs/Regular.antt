@@ -115,7 +115,7 @@ followed m f k w front h out (Gives x u) is =
     let left = λ (e : w.answers ≡ granted). sym (ap (λ o. left_by o.end) is) ∙ ap left_by (left_granted m w front h e) ∙ ap (λ o. left_by (end_with granted o.end)) is in (
       front ++ rest.0,
       λ a. ap (λ b. after (m.from (world_with b w)) f) (ahead_both front rest.0 a) ∙ ap (λ r. after r f) (h.same (ahead rest.0 a) ∙ ap (outcome_with (ahead rest.0 a)) is)
-      ∙ ap (behind out) (rest.1.same a),
+          ∙ ap (behind out) (rest.1.same a),
       λ e. granted_both front rest.0 (h.granted e) (rest.1.granted (left e)),
     )
 followed m f k w front h out (Fails error place) is = (front, λ a. ap (λ r. after r f) (h.same a ∙ ap (outcome_with a) is), h.granted)
