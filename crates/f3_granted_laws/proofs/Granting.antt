@@ -54,7 +54,7 @@ module _ (g : Setting) (code : Code) where
 
   -- ---- runs
 
-  state_or : State → Next → State
+  abbrev state_or : State → Next → State
   state_or s (Goes out t) = t
   state_or s (Stays out halt) = s
 
