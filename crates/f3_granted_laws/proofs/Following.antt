@@ -1,6 +1,5 @@
 -- The run of a program over the greatest heap, and its states.
-use Rattle.std.proofs.Common.{◌≡◌, ℕ, zero, suc, ◌+◌, Bool, true, false, List, [], ◌∷◌, ◌++◌, Some, refl, sym, ap, ◌∙◌, arith}
-use Rattle.std.specs.Prelude.{if◌then◌else◌}
+use Rattle.std.proofs.Common.{◌≡◌, ℕ, zero, suc, ◌+◌, Bool, false, List, [], ◌∷◌, ◌++◌, Some, refl, sym, ap, ◌∙◌, arith}
 use Rattle.std.proofs.Math.Path.{fun_ext}
 use Rattle.f3_meaning_whole.specs.Ran.{◌>>=◌, Entered, asks, does, gives}
 use Rattle.f3_meaning_whole.specs.Act.{Setting, claim, enter}
@@ -11,11 +10,11 @@ use Rattle.f3_code.specs.Machine.{advance, before, performs, run, step}
 use Rattle.f3_code.specs.Run.{after, start}
 use Rattle.f3_code.specs.Account.{block, level_words, used}
 use Rattle.f3_code.specs.Heap.{granted, heap_after, heap_first, heap_run, with_answers}
-use Rattle.f3_courses.specs.Courses.{Tells, at_line, state_by}
+use Rattle.f3_courses.specs.Courses.{at_line}
 use Rattle.f3_courses.specs.Runs.{main_of, store_at_first}
 use Rattle.f3_heights.specs.Room.{state_after, state_next, state_run}
 use Rattle.f3_answers.proofs.Regular.{ahead}
-use Rattle.f3_granted_laws.specs.Laws.{greatest, stream, IsOfRun, ProgramsAreGranted, StartIsOfTheRun, StatesFollow, ToldStatesFollow}
+use Rattle.f3_granted_laws.specs.Laws.{greatest, stream, ProgramsAreGranted, StartIsOfTheRun, StatesFollow, ToldStatesFollow}
 use Rattle.f3_granted_laws.proofs.Granting.{answers_granted, runs_are, states_come}
 
 -- the first instruction, with these answers

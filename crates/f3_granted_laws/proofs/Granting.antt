@@ -1,20 +1,15 @@
 -- The greatest heap is never full, so its machine does what the machine does whose requests are all granted.
-use Rattle.std.proofs.Common.{◌≡◌, ℕ, zero, suc, ◌+◌, ◌-◌, ◌%◌, ◌^◌, ◌<◌, Bool, true, false, List, [], ◌++◌, Option, None, Some, refl, sym, ap, ◌∙◌, arith, slice_get}
-use Rattle.std.specs.Prelude.{nat_lt, if◌then◌else◌}
+use Rattle.std.proofs.Common.{◌≡◌, ℕ, zero, suc, ◌+◌, ◌%◌, ◌^◌, ◌<◌, Bool, false, List, [], ◌++◌, Option, None, Some, refl, sym, ap, ◌∙◌, arith, slice_get}
+use Rattle.std.specs.Prelude.{if◌then◌else◌}
 use Rattle.std.proofs.Math.Nat.{mod-lt}
 use Rattle.std.proofs.lemmas.Bool.Decides.{nat_tests}
 use Rattle.f3_meaning_whole.specs.Act.{Setting}
-use Rattle.f3_code.specs.Core.{Program}
-use Rattle.f3_code.specs.CoreRun.{core_setting}
-use Rattle.f3_code.specs.State.{Line, placed, Code, State, Next, Goes, Stays, Course}
+use Rattle.f3_code.specs.State.{Line, placed, Code, State, Next, Goes, Stays}
 use Rattle.f3_code.specs.Machine.{act, advance, before, does_line, run, step}
-use Rattle.f3_code.specs.Run.{after}
 use Rattle.f3_code.specs.Account.{used}
 use Rattle.f3_code.specs.Wants.{wants}
-use Rattle.f3_code.specs.Heap.{answers_to, granted, heap_after, heap_course, heap_does_line, heap_run, heap_step, is_full, refused_once, with_answers}
-use Rattle.f3_courses.specs.Courses.{at_line, next_by, state_by}
-use Rattle.f3_courses.specs.Runs.{is_denied, main_of}
-use Rattle.f3_courses.proofs.Runs.{run_is}
+use Rattle.f3_code.specs.Heap.{answers_to, granted, heap_does_line, heap_run, heap_step, is_full, refused_once, with_answers}
+use Rattle.f3_courses.specs.Courses.{next_by, state_by}
 use Rattle.f3_heights.specs.Room.{state_next, state_run}
 use Rattle.f3_answers.proofs.Regular.{AllGranted, ahead, ahead_both, ahead_granted, granted_both}
 use Rattle.f3_answers.proofs.Steered.{next_with}
