@@ -1,6 +1,6 @@
 -- Each instruction can follow any answers of a heap.
 use Rattle.std.proofs.Common.{ℕ, zero, suc, ℤ, pos, Bool, List, [], ◌∷◌, length, Option, None, Some, refl, slice_get, nat_eq, nat_lt}
-use Rattle.f3_meaning_whole.specs.Value.{Value, Array, Allocated, joined, number_of, truth_of, is_allocated, conforms, spans_of}
+use Rattle.f3_meaning_whole.specs.Value.{Value, Composite, Array, Allocated, joined, number_of, truth_of, is_allocated, conforms, spans_of}
 use Rattle.f3_meaning_whole.specs.Store.{Path, get}
 use Rattle.f3_meaning_whole.specs.Reference.{Reference, spans, is_pinned}
 use Rattle.f3_meaning_whole.specs.declared.run_error.RunError.{RunError}
@@ -78,10 +78,10 @@ module _ (limit : ℕ) (g : Setting) (code : Code) where
   act_steered (i.Unary c t) v here s = at_datum s.stack (λ x st. performing _ _ (change_regular c t x here.place) (λ b c a x w. refl))
   act_steered (i.Binary c t) v here s = at_datum s.stack (λ y st. at_datum st (λ x st. performing _ _ (apply_regular c t x y here.place) (λ b c a x w. refl)))
   act_steered (i.Array k) v here s = at_many argument_of k [] s.stack (λ ps st. performing _ _ (built_regular (array_of ps) here) (λ b c a x w. refl))
-  act_steered (i.Structure t k) v here s = at_many argument_of k [] s.stack (λ ps st. performing _ _ (structure_regular _ 0 ps here) (λ b c a x w. refl))
+  act_steered (i.Structure t k) v here s = at_many argument_of k [] s.stack (λ ps st. performing _ _ (bind_regular (structure_regular _ 0 ps here) (λ vs. built_regular (Composite vs) here)) (λ b c a x w. refl))
   act_steered (i.Call f k) v here s = at_many argument_of k [] s.stack (λ ps st.
       if_steered (nat_lt (length s.frames) limit) (called_steered (slice_get code.procedures f) s st here ps) (straight (λ c a. refl)))
-  act_steered i.Result v here s = at_datum s.stack (λ x st. performing _ _ (bind_regular (result_regular x here) (λ x. built_regular x here)) (λ b c a x w. refl))
+  act_steered i.Result v here s = at_datum s.stack (λ x st. performing _ _ (result_regular x here) (λ b c a x w. refl))
   act_steered i.IsAllocated v here s = at_object s.stack (λ r st. performing _ _ (looks_regular _) (λ b c a x w. refl))
   act_steered i.BoundsOfValue v here s = at_datum s.stack (λ x st. straight (λ c a. refl))
   act_steered i.BoundsOfVariable v here s = at_object s.stack (λ r st. straight (λ c a. refl))
@@ -170,7 +170,7 @@ module _ (limit : ℕ) (g : Setting) (code : Code) where
   act_steered i.Set v here s = at_object s.stack (λ r st. performing _ _ (does_regular _) (λ b c a x w. refl))
   act_steered i.Discard v here s = straight (λ c a. refl)
   act_steered i.Dummies v here s = straight (λ c a. refl)
-  act_steered (i.ResultOf x) v here s = performing _ _ (looks_regular _) (λ b c a x w. refl)
+  act_steered (i.ResultOf x) v here s = performing _ _ (bind_regular (looks_regular _) (λ y. built_regular y here)) (λ b c a x w. refl)
   act_steered i.Outward v here s = outward_steered s.frames s
   act_steered (i.NextArgument k d) v here s = at_objects s.stack (λ rs st. argument_steered rs (is_held (passed_at k (passed_in s.frames))) d s st)
   act_steered i.Return v here s = at_objects s.stack (λ rs st. at_datum st (λ x st. returned_steered s.frames s x))

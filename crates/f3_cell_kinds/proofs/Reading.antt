@@ -68,7 +68,7 @@ performing_at types sites {A = A} {P = P} r w {f = f} given h = record { by = by
     by_end out (Stops code) is = tt
     by_end out Beyond is = tt
 
-give_then : {A B : Type 0} {Q : A → Type 0} {P : B → Type 0} {m : Ran A} {f : A → Ran B} (w : World) → GivesAt Q m w → ((x : A) → Q x → Yields P (f x)) → GivesAt P (m >>= f) w
+pub give_then : {A B : Type 0} {Q : A → Type 0} {P : B → Type 0} {m : Ran A} {f : A → Ran B} (w : World) → GivesAt Q m w → ((x : A) → Q x → Yields P (f x)) → GivesAt P (m >>= f) w
 unfolding ◌>>=◌
 give_then {Q = Q} {P = P} {m = m} {f = f} w h k = record { by = followed Q P f k (m.from w).out (m.from w).end h.by }
 

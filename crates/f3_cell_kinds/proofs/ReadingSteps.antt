@@ -5,9 +5,9 @@ use Rattle.f3_program.specs.declared.declarations.Derived.{Derived}
 use Rattle.f3_program.specs.declared.declarations.Kind.{Kind}
 use Rattle.f3_program.specs.declared.program.Program.{Program}
 use Rattle.f3_meaning_whole.specs.Reference.{Selected, Language, Reach, One, Many, Reference, held_at}
-use Rattle.f3_meaning_whole.specs.Ran.{Event, World, Ran, looks}
+use Rattle.f3_meaning_whole.specs.Ran.{Event, World, Ran, ◌>>=◌, looks}
 use Rattle.f3_meaning_whole.specs.Act.{Setting, Here, Passed, Chosen, structure, components_of, named, component, component_of, contents, read, picks_in_each}
-use Rattle.f3_meaning_whole.specs.Eval.{by_reach, spans_of_component}
+use Rattle.f3_meaning_whole.specs.Eval.{built, by_reach, spans_of_component}
 use Rattle.f3_meaning_whole.specs.Formed.{Given, all, of_kind, sectioned, element_of_each, IsWellFormed}
 use Rattle.f3_meaning_whole.specs.Shape.{Whole, shapes_of}
 use Rattle.f3_meaning_whole.specs.Value.{Composite}
@@ -26,7 +26,7 @@ use Rattle.f3_cell_kinds.specs.Kinds as kinds
 use Rattle.f3_cell_kinds.specs.Holds.{Reaches, Refers, IsOf, Is, InScope, Fits}
 use Rattle.f3_cell_kinds.specs.Stands.{CellsStand, VariablesStand, Stands}
 use Rattle.f3_cell_kinds.proofs.Asked.{some_same, found_is, some_is, only_is, and_is, not_is}
-use Rattle.f3_cell_kinds.proofs.Scalars.{no_rank, no_both}
+use Rattle.f3_cell_kinds.proofs.Scalars.{no_rank, no_both, built_yields}
 use Rattle.f3_cell_kinds.proofs.Given.{arguments_over, choices_over}
 use Rattle.f3_cell_kinds.proofs.Picking.{AllChosen, each_yields}
 use Rattle.f3_cell_kinds.proofs.Reaching.{AllPassed}
@@ -37,7 +37,7 @@ use Rattle.f3_cell_kinds.proofs.Holding.{Keeps, stays_so}
 use Rattle.f3_cell_kinds.proofs.Standing.{in_is}
 use Rattle.f3_cell_kinds.proofs.Entering as entering
 use Rattle.f3_cell_kinds.proofs.Stepping.{act_holds}
-use Rattle.f3_cell_kinds.proofs.Reading.{GivesAt, calm_given, yields_given, selects_given, performing_at, read_given, contents_given, opens_given, named_given, result_given, component_given, part_cell_is, part_kind_is}
+use Rattle.f3_cell_kinds.proofs.Reading.{GivesAt, give_then, calm_given, yields_given, selects_given, performing_at, read_given, contents_given, opens_given, named_given, result_given, component_given, part_cell_is, part_kind_is}
 
 append_none : {A : Type 0} (xs : List A) → xs ++ [] ≡ xs
 append_none [] = refl
@@ -189,8 +189,10 @@ module _ (limit : ℕ) (g : Setting) (p : Program) (code : Code) (sites : ℕ �
   act_reads (i.ResultOf x) b =
       let c = in_is (sites s.pc).scope _ b in
       let lead = c.2.1 in
-      performing_at p.types.items sites (looks (result_at x s.here.level)) s.world
+      performing_at p.types.items sites (looks (result_at x s.here.level) >>= λ y. built y here) s.world
+      (give_then {Q = IsOf p.types.items (sites s.pc).returns} {P = IsOf p.types.items (sites s.pc).returns} s.world
       (result_given p.types.items p c.0 x s.here (sites s.pc).returns s.world c.2.0 (λ n t f e. variables_at c.0 c.1 n (sites s.pc).returns t f e))
+      (λ y f. built_yields p.types.items (IsOf p.types.items (sites s.pc).returns) y here f))
       (λ y f w. there lead.next (top f (had lead.before)))
   act_reads (i.Select is_opened n) (k, bs, j, many, part, b) = at_choices bs n many (b.before ∙ sym (choices_over bs (cell.Object k ∷ []) b.rest)) (λ cs st are c d.
       beneath st c d (λ q st' h is c'. performing_at p.types.items sites (selects is_opened cs q here) s.world
@@ -222,8 +224,10 @@ module _ (limit : ℕ) (g : Setting) (p : Program) (code : Code) (sites : ℕ �
       let parts = subst (λ ss. PartsFit p.types.items v.0.components.items (components_of (slice_index_or ss t Whole))) (sym shapes_same) (tree_is p formed sense t v.0 v.1) in
       let calm = structure_calm p.types.items s.world.store (0 + t) 0 v.0.components.items (components_of (slice_index_or g.shapes t Whole)) gs ps here
       (components_declared p formed sense t v.0 v.1) parts passed stand (structure_takes p.types.items v.0 gs a.0 whole') in
-      performing_at p.types.items sites (structure (components_of (slice_index_or g.shapes t Whole)) 0 ps here) s.world (calm_given s.world calm)
-      (λ vs f w. there b.next (top (subst (λ (z : Kind). IsOf p.types.items z (Composite vs)) a.1 (refl, v.0, v.1, f)) c)))
+      performing_at p.types.items sites (structure (components_of (slice_index_or g.shapes t Whole)) 0 ps here >>= λ vs. built (Composite vs) here) s.world
+      (give_then {P = IsOf p.types.items k} s.world (calm_given s.world calm)
+      (λ vs f. built_yields p.types.items (IsOf p.types.items k) (Composite vs) here (subst (λ (z : Kind). IsOf p.types.items z (Composite vs)) a.1 (refl, v.0, v.1, f))))
+      (λ y f w. there b.next (top f c)))
   act_reads x b = act_holds limit g p code sites are s fits l x refl b
 
 module _ (limit : ℕ) (g : Setting) (p : Program) (code : Code) (sites : ℕ → Site) (are : AreKinds p sites code) (formed : IsWellFormed p) (sense : MakesSense p)

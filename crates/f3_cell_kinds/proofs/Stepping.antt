@@ -114,7 +114,7 @@ module _ (limit : ℕ) (g : Setting) (p : Program) (code : Code) (sites : ℕ �
   act_holds (i.Binary c t) e (k, j, fit, b) = datum s.stack (had b.before) (λ y st f q. datum st q (λ x st' h q'.
       performing types sites (apply c t x y here.place) s.world (apply_yields types c t k j x y here.place fit h f) (λ z f' w. there b.next (top f' q'))))
   act_holds i.Result e (k, b) = datum s.stack (had b.before) (λ x st h q.
-      performing types sites (result x here >>= λ y. built y here) s.world (bind_yields (result_yields types k x here h) (λ y f. built_yields types _ y here f))
+      performing types sites (result x here) s.world (result_yields types k x here h)
       (λ y f w. there b.next (top f q)))
   act_holds i.IsAllocated e (k, held, b) = object s.stack (had b.before) (λ q st h c.
       performing types sites (looks (λ store. Truth (is_allocated (get store q.path)))) s.world (looks_yields {P = IsOf types (of_kind base.Logical 0)} _ (λ store. refl))

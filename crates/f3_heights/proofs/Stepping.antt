@@ -1,6 +1,6 @@
 -- Each step keeps to heights.
 use Rattle.std.specs.Prelude.{pos, ◌+ℤ◌, slice_index_or}
-use Rattle.f3_meaning_whole.specs.Value.{Value, Number, Truth, Array, Unallocated, Allocated, joined, number_of, truth_of, is_allocated, count, conforms, spans_of}
+use Rattle.f3_meaning_whole.specs.Value.{Value, Number, Truth, Composite, Array, Unallocated, Allocated, joined, number_of, truth_of, is_allocated, count, conforms, spans_of}
 use Rattle.f3_meaning_whole.specs.Store.{Path, get}
 use Rattle.f3_meaning_whole.specs.Reference.{Selected, Language, Reference, spans, is_pinned}
 use Rattle.f3_meaning_whole.specs.declared.run_error.RunError.{RunError}
@@ -63,7 +63,7 @@ module _ (limit : ℕ) (g : Setting) (code : Code) (a : Plan) (sound : Sound a c
       fit limit a need needs lead.rest 1 lead.next kept.next p0 fits.frames))
   act_keeps (i.Structure t k) v here s fits lead kept enters =
       at_many limit a need needs (a.mark s.pc) lead.rest argument_of k [] s.stack (took limit a need needs (a.mark s.pc) lead.rest s.stack k lead.before fits.stack) (λ ps st0 p0.
-      performing limit a need needs (structure (components_of (slice_index_or g.shapes t Whole)) 0 ps here) s.world (λ done w.
+      performing limit a need needs (structure (components_of (slice_index_or g.shapes t Whole)) 0 ps here >>= λ vs. built (Composite vs) here) s.world (λ done w.
       fit limit a need needs lead.rest 1 lead.next kept.next p0 fits.frames))
   act_keeps (i.Call f n) v here s fits lead kept enters =
       at_many limit a need needs (a.mark s.pc) lead.rest argument_of n [] s.stack (took limit a need needs (a.mark s.pc) lead.rest s.stack n lead.before fits.stack) (λ ps st p.
@@ -89,7 +89,7 @@ module _ (limit : ℕ) (g : Setting) (code : Code) (a : Plan) (sound : Sound a c
           record { top = a.mark e.at; others = need ∷ needs; change = Begins few refl refl; fits = record { stack = stack; frames = caller } })
   act_keeps i.Result v here s fits lead kept enters =
       at_datum limit a need needs (a.mark s.pc) lead.rest s.stack (took limit a need needs (a.mark s.pc) lead.rest s.stack 1 lead.before fits.stack) (λ x st0 p0.
-      performing limit a need needs (result x here >>= λ x. built x here) s.world (λ done w. fit limit a need needs lead.rest 1 lead.next kept.next p0 fits.frames))
+      performing limit a need needs (result x here) s.world (λ done w. fit limit a need needs lead.rest 1 lead.next kept.next p0 fits.frames))
   act_keeps i.IsAllocated v here s fits lead kept enters =
       at_object limit a need needs (a.mark s.pc) lead.rest s.stack (took limit a need needs (a.mark s.pc) lead.rest s.stack 1 lead.before fits.stack) (λ r st0 p0.
       performing limit a need needs (looks (λ store. Truth (is_allocated (get store r.path)))) s.world (λ done w.
@@ -396,7 +396,7 @@ module _ (limit : ℕ) (g : Setting) (code : Code) (a : Plan) (sound : Sound a c
   act_keeps i.Dummies v here s fits lead kept enters =
       goes_there limit a need needs lead.rest 1 lead.next kept.next (took limit a need needs (a.mark s.pc) lead.rest s.stack 0 lead.before fits.stack) fits.frames
   act_keeps (i.ResultOf x) v here s fits lead kept enters =
-      performing limit a need needs (looks (result_at x s.here.level)) s.world (λ done w.
+      performing limit a need needs (looks (result_at x s.here.level) >>= λ y. built y here) s.world (λ done w.
       fit limit a need needs lead.rest 1 lead.next kept.next (took limit a need needs (a.mark s.pc) lead.rest s.stack 0 lead.before fits.stack) fits.frames)
   act_keeps i.Outward v here s fits lead kept enters = by_frames s.frames
     where

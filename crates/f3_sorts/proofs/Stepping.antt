@@ -1,6 +1,6 @@
 -- Each step keeps to sorts.
 use Rattle.std.specs.Prelude.{pos, ◌+ℤ◌, slice_index_or}
-use Rattle.f3_meaning_whole.specs.Value.{Value, Number, Truth, Array, Unallocated, Allocated, joined, number_of, truth_of, is_allocated, count, conforms, spans_of}
+use Rattle.f3_meaning_whole.specs.Value.{Value, Number, Truth, Composite, Array, Unallocated, Allocated, joined, number_of, truth_of, is_allocated, count, conforms, spans_of}
 use Rattle.f3_meaning_whole.specs.Store.{Path, get}
 use Rattle.f3_meaning_whole.specs.Reference.{Selected, Language, Reference, spans, is_pinned}
 use Rattle.f3_meaning_whole.specs.declared.run_error.RunError.{RunError}
@@ -44,7 +44,7 @@ module _ (limit : ℕ) (g : Setting) (code : Code) (sorts : ℕ → List Sort) (
       fit sorts lead.next (on_top sorts refl p0) fits.frames))
   act_keeps (i.Structure t k) v here s fits lead =
       at_many sorts _ sort.Argument argument_of is_argument k [] s.stack (took sorts s.stack lead.before fits.stack) (λ ps st0 p0.
-      performing sorts _ (structure (components_of (slice_index_or g.shapes t Whole)) 0 ps here) s.world (structure_ends _ 0 ps here) (λ done w.
+      performing sorts _ (structure (components_of (slice_index_or g.shapes t Whole)) 0 ps here >>= λ vs. built (Composite vs) here) s.world (bind_ends (structure_ends _ 0 ps here) (λ vs. built_ends (Composite vs) here)) (λ done w.
       fit sorts lead.next (on_top sorts refl p0) fits.frames))
   act_keeps (i.Call f n) v here s fits lead =
       at_many sorts _ sort.Argument argument_of is_argument n [] s.stack (took sorts s.stack lead.before fits.stack) (λ ps st p.
@@ -59,7 +59,7 @@ module _ (limit : ℕ) (g : Setting) (code : Code) (sorts : ℕ → List Sort) (
           fit sorts (are.procedures f e is) empty (lead.rest, lead.next, p.by, fits.frames))
   act_keeps i.Result v here s fits lead =
       at_datum sorts _ s.stack (took sorts s.stack lead.before fits.stack) (λ x st0 p0.
-      performing sorts _ (result x here >>= λ x. built x here) s.world (bind_ends (result_ends x here) (λ x. built_ends x here)) (λ done w. fit sorts lead.next (on_top sorts refl p0) fits.frames))
+      performing sorts _ (result x here) s.world (result_ends x here) (λ done w. fit sorts lead.next (on_top sorts refl p0) fits.frames))
   act_keeps i.IsAllocated v here s fits lead =
       at_object sorts _ s.stack (took sorts s.stack lead.before fits.stack) (λ r st0 p0.
       performing sorts _ (looks (λ store. Truth (is_allocated (get store r.path)))) s.world (looks_ends _) (λ done w.
@@ -356,7 +356,7 @@ module _ (limit : ℕ) (g : Setting) (code : Code) (sorts : ℕ → List Sort) (
   act_keeps i.Dummies v here s fits lead =
       goes_there sorts _ lead.next (on_top sorts refl (took sorts s.stack lead.before fits.stack)) fits.frames
   act_keeps (i.ResultOf x) v here s fits lead =
-      performing sorts _ (looks (result_at x s.here.level)) s.world (looks_ends _) (λ done w.
+      performing sorts _ (looks (result_at x s.here.level) >>= λ y. built y here) s.world (bind_ends (looks_ends _) (λ y. built_ends y here)) (λ done w.
       fit sorts lead.next (on_top sorts refl (took sorts s.stack lead.before fits.stack)) fits.frames)
   act_keeps i.Outward v here s fits lead = by_frames s.frames refl
     where

@@ -427,11 +427,12 @@ module _ (limit : ℕ) (w : Setting) (p : Program) (code : Code) (sites : ℕ �
       still (built (Array (record { lower = pos 1; extent = length (given ps) } ∷ []) (joined (given ps))) here)
       (built_still s.world.store (Array (record { lower = pos 1; extent = length (given ps) } ∷ []) (joined (given ps))) here) (λ y u e. there b.next e (tt, q.leads)))
   act_leads (i.Structure t n) (gs, k, many, is, whole, b) cl = at_arguments p sites g Rest s.here.level s.here.names K o r fits.end gs n s.stack many (had b.before) (λ ps st are lead q.
-      still (structure (components_of (slice_index_or w.shapes t Whole)) 0 ps here) (structure_still s.world.store (components_of (slice_index_or w.shapes t Whole)) 0 ps here)
+      still (structure (components_of (slice_index_or w.shapes t Whole)) 0 ps here >>= λ vs. built (Composite vs) here)
+      (then_still s.world.store (structure_still s.world.store (components_of (slice_index_or w.shapes t Whole)) 0 ps here) (λ vs. built_still s.world.store (Composite vs) here))
       (λ y u e. there b.next e (tt, q.leads)))
   act_leads (i.Call f n) b cl = call_leads f n b
   act_leads i.Result (k, b) cl = datum s.stack (had b.before) (λ x st h q.
-      still (result x here >>= λ y. built y here) (then_still s.world.store (result_still s.world.store x here) (λ y. built_still s.world.store y here)) (λ y u e. there b.next e (tt, q.leads)))
+      still (result x here) (result_still s.world.store x here) (λ y u e. there b.next e (tt, q.leads)))
   act_leads i.IsAllocated (k, held, b) cl = object s.stack (had b.before) (λ q st h e c.
       still (looks (λ store. Truth (is_allocated (get store q.path)))) (looks_still s.world.store _) (λ y u e. there b.next e (tt, c.leads)))
   act_leads i.BoundsOfValue (k, held, b) cl = datum s.stack (had b.before) (λ x st h q. goes b.next (tt, q.leads))
@@ -646,7 +647,7 @@ module _ (limit : ℕ) (w : Setting) (p : Program) (code : Code) (sites : ℕ �
   act_leads (i.ResultOf x) b cl =
       let c = in_is (sites s.pc).scope _ b in
       let lead = c.2.1 in
-      still (looks (result_at x s.here.level)) (looks_still s.world.store (result_at x s.here.level)) (λ y u e. there lead.next e (tt, (had lead.before).leads))
+      still (looks (result_at x s.here.level) >>= λ y. built y here) (then_still s.world.store (looks_still s.world.store (result_at x s.here.level)) (λ y. built_still s.world.store y here)) (λ y u e. there lead.next e (tt, (had lead.before).leads))
   act_leads i.Outward b cl = outward_leads b
   act_leads (i.NextArgument n d) (k, ks, b) cl = at_objects p sites g Rest s.here.level s.here.names K o r fits.end s.stack (had b.before)
       (λ rs st h e q. by_objects rs (is_held (passed_at n (passed_in s.frames))) st h e q)
