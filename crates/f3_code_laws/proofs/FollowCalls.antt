@@ -3,10 +3,12 @@ use Rattle.std.proofs.Common.{◌≡◌, ℕ, zero, suc, ◌+◌, true, false, L
 use Rattle.std.specs.Prelude.{slice_get, nat_lt}
 use Rattle.f3_places.specs.declared.source.Place.{Place}
 use Rattle.f3_meaning_whole.specs.Value.{Value, Unallocated}
+use Rattle.f3_meaning_whole.specs.Store.{Store}
 use Rattle.f3_meaning_whole.specs.Reference.{Reference}
 use Rattle.f3_meaning_whole.specs.declared.run_error.RunError.TheVariants.{CallsTooDeep}
 use Rattle.f3_meaning_whole.specs.Ran.{World, Ran, ◌>>=◌, gives, looks}
-use Rattle.f3_meaning_whole.specs.Act.{Setting, Here, Passed, Calls, at, begins, claim, enter, leave}
+use Rattle.f3_meaning_whole.specs.Act.{Setting, Here, Passed, Calls, at, begins, claim, claim_for, enter, leave}
+use Rattle.f3_meaning_whole.specs.Eval.{built}
 use Rattle.f3_meaning_whole.specs.Exec.{Flow, Onward, Cycled, Left, Returned, held, dummies, left_at}
 use Rattle.f3_code.specs.Work.{Work, routines_of}
 use Rattle.f3_code.specs.Core as c
@@ -18,8 +20,8 @@ use Rattle.f3_code.specs.Machine.{act, step, argument_of, begun, entered, called
 use Rattle.f3_code.specs.Machine as machine
 use Rattle.f3_code.specs.Code.{code_of, begin_code, finish_code, discard_code, body_ways, last_code, body_code, procedures_code, entries, places_of}
 use Rattle.f3_code_laws.proofs.Places.{HasAt, has_front, has_back}
-use Rattle.f3_code_laws.proofs.Reaching.{Reaches, step_then, stays, one_step, does_it, fails_at, then_on, as_well, bind_assoc, then_same, nothing_then, looks_end}
-use Rattle.f3_code_laws.proofs.Ending.{begins_ends, leave_ends, begun_ends}
+use Rattle.f3_code_laws.proofs.Reaching.{Reaches, step_then, stays, one_step, does_it, fails_at, then_on, as_well, bind_assoc, then_same, nothing_then, bind_ends, looks_end}
+use Rattle.f3_code_laws.proofs.Ending.{begins_ends, leave_ends, begun_ends, built_ends}
 use Rattle.f3_code_laws.proofs.FollowValue.{state, onto, popped, CallsFollow, is_at, at_line}
 use Rattle.f3_code_laws.proofs.FollowWork.{RoutinesFollow}
 use Rattle.f3_code_laws.proofs.FollowStatement.{leads}
@@ -38,6 +40,13 @@ begun_then ps initial here rest =
     ∙ then_same (looks (λ store. length store.levels)) (λ level. bind_assoc (enter (held ps)) (λ done. enter initial >>= λ done. gives level) rest
     ∙ then_same (enter (held ps)) (λ done. bind_assoc (enter initial) (λ done. gives level) rest
     ∙ then_same (enter initial) (λ done. nothing_then level rest))))
+
+-- a value that leaves its activation, and what follows
+built_then : {A : Type 0} (f : Store → Value) (here : Here) (rest : Value → Ran A) →
+    ((looks f >>= λ v. built v here) >>= rest) ≡ (looks f >>= λ v. claim_for v here >>= λ done. rest v)
+built_then f here rest =
+    bind_assoc (looks f) (λ v. built v here) rest
+    ∙ then_same (looks f) (λ v. bind_assoc (claim_for v here) (λ done. gives v) rest ∙ then_same (claim_for v here) (λ done. nothing_then v rest))
 
 -- the objects of a procedure's dummies, and where its activation stands
 abbrev objects_of : c.Procedure → List Passed → Here → ℕ → List Reference
@@ -63,6 +72,7 @@ module _ (g : Setting) (n : ℕ) (types : List Work) (calls : Calls) where
       left_at flow p.end (inside p ps here level) >>= λ place.
       finish_from g n types calls 0 p.finish (at place (inside p ps here level)) >>= λ done.
       looks (result_at p.result (suc level)) >>= λ v.
+      claim_for v (at place (inside p ps here level)) >>= λ done.
       discard_arguments g n types calls 0 p.discard (objects_of p ps here level) ps here >>= λ done.
       leave level >>= λ done.
       gives v
@@ -94,7 +104,8 @@ module _ (limit : ℕ) (g : Setting) (code : Code) (n : ℕ) (frame : Frame) (fr
   last_follows : (p : c.Procedure) (place : Place) (pc : ℕ) (w : World) → HasAt code.lines pc (last_code m p) →
       Reaches limit g code n (state pc [] (at place (inside p frame.arguments frame.caller frame.level)) (frame ∷ frames) w)
       (finish_from g n types calls 0 p.finish (at place (inside p frame.arguments frame.caller frame.level)) >>= λ done.
-      looks (result_at p.result (suc frame.level)) >>= λ v. discard_arguments g n types calls 0 p.discard
+      looks (result_at p.result (suc frame.level)) >>= λ v. claim_for v (at place (inside p frame.arguments frame.caller frame.level)) >>= λ done.
+      discard_arguments g n types calls 0 p.discard
       (objects_of p frame.arguments frame.caller frame.level) frame.arguments frame.caller >>= λ done. leave frame.level >>= λ done. gives v) w
       (λ v w. state frame.pc (Datum v ∷ frame.stack) frame.here frames w)
   last_follows p place pc w has =
@@ -109,14 +120,17 @@ module _ (limit : ℕ) (g : Setting) (code : Code) (n : ℕ) (frame : Frame) (fr
       let p3 = p2 + length cd in
       then_on limit g code (finish_follows limit g code n fs calls follow m types routines_follow p.finish 0 pc [] here w (has_front code.lines pc cf _ has))
       (λ done w.
-      then_on limit g code (at_line limit g code n fs {next = λ v w. state (p1 + 1) (Datum v ∷ []) here fs w} (looks (result_at p.result (suc frame.level)))
-      p1 [] here w (line None (i.ResultOf p.result)) (looks_end _) h1.0 refl) (λ v w.
+      as_well limit g code (built_then (result_at p.result (suc frame.level)) here (λ v. discard_arguments g n types calls 0 p.discard rs frame.arguments frame.caller >>= λ done.
+      leave frame.level >>= λ done. gives v))
+      (then_on limit g code (at_line limit g code n fs {next = λ v w. state (p1 + 1) (Datum v ∷ []) here fs w}
+      (looks (result_at p.result (suc frame.level)) >>= λ v. built v here)
+      p1 [] here w (line None (i.ResultOf p.result)) (bind_ends (looks_end _) (λ v. built_ends v here)) h1.0 refl) (λ v w.
       step_then limit g code (stood (p1 + 1) (Datum v ∷ []) here w (line None i.Outward) h1.1.0)
       (then_on limit g code (discard_follows limit g code n fs calls follow m types routines_follow p.discard 0 rs p2 p3 (Datum v ∷ []) frame.caller w
       (has_front code.lines p2 cd _ h1.1.1) refl) (λ done w.
       then_on limit g code (at_line limit g code n fs {next = λ done w. state frame.pc (Datum v ∷ frame.stack) frame.here frames w} (leave frame.level) p3
       (Objects (left_over p.discard rs) ∷ Datum v ∷ []) frame.caller w (line None i.Return) (leave_ends frame.level) h2.0 refl) (λ done w.
-      stays limit g code n v w (λ v w. state frame.pc (Datum v ∷ frame.stack) frame.here frames w))))))
+      stays limit g code n v w (λ v w. state frame.pc (Datum v ∷ frame.stack) frame.here frames w)))))))
 
   -- how the body is left
   left_follows : (end : Place) (on : ℕ) (here : Here) (w : World) (flow : Flow) → slice_get code.lines on ≡ Some (line (Some end) i.Begin) →

@@ -8,7 +8,7 @@ use Rattle.f3_program.specs.declared.expression.Designator as d
 use Rattle.f3_program.specs.declared.expression.Expression as e
 use Rattle.f3_program.specs.declared.expression.Selection as l
 use Rattle.f3_program.specs.declared.expression.Subscript as u
-use Rattle.f3_meaning_whole.specs.Value.{Value, Number, Array, joined, number_of, count}
+use Rattle.f3_meaning_whole.specs.Value.{Value, Number, Composite, Array, joined, number_of, count}
 use Rattle.f3_meaning_whole.specs.Reference.{Selected, Reach, One, Many, Reference}
 use Rattle.f3_meaning_whole.specs.Ran.{World, Ran, ◌>>=◌, gives}
 use Rattle.f3_meaning_whole.specs.Arithmetic.{apply, change_of, converted}
@@ -174,17 +174,17 @@ module _ (limit : ℕ) (g : Setting) (code : Code) (n : ℕ) (frames : List Fram
       value_follows (e.Structure' t k xs) o pc stack here w has =
           then_where_code (λ ps. length ps ≡ argument_count xs) (arguments_count g calls xs (placed o here)) (arguments_code o xs)
           (line o (i.Structure t (argument_count xs)) ∷ []) pc has (arguments_follow xs o pc stack here w) (λ ps w e h.
-          then_on limit g code (at_line (structure (components_of (slice_index_or g.shapes t Whole)) 0 ps (placed o here)) _ _ here w
-          (line o (i.Structure t (argument_count xs))) (structure_ends _ 0 ps (placed o here)) h.0
-          (popped argument_of Argument (λ p. refl) ps stack (argument_count xs) _ e)) (λ vs w. stays limit g code n _ w _))
+          at_line (structure (components_of (slice_index_or g.shapes t Whole)) 0 ps (placed o here) >>= λ vs. built (Composite vs) (placed o here)) _ _ here w
+          (line o (i.Structure t (argument_count xs)))
+          (bind_ends (structure_ends _ 0 ps (placed o here)) (λ vs. built_ends (Composite vs) (placed o here))) h.0
+          (popped argument_of Argument (λ p. refl) ps stack (argument_count xs) _ e))
       value_follows (e.Call' f k xs) o pc stack here w has =
           then_where_code (λ ps. length ps ≡ argument_count xs) (arguments_count g calls xs (placed o here)) (arguments_code o xs)
           (line o (i.Call f (argument_count xs)) ∷ line o i.Result ∷ []) pc has (arguments_follow xs o pc stack here w) (λ ps w e h.
           then_code (line o (i.Call f (argument_count xs)) ∷ []) (line o i.Result ∷ []) _ h
           (λ h. follow.by f (placed o here) ps _ stack here w (is_at _ _ here w (line o (i.Call f (argument_count xs))) h.0 ∙
           ap (λ k. called limit code f k (placed o here) (state (pc + length (arguments_code o xs)) (onto Argument ps stack) here frames w)) (sym e)))
-          (λ v w h. at_line (result v (placed o here) >>= λ v. built v (placed o here)) _ _ here w (line o i.Result)
-          (bind_ends (result_ends v (placed o here)) (λ v. built_ends v (placed o here))) h.0 refl))
+          (λ v w h. at_line (result v (placed o here)) _ _ here w (line o i.Result) (result_ends v (placed o here)) h.0 refl))
       value_follows (e.Allocated' p x) o pc stack here w has =
           then_code (locate_code o x) (line o i.IsAllocated ∷ []) pc has (locate_follows x o pc stack here w)
           (λ r w h. at_line _ _ _ here w (line o i.IsAllocated) (looks_end _) h.0 refl)

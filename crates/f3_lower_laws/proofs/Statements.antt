@@ -294,5 +294,5 @@ module _ (p : Program) (n : ℕ) (calls : Calls) where
       (λ done. bind_same (begun q.dummies.items _ _)
       (λ done. bind_same (exec_same q.body _)
       (λ flow. then_same _ (λ place. bind_same (variables_finished q _ refl)
-      (λ done. bind_same (result_same q.result (length q.locals.items) (suc level)) (λ v.
-      bind_same (arguments_discarded 0 q.dummies.items _ ps here) (λ done. refl) ∙ nothing_then tt (λ done. leave level >>= λ done. gives v))))))))))
+      (λ done. bind_same (result_same q.result (length q.locals.items) (suc level)) (λ v. then_same _ (λ done.
+      bind_same (arguments_discarded 0 q.dummies.items _ ps here) (λ done. refl) ∙ nothing_then tt (λ done. leave level >>= λ done. gives v)))))))))))

@@ -264,8 +264,8 @@ module _ (g : Setting) (calls : Calls) (c : CallsKeep g calls) (shaped : AreShap
       value_keeps (e.Unary' o t q x) here f m = bind_keeps g.program (value_keeps x here f m) (λ v z. change_safe g.program o t v here.place)
       value_keeps (e.Binary' o t q x r y) here f m = bind_keeps g.program (value_keeps x here f m.0) (λ v z. bind_keeps g.program (value_keeps y here f m.1) (λ w z. apply_safe g.program o t v w here.place))
       value_keeps (e.Array' k xs) here f m = bind_keeps g.program (given_keep xs here f m) (λ ps z. built_safe g.program (Array (record { lower = pos 1; extent = length (given ps) } ∷ []) (joined (given ps))) here)
-      value_keeps (e.Structure' t k xs) here f m = bind_keeps g.program (given_keep xs here f m) (λ ps z. bind_keeps g.program (structure_safe g.program _ 0 ps here) (λ vs z. gives_safe g.program _))
-      value_keeps (e.Call' i k xs) here f m = bind_keeps g.program (passed_keep (names_in g.program i) xs here f m.0 m.1) (λ ps h. bind_keeps g.program (c here i ps h) (λ v z. bind_keeps g.program (result_safe g.program v here) (λ v z. built_safe g.program v here)))
+      value_keeps (e.Structure' t k xs) here f m = bind_keeps g.program (given_keep xs here f m) (λ ps z. bind_keeps g.program (structure_safe g.program _ 0 ps here) (λ vs z. built_safe g.program (Composite vs) here))
+      value_keeps (e.Call' i k xs) here f m = bind_keeps g.program (passed_keep (names_in g.program i) xs here f m.0 m.1) (λ ps h. bind_keeps g.program (c here i ps h) (λ v z. result_safe g.program v here))
       value_keeps (e.Allocated' q x) here f m = bind_keeps g.program (locate_keeps x here f m) (λ r k. looks_safe g.program _)
       value_keeps (e.Size' q x) here f m = bind_keeps g.program (bounds_keep x here f m) (λ ss z. converted_safe g.program _ _ here.place)
       value_keeps (e.Bound' o q x r y) here f m = bind_keeps g.program (bounds_keep x here f m.0) (λ ss z. bind_keeps g.program (value_keeps y here f m.1) (λ v z. asked_safe g.program o ss _ here))
@@ -582,7 +582,7 @@ module _ (g : Setting) (calls : Calls) (c : CallsKeep g calls) (shaped : AreShap
     called_keeps q ps here h m =
         bind_keeps g.program (claim_safe g.program here) (λ done z. bind_keeps g.program (looks_safe g.program _) (λ level z. bind_keeps g.program (enter_safe g.program (held ps)) (λ done z. bind_keeps g.program (enter_safe g.program (variables g q)) (λ done z.
         let names = names_of_dummies g.program (names_of q.dummies.items) 0 q.dummies.items ps level here.unit (agree_all q.dummies.items) h in
-        bind_keeps g.program (outs_keep q.dummies.items _ _ names) (λ done z. bind_keeps g.program (exec_keeps q.body (scope_of q) _ (record { in_unit = refl; variables = refl; names = names }) m) (λ flow z. bind_keeps g.program (left_safe flow q.end _) (λ place z. bind_keeps g.program (locals_keep q.locals.items 0 _) (λ done z. bind_keeps g.program (looks_safe g.program _) (λ v z. bind_keeps g.program (leave_safe g.program level) (λ done z. gives_safe g.program _))))))))))
+        bind_keeps g.program (outs_keep q.dummies.items _ _ names) (λ done z. bind_keeps g.program (exec_keeps q.body (scope_of q) _ (record { in_unit = refl; variables = refl; names = names }) m) (λ flow z. bind_keeps g.program (left_safe flow q.end _) (λ place z. bind_keeps g.program (locals_keep q.locals.items 0 _) (λ done z. bind_keeps g.program (looks_safe g.program _) (λ v z. bind_keeps g.program (claim_for_safe g.program v _) (λ done z. bind_keeps g.program (leave_safe g.program level) (λ done z. gives_safe g.program _)))))))))))
 
     procedure_keeps : (o : Option Procedure) (ps : List Passed) (here : Here) → Each (IsPassed g.program (names_of (dummies_in o))) ps → ((q : Procedure) → o ≡ Some q → MayRun g.program q) → Safe g.program (call_of g n calls o ps here)
     procedure_keeps None ps here h m = gives_safe g.program _

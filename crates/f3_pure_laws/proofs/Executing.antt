@@ -147,7 +147,7 @@ module _ (p : Program) (pure : ℕ → Bool) (functions : ArePure pure p) (level
       let more : level ≤ suc (suc a) = omega arith in
       let names = dummies_mine (map definable q.dummies.items) 0 q.dummies.items ps l here.unit low (agree_all q.dummies.items) h in
       bind_runs level free (outs_quiet (suc (suc a)) more q.dummies.items _ _ o.1 names) (λ done z. bind_runs level free (exec_quiet q.body (suc (suc a)) more (map definable q.dummies.items) _ (inside, names) m o.0) (λ flow z. bind_runs level free (left_quiet (suc (suc a)) more flow q.end _) (λ place z. bind_runs level free (locals_quiet (suc (suc a)) more q.locals.items 0 _ inside o.2) (λ done z.
-      bind_runs level free (looks_quiet level free _) (λ v z. bind_runs level free (leave_to level free a (suc (suc a)) l e le (omega arith)) (λ done z. gives_quiet level free _))))))))))
+      bind_runs level free (looks_quiet level free _) (λ v z. bind_runs level free (claim_for_quiet level free (suc (suc a)) v _) (λ done z. bind_runs level free (leave_to level free a (suc (suc a)) l e le (omega arith)) (λ done z. gives_quiet level free _)))))))))))
 
   procedure_quiet : (a : ℕ) → level ≤ a → (o : Option Procedure) (ps : List Passed) (here : Here) → Each (IsPassedFree (map definable (dummies_in o)) free) ps → ((q : Procedure) → o ≡ Some q → StatementRefers p q.body × IsPureProcedure p pure q) → Quiet level free a (call_of (setting_of p) n calls o ps here)
   procedure_quiet a le None ps here h m = gives_quiet level free _

@@ -73,7 +73,7 @@ module _ (p : Program) (pure : ℕ → Bool) (functions : ArePure pure p) (level
     own_runs names x here f m o = weaken level free (λ r h. h (name_mine names here f (first_name x) o)) (locate_runs p pure functions level free calls c a le x here m)
 
     pub call_quiet : (names : List Bool) (x : e.Expression) (here : Here) → Fits level free names here → CallRefers p x → CallsPure p pure names x → Quiet level free a (value (setting_of p) calls x here)
-    call_quiet names (e.Call' i k xs) here f m o = bind_runs level free (all_passed_run p pure functions level free calls c a le names (definable_in p i) here (name_mine names here f) xs m o.1) (λ ps h. bind_runs level free (c a le here i ps o.0 h) (λ v z. bind_runs level free (result_quiet level free a v here) (λ v z. built_quiet level free a v here)))
+    call_quiet names (e.Call' i k xs) here f m o = bind_runs level free (all_passed_run p pure functions level free calls c a le names (definable_in p i) here (name_mine names here f) xs m o.1) (λ ps h. bind_runs level free (c a le here i ps o.0 h) (λ v z. result_quiet level free a v here))
     call_quiet names (e.Literal z) here f m o = quiet_value (e.Literal z) here m
     call_quiet names (e.Variable' q x) here f m o = quiet_value (e.Variable' q x) here m
     call_quiet names (e.Group' q x) here f m o = quiet_value (e.Group' q x) here m

@@ -12,7 +12,7 @@ use Rattle.f3_program.specs.declared.expression.Subscript as u
 use Rattle.f3_program.specs.declared.program.Dummy.{Dummy}
 use Rattle.f3_program.specs.declared.program.Procedure.{Procedure}
 use Rattle.f3_program.specs.declared.program.Program.{Program}
-use Rattle.f3_meaning_whole.specs.Value.{Span, Array, Unallocated, joined}
+use Rattle.f3_meaning_whole.specs.Value.{Span, Composite, Array, Unallocated, joined}
 use Rattle.f3_meaning_whole.specs.Store.{Root, Static, Local, get}
 use Rattle.f3_meaning_whole.specs.Reference.{Define, Read, Selected, Reach, One, Many, Reference}
 use Rattle.f3_meaning_whole.specs.Ran.{Ran}
@@ -82,8 +82,8 @@ module _ (p : Program) (pure : ℕ → Bool) (functions : ArePure pure p) (level
       value_quiet (e.Unary' o t q x) here m = bind_runs level free (value_quiet x here m) (λ v z. change_quiet level free a o t v here.place)
       value_quiet (e.Binary' o t q x r y) here m = bind_runs level free (value_quiet x here m.0) (λ v z. bind_runs level free (value_quiet y here m.1) (λ t' z. apply_quiet level free a o t v t' here.place))
       value_quiet (e.Array' k xs) here m = bind_runs level free (arguments_quiet xs here m) (λ ps z. built_quiet level free a (Array (record { lower = pos 1; extent = length (given ps) } ∷ []) (joined (given ps))) here)
-      value_quiet (e.Structure' t k xs) here m = bind_runs level free (arguments_quiet xs here m) (λ ps z. bind_runs level free (structure_quiet level free a _ 0 ps here) (λ vs z. gives_quiet level free _))
-      value_quiet (e.Call' i k xs) here m = bind_runs level free (arguments_quiet xs here m.1) (λ ps h. bind_runs level free (call_quiet here i ps m.0) (λ v z. bind_runs level free (result_quiet level free a v here) (λ v z. built_quiet level free a v here)))
+      value_quiet (e.Structure' t k xs) here m = bind_runs level free (arguments_quiet xs here m) (λ ps z. bind_runs level free (structure_quiet level free a _ 0 ps here) (λ vs z. built_quiet level free a (Composite vs) here))
+      value_quiet (e.Call' i k xs) here m = bind_runs level free (arguments_quiet xs here m.1) (λ ps h. bind_runs level free (call_quiet here i ps m.0) (λ v z. result_quiet level free a v here))
       value_quiet (e.Allocated' q x) here m = bind_runs level free (locate_runs x here m) (λ r k. looks_quiet level free _)
       value_quiet (e.Size' q x) here m = bind_runs level free (bounds_quiet x here m) (λ ss z. converted_quiet level free a _ _ here.place)
       value_quiet (e.Bound' o q x r y) here m = bind_runs level free (bounds_quiet x here m.0) (λ ss z. bind_runs level free (value_quiet y here m.1) (λ v z. asked_quiet level free a o ss _ here))
