@@ -1,10 +1,9 @@
 use Rattle.std.proofs.Common.{◌≡◌, ◌∙◌, sym, ap, subst, refl, false, inl, inr, rules, w64, FitsSigned}
 use Rattle.std.proofs.lemmas.Int.{to_z-of_z}
-use Rattle.f3_heap_laws.specs.Answers.{Memory, sizes}
 use Rattle.f3_word_reads.specs.Scalars.{scalar_of}
 use Rattle.f3_meaning_whole.specs.Shape.{shape_in}
 use Rattle.f3_rooms.specs.Places.{is_scalar_shape}
-use Rattle.f3_word_reads.specs.Reads.{asked_words, IsThere, Reads}
+use Rattle.f3_word_reads.specs.Reads.{IsThere}
 use Rattle.f3_word_reads.proofs.Copying.{types-same}
 use Rattle.f3_word_reads.proofs.Standing.{constant-held, tables-for, one-live, one-within, one-value, no-dims, some-dims}
 use Rattle.f3_word_reads.proofs.reading.held.Goals as goal
@@ -58,6 +57,7 @@ copied-requires-clause-there g c =
 pub returns-clause-reads : goal.returns-clause-reads
 returns-clause-reads g c p x r at =
     let old = g.B.Blocks.blocks c.args.heap.now in
-    let read = c.copied.ensures.reads p x r (subst (λ o. IsThere p c.args.types old x o r) c.in-Stands.is at) in
-    subst (λ w. Reads (g.B.Blocks.has_room c.args.heap.now (asked_words c.args.types w) ≡ false) (g.B.Blocks.allows (g.B.Blocks.kept c.args.heap.now) (sizes old) (asked_words c.args.types w) Memory) p old (g.B.Blocks.blocks c.copied.new.heap) x r c.copied.result)
-    (sym c.in-Stands.is) read
+    c.copied.ensures.reads p x r (subst (λ o. IsThere p c.args.types old x o r) c.in-Stands.is at)
+
+pub returns-clause-kept : goal.returns-clause-kept
+returns-clause-kept g c = inr c.copied.ensures.kept
