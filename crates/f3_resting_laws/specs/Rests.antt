@@ -1,8 +1,10 @@
 -- What a main program has lent and selects outside of all its constructs: nothing.
-use Rattle.std.specs.Prelude.{◌≡◌, List, [], ◌∷◌}
+use Rattle.std.specs.Prelude.{◌≡◌, ℕ, Bool, true, false, List, [], ◌∷◌, Some, slice_get}
 use Rattle.f3_meaning_whole.specs.Value.{Unallocated}
 use Rattle.f3_meaning_whole.specs.Act.{Here}
-use Rattle.f3_code.specs.State.{Cell, Outside, Frame, State}
+use Rattle.f3_code.specs.declared.instruction.Instruction.{Instruction}
+use Rattle.f3_code.specs.declared.instruction.Instruction.TheVariants as i
+use Rattle.f3_code.specs.State.{Line, Code, Cell, Outside, Frame, State}
 
 -- where statements are executed around all SELECT CASEs and ASSOCIATEs of an activation that are open (ISO/IEC 1539-1:2004, 8.1)
 abbrev pub outermost : Here → List Cell → Here
@@ -22,3 +24,13 @@ main_here t = main_outermost t.here t.stack t.frames
 pub record Rests (t : State) : Type 0 where
   pub lent : (main_here t).lent ≡ []
   pub selected : (main_here t).selected ≡ Unallocated
+
+-- an instruction lends the object on top, or two
+abbrev pub is_lending : Instruction → Bool
+is_lending i.Lend = true
+is_lending i.LendBoth = true
+is_lending x = false
+
+-- no line does
+abbrev pub LendsNothing : Code → Type 0
+LendsNothing code = (pc : ℕ) (l : Line) → slice_get code.lines pc ≡ Some l → is_lending l.act ≡ false
