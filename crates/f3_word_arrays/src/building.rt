@@ -57,6 +57,7 @@ pub fn array<B: Blocks>(
     requires at { IsAt scene.program.now (i.Array count) (B.blocks heap.old) state.old }
     ensures does { DoesOver (HasNoRoom B.has_room heap.old) (HasNoMemory B.allows (B.kept heap.old) (B.blocks heap.old)) scene.entry.program.now (i.Array count) result (B.blocks heap.old) (B.blocks heap.new) state.old state.new }
     ensures keeps { Keeps state.old state.new }
+    ensures kept { IsKept B.spent (B.kept heap.old) (B.kept heap.new) }
 {
     let Some(of) = base_on_top(state.cells.items.as_slice()) else {
         return Err(Stop::Lost);

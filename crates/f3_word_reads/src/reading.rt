@@ -33,7 +33,8 @@ fn copied<B: Blocks>(heap: &mut B, types: Types<'_>, area: &Area) -> Result<Datu
     requires tables { HasTables types }
     requires large { IsLarge types area.now }
     requires there { (p : Program) × (x : Rooms) × (r : Reference) × IsThere p types (B.blocks heap.old) x (o.Stands area.now) r }
-    ensures { (p : Program) (x : Rooms) (r : Reference) → IsThere p types.entry (B.blocks heap.old) x (o.Stands area.now) r → Reads (B.has_room heap.old (asked_words types.entry (o.Stands area.now)) ≡ false) (B.allows (B.kept heap.old) (sizes (B.blocks heap.old)) (asked_words types.entry (o.Stands area.now)) Memory) p (B.blocks heap.old) (B.blocks heap.new) x r result }
+    ensures reads { (p : Program) (x : Rooms) (r : Reference) → IsThere p types.entry (B.blocks heap.old) x (o.Stands area.now) r → Reads (B.has_room heap.old (asked_words types.entry (o.Stands area.now)) ≡ false) (B.allows (B.kept heap.old) (sizes (B.blocks heap.old)) (asked_words types.entry (o.Stands area.now)) Memory) p (B.blocks heap.old) (B.blocks heap.new) x r result }
+    ensures kept { B.kept heap.new ≡ B.spent (B.kept heap.old) }
 {
     let size = words(types, area.of);
     let packed = pack(&area.elements.dims, size);
@@ -60,7 +61,8 @@ fn copied<B: Blocks>(heap: &mut B, types: Types<'_>, area: &Area) -> Result<Datu
 fn held<B: Blocks>(heap: &mut B, types: Types<'_>, object: Object) -> Result<Datum, Stop>
     requires tables { HasTables types }
     requires there { (p : Program) × (x : Rooms) × (r : Reference) × IsThere p types (B.blocks heap.old) x object r }
-    ensures { (p : Program) (x : Rooms) (r : Reference) → IsThere p types.entry (B.blocks heap.old) x object r → Reads (B.has_room heap.old (asked_words types.entry object) ≡ false) (B.allows (B.kept heap.old) (sizes (B.blocks heap.old)) (asked_words types.entry object) Memory) p (B.blocks heap.old) (B.blocks heap.new) x r result }
+    ensures reads { (p : Program) (x : Rooms) (r : Reference) → IsThere p types.entry (B.blocks heap.old) x object r → Reads (B.has_room heap.old (asked_words types.entry object) ≡ false) (B.allows (B.kept heap.old) (sizes (B.blocks heap.old)) (asked_words types.entry object) Memory) p (B.blocks heap.old) (B.blocks heap.new) x r result }
+    ensures kept { IsKept B.spent (B.kept heap.old) (B.kept heap.new) }
 {
     let area = match object {
         Object::Held(_, constant) => return Ok(Datum::Scalar(constant)),
@@ -87,6 +89,7 @@ pub fn load<B: Blocks>(scene: Scene<'_>, heap: &mut B, state: &mut State) -> Res
     ensures refuses { (object : Object) (rest : List Cell) → own state.old ≡ c.Object object ∷ rest
         → RefusesFor (B.has_room heap.old) (λ n. B.allows (B.kept heap.old) (sizes (B.blocks heap.old)) n Memory) (asked_words scene.entry.types object) result }
     ensures keeps { Keeps state.old state.new }
+    ensures kept { IsKept B.spent (B.kept heap.old) (B.kept heap.new) }
 {
     let Some(object) = pop_object(state) else {
         return Err(Stop::Lost);
