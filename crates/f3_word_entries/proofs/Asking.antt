@@ -1,5 +1,5 @@
 -- For how many words a call asks.
-use Rattle.std.proofs.Common.{◌≡◌, ◌∙◌, ℕ, ◌<◌, ◌^◌, length, sym, ap, subst, arith}
+use Rattle.std.proofs.Common.{◌≡◌, ◌∙◌, ℕ, ◌<◌, ◌^◌, length, ap, subst, arith}
 use Rattle.std.specs.Prelude.{Some, slice_get, slice_index_or}
 use Rattle.f3_program.specs.declared.program.Procedure.{Procedure}
 use Rattle.f3_live_blocks.specs.Blocks.{Live}
@@ -14,7 +14,6 @@ use Rattle.f3_room_levels.specs.Initial.{AllCanBegin}
 use Rattle.f3_word_cells.specs.declared.scene.Frame.{Frame}
 use Rattle.f3_word_cells.specs.declared.scene.Scene.{Scene}
 use Rattle.f3_word_cells.specs.declared.state.State.{State}
-use Rattle.f3_word_cells.specs.Areas.{types_of}
 use Rattle.f3_word_cells.specs.Does.{IsTold}
 use Rattle.f3_word_cells.specs.Scenes.{IsScene}
 use Rattle.f3_word_cells.specs.States.{Stands}

@@ -1,5 +1,5 @@
 -- The variables of a procedure begin, the result behind the others.
-use Rattle.std.proofs.Common.{◌≡◌, ◌∙◌, append_assoc, Option, ℕ, ◌+◌, ◌-◌, ◌≤◌, ℤ, List, [], ◌∷◌, ◌++◌, length, sym, ap, subst, arith}
+use Rattle.std.proofs.Common.{◌≡◌, ◌∙◌, append_assoc, Option, ℕ, ◌+◌, ◌-◌, ◌≤◌, List, [], ◌∷◌, ◌++◌, length, sym, ap, subst, arith}
 use Rattle.std.specs.Prelude.{None, Some}
 use Rattle.std.specs.FinMap.{get as find}
 use Rattle.std.proofs.lemmas.List.{append-nil}
@@ -8,13 +8,12 @@ use Rattle.f3_program.specs.declared.program.Procedure.{Procedure}
 use Rattle.f3_meaning_whole.specs.Exec.{declared_in, with_result}
 use Rattle.f3_meaning_whole.specs.Shape.{Shape, shape_in}
 use Rattle.f3_rooms.specs.Forms.{room, total}
-use Rattle.f3_rooms.specs.Places.{with_word}
-use Rattle.f3_live_blocks.specs.Blocks.{Live, IsLive, words_of, with_taken}
+use Rattle.f3_live_blocks.specs.Blocks.{Live, with_taken}
 use Rattle.f3_room_levels.specs.Initial.{AllCanBegin, CanBegin, TypeCanBegin, initial_words, variable_words}
 use Rattle.f3_room_levels.specs.Levels.{Begins}
 use Rattle.f3_room_levels.specs.Writing.{IsBlank, with_words_from}
 use Rattle.f3_room_levels.proofs.Begun.{begins, taken_blank}
-use Rattle.f3_room_levels.proofs.Widths.{initial_many, variable_many}
+use Rattle.f3_room_levels.proofs.Widths.{initial_many}
 use Rattle.f3_room_levels.proofs.Written.{blank_behind, written_on}
 
 module _ (ts : List Shape) where

@@ -81,11 +81,11 @@ returns-in-Err-Full-clause-does g c = λ t l rooms told line act placed st.
     (let e = c.args.state.now.callers.items.ok.0 in let f = c.len.ensures in let h = c.if-len-ge1000.false in omega (arith, e, f, h)) in
     let s = starts p c.args.scene.emission.now c.args.number q t there told c.requires.scene.code in
     let many = c.requires.scene.count in
-    let as = asks_words c.args.scene c.requires.scene t l c.args.number c.args.count q there told act call (g.B.Blocks.blocks c.args.heap.now) c.args.state.now rooms st few s.0 s.1
+    let whole = asks_words c.args.scene c.requires.scene t l c.args.number c.args.count q there told act call (g.B.Blocks.blocks c.args.heap.now) c.args.state.now rooms st few s.0 s.1
     c.index-scene-number.result (omega (arith, less, many)) c.index-scene-number.is _ refl (search rules) in (
       refused p t l c.args.number c.args.count q there told act call (g.B.Blocks.blocks c.args.heap.now)
           c.args.state.now rooms st few c.args.scene.emission.now c.requires.scene.code s.0 s.1,
-      subst (λ k. g.B.Blocks.has_room c.args.heap.now k ≡ false) as (c.in-Err-Full.ensures.full (ap Err c.in-Err-Full.field-0-is)),
+      subst (λ k. g.B.Blocks.has_room c.args.heap.now k ≡ false) whole (c.in-Err-Full.ensures.full (ap Err c.in-Err-Full.field-0-is)),
     )
 
 pub returns-in-Err-Memory-clause-does : goal.returns-in-Err-Memory-clause-does
@@ -100,10 +100,10 @@ returns-in-Err-Memory-clause-does g c = λ t l rooms told line act placed st.
     (let e = c.args.state.now.callers.items.ok.0 in let f = c.len.ensures in let h = c.if-len-ge1000.false in omega (arith, e, f, h)) in
     let s = starts p c.args.scene.emission.now c.args.number q t there told c.requires.scene.code in
     let many = c.requires.scene.count in
-    let as = asks_words c.args.scene c.requires.scene t l c.args.number c.args.count q there told act call (g.B.Blocks.blocks c.args.heap.now) c.args.state.now rooms st few s.0 s.1
+    let whole = asks_words c.args.scene c.requires.scene t l c.args.number c.args.count q there told act call (g.B.Blocks.blocks c.args.heap.now) c.args.state.now rooms st few s.0 s.1
     c.index-scene-number.result (omega (arith, less, many)) c.index-scene-number.is _ refl (search rules) in
     let old = g.B.Blocks.blocks c.args.heap.now in
-    subst (λ k. g.B.Blocks.allows (g.B.Blocks.kept c.args.heap.now) (sizes old) k Memory) as
+    subst (λ k. g.B.Blocks.allows (g.B.Blocks.kept c.args.heap.now) (sizes old) k Memory) whole
     (subst (λ (f : TakeFault). g.B.Blocks.allows (g.B.Blocks.kept c.args.heap.now) (sizes old) (slice_index_or c.args.scene.procedures.now c.args.number c.index-scene-number.result).words (answer_of (Err f)))
     c.in-Err-Memory.field-0-is c.in-Err-Memory.ensures.allowed)
 
