@@ -77,7 +77,7 @@ loop-number-preserved g c =
     let size = array-size p m c.args.state.now c.args.count c.args.scene.types c.requires.scene.types c.in-Some.of c.words-size.result c.words-size.ensures in
     gathering-more p m c.args.state.now c.args.count c.in-Some.of c.words-size.result size c.in-Ok.block (g.B.Blocks.blocks c.loop-number.heap) c.loop-number.state c.loop-number.number c.loop-number.invariant c.loop-number-test.true
     c.pop_item.new.state c.in-Some-pop_item.datum c.in-Some-pop_item.ensures.taken ((c.args.count - 1 - c.loop-number.number) * c.words-size.result) refl (g.B.Blocks.blocks c.let_go_datum.new.heap)
-    (c.let_go_datum.ensures ∙ ap (without (datum_blocks c.in-Some-pop_item.datum)) c.write_item.ensures) c.in-Some-pop_item.ensures.keeps
+    (c.let_go_datum.ensures.blocks ∙ ap (without (datum_blocks c.in-Some-pop_item.datum)) c.write_item.ensures) c.in-Some-pop_item.ensures.keeps
 
 pub row_in-requires : goal.row_in-requires
 row_in-requires g c =

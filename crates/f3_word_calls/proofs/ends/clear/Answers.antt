@@ -16,4 +16,4 @@ loop-cell-smaller g c = let fewer = c.in-Some.ensures.fewer in omega (arith, few
 pub loop-cell-preserved : goal.loop-cell-preserved
 loop-cell-preserved g c =
     clearing_more (g.B.Blocks.blocks c.args.heap.now) (g.B.Blocks.blocks c.loop-cell.heap) c.args.state.now c.loop-cell.state c.pop.new.self c.in-Some.cell
-    c.loop-cell.invariant c.in-Some.ensures (g.B.Blocks.blocks c.let_go.new.heap) c.let_go.ensures
+    c.loop-cell.invariant c.in-Some.ensures (g.B.Blocks.blocks c.let_go.new.heap) c.let_go.ensures.blocks

@@ -41,7 +41,7 @@ loop-preserved g c =
       },
       λ p t l x told there is st.
           subst (λ n. Amid p t n c.args.state.now c.pop.new.self x (drop (c.loop.counter + 1) (site_at p t.pc).cells) (drop (c.loop.counter + 1) t.stack) t.world.store [])
-          (sym c.let_go.ensures)
+          (sym c.let_go.ensures.blocks)
           (less_by_one p t l _ told there is (g.B.Blocks.blocks c.loop.heap) c.args.state.now c.loop.state x c.loop.counter c.loop-test.true
           (c.loop.invariant.2 p t l x told there is st) c.pop.new.self c.in-Some.cell c.in-Some.ensures),
     )
