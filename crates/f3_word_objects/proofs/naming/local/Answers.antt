@@ -1,24 +1,26 @@
-use Rattle.std.proofs.Common.{◌≡◌, ◌∙◌, ap, refl, ◌+◌}
+use Rattle.std.proofs.Common.{◌≡◌, ◌∙◌, sym, ap, ◌+◌}
 use Rattle.std.specs.Prelude.{slice_get, None, Some}
 use Rattle.f3_meaning_whole.specs.Exec.{declared_in}
 use Rattle.f3_rooms.specs.Ways.{offset}
 use Rattle.f3_word_areas.proofs.Variables.{begins-there}
 use Rattle.f3_word_cells.specs.Areas.{types_of}
-use Rattle.f3_word_objects.proofs.naming.local_object.Goals as goal
+use Rattle.f3_word_objects.proofs.naming.local.Goals as goal
 
 pub returns-in-Some-variable : goal.returns-in-Some-variable
-returns-in-Some-variable c = (
-  c.in-Some-variable.area,
-  refl,
-  record {
-    procedure = c.in-Some.procedure.now;
-    frame = c.in-Some.frame.now;
-    block = c.in-Some-block_of.block;
-    of = c.in-Some.ensures;
-    there = let b = c.in-Some-block_of.ensures in record { first = b.0; level_is = b.1; block_is = b.2 };
-    variable = c.in-Some-variable.ensures (declared_in c.in-Some.procedure.now) c.in-Some-declared_of.ensures;
-  },
-)
+returns-in-Some-variable c =
+    let d = c.in-Some-declared_of.declared.now in
+    let v = c.in-Some-variable.ensures (declared_in c.in-Some.procedure.now) c.in-Some-declared_of.ensures in
+    let same : Some v.declared ≡ Some d = sym v.is ∙ c.in-Some-declared_of.ensures in (
+      record {
+        procedure = c.in-Some.procedure.now;
+        frame = c.in-Some.frame.now;
+        block = c.in-Some-block_of.block;
+        of = c.in-Some.ensures;
+        there = let b = c.in-Some-block_of.ensures in record { first = b.0; level_is = b.1; block_is = b.2 };
+        variable = v;
+      },
+      cc,
+    )
 
 pub returns-in-None : goal.returns-in-None
 returns-in-None c = λ d b is there.
