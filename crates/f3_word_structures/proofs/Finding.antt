@@ -104,7 +104,7 @@ module _ (p : Program) (live : Live) (y : Derived) where
     pub passed : passed_at k ps ≡ Some (m.Given k value)
     pub held : IsHeld k d value
 
-  abbrev Agree : ℕ → Option Datum → List m.Passed → Type 0
+  abbrev pub Agree : ℕ → Option Datum → List m.Passed → Type 0
   Agree k None ps = passed_at k ps ≡ None
   Agree k (Some d) ps = Finds k d ps
 

@@ -105,6 +105,7 @@ AreMembers p y gs ps = ⊥
 pub record OnStructure (p : Program) (t : s.State) (of n : ℕ) : Type 0 where
   pub type : Derived
   pub there : slice_get p.types.items of ≡ Some type
+  pub plain : IsPlainType type
   pub givens : List formed.Given
   pub rest : List CellType
   pub kinds : (site_at p t.pc).cells ≡ map cell.Argument givens ++ rest
@@ -152,6 +153,7 @@ on-structure p t l of n told at act =
     record {
       type = y;
       there = found.1;
+      plain = plain;
       givens = reverse gs;
       rest = leads.rest;
       kinds = kinds;

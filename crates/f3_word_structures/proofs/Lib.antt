@@ -5,4 +5,5 @@ pub mod Components
 pub mod Filling
 pub mod Built
 pub mod Popping
+pub mod Emptying
 pub mod Structures
