@@ -28,6 +28,7 @@ use Rattle.f3_word_cells.specs.declared.state.Stop.TheVariants as stop
 use Rattle.f3_word_cells.specs.Plain.{IsPlain, is_plain_act}
 use Rattle.f3_word_cells.specs.Scenes.{IsScene, code_of}
 use Rattle.f3_word_cells.specs.States.{Stands, AreCallers, beneath, own}
+use Rattle.f3_word_cells.specs.Wants.{asked, wanted}
 use Rattle.f3_word_cells.specs.Does.{Becomes, BecomesOver, DoesIn, DoesOver, IsAt, Keeps, KeepsRoom, RefusedAt, StopsSo}
 use Rattle.f3_word_cells.proofs.Within.{here_stands}
 use Rattle.f3_word_control.specs.Doing.{DoesWith, DoesPrint, Prints}
@@ -57,7 +58,7 @@ abbrev pub IsOther : RunError → Type 0
 IsOther error.HeapHasNoRoom = ⊥
 IsOther e = ⊤
 
-module _ (Full Spent : Type 0) (p : Program) (act : Instruction) (place : Place) (old new : State) (r : Result ⊤ Stop) (m n : Live) (a : o.State) where
+module _ (Full Spent : ℕ → Type 0) (p : Program) (act : Instruction) (place : Place) (old new : State) (r : Result ⊤ Stop) (m n : Live) (a : o.State) where
   printed_error : (b : o.State) (t : s.State) (l : Line) (e : RunError) → Prints p l t (Err (stop.Failed e)) n new a b
       → PrintsOver Full Spent p l t (Err (stop.Failed e)) n new a b
   printed_error b t l error.HeapHasNoRoom f = (inr f.0, f.1)
@@ -113,7 +114,7 @@ module _ (Full Spent : Type 0) (p : Program) (act : Instruction) (place : Place)
   by_over_at i is d = λ t l x told there acts at stands. over t l r (d t l x told there (acts ∙ is) at stands)
 
 -- one that knows only the cells
-module _ (Full Spent : Type 0) (p : Program) (act : Instruction) (place : Place) (old new : State) (r : Result ⊤ Stop) (m : Live) (a : o.State) where
+module _ (Full Spent : ℕ → Type 0) (p : Program) (act : Instruction) (place : Place) (old new : State) (r : Result ⊤ Stop) (m : Live) (a : o.State) where
   pub by_cells : (total : ℕ) → length (code_of p).lines ≡ total → DoesCells place total act r old new → PrintsAt Full Spent p place act r m m old new a a
   by_cells total lines d = λ t l x told there acts at stands.
       printed Full Spent p act place old new r m m a a t l r (silent Full Spent p act place old new r m m a t l r (d p m lines t l x told there acts at stands))
@@ -132,7 +133,7 @@ place_is : (o : Option Place) (h : Here) → (placed o h).place ≡ unwrap_or o 
 place_is None h = refl
 place_is (Some q) h = refl
 
-module _ (Full Spent : Type 0) (p : Program) (t : s.State) (l : Line) (there : slice_get (code_of p).lines t.pc ≡ Some l) (place : Place) (at : unwrap_or l.place (t.here).place ≡ place) (n : Live) (new : State) (a b : o.State) where
+module _ (Full Spent : ℕ → Type 0) (p : Program) (t : s.State) (l : Line) (there : slice_get (code_of p).lines t.pc ≡ Some l) (place : Place) (at : unwrap_or l.place (t.here).place ≡ place) (n : Live) (new : State) (a b : o.State) where
   pub steps : PrintsOver Full Spent p l t (Ok tt) n new a b → Steps Full Spent p t (Ok tt) n new a b
   steps (bytes, f, wrote) = record { line = l; there = there; next = f.next; rooms = f.rooms; bytes = bytes; goes = f.goes; stands = f.stands; wrote = wrote }
 
@@ -145,9 +146,9 @@ module _ (Full Spent : Type 0) (p : Program) (t : s.State) (l : Line) (there : s
   fails : (e : RunError) → PrintsOver Full Spent p l t (Err (stop.Failed e)) n new a b → Steps Full Spent p t (Err (end.Failed e place)) n new a b
   fails error.HeapHasNoRoom f = refused f.0 f.1
     where
-      refused : ((RefusedAt p l t × Full) ⊎ StopsSo p l t (Failed error.HeapHasNoRoom (placed l.place t.here).place) []) → Wrote a b []
+      refused : ((RefusedAt p l t × Full (asked (wanted p l.act t))) ⊎ StopsSo p l t (Failed error.HeapHasNoRoom (placed l.place t.here).place) []) → Wrote a b []
           → Steps Full Spent p t (Err (end.Failed error.HeapHasNoRoom place)) n new a b
-      refused (inl g) wrote = inl (record { line = l; there = there; refused = g.0; at = place_is l.place t.here ∙ at; wrote = wrote }, g.1)
+      refused (inl g) wrote = inl (record { line = l; there = there; refused = g.0; full = g.1; at = place_is l.place t.here ∙ at; wrote = wrote })
       refused (inr g) wrote = inr (record { line = l; there = there; bytes = []; stops = stopped error.HeapHasNoRoom g; wrote = wrote })
   fails e f = record { line = l; there = there; bytes = []; stops = stopped e f.0; wrote = f.1 }
 
@@ -158,7 +159,7 @@ module _ (Full Spent : Type 0) (p : Program) (t : s.State) (l : Line) (there : s
   stops stop.Lost z is f = absurd is
   stops stop.Forbidden z is f = absurd is
   stops stop.Refused z is f = let (to, bytes, goes, faulted) = f in so z end.WriteFault is (record { line = l; there = there; next = to; bytes = bytes; goes = goes; faulted = faulted })
-  stops stop.Memory z is f = so z end.Memory is f
+  stops stop.Memory z is f = so z end.Memory is (record { line = l; there = there; spent = f.0; wrote = f.1 })
 
   -- and not for what no line of a run does
   module _ (run : IsOfRun p t) (e : Stop) (f : PrintsOver Full Spent p l t (Err e) n new a b) where

@@ -2,7 +2,7 @@
 
 ghost use Rattle.std.specs.Prelude.{◌≡◌, ◌<◌, ◌≤◌, ◌^◌, length};
 ghost use Rattle.f3_output.specs.Output.{state_of};
-ghost use Rattle.f3_word_cells.specs.Does.{HasNoMemory, HasNoRoom, IsAt, KeepsRoom};
+ghost use Rattle.f3_word_cells.specs.Does.{HasNoMemory, HasNoRoom, IsAt, IsKept, KeepsRoom};
 ghost use Rattle.f3_word_cells.specs.Plain.{IsPlain};
 ghost use Rattle.f3_word_cells.specs.Ranks.{AreRanked, AreShort};
 ghost use Rattle.f3_word_cells.specs.Scenes.{IsScene};
@@ -48,6 +48,7 @@ pub(crate) fn perform<B: Blocks, W: Write>(
     ensures does { PrintsAt (HasNoRoom B.has_room heap.old) (HasNoMemory B.allows (B.kept heap.old) (B.blocks heap.old))
         scene.entry.program.now place act result (B.blocks heap.old) (B.blocks heap.new) state.old state.new
         (state_of W.contents output.old) (state_of W.contents output.new) }
+    ensures kept { IsKept B.spent (B.kept heap.old) (B.kept heap.new) }
 {
     let total = scene.emission.lines.len();
     match act {
