@@ -14,7 +14,7 @@ use f3_heap::Blocks;
 use f3_output::output::Output;
 use f3_places::source::Place;
 use f3_word_arrays::building;
-use f3_word_associates::{beginning, results};
+use f3_word_associates::beginning;
 use f3_word_calls::{associates, returns};
 use f3_word_cells::scene::Scene;
 use f3_word_cells::state::{State, Stop};
@@ -23,7 +23,9 @@ use f3_word_copies::{assigning, counting, setting};
 use f3_word_entries::entries;
 use f3_word_objects::{locating, naming, selecting};
 use f3_word_reads::reading;
+use f3_word_results::results;
 use f3_word_steps::cells::do_cells;
+use f3_word_structures::building::structure;
 use f3_word_values::queries;
 use std::io::Write;
 
@@ -72,6 +74,7 @@ pub(crate) fn perform<B: Blocks, W: Write>(
         Instruction::CountUp(a0) => counting::count_up(scene, heap, state, a0),
         Instruction::Return => returns::return_to_caller(heap, state),
         Instruction::Array(a0) => building::array(scene, heap, state, a0),
+        Instruction::Structure(a0, a1) => structure(scene, heap, state, a0, a1),
         Instruction::Call(a0, a1) => entries::call(scene, heap, state, a0, a1, place),
         Instruction::ResultOf(a0) => results::result_of(scene, heap, state, a0),
         Instruction::Associate(a0) => beginning::associate(state, a0),

@@ -30,8 +30,7 @@ use std::io::Write;
 /// Why a program is not run over words.
 #[derive(Clone, Copy, PartialEq, Eq, Debug)]
 pub enum Beyond {
-    /// It has allocatables, structure constructors, or functions of array or derived type; or an array of more than seven dimensions, which no
-    /// accepted program has (ISO/IEC 1539-1:2004, 5.1.2.5).
+    /// It has allocatables, or an array of more than seven dimensions, which no accepted program has (ISO/IEC 1539-1:2004, 5.1.2.5).
     NotPlain,
     /// Its variables, or what stands on its stacks, may be too many (own rule).
     TooLarge,

@@ -1,0 +1,3 @@
+pub mod Forms
+pub mod Returned
+pub mod Resulting
