@@ -33,6 +33,7 @@ use Rattle.f3_word_laws.proofs.Telling.{runs_are_told}
 use Rattle.f3_word_needs.specs.Room.{HasRoom}
 use Rattle.f3_word_needs.proofs.Keeping.{lines_keep_room}
 use Rattle.f3_word_machine.specs.Steps.{Ends, IsCut, IsRefused, Steps}
+use Rattle.f3_word_machine.specs.Reached.{Reached}
 use Rattle.f3_word_machine.specs.Runs.{AnswersSo, Asks, IsCutIn, IsRefusedIn, machine_from, refusing}
 use Rattle.f3_word_machine.proofs.Answering.{granted_all, refused_next}
 
@@ -44,18 +45,7 @@ abbrev course : Program → s.State → (ℕ → Bool) → ℕ → Course
 course p t = (machine_from p t).course
 
 module _ (p : Program) (t : s.State) where
-  -- after so many instructions blocks and a state in memory stand for a state, and all that was printed until then was written
-  pub record Reached (done : ℕ) (live : Live) (w : State) (a b : o.State) : Type 0 where
-    pub to : s.State
-    pub rooms : Rooms
-    pub bytes : List ℕ
-    pub comes : Comes p t to done bytes
-    pub told : IsTold p to
-    pub stands : Stands p live w rooms to
-    pub wrote : Wrote a b bytes
-    pub roomy : HasRoom p t → HasRoom p to
-
-  pub begun : (live : Live) (w : State) (x : Rooms) (a : o.State) → IsTold p t → Stands p live w x t → Reached 0 live w a a
+  pub begun : (live : Live) (w : State) (x : Rooms) (a : o.State) → IsTold p t → Stands p live w x t → Reached p t 0 live w a a
   begun live w x a told stands = record {
     to = t;
     rooms = x;
@@ -67,8 +57,8 @@ module _ (p : Program) (t : s.State) where
     roomy = λ h. h;
   }
 
-  module _ (done : ℕ) (m : Live) (old : State) (a b : o.State) (r : Reached done m old a b) where
-    pub goes_on : (n : Live) (new : State) (c : o.State) (Full Spent : ℕ → Type 0) → Steps Full Spent p r.to (Ok tt) n new b c → Reached (done + 1) n new a c
+  module _ (done : ℕ) (m : Live) (old : State) (a b : o.State) (r : Reached p t done m old a b) where
+    pub goes_on : (n : Live) (new : State) (c : o.State) (Full Spent : ℕ → Type 0) → Steps Full Spent p r.to (Ok tt) n new b c → Reached p t (done + 1) n new a c
     goes_on n new c Full Spent w = record {
       to = w.next;
       rooms = w.rooms;
@@ -185,5 +175,5 @@ module _ (p : Program) (t : s.State) where
           (done + 1, omega arith, subst (λ bytes. Faulted a c bytes) (sym (ap (λ (y : Course). output y.out) at ∙ printed)) (faulted_behind r.wrote e.faulted))
       stops end.Memory e = cuts Spent Less g steps c left e
 
-  pub at_limit : (More Less : Live → ℕ → Type 0) (steps : ℕ) (m : Live) (old : State) (a b : o.State) → Reached steps m old a b → AnswersSo More Less p (machine_from p t) steps a b end.StepLimit
+  pub at_limit : (More Less : Live → ℕ → Type 0) (steps : ℕ) (m : Live) (old : State) (a b : o.State) → Reached p t steps m old a b → AnswersSo More Less p (machine_from p t) steps a b end.StepLimit
   at_limit More Less steps m old a b r = still steps m old a b r b wrote_none

@@ -2,10 +2,12 @@
 
 ghost use Rattle.f3_meaning_whole.specs.Permitted.{IsLawful};
 ghost use Rattle.f3_output.specs.Output.{state_of};
+ghost use Rattle.f3_word_cells.specs.Does.{KeepsRoom};
 ghost use Rattle.f3_word_cells.specs.Scenes.{IsScene};
 ghost use Rattle.f3_word_cells.specs.Plain.{IsPlain};
 ghost use Rattle.f3_word_cells.specs.Ranks.{AreRanked};
 ghost use Rattle.f3_word_start.specs.Kept.{IsKeptBehind};
+ghost use Rattle.f3_word_machine.specs.Reached.{GoesFor};
 ghost use Rattle.f3_word_machine.specs.Room.{IsRoomy, room_of};
 ghost use Rattle.f3_word_machine.specs.Runs.{IsFull, IsSpent, RunsFrom};
 ghost use Rattle.f3_word_machine.specs.Steps.{IsReady};
@@ -17,6 +19,35 @@ use f3_output::output::Output;
 use f3_word_cells::scene::Scene;
 use f3_word_cells::state::State;
 use std::io::Write;
+
+/// The machine from a state on, for just so many instructions, over a heap: `None` where it has come by these to the state that is in memory
+/// then. Else it ended so, by no more of them.
+pub fn run_for<B: Blocks, W: Write>(
+    scene: Scene<'_>,
+    heap: &mut B,
+    state: &mut State,
+    count: u64,
+    output: &mut Output<W>,
+) -> Option<Ended>
+    requires scene { IsScene scene }
+    requires plain { IsPlain scene.program.now }
+    requires ranks { AreRanked scene.program.now }
+    requires lawful { IsLawful scene.program.now }
+    requires roomy { IsRoomy scene.program.now (room_of state.old) }
+    requires ready { IsReady scene.program.now (B.blocks heap.old) state.old }
+    ensures rooms { KeepsRoom state.old state.new }
+    ensures goes { GoesFor (IsFull B.blocks B.kept B.spent B.has_room (B.kept heap.old)) (IsSpent B.blocks B.kept B.spent B.allows (B.kept heap.old))
+        scene.entry.program.now count (B.blocks heap.old) (B.blocks heap.new) state.old state.new (state_of W.contents output.old) (state_of W.contents output.new) result }
+    ensures kept { IsKeptBehind B.spent (B.kept heap.old) (B.kept heap.new) }
+{
+    for _done in 0..count {
+        match step(scene, heap, state, output) {
+            Ok(()) => (),
+            Err(end) => return Some(end),
+        }
+    }
+    None
+}
 
 /// The machine from a state on, for so many instructions at most, over a heap.
 pub fn run<B: Blocks, W: Write>(
@@ -36,11 +67,8 @@ pub fn run<B: Blocks, W: Write>(
         scene.entry.program.now steps (B.blocks heap.old) state.old (state_of W.contents output.old) (state_of W.contents output.new) result }
     ensures kept { IsKeptBehind B.spent (B.kept heap.old) (B.kept heap.new) }
 {
-    for _done in 0..steps {
-        match step(scene, heap, state, output) {
-            Ok(()) => (),
-            Err(end) => return end,
-        }
+    match run_for(scene, heap, state, steps, output) {
+        Some(end) => end,
+        None => Ended::StepLimit,
     }
-    Ended::StepLimit
 }

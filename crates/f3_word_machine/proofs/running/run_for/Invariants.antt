@@ -4,8 +4,8 @@ use Rattle.f3_rooms.specs.Rooms.{Rooms}
 use Rattle.f3_word_cells.specs.States.{Stands}
 use Rattle.f3_word_cells.specs.Does.{IsTold, KeepsRoom}
 use Rattle.f3_word_start.specs.Kept.{IsKeptBehind}
-use Rattle.f3_word_machine.proofs.Course.{Reached}
-use Rattle.f3_word_machine.proofs.running.run.Given as goal
+use Rattle.f3_word_machine.specs.Reached.{Reached}
+use Rattle.f3_word_machine.proofs.running.run_for.Given as goal
 
 abbrev pub invariant-loop-done : goal.invariant-loop-done
 invariant-loop-done g l = KeepsRoom l.fn.state l.state × IsKeptBehind g.B.Blocks.spent (g.B.Blocks.kept l.fn.heap) (g.B.Blocks.kept l.heap)
