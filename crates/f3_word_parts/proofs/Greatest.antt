@@ -50,12 +50,12 @@ granted_at (true ∷ bs) a n = absurd a
 
 module _ (p : Program) (t u : State) (out : List Event) (e : heap_step greatest 1000 (setting p) (code_of p) t ≡ Goes out u) where
   -- it stands there, and leads so
-  record Line' : Type 0 where
+  record Found : Type 0 where
     line : Line
     there : slice_get (code_of p).lines t.pc ≡ Some line
     goes : GoesOn p line t u (output out)
 
-  at_line : (o : Option Line) → slice_get (code_of p).lines t.pc ≡ o → heap_does_line greatest 1000 (setting p) (code_of p) o t ≡ Goes out u → Line'
+  at_line : (o : Option Line) → slice_get (code_of p).lines t.pc ≡ o → heap_does_line greatest 1000 (setting p) (code_of p) o t ≡ Goes out u → Found
   at_line None there is = absurd cc
   at_line (Some l) there is =
       let one = asked (setting p) (code_of p) t in record {
@@ -73,7 +73,7 @@ module _ (p : Program) (t u : State) (out : List Event) (e : heap_step greatest 
         };
       }
 
-  line_goes : Line'
+  line_goes : Found
   line_goes = at_line (slice_get (code_of p).lines t.pc) refl e
 
 -- ---- states of runs
