@@ -137,8 +137,7 @@ module _ (p : Program) where
         }
 
         fails : (e : RunError) (place : Place) → AnswersSo Full Spent p (machine_from p first) less a b (end.Failed e place) → RunsWhole First More Less p steps a b (end.Failed e place)
-        fails error.HeapHasNoRoom place (inl m) = inr (inl (refused_so place m))
-        fails error.HeapHasNoRoom place (inr m) = inr (inr (all (ends.Failed error.HeapHasNoRoom place) m))
+        fails error.HeapHasNoRoom place m = inr (refused_so place m)
         fails e place m = all (ends.Failed e place) m
 
         pub whole : (e : Ended) → AnswersSo Full Spent p (machine_from p first) less a b e → RunsWhole First More Less p steps a b e
