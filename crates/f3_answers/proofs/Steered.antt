@@ -10,21 +10,26 @@ use Rattle.f3_meaning_whole.specs.Act.{Here}
 use Rattle.f3_meaning_whole.specs.Exec.{Flow}
 use Rattle.f3_code.specs.State.{Cell, Datum, Object, Bound, Bounds, Status, Turns, Elements, Objects, To, Level, Outside, Going, State, Next, Goes, Stays}
 use Rattle.f3_code.specs.Machine.{ends_so, performs, on_datum, on_object, on_bound, on_bounds, on_status, on_turns, on_elements, on_objects, on_to, on_level, on_outside, on_going, on_any, on_some, on_many}
-use Rattle.f3_code.specs.Heap.{with_answers}
-use Rattle.f3_answers.proofs.Regular.{Regular, world_with, end_with}
+use Rattle.f3_code.specs.Heap.{granted, with_answers}
+use Rattle.f3_answers.proofs.Regular.{Regular, AllGranted, ahead, world_with, end_with}
 
 -- the state to which it goes, with these answers instead
 abbrev pub next_with : (ℕ → Bool) → Next → Next
 next_with a (Goes out s) = Goes out (with_answers a s)
 next_with a (Stays out halt) = Stays out halt
 
--- For any answers there are some with which the same is done, and which leave these.
+-- With these answers, whatever comes behind them, the same is done as with those, and what comes behind is left; they are granted where
+-- all of those are.
+pub record Takes (n : (ℕ → Bool) → Next) (c : ℕ → Bool) (given : List Bool) : Type 0 where
+  pub same : (a : ℕ → Bool) → n (ahead given a) ≡ next_with a (n c)
+  pub granted : c ≡ granted → AllGranted given
+
 pub record Steered (n : (ℕ → Bool) → Next) : Type 0 where
-  pub steer : (c a : ℕ → Bool) → (b : ℕ → Bool) × (n b ≡ next_with a (n c))
+  pub steer : (c : ℕ → Bool) → (given : List Bool) × Takes n c given
 
 -- where no answer is asked for
 pub straight : {n : (ℕ → Bool) → Next} → ((c a : ℕ → Bool) → n a ≡ next_with a (n c)) → Steered n
-straight h = record { steer = λ c a. (a, h c a) }
+straight h = record { steer = λ c. ([], record { same = h c; granted = λ e. tt }) }
 
 ended : {A : Type 0} (f : (ℕ → Bool) → A → World → State) → ((b c a : ℕ → Bool) (x : A) (w : World) → f b x (world_with a w) ≡ with_answers a (f c x w)) →
     (b c a : ℕ → Bool) (out : List Event) (end : End A) → ends_so out (end_with a end) (f b) ≡ next_with a (ends_so out end (f c))
@@ -36,12 +41,19 @@ ended f e b c a out Beyond = refl
 pub performing : {A : Type 0} {r : Ran A} (store : Store) (f : (ℕ → Bool) → A → World → State) → Regular r →
     ((b c a : ℕ → Bool) (x : A) (w : World) → f b x (world_with a w) ≡ with_answers a (f c x w)) →
     Steered (λ b. performs r (record { store = store; answers = b }) (f b))
-performing {A = A} {r = r} store f h e = record { steer = steer }
-  where
-    steer : (c a : ℕ → Bool) → (b : ℕ → Bool) × (performs r (record { store = store; answers = b }) (f b) ≡ next_with a (performs r (record { store = store; answers = c }) (f c)))
-    steer c a =
-        let w : World = record { store = store; answers = c } in let found = h.follow w a in
-        (found.0, ap (λ o. ends_so o.out o.end (f found.0)) found.1 ∙ ended f e found.0 c a (r.from w).out (r.from w).end)
+performing {A = A} {r = r} store f h e = record {
+  steer = λ c.
+      let w : World = record { store = store; answers = c } in
+      let found = h.follow w in (
+        found.0,
+        record {
+          same = λ a.
+              ap (λ o. ends_so o.out o.end (f (ahead found.0 a))) (found.1.same a)
+              ∙ ended f e (ahead found.0 a) c a (r.from w).out (r.from w).end;
+          granted = found.1.granted;
+        },
+      );
+}
 
 pub if_steered : (x : Bool) {m n : (ℕ → Bool) → Next} → Steered m → Steered n → Steered (λ b. if x then m b else n b)
 if_steered true h k = h
