@@ -13,4 +13,4 @@ mod writing;
 pub use beginning::begin;
 pub use ending::{end, end_laid};
 pub use fitting::can_begin;
-pub use writing::write_initial;
+pub use writing::{write_declared, write_initial};

@@ -147,9 +147,10 @@ fn write_default<B: Blocks>(
     write_elements(heap, types, of, block, at, count);
 }
 
-/// Writes the words with which a variable or a component begins. An allocatable holds nothing.
+/// Writes the words with which a variable or a component begins, from one of a block on, over words that are 0. An allocatable holds
+/// nothing. This takes no memory.
 #[cycle(writing)]
-fn write_declared<B: Blocks>(
+pub fn write_declared<B: Blocks>(
     heap: &mut B,
     types: Types<'_>,
     declared: &Declared,

@@ -40,6 +40,7 @@ use Rattle.f3_word_cells.specs.Areas.{shape_for}
 use Rattle.f3_word_cells.specs.Does.{DoesOver, GoesOn, IsTold, Keeps, RefusedAt, stream}
 use Rattle.f3_word_cells.specs.Moves.{Pushed}
 use Rattle.f3_word_cells.specs.Scenes.{code_of}
+use Rattle.f3_word_cells.specs.Wants.{asked, wanted}
 use Rattle.f3_word_cells.specs.Free.{AreFree}
 use Rattle.f3_word_cells.specs.States.{Stands, datum_blocks}
 use Rattle.f3_word_cells.proofs.Amid.{Amid, amid_last, amid_pushed}
@@ -49,6 +50,7 @@ use Rattle.f3_word_arrays.specs.Items.{IsApart, TookItem, base_of, datum_words}
 use Rattle.f3_word_arrays.specs.Room.{TookRoom}
 use Rattle.f3_word_arrays.specs.Rows.{IsRow}
 use Rattle.f3_word_arrays.proofs.Given.{OnArray, on-array}
+use Rattle.f3_word_arrays.proofs.Wanting.{given-wanted}
 use Rattle.f3_word_arrays.proofs.Collecting.{Collected, Taken, collected-none, collected-more, item-apart, item-free, item-live, item-within, taken-one, top-there}
 use Rattle.f3_word_arrays.proofs.Built.{all-amid, array-value, first-there, is-array, shape-same}
 
@@ -137,7 +139,7 @@ module _ (p : Program) (m : Live) (old : State) (n : ℕ) where
   none-some b e = cc
 
   -- no value is on top
-  pub array-untyped : (Full Spent : Type 0) → (zs : List Cell) → zs ≡ old.cells.items.items → (live : Live) (new : State) → TellsOf zs None → DoesOver Full Spent p (i.Array n) (Err stop.Lost) m live old new
+  pub array-untyped : (Full Spent : ℕ → Type 0) → (zs : List Cell) → zs ≡ old.cells.items.items → (live : Live) (new : State) → TellsOf zs None → DoesOver Full Spent p (i.Array n) (Err stop.Lost) m live old new
   array-untyped Full Spent zs same live new none t l x told there act st =
       let top = first-there p t n (on-array p t l n told there act) old x m st in
       absurd (none-some _ (none top.2 top.0 top.1 (same ∙ top.3)))
@@ -172,7 +174,7 @@ module _ (p : Program) (m : Live) (old : State) (n : ℕ) where
     }
 
     module _ (live : Live) (now : State) (number : ℕ) (g : Gathering of size block live now number) (lt : number < n) where
-      pub array-lost : (Full Spent : Type 0) → (new : Live) (mid last : State) → TookItem None now mid → DoesOver Full Spent p (i.Array n) (Err stop.Lost) m new old last
+      pub array-lost : (Full Spent : ℕ → Type 0) → (new : Live) (mid last : State) → TookItem None now mid → DoesOver Full Spent p (i.Array n) (Err stop.Lost) m new old last
       array-lost Full Spent new mid last none t l x told there act st =
           let top = top-there p t n (on-array p t l n told there act) old x block live now number (g.so t l x told there act st) lt in
           absurd (none top.0 top.1 top.2 top.3)
@@ -217,7 +219,7 @@ module _ (p : Program) (m : Live) (old : State) (n : ℕ) where
             }
 
     -- all are taken, and the array stands on top
-    pub array-made : (Full Spent : Type 0) → (live : Live) (now new : State) (a : Area) → Gathering of size block live now n → IsRow a block n size of → Pushed (c.Datum (datum.Block a)) (now.pc + 1) now new
+    pub array-made : (Full Spent : ℕ → Type 0) → (live : Live) (now new : State) (a : Area) → Gathering of size block live now n → IsRow a block n size of → Pushed (c.Datum (datum.Block a)) (now.pc + 1) now new
         → DoesOver Full Spent p (i.Array n) (Ok tt) m live old new
     array-made Full Spent live now new a g is pushed t l x told there act st =
         let h : OnArray p t n = on-array p t l n told there act in
@@ -237,7 +239,14 @@ module _ (p : Program) (m : Live) (old : State) (n : ℕ) where
         }
 
   -- no block was taken
-  pub array-failed : (Full Spent : Type 0) (words : ℕ) (live : Live) (e : Stop) (new : State) → TookRoom Full Spent m live words (Err e) → DoesOver Full Spent p (i.Array n) (Err e) m live old new
-  array-failed Full Spent words live (stop.Failed HeapHasNoRoom) new took t l x told there act st = (array-full p t l n (on-array p t l n told there act) act, took)
-  array-failed Full Spent words live stop.Memory new took t l x told there act st = took
-  array-failed Full Spent words live e new took t l x told there act st = absurd took
+  module _ (of : Base) (size : ℕ) (is-size : size ≡ words_for (shape_for p of)) (zs : List Cell) (same : zs ≡ old.cells.items.items) (some : TellsOf zs (Some of)) where
+    asks-array : (t : s.State) (l : Line) (x : Rooms) → IsTold p t → slice_get (code_of p).lines t.pc ≡ Some l → l.act ≡ i.Array n → Stands p m old x t → n * size ≡ wanted p l.act t
+    asks-array t l x told there act st =
+        ap (λ k. n * k) (is-size ∙ ap words_for (array-shape zs same of some t l x told there act st))
+        ∙ sym (ap (λ (y : _). wanted p y t) act ∙ given-wanted p t n (on-array p t l n told there act) old x m told st)
+
+    pub array-failed : (Full Spent : ℕ → Type 0) (live : Live) (e : Stop) (new : State) → TookRoom Full Spent m live (n * size) (Err e) → DoesOver Full Spent p (i.Array n) (Err e) m live old new
+    array-failed Full Spent live (stop.Failed HeapHasNoRoom) new took t l x told there act st =
+        (array-full p t l n (on-array p t l n told there act) act, subst (λ k. Full (asked k)) (asks-array t l x told there act st) took)
+    array-failed Full Spent live stop.Memory new took t l x told there act st = subst (λ k. Spent (asked k)) (asks-array t l x told there act st) took
+    array-failed Full Spent live e new took t l x told there act st = absurd took

@@ -3,7 +3,7 @@
 ghost use Rattle.std.specs.Prelude.{◌≡◌, ◌≤◌, ◌<◌, ◌^◌, length};
 ghost use Rattle.f3_code.specs.declared.instruction.Instruction.TheVariants as i;
 ghost use Rattle.f3_word_cells.specs.Scenes.{IsScene};
-ghost use Rattle.f3_word_cells.specs.Does.{DoesOver, HasNoMemory, HasNoRoom, IsAt, Keeps};
+ghost use Rattle.f3_word_cells.specs.Does.{DoesOver, HasNoMemory, HasNoRoom, IsAt, IsKept, Keeps};
 ghost use Rattle.f3_word_arrays.specs.Rows.{IsRow};
 
 use crate::taking::{base_on_top, pop_item};
@@ -55,8 +55,10 @@ pub fn array<B: Blocks>(
     requires room { length state.old.cells.items.items < state.old.cells.room }
     requires bottom { state.old.base ≤ length state.old.cells.items.items }
     requires at { IsAt scene.program.now (i.Array count) (B.blocks heap.old) state.old }
-    ensures does { DoesOver (HasNoRoom B.has_room heap.old) (HasNoMemory B.allows (B.kept heap.old) (B.blocks heap.old)) scene.entry.program.now (i.Array count) result (B.blocks heap.old) (B.blocks heap.new) state.old state.new }
+    ensures does { DoesOver (HasNoRoom B.has_room heap.old) (HasNoMemory B.allows (B.kept heap.old) (B.blocks heap.old))
+        scene.entry.program.now (i.Array count) result (B.blocks heap.old) (B.blocks heap.new) state.old state.new }
     ensures keeps { Keeps state.old state.new }
+    ensures kept { IsKept B.spent (B.kept heap.old) (B.kept heap.new) }
 {
     let Some(of) = base_on_top(state.cells.items.as_slice()) else {
         return Err(Stop::Lost);

@@ -22,7 +22,8 @@ pub(crate) fn take_room<B: Blocks>(
     count: usize,
     words: usize,
 ) -> Result<BlockId, Stop>
-    ensures { TookRoom (HasNoRoom B.has_room heap.old) (HasNoMemory B.allows (B.kept heap.old) (B.blocks heap.old)) (B.blocks heap.old) (B.blocks heap.new) (count * words) result }
+    ensures took { TookRoom (HasNoRoom B.has_room heap.old) (HasNoMemory B.allows (B.kept heap.old) (B.blocks heap.old)) (B.blocks heap.old) (B.blocks heap.new) (count * words) result }
+    ensures kept { B.kept heap.new ≡ B.spent (B.kept heap.old) }
 {
     match heap.take(count.saturating_mul(words)) {
         Ok(block) => {
@@ -50,7 +51,8 @@ fn copy_words<B: Blocks>(heap: &mut B, from: BlockId, to: BlockId, at: usize)
     requires to_live { IsLive (B.blocks heap.old) to }
     requires different { from ≢ to }
     requires within { at + length (words_of (B.blocks heap.old) from) ≤ length (words_of (B.blocks heap.old) to) }
-    ensures { B.blocks heap.new ≡ with_words (B.blocks heap.old) to (with_words_at (words_of (B.blocks heap.old) to) at (words_of (B.blocks heap.old) from)) }
+    ensures copied { B.blocks heap.new ≡ with_words (B.blocks heap.old) to (with_words_at (words_of (B.blocks heap.old) to) at (words_of (B.blocks heap.old) from)) }
+    ensures kept { B.kept heap.new ≡ B.kept heap.old }
 {
     let (source, target) = heap.pair(from, to);
     target[at..at + source.len()].copy_from_slice(source);
@@ -61,7 +63,8 @@ pub(crate) fn write_item<B: Blocks>(heap: &mut B, block: BlockId, at: usize, dat
     requires live { IsLive (B.blocks heap.old) block }
     requires apart { IsApart (B.blocks heap.old) block datum.now }
     requires within { at + length (datum_words (B.blocks heap.old) datum.now) ≤ length (words_of (B.blocks heap.old) block) }
-    ensures { B.blocks heap.new ≡ with_words (B.blocks heap.old) block (with_words_at (words_of (B.blocks heap.old) block) at (datum_words (B.blocks heap.old) datum.now)) }
+    ensures written { B.blocks heap.new ≡ with_words (B.blocks heap.old) block (with_words_at (words_of (B.blocks heap.old) block) at (datum_words (B.blocks heap.old) datum.now)) }
+    ensures kept { B.kept heap.new ≡ B.kept heap.old }
 {
     match datum {
         Datum::Scalar(constant) => heap.write(block, at, word_of(*constant)),

@@ -41,7 +41,6 @@ use Rattle.f3_word_cells.specs.declared.state.State.{State}
 use Rattle.f3_word_cells.specs.Areas.{shape_for, types_of}
 use Rattle.f3_word_cells.specs.Cells.{AreCells, AreNamed as AreNamedIn, AreNames, IsHere}
 use Rattle.f3_word_cells.specs.Scenes.{code_of}
-use Rattle.f3_word_cells.specs.Scalars.{is_plain_scalar}
 use Rattle.f3_word_cells.specs.States.{AreAtHand, AreCalled, AreCallers, AreKnown, AreTight, IsOrderly, Stands, beneath, cells_blocks, cells_from, end_of, level_rooms, loose_blocks, own, rooms_at, starts_of}
 use Rattle.f3_word_cells.specs.Does.{Becomes, IsTold}
 use Rattle.f3_word_cells.proofs.AtHand.{hand_told, names_at_hand}
@@ -382,10 +381,8 @@ module _ (p : Program) (live : Live) (old : State) (x : Rooms) (t : s.State) (l 
         ((let e = hand in let f = names_count in ap (λ h. end_of h.names) begun.here ∙ omega (arith, e, f)), hand_more)
 
     orderly_so : IsOrderly p (t.pc + 1) (length new.names.items.items) new.here (own new)
-    orderly_so = (
-      ap (λ z. is_plain_scalar z.returns) at.next ∙ st.orderly.0,
-      subst (λ o. InScope p.types.items (λ z. AreAtHand (length new.names.items.items) new.here (own new)) o) (sym (ap (λ z. z.scope) at.next)) hand_so,
-    )
+    orderly_so =
+        subst (λ o. InScope p.types.items (λ z. AreAtHand (length new.names.items.items) new.here (own new)) o) (sym (ap (λ z. z.scope) at.next)) hand_so
 
     abbrev Called : List Cell → List Caller → List (List Slot) → ℕ → Type 0
     Called = AreCalled p

@@ -140,8 +140,7 @@ module _ (p : Program) (live : Live) (old : State) (x : Rooms) (t : s.State) (l 
               (subst (λ ks. AreKnown p ks (own new)) (sym kinds) known)
               (subst (λ (h : Here). AreCells p live Rest x ns h g.caller (own new) stack) (sym pushed.same.here)
               (subst (λ (zs : List Cell). AreCells p live Rest x ns k g.caller zs stack) (sym pushed.cells) (names, tt, cells)))
-              (orderly_untold p t.pc (t.pc + 1) (length ns) (length ns) old.here new.here (own old) (own new) (ap (λ z. z.returns) leads.next)
-              (ap (λ z. z.scope) leads.next) st.orderly)
+              (orderly_untold p (t.pc + 1) (length ns) new.here (own new) (ap (λ z. z.scope) leads.next))
               (subst (λ zs. AreTight (AreCalled p (beneath old) (reverse old.callers.items.items)) x.levels (length ns) zs) (sym pushed.cells) st.tight)
               (λ q. let e = pushed.blocks q in omega (arith, e));
         }

@@ -1,19 +1,18 @@
 -- The value of a function that has returned.
-use Rattle.std.proofs.Common.{◌≡◌, ◌∙◌, ℕ, ◌+◌, Bool, true, false, List, [], ◌∷◌, ◌++◌, refl, sym, ap, subst}
+use Rattle.std.proofs.Common.{◌≡◌, ◌∙◌, ℕ, ◌+◌, List, [], ◌∷◌, ◌++◌, refl, sym, ap, subst}
 use Rattle.std.specs.Prelude.{Ok, None, Some, slice_get}
 use Rattle.f3_program.specs.declared.declarations.Constant.TheVariants as constant
 use Rattle.f3_program.specs.declared.declarations.Kind.{Kind}
 use Rattle.f3_program.specs.declared.program.Program.{Program}
 use Rattle.f3_live_blocks.specs.Blocks.{Live}
-use Rattle.f3_meaning_whole.specs.Act.{Here, needs_storage}
-use Rattle.f3_meaning_whole.specs.Eval.{built, result}
-use Rattle.f3_meaning_whole.specs.Ran.{World, gives, ◌>>=◌}
-use Rattle.f3_meaning_whole.specs.Store.{Store}
+use Rattle.f3_meaning_whole.specs.Act.{Here}
+use Rattle.f3_meaning_whole.specs.Eval.{result}
+use Rattle.f3_meaning_whole.specs.Ran.{gives}
 use Rattle.f3_meaning_whole.specs.Value.{Value, plain}
 use Rattle.f3_code.specs.declared.instruction.Instruction.TheVariants as i
 use Rattle.f3_code.specs.Heap.{with_answers}
 use Rattle.f3_code.specs.Machine.{on, performs}
-use Rattle.f3_code.specs.State.{Line, Goes, placed}
+use Rattle.f3_code.specs.State.{Line, placed}
 use Rattle.f3_code.specs.State as s
 use Rattle.f3_cell_kinds.specs.Effect.{held_kind}
 use Rattle.f3_cell_kinds.specs.Types.{CellType}
@@ -29,13 +28,13 @@ use Rattle.f3_word_cells.specs.Areas.{IsDatum, value_in}
 use Rattle.f3_word_cells.specs.Scenes.{code_of}
 use Rattle.f3_word_cells.specs.States.{IsLaid, Stands, datum_blocks, own}
 use Rattle.f3_word_cells.specs.Moves.{Popped, Pushed}
-use Rattle.f3_word_cells.specs.Does.{AreGranted, Becomes, IsTold, stream}
+use Rattle.f3_word_cells.specs.Does.{Becomes, IsTold}
 use Rattle.f3_word_cells.proofs.OnTop.{line_kinds, of_datum, one_on_top}
 use Rattle.f3_word_cells.proofs.Scalars.{IsArray, IsComposite, Large, large_block}
 use Rattle.f3_word_cells.proofs.Moving.{Beneath, moved_to}
 use Rattle.f3_word_cells.proofs.Orderly.{IsAfter, after_way}
 use Rattle.f3_word_cells.proofs.Amid.{Amid, amid_first, amid_popped}
-use Rattle.f3_word_cells.proofs.Lines.{answering, claim_for_block, claim_for_scalar, first_gives, first_granted, line_goes, performs_gives, with_stack}
+use Rattle.f3_word_cells.proofs.Lines.{answering, line_goes, performs_gives, with_stack}
 use Rattle.f3_word_calls.specs.Taken.{Took}
 use Rattle.f3_word_calls.proofs.Going.{goes_with}
 use Rattle.f3_word_calls.proofs.Tops.{datum_cell, top_is}
@@ -43,49 +42,18 @@ use Rattle.f3_word_calls.proofs.Tops.{datum_cell, top_is}
 -- ---- what the machine over values does
 
 -- a value is there
-pub record IsPresent (v : Value) (is_large : Bool) : Type 0 where
-  pub result : (here : Here) → result v here ≡ gives (plain v)
-  pub needs : needs_storage (plain v) ≡ is_large
+abbrev IsPresent : Value → Type 0
+IsPresent v = (here : Here) → result v here ≡ gives (plain v)
 
-large_present : (ds : List Dim) (v : Value) → Large ds v → IsPresent v true
-large_present ds v (IsComposite vs none is) = subst (λ x. IsPresent x true) (sym is) (record { result = λ here. refl; needs = refl })
-large_present ds v (IsArray ss vs same is) = subst (λ x. IsPresent x true) (sym is) (record { result = λ here. refl; needs = refl })
+large_present : (ds : List Dim) (v : Value) → Large ds v → IsPresent v
+large_present ds v (IsComposite vs none is) = subst IsPresent (sym is) (λ here. refl)
+large_present ds v (IsArray ss vs same is) = subst IsPresent (sym is) (λ here. refl)
 
-abbrev pub asks_for : Datum → List Bool
-asks_for (datum.Scalar k) = []
-asks_for (datum.Block a) = false ∷ []
-
-granted_asks_for : (d : Datum) → AreGranted (asks_for d)
-granted_asks_for (datum.Scalar k) = tt
-granted_asks_for (datum.Block a) = tt
-
-abbrev gives_result : Value → Here → World → (Value → World → s.State) → s.Next
-gives_result v here w f = performs (result v here >>= λ x. built x here) w f
-
-module _ (here : Here) (store : Store) (v : Value) (rest : ℕ → Bool) (f : Value → World → s.State) where
-  large_result : IsPresent v true → gives_result v here (answering store (stream (false ∷ []) rest)) f ≡ Goes [] (f (plain v) (answering store rest))
-  large_result is =
-      let w : World = answering store (stream (false ∷ []) rest) in
-      ap (λ r. performs (r >>= λ x. built x here) w f) (is.result here) ∙ first_gives (plain v) (λ x. built x here) w f
-      ∙ ap (λ r. performs (r >>= λ done. gives (plain v)) w f) (claim_for_block (plain v) here is.needs)
-      ∙ first_granted here store [] rest (λ done. gives (plain v)) f ∙ performs_gives (plain v) (answering store (stream [] rest)) f
-
-  scalar_result : IsPresent v false → gives_result v here (answering store (stream [] rest)) f ≡ Goes [] (f (plain v) (answering store rest))
-  scalar_result is =
-      let w : World = answering store (stream [] rest) in
-      ap (λ r. performs (r >>= λ x. built x here) w f) (is.result here) ∙ first_gives (plain v) (λ x. built x here) w f
-      ∙ ap (λ r. performs (r >>= λ done. gives (plain v)) w f) (claim_for_scalar (plain v) here is.needs)
-      ∙ first_gives tt (λ done. gives (plain v)) w f ∙ performs_gives (plain v) w f
-
-module _ (p : Program) (live : Live) (here : Here) (store : Store) (v : Value) (rest : ℕ → Bool) (f : Value → World → s.State) where
-  pub result_goes : (d : Datum) → IsDatum p live d v → gives_result v here (answering store (stream (asks_for d) rest)) f ≡ Goes [] (f (plain v) (answering store rest))
-  result_goes (datum.Scalar (constant.Number z)) is =
-      scalar_result here store v rest f (subst (λ x. IsPresent x false) (sym is) (record { result = λ h. refl; needs = refl }))
-  result_goes (datum.Scalar (constant.Truth b)) is =
-      scalar_result here store v rest f (subst (λ x. IsPresent x false) (sym is) (record { result = λ h. refl; needs = refl }))
-  result_goes (datum.Block a) is =
-      large_result here store v rest f
-      (subst (λ x. IsPresent x true) (sym is.1) (large_present a.elements.dims.items (value_in p live a) (large_block p live a is.0)))
+is_present : (p : Program) (live : Live) (v : Value) (d : Datum) → IsDatum p live d v → IsPresent v
+is_present p live v (datum.Scalar (constant.Number z)) is = subst IsPresent (sym is) (λ here. refl)
+is_present p live v (datum.Scalar (constant.Truth b)) is = subst IsPresent (sym is) (λ here. refl)
+is_present p live v (datum.Block a) is =
+    subst IsPresent (sym is.1) (large_present a.elements.dims.items (value_in p live a) (large_block p live a is.0))
 
 -- ---- what the line does
 
@@ -135,6 +103,6 @@ module _ (p : Program) (live : Live) (old : State) (x : Rooms) (t : s.State) (l 
       let u : s.State = moved_to t (t.pc + 1) (s.Datum (plain v) ∷ at_value.below) t.here t.world in
       goes_with p live old x t l st mid new (cell.Datum (held_kind at_value.kind)) at_value.rest (s.Datum (plain v)) at_value.below (c.Datum e) amid popped.pc pushed tt
       (value v taken.0) (kind (held_kind at_value.kind) taken.1) at_value.next
-      (line_goes p l t i.Result stack u (asks_for d) (granted_asks_for d) [] is at_value.split
-      (λ rest. result_goes p live (placed l.place t.here) t.world.store v rest
-      (λ y. on (with_answers (stream (asks_for d) rest) (with_stack stack t)) (s.Datum y ∷ at_value.below)) d taken.0))
+      (line_goes p l t i.Result stack u [] tt [] is at_value.split
+      (λ rest. ap (λ r. performs r (answering t.world.store rest) (λ y. on (with_answers rest (with_stack stack t)) (s.Datum y ∷ at_value.below)))
+      (is_present p live v d taken.0 (placed l.place t.here)) ∙ performs_gives (plain v) (answering t.world.store rest) _))

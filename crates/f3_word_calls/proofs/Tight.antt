@@ -9,7 +9,6 @@ use Rattle.f3_word_cells.specs.declared.cell.Here.{Here}
 use Rattle.f3_word_cells.specs.declared.cell.Cell.{Cell}
 use Rattle.f3_word_cells.specs.declared.cell.Cell.TheVariants as c
 use Rattle.f3_word_cells.specs.declared.state.Caller.{Caller}
-use Rattle.f3_word_cells.specs.Scalars.{is_plain_scalar}
 use Rattle.f3_word_cells.specs.States.{AreAtHand, AreCalled, AreTight, IsOrderly, cells_from}
 use Rattle.f3_word_cells.proofs.Orderly.{IsAfter, in_scope}
 
@@ -18,19 +17,13 @@ use Rattle.f3_word_cells.proofs.Orderly.{IsAfter, in_scope}
 -- with other names
 pub orderly_to : (p : Program) (from to n j : ℕ) (h k : Here) (zs ys : List Cell) (ks : List CellType) → IsAfter p from to ks
     → (AreAtHand n h zs → AreAtHand j k ys) → IsOrderly p from n h zs → IsOrderly p to j k ys
-orderly_to p from to n j h k zs ys ks after f are = (
-  ap (λ r. is_plain_scalar r) after.returns ∙ are.0,
-  subst (λ o. InScope p.types.items (λ z. AreAtHand j k ys) o) (sym after.scope)
-      (in_scope p.types.items (λ z. AreAtHand n h zs) (λ z. AreAtHand j k ys) (site_at p from).scope (λ z. f) are.1),
-)
+orderly_to p from to n j h k zs ys ks after f are =
+    subst (λ o. InScope p.types.items (λ z. AreAtHand j k ys) o) (sym after.scope)
+    (in_scope p.types.items (λ z. AreAtHand n h zs) (λ z. AreAtHand j k ys) (site_at p from).scope (λ z. f) are)
 
 -- one that looks at its caller
-pub orderly_untold : (p : Program) (from to n j : ℕ) (h k : Here) (zs ys : List Cell) → (site_at p to).returns ≡ (site_at p from).returns
-    → (site_at p to).scope ≡ Untold → IsOrderly p from n h zs → IsOrderly p to j k ys
-orderly_untold p from to n j h k zs ys returns scope are = (
-  ap (λ r. is_plain_scalar r) returns ∙ are.0,
-  subst (λ o. InScope p.types.items (λ z. AreAtHand j k ys) o) (sym scope) tt,
-)
+pub orderly_untold : (p : Program) (to j : ℕ) (k : Here) (ys : List Cell) → (site_at p to).scope ≡ Untold → IsOrderly p to j k ys
+orderly_untold p to j k ys scope = subst (λ o. InScope p.types.items (λ z. AreAtHand j k ys) o) (sym scope) tt
 
 -- ---- levels
 

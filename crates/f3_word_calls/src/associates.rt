@@ -41,6 +41,7 @@ pub fn end_associate<B: Blocks>(heap: &mut B, state: &mut State) -> Result<(), S
     requires at { IsAtSome EndAssociate (B.blocks heap.old) state.old }
     ensures does { DoesWith EndAssociate result (B.blocks heap.old) (B.blocks heap.new) state.old state.new }
     ensures keeps { KeepsRoom state.old state.new }
+    ensures kept { B.kept heap.new ≡ B.kept heap.old }
 {
     let Some(_left) = pop_objects(state) else {
         return Err(Stop::Lost);

@@ -15,6 +15,7 @@ fn give_blocks<B: Blocks>(heap: &mut B, blocks: &mut Stack<BlockId>, count: usiz
     ensures gone { Gone (drop count blocks.old.items.items) (B.blocks heap.old) (B.blocks heap.new) }
     ensures blocks { blocks.new.items.items ≡ take count blocks.old.items.items }
     ensures room { blocks.new.room ≡ blocks.old.room }
+    ensures kept { B.kept heap.new ≡ B.kept heap.old }
 {
     while blocks.items.len() > count {
         if let Some(block) = blocks.pop() {
@@ -36,6 +37,7 @@ pub(crate) fn end_levels<B: Blocks>(
     ensures levels { levels.new.items.items ≡ take level levels.old.items.items }
     ensures blocks_room { blocks.new.room ≡ blocks.old.room }
     ensures levels_room { levels.new.room ≡ levels.old.room }
+    ensures kept { B.kept heap.new ≡ B.kept heap.old }
 {
     if level >= levels.items.len() {
         return;
@@ -48,7 +50,8 @@ pub(crate) fn end_levels<B: Blocks>(
 /// The cells of the activation at work go.
 pub(crate) fn clear<B: Blocks>(heap: &mut B, state: &mut State)
     requires { MayGo (B.blocks heap.old) (cells_blocks (own state.old)) }
-    ensures { Cleared (B.blocks heap.old) (B.blocks heap.new) state.old state.new }
+    ensures cleared { Cleared (B.blocks heap.old) (B.blocks heap.new) state.old state.new }
+    ensures kept { B.kept heap.new ≡ B.kept heap.old }
 {
     while let Some(cell) = state.pop() {
         let_go(heap, cell);

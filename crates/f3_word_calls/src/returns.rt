@@ -20,6 +20,7 @@ pub fn return_to_caller<B: Blocks>(heap: &mut B, state: &mut State) -> Result<()
     requires at { IsAtSome Return (B.blocks heap.old) state.old }
     ensures does { DoesWith Return result (B.blocks heap.old) (B.blocks heap.new) state.old state.new }
     ensures keeps { KeepsRoom state.old state.new }
+    ensures kept { B.kept heap.new ≡ B.kept heap.old }
 {
     let Some(_objects) = pop_objects(state) else {
         return Err(Stop::Lost);

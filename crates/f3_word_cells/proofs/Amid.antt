@@ -136,21 +136,16 @@ beneath_flat : (p : Program) (pc : ℕ) (old mid now : State) (c : Cell) → IsF
     → IsOrderly p pc (length old.names.items.items) old.here (own mid) → IsOrderly p pc (length old.names.items.items) old.here (own now)
 beneath_flat p pc old mid now c level e are =
     let n = length old.names.items.items in
-    let them = subst (λ (cs : List Cell). IsOrderly p pc n old.here cs) e are in (
-      them.0,
-      in_scope p.types.items (λ o. AreAtHand n old.here (c ∷ own now)) (λ o. AreAtHand n old.here (own now)) (site_at p pc).scope
-          (λ o. subst (λ (A : Type 0). A) (hand_flat n old.here c (own now) level)) them.1,
-    )
+    in_scope p.types.items (λ o. AreAtHand n old.here (c ∷ own now)) (λ o. AreAtHand n old.here (own now)) (site_at p pc).scope
+    (λ o. subst (λ (A : Type 0). A) (hand_flat n old.here c (own now) level)) (subst (λ (cs : List Cell). IsOrderly p pc n old.here cs) e are)
 
 above_flat : (p : Program) (pc : ℕ) (old mid now : State) (c : Cell) → IsFlatCell c → own now ≡ c ∷ own mid
     → IsOrderly p pc (length old.names.items.items) old.here (own mid) → IsOrderly p pc (length old.names.items.items) old.here (own now)
 above_flat p pc old mid now c level e are =
     let n = length old.names.items.items in
-    subst (λ (cs : List Cell). IsOrderly p pc n old.here cs) (sym e) (
-      are.0,
-      in_scope p.types.items (λ o. AreAtHand n old.here (own mid)) (λ o. AreAtHand n old.here (c ∷ own mid)) (site_at p pc).scope
-          (λ o. subst (λ (A : Type 0). A) (sym (hand_flat n old.here c (own mid) level))) are.1,
-    )
+    subst (λ (cs : List Cell). IsOrderly p pc n old.here cs) (sym e)
+    (in_scope p.types.items (λ o. AreAtHand n old.here (own mid)) (λ o. AreAtHand n old.here (c ∷ own mid)) (site_at p pc).scope
+    (λ o. subst (λ (A : Type 0). A) (sym (hand_flat n old.here c (own mid) level))) are)
 
 same_then : {a b c : State} → IsSameElse a b → IsSame b c → IsSameElse a c
 same_then g h = record {

@@ -27,7 +27,7 @@ use Rattle.f3_word_cells.proofs.Orderly.{flat_cell, hand_flat}
 -- ---- in a scope that is told
 
 pub hand_told : (p : Program) (pc n : ℕ) (h : Here) (zs : List Cell) (o : Scope) → (site_at p pc).scope ≡ Told o → IsOrderly p pc n h zs → AreAtHand n h zs
-hand_told p pc n h zs o e are = subst (λ (a : Around). InScope p.types.items (λ z. AreAtHand n h zs) a) e are.1
+hand_told p pc n h zs o e are = subst (λ (a : Around). InScope p.types.items (λ z. AreAtHand n h zs) a) e are
 
 -- ---- the construct around
 

@@ -16,7 +16,6 @@ use Rattle.f3_word_cells.specs.declared.cell.Cell.{Cell}
 use Rattle.f3_word_cells.specs.declared.cell.Cell.TheVariants as c
 use Rattle.f3_word_cells.specs.declared.state.Name.{Name}
 use Rattle.f3_word_cells.specs.Cells.{IsCell}
-use Rattle.f3_word_cells.specs.Scalars.{is_plain_scalar}
 use Rattle.f3_word_cells.specs.States.{AreAtHand, AreTight, IsOrderly, end_of}
 use Rattle.f3_word_cells.proofs.Flat.{IsFlat}
 
@@ -130,8 +129,6 @@ hand_named n h k (c.Going d ∷ zs) e are = hand_named n h k zs e are
 -- so do cells of no construct, at a line of the same scope
 pub orderly_so : (p : Program) (from to n : ℕ) (h k : Here) (zs ys : List Cell) (ks : List CellType) → IsAfter p from to ks
     → (AreAtHand n h zs → AreAtHand n k ys) → IsOrderly p from n h zs → IsOrderly p to n k ys
-orderly_so p from to n h k zs ys ks after f are = (
-  ap (λ r. is_plain_scalar r) after.returns ∙ are.0,
-  subst (λ o. InScope p.types.items (λ z. AreAtHand n k ys) o) (sym after.scope)
-      (in_scope p.types.items (λ z. AreAtHand n h zs) (λ z. AreAtHand n k ys) (site_at p from).scope (λ z. f) are.1),
-)
+orderly_so p from to n h k zs ys ks after f are =
+    subst (λ o. InScope p.types.items (λ z. AreAtHand n k ys) o) (sym after.scope)
+    (in_scope p.types.items (λ z. AreAtHand n h zs) (λ z. AreAtHand n k ys) (site_at p from).scope (λ z. f) are)

@@ -7,4 +7,5 @@ pub mod Plain
 pub mod Scenes
 pub mod Free
 pub mod Ranks
+pub mod Wants
 pub mod Does

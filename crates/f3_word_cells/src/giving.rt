@@ -11,7 +11,8 @@ use f3_heap::Blocks;
 /// The block of a value is given back, if it has one.
 pub fn let_go_datum<B: Blocks>(heap: &mut B, datum: Datum)
     requires { AreFree (B.blocks heap.old) (datum_blocks datum) }
-    ensures { B.blocks heap.new ≡ without (datum_blocks datum) (B.blocks heap.old) }
+    ensures given { B.blocks heap.new ≡ without (datum_blocks datum) (B.blocks heap.old) }
+    ensures kept { B.kept heap.new ≡ B.kept heap.old }
 {
     match datum {
         Datum::Scalar(_) => {}
@@ -24,7 +25,8 @@ pub fn let_go_datum<B: Blocks>(heap: &mut B, datum: Datum)
 /// The block of a cell's value is given back, if it has one.
 pub fn let_go<B: Blocks>(heap: &mut B, cell: Cell)
     requires { AreFree (B.blocks heap.old) (cell_blocks cell) }
-    ensures { B.blocks heap.new ≡ without (cell_blocks cell) (B.blocks heap.old) }
+    ensures given { B.blocks heap.new ≡ without (cell_blocks cell) (B.blocks heap.old) }
+    ensures kept { B.kept heap.new ≡ B.kept heap.old }
 {
     match cell {
         Cell::Datum(datum) => let_go_datum(heap, datum),

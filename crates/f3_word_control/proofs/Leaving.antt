@@ -83,7 +83,7 @@ module _ (p : Program) (l : Line) (t : s.State) (m : Live) (old : State) (x : Ro
       let hand : AreAtHand n old.here (c.Outside h ∷ own mid) =
       subst (λ (cs : List Cell). AreAtHand n old.here cs) popped.cells (hand_told p t.pc n old.here (own old) scope.0 scope.1 st.orderly) in
       let orderly : IsOrderly p (t.pc + 1 + d) n h (c.Going f ∷ own mid) =
-      orderly_at p (t.pc + 1 + d) n h (c.Going f ∷ own mid) (left_to (site_at p t.pc) o rest) o site refl st.orderly.0 hand.1 in
+      orderly_at p (t.pc + 1 + d) n h (c.Going f ∷ own mid) (left_to (site_at p t.pc) o rest) o site refl hand.1 in
       let tight : AreTight (AreCalled p (beneath old) (reverse old.callers.items.items)) x.levels n (c.Outside h ∷ own mid) =
       subst (λ (cs : List Cell). AreTight (AreCalled p (beneath old) (reverse old.callers.items.items)) x.levels n cs) popped.cells st.tight in
       record {

@@ -26,7 +26,6 @@ use Rattle.f3_word_cells.specs.declared.cell.Here.{Here}
 use Rattle.f3_word_cells.specs.declared.state.Name.{Name}
 use Rattle.f3_word_cells.specs.declared.state.State.{State}
 use Rattle.f3_word_cells.specs.Cells.{IsCell, IsHere}
-use Rattle.f3_word_cells.specs.Scalars.{is_plain_scalar}
 use Rattle.f3_word_cells.specs.States.{AreAtHand, IsKnown, IsOrderly, Stands, cell_blocks}
 use Rattle.f3_word_cells.specs.Scenes.{code_of}
 use Rattle.f3_word_cells.specs.Moves.{Moved, Pushed}
@@ -56,12 +55,10 @@ abbrev pub left_to : Site → Scope → List CellType → Site
 left_to z o rest = arrived z (record { scope = Told o; left = cell.Going ∷ [] }) rest
 
 -- an activation at a line where its names are at hand
-pub orderly_at : (p : Program) (to n : ℕ) (h : Here) (zs : List Cell) (z : Site) (o : Scope) → site_at p to ≡ z → z.scope ≡ Told o → is_plain_scalar z.returns ≡ true
-    → AreAtHand n h zs → IsOrderly p to n h zs
-orderly_at p to n h zs z o e scope returns hand = (
-  ap (λ (y : Site). is_plain_scalar y.returns) e ∙ returns,
-  subst (λ (a : Around). InScope p.types.items (λ o. AreAtHand n h zs) a) (sym (ap (λ (y : Site). y.scope) e ∙ scope)) hand,
-)
+pub orderly_at : (p : Program) (to n : ℕ) (h : Here) (zs : List Cell) (z : Site) (o : Scope) → site_at p to ≡ z → z.scope ≡ Told o → AreAtHand n h zs
+    → IsOrderly p to n h zs
+orderly_at p to n h zs z o e scope hand =
+    subst (λ (a : Around). InScope p.types.items (λ o. AreAtHand n h zs) a) (sym (ap (λ (y : Site). y.scope) e ∙ scope)) hand
 
 module _ (p : Program) (l : Line) (t : s.State) where
   -- what an instruction does, whose line this is

@@ -59,7 +59,7 @@ module _ (p : Program) (l : Line) (t : s.State) (m n : Live) (old : State) (x : 
       let kinds : (site_at p (t.pc + 1)).cells ≡ cell.Outside o ∷ rest = ap (λ (z : Site). z.cells) site in
       let count = length names in
       let orderly : IsOrderly p (t.pc + 1) count inner (c.Outside old.here ∷ own mid) =
-      orderly_at p (t.pc + 1) count inner (c.Outside old.here ∷ own mid) (begun_at (site_at p t.pc) k o rest) (cell.selecting k o) site refl amid.orderly.0
+      orderly_at p (t.pc + 1) count inner (c.Outside old.here ∷ own mid) (begun_at (site_at p t.pc) k o rest) (cell.selecting k o) site refl
       (last, hand_told p t.pc count old.here (own mid) o scope amid.orderly) in
       record {
         next = with_here (t.pc + 1) (s.Outside t.here ∷ below) (selecting v t.here) t;

@@ -134,6 +134,7 @@ pub fn selecting<B: Blocks>(heap: &mut B, state: &mut State) -> Result<(), Stop>
     requires at { IsAtSome Selecting (B.blocks heap.old) state.old }
     ensures does { DoesWith Selecting result (B.blocks heap.old) (B.blocks heap.new) state.old state.new }
     ensures keeps { Keeps state.old state.new }
+    ensures kept { B.kept heap.new ≡ B.kept heap.old }
 {
     let Some(datum) = pop_datum(state) else {
         return Err(Stop::Lost);

@@ -16,6 +16,7 @@ pub fn drop_top<B: Blocks>(heap: &mut B, state: &mut State) -> Result<(), Stop>
     requires at { IsAtSome Drop (B.blocks heap.old) state.old }
     ensures does { DoesWith Drop result (B.blocks heap.old) (B.blocks heap.new) state.old state.new }
     ensures keeps { Keeps state.old state.new }
+    ensures kept { B.kept heap.new ≡ B.kept heap.old }
 {
     let Some(cell) = state.pop() else {
         return Err(Stop::Lost);
@@ -32,6 +33,7 @@ pub fn unwind<B: Blocks>(heap: &mut B, state: &mut State, count: usize) -> Resul
     requires at { IsAtSome (Unwind count) (B.blocks heap.old) state.old }
     ensures does { DoesWith (Unwind count) result (B.blocks heap.old) (B.blocks heap.new) state.old state.new }
     ensures keeps { Keeps state.old state.new }
+    ensures kept { B.kept heap.new ≡ B.kept heap.old }
 {
     for _ in 0..count {
         let Some(cell) = state.pop() else {

@@ -91,6 +91,7 @@ pub fn print_value<B: Blocks, W: Write>(
     requires at { IsAtSome PrintValue (B.blocks heap.old) state.old }
     ensures does { DoesPrint PrintValue result (B.blocks heap.old) (B.blocks heap.new) state.old state.new (state_of W.contents output.old) (state_of W.contents output.new) }
     ensures keeps { Keeps state.old state.new }
+    ensures kept { B.kept heap.new ≡ B.kept heap.old }
 {
     let Some(datum) = pop_datum(state) else {
         return Err(Stop::Lost);

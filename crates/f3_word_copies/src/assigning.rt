@@ -29,6 +29,7 @@ fn assign<B: Blocks>(
     ensures take { DoesIn scene.entry.program.now (i.Take of) result (B.blocks heap.old) (B.blocks heap.new) state.old state.new }
     ensures fill { DoesIn scene.entry.program.now (i.Fill of) result (B.blocks heap.old) (B.blocks heap.new) state.old state.new }
     ensures keeps { Keeps state.old state.new }
+    ensures kept { B.kept heap.new ≡ B.kept heap.old }
 {
     let Some(object) = pop_object(state) else {
         return Err(Stop::Lost);
@@ -60,6 +61,7 @@ pub fn take<B: Blocks>(
     requires at { IsAt scene.program.now (i.Take of) (B.blocks heap.old) state.old }
     ensures does { DoesIn scene.entry.program.now (i.Take of) result (B.blocks heap.old) (B.blocks heap.new) state.old state.new }
     ensures keeps { Keeps state.old state.new }
+    ensures kept { B.kept heap.new ≡ B.kept heap.old }
 {
     assign(scene, heap, state, of)
 }
@@ -76,6 +78,7 @@ pub fn fill<B: Blocks>(
     requires at { IsAt scene.program.now (i.Fill of) (B.blocks heap.old) state.old }
     ensures does { DoesIn scene.entry.program.now (i.Fill of) result (B.blocks heap.old) (B.blocks heap.new) state.old state.new }
     ensures keeps { Keeps state.old state.new }
+    ensures kept { B.kept heap.new ≡ B.kept heap.old }
 {
     assign(scene, heap, state, of)
 }

@@ -83,9 +83,10 @@ fn take_each<B: Blocks>(
     requires apart { from ≢ elements.now.block }
     requires few { count ≤ size_of elements.now.dims.items }
     requires room { count * words ≤ length (words_of (B.blocks heap.old) from) }
-    ensures { B.blocks heap.new ≡ with_words (B.blocks heap.old) elements.now.block
+    ensures taken { B.blocks heap.new ≡ with_words (B.blocks heap.old) elements.now.block
         (copied words (words_of (B.blocks heap.old) elements.now.block) (words_of (B.blocks heap.old) from)
         (take count (places elements.now)) (progression (pos 0) (pos words) count)) }
+    ensures kept { B.kept heap.new ≡ B.kept heap.old }
 {
     prove!(heap.length(from) <= usize::MAX);
     prove!(heap.length(elements.block) <= usize::MAX);
@@ -110,10 +111,11 @@ pub(crate) fn take_elements<B: Blocks>(
     requires within { LieWithin (B.blocks heap.old) elements.now words }
     requires live { IsLive (B.blocks heap.old) from }
     requires apart { from ≢ elements.now.block }
-    ensures { let count = fewer_of (size_of elements.now.dims.items) (length (words_of (B.blocks heap.old) from) / words) in
+    ensures taken { let count = fewer_of (size_of elements.now.dims.items) (length (words_of (B.blocks heap.old) from) / words) in
         B.blocks heap.new ≡ with_words (B.blocks heap.old) elements.now.block
         (copied words (words_of (B.blocks heap.old) elements.now.block) (words_of (B.blocks heap.old) from)
         (take count (places elements.now)) (progression (pos 0) (pos words) count)) }
+    ensures kept { B.kept heap.new ≡ B.kept heap.old }
 {
     let count = fewer(&elements.dims, heap.length(from) / words);
     if has_size(&elements.dims, count) && words < 1 << 63 {

@@ -43,6 +43,7 @@ fn take_source<B: Blocks>(heap: &mut B, elements: &Descriptor, source: &Source<'
     ensures some { 0 < size_of elements.now.dims.items
         → B.blocks heap.new ≡ with_words (B.blocks heap.old) elements.now.block
         (spread_over (words_of (B.blocks heap.old) elements.now.block) (source_words (B.blocks heap.old) source.now) (places elements.now)) }
+    ensures kept { B.kept heap.new ≡ B.kept heap.old }
 {
     if has_elements(&elements.dims) {
         spread(
@@ -65,6 +66,7 @@ fn take_array<B: Blocks>(heap: &mut B, from: BlockId, elements: &Descriptor, wor
         B.blocks heap.new ≡ with_words (B.blocks heap.old) elements.now.block
         (copied words (words_of (B.blocks heap.old) elements.now.block) (words_of (B.blocks heap.old) from)
         (take count (places elements.now)) (progression (pos 0) (pos words) count)) }
+    ensures kept { B.kept heap.new ≡ B.kept heap.old }
 {
     if words > 0 && has_elements(&elements.dims) {
         take_elements(heap, from, elements, words);
@@ -75,7 +77,8 @@ fn take_array<B: Blocks>(heap: &mut B, from: BlockId, elements: &Descriptor, wor
 pub(crate) fn put<B: Blocks>(heap: &mut B, types: Types<'_>, area: &Area, datum: &Datum)
     requires tables { HasTables types }
     requires can { (p : Program) × (x : Rooms) × (r : Reference) × (v : Value) × CanTake p types (B.blocks heap.old) x area.now r datum.now v }
-    ensures { (p : Program) (x : Rooms) (r : Reference) (v : Value) → CanTake p types.entry (B.blocks heap.old) x area.now r datum.now v → Takes p (B.blocks heap.old) (B.blocks heap.new) x r v }
+    ensures takes { (p : Program) (x : Rooms) (r : Reference) (v : Value) → CanTake p types.entry (B.blocks heap.old) x area.now r datum.now v → Takes p (B.blocks heap.old) (B.blocks heap.new) x r v }
+    ensures kept { B.kept heap.new ≡ B.kept heap.old }
 {
     match datum {
         Datum::Scalar(constant) => {
@@ -95,7 +98,8 @@ pub(crate) fn put<B: Blocks>(heap: &mut B, types: Types<'_>, area: &Area, datum:
 pub(crate) fn begin<B: Blocks>(heap: &mut B, types: Types<'_>, area: &Area)
     requires tables { HasTables types }
     requires can { (p : Program) × (x : Rooms) × (r : Reference) × CanBeginAt p types (B.blocks heap.old) x area.now r }
-    ensures { (p : Program) (x : Rooms) (r : Reference) → CanBeginAt p types.entry (B.blocks heap.old) x area.now r → Takes p (B.blocks heap.old) (B.blocks heap.new) x r (initial_of (shape_for p area.now.of)) }
+    ensures takes { (p : Program) (x : Rooms) (r : Reference) → CanBeginAt p types.entry (B.blocks heap.old) x area.now r → Takes p (B.blocks heap.old) (B.blocks heap.new) x r (initial_of (shape_for p area.now.of)) }
+    ensures kept { B.kept heap.new ≡ B.kept heap.old }
 {
     take_source(heap, &area.elements, &Source::Initial(types, area.of));
 }

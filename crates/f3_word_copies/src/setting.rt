@@ -21,6 +21,7 @@ pub fn set<B: Blocks>(scene: Scene<'_>, heap: &mut B, state: &mut State) -> Resu
     requires at { IsAt scene.program.now i.Set (B.blocks heap.old) state.old }
     ensures does { DoesIn scene.entry.program.now i.Set result (B.blocks heap.old) (B.blocks heap.new) state.old state.new }
     ensures keeps { Keeps state.old state.new }
+    ensures kept { B.kept heap.new ≡ B.kept heap.old }
 {
     let Some(object) = pop_object(state) else {
         return Err(Stop::Lost);

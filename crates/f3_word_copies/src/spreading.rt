@@ -41,7 +41,8 @@ fn write_initial<B: Blocks>(heap: &mut B, types: Types<'_>, of: Base, block: Blo
     requires fit { TypeCanBegin (shape_in (shapes types) of) }
     requires live { IsLive (B.blocks heap.old) block }
     requires within { at + words_for (shape_in (shapes types) of) ≤ length (words_of (B.blocks heap.old) block) }
-    ensures { B.blocks heap.new ≡ with_words (B.blocks heap.old) block (with_words_at (words_of (B.blocks heap.old) block) at (object_words (shape_in (shapes types.entry) of))) }
+    ensures written { B.blocks heap.new ≡ with_words (B.blocks heap.old) block (with_words_at (words_of (B.blocks heap.old) block) at (object_words (shape_in (shapes types.entry) of))) }
+    ensures kept { B.kept heap.new ≡ B.kept heap.old }
 {
     prove!(heap.length(block) <= usize::MAX);
     for number in 0..words(types, of) {
@@ -54,7 +55,8 @@ fn write_one<B: Blocks>(heap: &mut B, source: &Source<'_>, block: BlockId, at: u
     requires live { IsLive (B.blocks heap.old) block }
     requires source { IsSource (B.blocks heap.old) block source.now }
     requires within { at + length (source_words (B.blocks heap.old) source.now) ≤ length (words_of (B.blocks heap.old) block) }
-    ensures { B.blocks heap.new ≡ with_words (B.blocks heap.old) block (with_words_at (words_of (B.blocks heap.old) block) at (source_words (B.blocks heap.old) source.now)) }
+    ensures written { B.blocks heap.new ≡ with_words (B.blocks heap.old) block (with_words_at (words_of (B.blocks heap.old) block) at (source_words (B.blocks heap.old) source.now)) }
+    ensures kept { B.kept heap.new ≡ B.kept heap.old }
 {
     match *source {
         Source::Word(word) => heap.write(block, at, word),
@@ -82,8 +84,9 @@ pub(crate) fn spread<B: Blocks>(
     requires live { IsLive (B.blocks heap.old) block }
     requires source { IsSource (B.blocks heap.old) block source.now }
     requires inside { (z : ℤ) × IsCongruent (pos at) z × AreInside (length (words_of (B.blocks heap.old) block)) (length (source_words (B.blocks heap.old) source.now)) (places_from z dims.now) }
-    ensures { (z : ℤ) → IsCongruent (pos at) z → AreInside (length (words_of (B.blocks heap.old) block)) (length (source_words (B.blocks heap.old) source.now)) (places_from z dims.now)
+    ensures written { (z : ℤ) → IsCongruent (pos at) z → AreInside (length (words_of (B.blocks heap.old) block)) (length (source_words (B.blocks heap.old) source.now)) (places_from z dims.now)
         → B.blocks heap.new ≡ with_words (B.blocks heap.old) block (spread_over (words_of (B.blocks heap.old) block) (source_words (B.blocks heap.old) source.now) (places_from z dims.now)) }
+    ensures kept { B.kept heap.new ≡ B.kept heap.old }
 {
     prove!(heap.length(block) <= usize::MAX);
     let Some((last, others)) = dims.split_last() else {

@@ -56,7 +56,6 @@ use Rattle.f3_word_cells.specs.Cells.{AreCells, AreNames, IsHere, names_in}
 use Rattle.f3_word_cells.specs.Does.{IsTold}
 use Rattle.f3_word_cells.specs.States.{AreAtHand, AreCalled, AreCallers, AreKnown, AreTight, IsCalled, IsCaller, IsOrderly, Stands, beneath, cells_blocks, cells_from, is_held_at, level_rooms, levels_rooms, loose_blocks, own, rooms_at, starts_of}
 use Rattle.f3_word_cells.proofs.Lines.{answering}
-use Rattle.f3_word_cells.specs.Scalars.{is_plain_scalar}
 use Rattle.f3_word_cells.proofs.Moving.{Beneath}
 use Rattle.f3_word_cells.proofs.Orderly.{after_way, in_scope}
 use Rattle.f3_word_cells.proofs.Stacks.{cells_blocks_append, cells_blocks_reverse, cells_blocks_split}
@@ -367,13 +366,10 @@ module _ (p : Program) (h : Global) (t : s.State) (m n : Live) (old new : State)
     left_orderly : IsOrderly p (t.pc + 1) (length ns) old.here (cells_from old.base into.left)
     left_orderly =
         let after = after_way p t.pc (t.pc + 1) (cell.Datum returns ∷ []) rest next in
-        subst (λ (zs : List Cell). IsOrderly p (t.pc + 1) (length ns) old.here zs) (sym own_left) (
-          ap is_plain_scalar after.returns ∙ st.orderly.0,
-          subst (InScope p.types.items (λ z. AreAtHand (length ns) old.here split.left)) (sym after.scope)
-              (in_scope p.types.items (λ z. AreAtHand (length ns) old.here (own old)) (λ z. AreAtHand (length ns) old.here split.left) (site_at p t.pc).scope
-              (λ z hand. hand_on p x m ns (length ns) old.here gs ps split.arguments split.left split.are
-              (subst (AreAtHand (length ns) old.here) split.split hand)) st.orderly.1),
-        )
+        subst (λ (zs : List Cell). IsOrderly p (t.pc + 1) (length ns) old.here zs) (sym own_left)
+        (subst (InScope p.types.items (λ z. AreAtHand (length ns) old.here split.left)) (sym after.scope)
+        (in_scope p.types.items (λ z. AreAtHand (length ns) old.here (own old)) (λ z. AreAtHand (length ns) old.here split.left) (site_at p t.pc).scope
+        (λ z hand. hand_on p x m ns (length ns) old.here gs ps split.arguments split.left split.are (subst (AreAtHand (length ns) old.here) split.split hand)) st.orderly))
 
     abbrev Called : List Cell → List (List Slot) → ℕ → Type 0
     Called zs = AreCalled p zs (reverse old.callers.items.items)
@@ -453,10 +449,8 @@ module _ (p : Program) (h : Global) (t : s.State) (m n : Live) (old new : State)
     orderly_stands first =
         subst (λ (zs : List Cell). IsOrderly p at (length new.names.items.items) new.here zs) (sym own_none)
         (subst (λ (k : Here). IsOrderly p at (length new.names.items.items) k []) (sym into.here)
-        (subst (λ (ms : List Name). IsOrderly p at (length ms) memory_here []) (sym into.names) (
-          ap (λ z. is_plain_scalar z.returns) first ∙ told.plain.results number q there,
-          subst (InScope p.types.items (λ z. AreAtHand (length (ns ++ into.added)) memory_here [])) (sym (ap (λ z. z.scope) first)) (sym names_many),
-        )))
+        (subst (λ (ms : List Name). IsOrderly p at (length ms) memory_here []) (sym into.names)
+        (subst (InScope p.types.items (λ z. AreAtHand (length (ns ++ into.added)) memory_here [])) (sym (ap (λ z. z.scope) first)) (sym names_many))))
 
     pub callee_stands : site_at p at ≡ first_site q → Stands p n new both begun_state
     callee_stands first = record {

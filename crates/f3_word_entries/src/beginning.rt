@@ -60,6 +60,7 @@ pub(crate) fn begin_variables<B: Blocks>(
     ensures full { result ≡ Err TakeFault.Full → B.has_room heap.old words ≡ false }
     ensures allowed { B.allows (B.kept heap.old) (sizes (B.blocks heap.old)) words (answer_of result) }
     ensures refused { OnErr result (B.blocks heap.new ≡ B.blocks heap.old) }
+    ensures kept { B.kept heap.new ≡ B.spent (B.kept heap.old) }
 {
     let block = heap.take(words)?;
     write_initial(heap, types, &procedure.locals, block);

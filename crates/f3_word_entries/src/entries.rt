@@ -39,6 +39,7 @@ pub fn call<B: Blocks>(
     ensures does { DoesOverAt (HasNoRoom B.has_room heap.old) (HasNoMemory B.allows (B.kept heap.old) (B.blocks heap.old))
         scene.entry.program.now place (i.Call number count) result (B.blocks heap.old) (B.blocks heap.new) state.old state.new }
     ensures keeps { KeepsRoom state.old state.new }
+    ensures kept { IsKept B.spent (B.kept heap.old) (B.kept heap.new) }
 {
     if state.callers.items.len() >= 1000 {
         return Err(Stop::Failed(RunError::CallsTooDeep));

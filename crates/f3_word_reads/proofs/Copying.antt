@@ -13,6 +13,7 @@ use Rattle.f3_meaning_whole.specs.Shape.{Shape, Whole, Logical, Record, shape_in
 use Rattle.f3_meaning_whole.specs.Store.{Store, Path, get}
 use Rattle.f3_meaning_whole.specs.Reference.{Reach, One, Many, Reference, paths_by, held_at}
 use Rattle.f3_meaning_whole.specs.Act.{needs_storage}
+use Rattle.f3_code.specs.Account.{words}
 use Rattle.f3_desc.specs.declared.descriptor.Dim.{Dim}
 use Rattle.f3_desc.specs.Descriptor.{places, progression}
 use Rattle.f3_desc.specs.Laws.{IsContiguous, size_of}
@@ -39,8 +40,10 @@ use Rattle.f3_word_cells.specs.declared.cell.Area.{Area}
 use Rattle.f3_word_cells.specs.declared.cell.Datum.TheVariants as datum
 use Rattle.f3_word_cells.specs.declared.cell.Object.TheVariants as o
 use Rattle.f3_word_cells.specs.Areas.{types_of, shape_for, spans_of, value_in, AreThere, IsBlock}
+use Rattle.f3_word_cells.specs.Wants.{asked}
+use Rattle.f3_word_cells.proofs.Wording.{area_words}
 use Rattle.f3_word_reads.specs.Packed.{packed_from}
-use Rattle.f3_word_reads.specs.Reads.{asked_words, IsLarge, IsThere, IsNew, IsRead}
+use Rattle.f3_word_reads.specs.Reads.{IsLarge, IsThere, IsNew, IsRead}
 use Rattle.f3_word_reads.proofs.Strides.{packed-contiguous, packed-spans, packed-size}
 use Rattle.f3_word_reads.proofs.Flatness.{flat_for}
 use Rattle.f3_word_reads.proofs.Areas.{tells-all, many-all, count-size, among, all-within}
@@ -93,10 +96,6 @@ pub total-is : (words size n : ℕ) (es ds : List Dim) → words ≡ min (size_o
 total-is words size n es ds e f g short =
     let h : size_of es * size ≡ size_of ds * n = ap (λ (us : List Dim). size_of us * size) f ∙ ap (λ k. size_of ds * k) g in omega (arith, e, h, short)
 
-pub asked-is : (words size : ℕ) (es : List Dim) (a : Area) (types : Types) → words ≡ min (size_of es * size) (2 ^ 64 - 1) → es ≡ (a.elements).dims.items
-    → size ≡ words_for (shape_in (shapes types) a.of) → words ≡ asked_words types (o.Stands a)
-asked-is words size es a types e f g = e ∙ ap (λ (us : List Dim). min (size_of us * size) (2 ^ 64 - 1)) f ∙ ap (λ k. min (size_of (a.elements).dims.items * k) (2 ^ 64 - 1)) g
-
 packed-none : (w : ℕ) (ds : List Dim) → packed_from w ds ≡ [] → ds ≡ []
 packed-none w [] e = refl
 packed-none w (d ∷ ds) e = absurd cc
@@ -130,6 +129,13 @@ module _ (p : Program) (types : Types) (old : Live) (x : Rooms) (a : Area) (r : 
 
   tells : Tells ts x a.elements s ps
   tells = tells-all p x a r.path r.reach there.is.1
+
+  -- what a heap is asked for
+  pub asked-is : (total size : ℕ) (es : List Dim) → total ≡ min (size_of es * size) (2 ^ 64 - 1) → es ≡ ds → size ≡ n
+      → total ≡ asked (words (held_at (store_of ts old x) r.path r.reach))
+  asked-is total size es e f g =
+      e ∙ ap (λ (us : List Dim). min (size_of us * size) (2 ^ 64 - 1)) f ∙ ap (λ k. min (size_of ds * k) (2 ^ 64 - 1)) g
+      ∙ ap asked (sym (area_words p old there.flat x there.sound a r.path r.reach there.is.1))
 
   many : length (places a.elements) ≡ size_of ds
   many = places-many (pos (a.elements).offset) ds

@@ -6,7 +6,6 @@ use Rattle.f3_program.specs.declared.declarations.Constant.TheVariants as consta
 use Rattle.f3_program.specs.declared.declarations.Kind.{Kind}
 use Rattle.f3_program.specs.declared.program.Program.{Program}
 use Rattle.f3_live_blocks.specs.Blocks.{Live}
-use Rattle.f3_heap_laws.specs.Answers.{Answer, Memory, Sizes, sizes}
 use Rattle.f3_meaning_whole.specs.Value.{Value}
 use Rattle.f3_meaning_whole.specs.Store.{Store}
 use Rattle.f3_meaning_whole.specs.Reference.{Reference, held_at}
@@ -15,6 +14,7 @@ use Rattle.f3_meaning_whole.specs.Act.{Here, claim_for, needs_storage, read}
 use Rattle.f3_meaning_whole.specs.Arithmetic.{constant_value}
 use Rattle.f3_meaning_whole.specs.declared.run_error.RunError.TheVariants.{HeapHasNoRoom}
 use Rattle.f3_code.specs.declared.instruction.Instruction.TheVariants as i
+use Rattle.f3_code.specs.Account.{words}
 use Rattle.f3_code.specs.State.{Line, placed}
 use Rattle.f3_code.specs.State as s
 use Rattle.f3_code.specs.Machine.{performs, on}
@@ -22,7 +22,7 @@ use Rattle.f3_code.specs.Heap.{with_answers}
 use Rattle.f3_cell_kinds.specs.Types.{CellType}
 use Rattle.f3_cell_kinds.specs.Types as cell
 use Rattle.f3_cell_kinds.specs.Laws.{site_at}
-use Rattle.f3_rooms.specs.Rooms.{Rooms}
+use Rattle.f3_rooms.specs.Rooms.{Rooms, store_of}
 use Rattle.f3_room_places.specs.declared.types.Types.{Types}
 use Rattle.f3_word_cells.specs.declared.cell.Datum.{Datum}
 use Rattle.f3_word_cells.specs.declared.cell.Datum.TheVariants as datum
@@ -32,11 +32,12 @@ use Rattle.f3_word_cells.specs.declared.cell.Cell.TheVariants as c
 use Rattle.f3_word_cells.specs.declared.state.State.{State}
 use Rattle.f3_word_cells.specs.declared.state.Stop.{Stop}
 use Rattle.f3_word_cells.specs.declared.state.Stop.TheVariants as stop
-use Rattle.f3_word_cells.specs.Areas.{shape_for, IsDatum}
+use Rattle.f3_word_cells.specs.Areas.{types_of, shape_for, IsDatum}
+use Rattle.f3_word_cells.specs.Wants.{asked, read_words, wanted}
 use Rattle.f3_word_cells.specs.Scenes.{code_of}
 use Rattle.f3_word_cells.specs.States.{Stands, IsLaid, datum_blocks, own}
 use Rattle.f3_word_cells.specs.Moves.{Popped, Pushed}
-use Rattle.f3_word_cells.specs.Does.{DoesOver, GoesOn, HasNoMemory, HasNoRoom, IsTold, RefusedAt, stream}
+use Rattle.f3_word_cells.specs.Does.{DoesOver, GoesOn, IsTold, RefusedAt, stream}
 use Rattle.f3_word_cells.proofs.Scalars.{Large, IsComposite, IsArray, large_block}
 use Rattle.f3_word_cells.proofs.OnTop.{line_kinds}
 use Rattle.f3_word_cells.proofs.Moving.{moved_to}
@@ -44,7 +45,7 @@ use Rattle.f3_word_cells.proofs.Amid.{Amid, amid_first, amid_last, amid_popped, 
 use Rattle.f3_word_cells.proofs.Orderly.{IsAfter, after_way}
 use Rattle.f3_word_cells.proofs.Lines.{answering, with_stack, line_goes, line_refused, performs_gives, first_looks, first_gives, first_granted, first_refused, claim_for_block, claim_for_scalar}
 use Rattle.f3_word_reads.specs.Taken.{TookObject}
-use Rattle.f3_word_reads.specs.Reads.{IsThere, IsOf, Gains, Reads, RefusesFor}
+use Rattle.f3_word_reads.specs.Reads.{IsThere, IsOf, Gains, Reads}
 use Rattle.f3_word_reads.proofs.Tops.{ObjectOnTop, object-on-top, object-there}
 
 -- ---- an object on top
@@ -63,7 +64,7 @@ on-load p t l told at act =
     let leads = d.2 in
     record { kind = d.0; rest = leads.rest; kinds = leads.before; next = after_way p t.pc (t.pc + 1) (cell.Datum d.0 ∷ []) leads.rest leads.next; top = object-on-top p t d.0 leads.rest told leads.before }
 
-pub lost-load : (p : Program) (m n : Live) (old mid new : State) (Full Spent : Type 0) → TookObject None old mid → DoesOver Full Spent p i.Load (Err stop.Lost) m n old new
+pub lost-load : (p : Program) (m n : Live) (old mid new : State) (Full Spent : ℕ → Type 0) → TookObject None old mid → DoesOver Full Spent p i.Load (Err stop.Lost) m n old new
 lost-load p m n old mid new Full Spent none t l x told at act st =
     let on = on-load p t l told at act in
     let amid = amid_first p t m old x _ (s.Object on.top.reference ∷ on.top.below) st on.kinds on.top.split in
@@ -151,7 +152,13 @@ module _ (p : Program) (m : Live) (old mid : State) (o : Object) (popped : Poppe
       (amid_first p t m old x (cell.Object on.kind ∷ on.rest) (s.Object on.top.reference ∷ on.top.below) st on.kinds on.top.split) popped tt in
       (on, record { derived = derived; flat = told.plain.types; sound = st.sound; is = amid.0 }, amid.2)
 
-  module _ (n : Live) (Full Spent : Type 0) where
+  -- how many words the line asks for
+  wants-load : (t : s.State) (l : Line) (x : Rooms) (r : Reference) (below : List s.Cell) → l.act ≡ i.Load → Stands p m old x t → t.stack ≡ s.Object r ∷ below
+      → wanted p l.act t ≡ words (held_at (store_of (types_of p) m x) r.path r.reach)
+  wants-load t l x r below act st split =
+      ap (λ (y : _). wanted p y t) act ∙ ap (read_words (t.world).store) split ∙ ap (λ store. words (held_at store r.path r.reach)) st.store
+
+  module _ (n : Live) (Full Spent : ℕ → Type 0) where
     pub does-load : (new : State) (d : Datum) → ((x : Rooms) (r : Reference) → IsThere p types m x o r → Reads Full Spent p m n x r (Ok d)) → Pushed (c.Datum d) (mid.pc + 1) mid new
         → DoesOver Full Spent p i.Load (Ok tt) m n old new
     does-load new d reads pushed t l x told at act st =
@@ -177,27 +184,10 @@ module _ (p : Program) (m : Live) (old mid : State) (o : Object) (popped : Poppe
         let there = there-load t l x told at act st in
         let top = (there.0).top in
         let no = reads x top.reference there.1 in
-        (refused p t l top.reference top.below act top.split (ap (λ store. needs_storage (held_at store top.reference.path top.reference.reach)) st.store ∙ no.0), no.1)
-    fails-load new stop.Memory reads t l x told at act st = let there = there-load t l x told at act st in reads x (there.0).top.reference there.1
+        (refused p t l top.reference top.below act top.split (ap (λ store. needs_storage (held_at store top.reference.path top.reference.reach)) st.store ∙ no.0),
+          subst (λ k. Full (asked k)) (sym (wants-load t l x top.reference top.below act st top.split)) no.1)
+    fails-load new stop.Memory reads t l x told at act st =
+        let there = there-load t l x told at act st in
+        let top = (there.0).top in
+        subst (λ k. Spent (asked k)) (sym (wants-load t l x top.reference top.below act st top.split)) (reads x top.reference there.1)
     fails-load new e reads t l x told at act st = let there = there-load t l x told at act st in absurd (reads x (there.0).top.reference there.1)
-
--- ---- what was asked for
-
-pub refuses : (has_room : ℕ → Bool) (Spent : ℕ → Type 0) (words : ℕ) (p : Program) (m n : Live) (x : Rooms) (r : Reference) (e : Stop)
-    → Reads (has_room words ≡ false) (Spent words) p m n x r (Err e) → RefusesFor has_room Spent words (Err e)
-refuses has_room Spent words p m n x r (stop.Failed HeapHasNoRoom) reads = reads.1
-refuses has_room Spent words p m n x r stop.Memory reads = reads
-refuses has_room Spent words p m n x r e reads = absurd reads
-
--- for some request
-pub some-request : {H R : Type 0} (has_room : H → ℕ → Bool) (h : H) (allows : R → Sizes → ℕ → Answer → Type 0) (kept : R) (words : ℕ) (p : Program) (m n : Live) (x : Rooms) (r : Reference) (e : Stop)
-    → Reads (has_room h words ≡ false) (allows kept (sizes m) words Memory) p m n x r (Err e) → Reads (HasNoRoom has_room h) (HasNoMemory allows kept m) p m n x r (Err e)
-some-request has_room h allows kept words p m n x r (stop.Failed HeapHasNoRoom) reads = (reads.0, (words, reads.1))
-some-request has_room h allows kept words p m n x r stop.Memory reads = (words, reads)
-some-request has_room h allows kept words p m n x r e reads = absurd reads
-
-pub one-object : (old new : State) (w o : Object) (rest : List Cell) → Popped (c.Object o) old new → own old ≡ c.Object w ∷ rest → o ≡ w
-one-object old new w o rest popped e = same (sym popped.cells ∙ e)
-  where
-    same : c.Object o ∷ own new ≡ c.Object w ∷ rest → o ≡ w
-    same f = cc

@@ -1,5 +1,5 @@
 -- What it is to read an object.
-use Rattle.std.specs.Prelude.{⊤, ◌≡◌, ◌≢◌, ◌⊎◌, ℕ, ◌-◌, ◌*◌, ◌^◌, ℤ, Bool, true, false, List, [], ◌∷◌, min, None, Result, Ok, Err}
+use Rattle.std.specs.Prelude.{⊤, ◌≡◌, ◌≢◌, ◌⊎◌, ℕ, ℤ, true, false, List, [], ◌∷◌, None, Result, Ok, Err}
 use Rattle.std.specs.List.{All}
 use Rattle.std.specs.FinMap.{get as find}
 use Rattle.f3_program.specs.declared.declarations.Base.{Base}
@@ -8,9 +8,8 @@ use Rattle.f3_live_blocks.specs.Blocks.{Live, with_taken, with_words}
 use Rattle.f3_meaning_whole.specs.Reference.{Reference, held_at}
 use Rattle.f3_meaning_whole.specs.Act.{needs_storage}
 use Rattle.f3_meaning_whole.specs.declared.run_error.RunError.TheVariants.{HeapHasNoRoom}
-use Rattle.f3_desc.specs.Laws.{size_of}
+use Rattle.f3_code.specs.Account.{words}
 use Rattle.f3_rooms.specs.Flat.{is_flat}
-use Rattle.f3_rooms.specs.Forms.{words_for}
 use Rattle.f3_rooms.specs.Rooms.{Rooms, store_of}
 use Rattle.f3_rooms.specs.Sound.{IsSound}
 use Rattle.f3_rooms.specs.Places.{is_scalar_shape}
@@ -26,6 +25,7 @@ use Rattle.f3_word_cells.specs.declared.state.Stop.{Stop}
 use Rattle.f3_word_cells.specs.declared.state.Stop.TheVariants as stop
 use Rattle.f3_word_cells.specs.Areas.{types_of, IsDatum, IsObject}
 use Rattle.f3_word_cells.specs.States.{datum_blocks}
+use Rattle.f3_word_cells.specs.Wants.{asked}
 
 -- an object of a program with such types that stands in sound rooms, where no component is allocatable
 pub record IsThere (p : Program) (types : Types) (m : Live) (x : Rooms) (o : Object) (r : Reference) : Type 0 where
@@ -62,20 +62,10 @@ pub record IsRead (p : Program) (m n : Live) (x : Rooms) (r : Reference) (d : Da
   pub gains : Gains m n (datum_blocks d)
   pub typed : IsOf r.of d
 
--- How many words a heap is asked for where an object that stands there is read: those of its value, or the most that can be asked for.
-abbrev pub asked_words : Types → Object → ℕ
-asked_words types (o.Held of c) = 0
-asked_words types (o.Stands a) = min (size_of (a.elements).dims.items * words_for (shape_in (shapes types) a.of)) (2 ^ 64 - 1)
-
--- or a heap has no room for it, or the host no memory
-abbrev pub Reads : (Full Spent : Type 0) → Program → Live → Live → Rooms → Reference → Result Datum Stop → Type 0
+-- or a heap has no room for just its words, or the host no memory
+abbrev pub Reads : (Full Spent : ℕ → Type 0) → Program → Live → Live → Rooms → Reference → Result Datum Stop → Type 0
 Reads Full Spent p m n x r (Ok d) = IsRead p m n x r d
-Reads Full Spent p m n x r (Err (stop.Failed HeapHasNoRoom)) = (needs_storage (held_at (store_of (types_of p) m x) r.path r.reach) ≡ true) × Full
-Reads Full Spent p m n x r (Err stop.Memory) = Spent
+Reads Full Spent p m n x r (Err (stop.Failed HeapHasNoRoom)) =
+    (needs_storage (held_at (store_of (types_of p) m x) r.path r.reach) ≡ true) × Full (asked (words (held_at (store_of (types_of p) m x) r.path r.reach)))
+Reads Full Spent p m n x r (Err stop.Memory) = Spent (asked (words (held_at (store_of (types_of p) m x) r.path r.reach)))
 Reads Full Spent p m n x r (Err e) = ⊥
-
--- What is answered for want of room, or of memory, is so for a request of so many words.
-abbrev pub RefusesFor : (has_room : ℕ → Bool) (Spent : ℕ → Type 0) → ℕ → Result ⊤ Stop → Type 0
-RefusesFor has_room Spent words (Err (stop.Failed HeapHasNoRoom)) = has_room words ≡ false
-RefusesFor has_room Spent words (Err stop.Memory) = Spent words
-RefusesFor has_room Spent words result = ⊤

@@ -1,18 +1,15 @@
 //! Variables are read.
 
-ghost use Rattle.std.specs.Prelude.{◌≡◌, ◌≤◌, ◌<◌, ◌^◌, false, List, ◌∷◌, length};
-ghost use Rattle.f3_heap_laws.specs.Answers.{Memory, sizes};
+ghost use Rattle.std.specs.Prelude.{◌≡◌, ◌≤◌, ◌<◌, ◌^◌, length};
 ghost use Rattle.f3_code.specs.declared.instruction.Instruction.TheVariants as i;
 ghost use Rattle.f3_program.specs.declared.program.Program.{Program};
 ghost use Rattle.f3_meaning_whole.specs.Reference.{Reference};
 ghost use Rattle.f3_rooms.specs.Rooms.{Rooms};
 ghost use Rattle.f3_room_places.specs.Places.{HasTables};
 ghost use Rattle.f3_word_cells.specs.Scenes.{IsScene};
-ghost use Rattle.f3_word_cells.specs.Does.{DoesOver, HasNoMemory, HasNoRoom, IsAt, Keeps};
-ghost use Rattle.f3_word_cells.specs.States.{own};
-ghost use Rattle.f3_word_cells.specs.declared.cell.Cell.TheVariants as c;
+ghost use Rattle.f3_word_cells.specs.Does.{DoesOver, HasNoMemory, HasNoRoom, IsAt, IsKept, Keeps};
 ghost use Rattle.f3_word_cells.specs.declared.cell.Object.TheVariants as o;
-ghost use Rattle.f3_word_reads.specs.Reads.{asked_words, IsLarge, IsThere, Reads, RefusesFor};
+ghost use Rattle.f3_word_reads.specs.Reads.{IsLarge, IsThere, Reads};
 
 use crate::packing::pack;
 use crate::scalars::{is_scalar, scalar_in};
@@ -26,14 +23,16 @@ use f3_word_cells::cell::{Area, Cell, Datum, Object};
 use f3_word_cells::scene::Scene;
 use f3_word_cells::state::{State, Stop};
 
-/// A copy of what stands there, in a block of its own. No heap has one of 2 to the 63 words or more.
+/// A copy of what stands there, in a block of its own: the heap is asked for just its words. No heap has a block of 2 to the 63 words or more.
 ///
 /// `Stop::Failed` where the heap has no room for it, `Stop::Memory` where the host refused memory for it.
 fn copied<B: Blocks>(heap: &mut B, types: Types<'_>, area: &Area) -> Result<Datum, Stop>
     requires tables { HasTables types }
     requires large { IsLarge types area.now }
     requires there { (p : Program) × (x : Rooms) × (r : Reference) × IsThere p types (B.blocks heap.old) x (o.Stands area.now) r }
-    ensures { (p : Program) (x : Rooms) (r : Reference) → IsThere p types.entry (B.blocks heap.old) x (o.Stands area.now) r → Reads (B.has_room heap.old (asked_words types.entry (o.Stands area.now)) ≡ false) (B.allows (B.kept heap.old) (sizes (B.blocks heap.old)) (asked_words types.entry (o.Stands area.now)) Memory) p (B.blocks heap.old) (B.blocks heap.new) x r result }
+    ensures reads { (p : Program) (x : Rooms) (r : Reference) → IsThere p types.entry (B.blocks heap.old) x (o.Stands area.now) r
+        → Reads (HasNoRoom B.has_room heap.old) (HasNoMemory B.allows (B.kept heap.old) (B.blocks heap.old)) p (B.blocks heap.old) (B.blocks heap.new) x r result }
+    ensures kept { B.kept heap.new ≡ B.spent (B.kept heap.old) }
 {
     let size = words(types, area.of);
     let packed = pack(&area.elements.dims, size);
@@ -60,7 +59,9 @@ fn copied<B: Blocks>(heap: &mut B, types: Types<'_>, area: &Area) -> Result<Datu
 fn held<B: Blocks>(heap: &mut B, types: Types<'_>, object: Object) -> Result<Datum, Stop>
     requires tables { HasTables types }
     requires there { (p : Program) × (x : Rooms) × (r : Reference) × IsThere p types (B.blocks heap.old) x object r }
-    ensures { (p : Program) (x : Rooms) (r : Reference) → IsThere p types.entry (B.blocks heap.old) x object r → Reads (B.has_room heap.old (asked_words types.entry object) ≡ false) (B.allows (B.kept heap.old) (sizes (B.blocks heap.old)) (asked_words types.entry object) Memory) p (B.blocks heap.old) (B.blocks heap.new) x r result }
+    ensures reads { (p : Program) (x : Rooms) (r : Reference) → IsThere p types.entry (B.blocks heap.old) x object r
+        → Reads (HasNoRoom B.has_room heap.old) (HasNoMemory B.allows (B.kept heap.old) (B.blocks heap.old)) p (B.blocks heap.old) (B.blocks heap.new) x r result }
+    ensures kept { IsKept B.spent (B.kept heap.old) (B.kept heap.new) }
 {
     let area = match object {
         Object::Held(_, constant) => return Ok(Datum::Scalar(constant)),
@@ -83,10 +84,10 @@ pub fn load<B: Blocks>(scene: Scene<'_>, heap: &mut B, state: &mut State) -> Res
     requires room { length state.old.cells.items.items < state.old.cells.room }
     requires bottom { state.old.base ≤ length state.old.cells.items.items }
     requires at { IsAt scene.program.now i.Load (B.blocks heap.old) state.old }
-    ensures does { DoesOver (HasNoRoom B.has_room heap.old) (HasNoMemory B.allows (B.kept heap.old) (B.blocks heap.old)) scene.entry.program.now i.Load result (B.blocks heap.old) (B.blocks heap.new) state.old state.new }
-    ensures refuses { (object : Object) (rest : List Cell) → own state.old ≡ c.Object object ∷ rest
-        → RefusesFor (B.has_room heap.old) (λ n. B.allows (B.kept heap.old) (sizes (B.blocks heap.old)) n Memory) (asked_words scene.entry.types object) result }
+    ensures does { DoesOver (HasNoRoom B.has_room heap.old) (HasNoMemory B.allows (B.kept heap.old) (B.blocks heap.old))
+        scene.entry.program.now i.Load result (B.blocks heap.old) (B.blocks heap.new) state.old state.new }
     ensures keeps { Keeps state.old state.new }
+    ensures kept { IsKept B.spent (B.kept heap.old) (B.kept heap.new) }
 {
     let Some(object) = pop_object(state) else {
         return Err(Stop::Lost);

@@ -2,5 +2,4 @@ pub mod Plains
 pub mod Ranked
 pub mod Framing
 pub mod Taking
-pub mod FirstSite
 pub mod Starting

@@ -18,13 +18,11 @@ use Rattle.f3_rooms.specs.Flat.{is_flat, are_flat}
 use Rattle.f3_type_words.proofs.TableLaws.{shape_stands, shapes_number}
 use Rattle.f3_meaning_whole.specs.Run.{setting_of}
 use Rattle.f3_code.specs.State as c
-use Rattle.f3_cell_kinds.specs.Effect.{declared_kind}
 use Rattle.f3_gen_values.specs.declared.emission.Emission.{Emission}
 use Rattle.f3_gen_values.specs.declared.line.Line.{Line}
 use Rattle.f3_gen_values.specs.Emitted.{line_in}
 use Rattle.f3_gen_values.specs.Emission.{code_in}
 use Rattle.f3_word_cells.specs.Plain.{ArePlain, IsPlain, is_plain_act}
-use Rattle.f3_word_cells.specs.Scalars.{is_plain_scalar}
 use Rattle.f3_word_cells.specs.Scenes.{code_of}
 use Rattle.f3_word_start.specs.Inner.Declared.{IsDeclaredPlain}
 
@@ -143,9 +141,6 @@ module _ (p : Program) where
 
 -- ---- programs
 
-abbrev pub GivesScalar : Procedure → Type 0
-GivesScalar q = is_plain_scalar (declared_kind q.result) ≡ true
-
 abbrev pub IsPlainLine : Line → Type 0
 IsPlainLine l = is_plain_act l.act ≡ true
 
@@ -161,9 +156,6 @@ module _ (p : Program) where
     procedures = of_each IsPlainProcedure p.procedures.items plain.procedures;
   }))
 
-  pub results_not : (b : Bool) (qs : List Procedure) → qs ≡ p.procedures.items → Tells GivesScalar qs b → b ≡ false → (false ≡ true) ↔ IsPlain p
-  results_not b qs same told not = no (λ plain. failed b told not (subst (All GivesScalar) (sym same) (of_each GivesScalar p.procedures.items plain.results)))
-
   module _ (e : Emission) (code : code_in p e ≡ code_of p) (b : Bool) (ls : List Line) (same : ls ≡ e.lines.items) (told : Tells IsPlainLine ls b) where
     all_lines : b ≡ true → All IsPlainCode (code_of p).lines
     all_lines is = subst (λ (z : c.Code). All IsPlainCode z.lines) code
@@ -173,15 +165,13 @@ module _ (p : Program) where
     these_lines plain = subst (All IsPlainLine) (sym same) (unmapped IsPlainCode (line_in (setting_of p)) e.lines.items
         (subst (λ (z : c.Code). All IsPlainCode z.lines) (sym code) (of_each IsPlainCode (code_of p).lines plain.lines)))
 
-    pub is_plain_so : (d r : Bool) (qs : List Procedure) → qs ≡ p.procedures.items → (d ≡ true) ↔ IsDeclaredPlain p → Tells GivesScalar qs r → d ≡ true → r ≡ true
-        → (b ≡ true) ↔ IsPlain p
-    is_plain_so d r qs procedures declared_told results_told is_d is_r = (
+    pub is_plain_so : (d : Bool) → (d ≡ true) ↔ IsDeclaredPlain p → d ≡ true → (b ≡ true) ↔ IsPlain p
+    is_plain_so d declared_told is_d = (
       λ is. record {
         types = (declared_told.0 is_d).types;
         statics = (declared_told.0 is_d).statics;
         main = (declared_told.0 is_d).main;
         procedures = at_each IsPlainProcedure p.procedures.items (declared_told.0 is_d).procedures;
-        results = at_each GivesScalar p.procedures.items (subst (All GivesScalar) procedures (results_told.0 is_r));
         lines = at_each IsPlainCode (code_of p).lines (all_lines is);
       },
       λ plain. told.1 (these_lines plain),

@@ -41,10 +41,8 @@ use Rattle.f3_word_cells.specs.Areas.{types_of}
 use Rattle.f3_word_cells.specs.Cells.{IsHere, AreCells}
 use Rattle.f3_word_cells.specs.Does.{stream}
 use Rattle.f3_word_cells.specs.Scenes.{code_of}
-use Rattle.f3_word_cells.specs.Scalars.{is_plain_scalar}
 use Rattle.f3_cell_kinds.specs.Types.{Around, Told, Untold, InRoutine}
 use Rattle.f3_cell_kinds.specs.Holds.{InScope}
-use Rattle.f3_word_start.proofs.FirstSite.{first_returns}
 use Rattle.f3_word_cells.specs.States.{AreAtHand, AreCalled, AreTight, end_of, Stands, AreCallers, AreKnown, beneath, own, loose_blocks, cells_blocks, statics_of}
 use Rattle.f3_cell_kinds.specs.Types.{CellType}
 use Rattle.f3_cell_kinds.specs.Laws.{site_at}
@@ -261,7 +259,7 @@ module _ (p : Program) (mid k : Live) (us vs : List Declared) (x y a b : ℕ) (s
       bottom = let e = f.base in omega arith;
       known = subst (AreKnown p (site_at p 0).cells) (sym own_none) (none_known p (site_at p 0).cells);
       stack = subst (λ (cs : List Cell). AreCells p k Callers rooms names w.here (core_here (lowered_program p)) cs []) (sym own_none) (first_here, no_callers);
-      orderly = (ap is_plain_scalar (first_returns p), orderly_first (site_at p 0).scope);
+      orderly = orderly_first (site_at p 0).scope;
       tight = tight_first;
       once = λ q. let e = same_times q in let once = sound.apart q in omega arith;
       all = λ q live. let e = same_times q in let some = all_counted q live in omega arith;

@@ -6,18 +6,16 @@ ghost use Rattle.f3_program.specs.declared.declarations.Derived as t;
 ghost use Rattle.f3_program.specs.declared.program.Procedure as q;
 ghost use Rattle.f3_program.specs.declared.program.Static as y;
 ghost use Rattle.f3_meaning_whole.specs.Exec.{declared_in};
-ghost use Rattle.f3_cell_kinds.specs.Effect.{declared_kind};
 ghost use Rattle.f3_gen_values.specs.declared.line.Line as l;
 ghost use Rattle.f3_gen_values.specs.Emission.{code_in};
 ghost use Rattle.f3_word_cells.specs.Plain.{ArePlain, IsPlain, is_plain_act};
-ghost use Rattle.f3_word_cells.specs.Scalars.{is_plain_scalar};
 ghost use Rattle.f3_word_cells.specs.Scenes.{code_of};
 ghost use Rattle.f3_word_start.specs.Inner.Declared.{IsDeclaredPlain};
 
 use f3_code::instruction::Instruction;
 use f3_gen_values::emission::Emission;
 use f3_gen_values::line::Line;
-use f3_program::declarations::{Base, Component, Declared, Derived, Kind};
+use f3_program::declarations::{Component, Declared, Derived};
 use f3_program::program::{Procedure, Program, Static};
 
 /// Whether none of these variables is allocatable (ISO/IEC 1539-1:2004, 5.1.2.2).
@@ -72,40 +70,14 @@ fn types_are_plain(types: &[Derived]) -> bool
         .all(|one| components_are_plain(&one.components))
 }
 
-/// Whether a kind is that of a scalar of intrinsic type (4.4).
-fn is_scalar(kind: Kind) -> bool
-    ensures { result ≡ is_plain_scalar kind }
-{
-    let is_intrinsic = matches!(kind.of, Base::Integer | Base::Long | Base::Logical);
-    !kind.is_allocatable && kind.rank == 0 && is_intrinsic
-}
-
-/// Whether a procedure gives a scalar of intrinsic type, if it gives a value (12.5.2.1).
-fn gives_scalar(procedure: &Procedure) -> bool
-    ensures { result ≡ is_plain_scalar (declared_kind procedure.now.result) }
-{
-    match &procedure.result {
-        Some(result) => is_scalar(result.kind),
-        None => true,
-    }
-}
-
-/// Whether each of these procedures does.
-fn all_give_scalars(procedures: &[Procedure]) -> bool
-    ensures { (result ≡ true) ↔ All (λ (x : q.Procedure). is_plain_scalar (declared_kind x.result) ≡ true) procedures.now }
-{
-    procedures.iter().all(|one| gives_scalar(one))
-}
-
-/// Whether an instruction is none of those for allocatables, finalization and structure constructors (6.3, 4.5.5, 4.5.9).
+/// Whether an instruction is none of those for allocatables and finalization (6.3, 4.5.5).
 fn is_plain_act(act: Instruction) -> bool
     ensures { result ≡ is_plain_act act }
 {
     match act {
         Instruction::Select(is_opened, _) => !is_opened,
         Instruction::SelectOf(is_opened, _, count) => !is_opened && count > 0,
-        Instruction::Structure(_, _)
-        | Instruction::IsAllocated
+        Instruction::IsAllocated
         | Instruction::Contents
         | Instruction::ByState(_, _)
         | Instruction::TestRank(_)
@@ -157,15 +129,12 @@ fn is_declared_plain(program: &Program) -> bool
 }
 
 /// Whether a program is one without allocatables, by the code that was emitted for it: no variable is one, and no component of any type,
-/// functions give scalars, and no line of the code asks for more.
+/// and no line of the code asks for more.
 pub fn is_plain(program: &Program, emission: &Emission) -> bool
     requires { code_in program.now emission.now ≡ code_of program.now }
     ensures { (result ≡ true) ↔ IsPlain program.now }
 {
     if !is_declared_plain(program) {
-        return false;
-    }
-    if !all_give_scalars(&program.procedures) {
         return false;
     }
     lines_are_plain(&emission.lines)

@@ -25,6 +25,7 @@ fn bounds_taken<B: Blocks>(heap: &mut B, datum: Datum) -> ArrayVec<Dim, 7>
     requires { AreFree (B.blocks heap.old) (datum_blocks datum) }
     ensures bounds { result.items ≡ dims_of datum }
     ensures given { B.blocks heap.new ≡ without (datum_blocks datum) (B.blocks heap.old) }
+    ensures kept { B.kept heap.new ≡ B.kept heap.old }
 {
     match datum {
         Datum::Scalar(_) => ArrayVec::new(),
@@ -44,6 +45,7 @@ pub fn bounds_of_value<B: Blocks>(heap: &mut B, state: &mut State) -> Result<(),
     requires at { IsAtSome BoundsOfValue (B.blocks heap.old) state.old }
     ensures does { DoesWith BoundsOfValue result (B.blocks heap.old) (B.blocks heap.new) state.old state.new }
     ensures keeps { Keeps state.old state.new }
+    ensures kept { B.kept heap.new ≡ B.kept heap.old }
 {
     let Some(datum) = pop_datum(state) else {
         return Err(Stop::Lost);

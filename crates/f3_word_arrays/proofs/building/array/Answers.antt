@@ -15,23 +15,28 @@ returns-in_default-clause-does g c =
 
 pub returns-in-Err-clause-does : goal.returns-in-Err-clause-does
 returns-in-Err-clause-does g c =
+    let p = c.args.scene.program.now in
     let m = g.B.Blocks.blocks c.args.heap.now in
-    array-failed c.args.scene.program.now m c.args.state.now c.args.count (HasNoRoom g.B.Blocks.has_room c.args.heap.now) (HasNoMemory g.B.Blocks.allows (g.B.Blocks.kept c.args.heap.now) m)
-    (c.args.count * c.words-size.result) (g.B.Blocks.blocks c.take_room.new.heap) c.in-Err.stop c.args.state.now c.in-Err.ensures
+    array-failed p m c.args.state.now c.args.count c.in-Some.of c.words-size.result (array-size p m c.args.state.now c.args.count c.args.scene.types c.requires.scene.types c.in-Some.of c.words-size.result c.words-size.ensures)
+    c.as_slice.result.now c.as_slice.ensures.value c.in-Some.ensures
+    (HasNoRoom g.B.Blocks.has_room c.args.heap.now) (HasNoMemory g.B.Blocks.allows (g.B.Blocks.kept c.args.heap.now) m) (g.B.Blocks.blocks c.take_room.new.heap) c.in-Err.stop c.args.state.now c.in-Err.ensures.took
 
 pub loop-number-init : goal.loop-number-init
 loop-number-init g c =
     let p = c.args.scene.program.now in
     let m = g.B.Blocks.blocks c.args.heap.now in
-    gathering-none p m c.args.state.now c.args.count c.in-Some.of c.words-size.result (array-size p m c.args.state.now c.args.count c.args.scene.types c.requires.scene.types c.in-Some.of c.words-size.result c.words-size.ensures)
-    c.in-Ok.block c.as_slice.result.now c.as_slice.ensures.value _ c.in-Some.ensures c.in-Ok.ensures.0 c.in-Ok.ensures.1 c.requires.bottom
+    record {
+      gathering = gathering-none p m c.args.state.now c.args.count c.in-Some.of c.words-size.result (array-size p m c.args.state.now c.args.count c.args.scene.types c.requires.scene.types c.in-Some.of c.words-size.result c.words-size.ensures)
+          c.in-Ok.block c.as_slice.result.now c.as_slice.ensures.value _ c.in-Some.ensures c.in-Ok.ensures.took.0 c.in-Ok.ensures.took.1 c.requires.bottom;
+      kept = c.in-Ok.ensures.kept;
+    }
 
 pub returns-in_default-pop_item-clause-does : goal.returns-in_default-pop_item-clause-does
 returns-in_default-pop_item-clause-does g c =
     let p = c.args.scene.program.now in
     let m = g.B.Blocks.blocks c.args.heap.now in
     array-lost p m c.args.state.now c.args.count c.in-Some.of c.words-size.result (array-size p m c.args.state.now c.args.count c.args.scene.types c.requires.scene.types c.in-Some.of c.words-size.result c.words-size.ensures)
-    c.in-Ok.block _ c.loop-number.state c.loop-number.number c.loop-number.invariant c.loop-number-test.true
+    c.in-Ok.block _ c.loop-number.state c.loop-number.number c.loop-number.invariant.gathering c.loop-number-test.true
     (HasNoRoom g.B.Blocks.has_room c.args.heap.now) (HasNoMemory g.B.Blocks.allows (g.B.Blocks.kept c.args.heap.now) m) (g.B.Blocks.blocks c.loop-number.heap) c.pop_item.new.state c.pop_item.new.state c.in_default-pop_item.ensures.taken
 
 pub write_item-requires-clause-live : goal.write_item-requires-clause-live
@@ -40,7 +45,7 @@ write_item-requires-clause-live g c =
     let m = g.B.Blocks.blocks c.args.heap.now in
     let at = c.requires.at in
     let size = array-size p m c.args.state.now c.args.count c.args.scene.types c.requires.scene.types c.in-Some.of c.words-size.result c.words-size.ensures in
-    array-live p m c.args.state.now c.args.count c.in-Some.of c.words-size.result size c.in-Ok.block (g.B.Blocks.blocks c.loop-number.heap) c.loop-number.state c.loop-number.number c.loop-number.invariant c.loop-number-test.true
+    array-live p m c.args.state.now c.args.count c.in-Some.of c.words-size.result size c.in-Ok.block (g.B.Blocks.blocks c.loop-number.heap) c.loop-number.state c.loop-number.number c.loop-number.invariant.gathering c.loop-number-test.true
     c.pop_item.new.state c.in-Some-pop_item.datum c.in-Some-pop_item.ensures.taken ((c.args.count - 1 - c.loop-number.number) * c.words-size.result) refl at.state at.line at.rooms at.told at.there at.act at.stands
 
 pub write_item-requires-clause-apart : goal.write_item-requires-clause-apart
@@ -49,7 +54,7 @@ write_item-requires-clause-apart g c =
     let m = g.B.Blocks.blocks c.args.heap.now in
     let at = c.requires.at in
     let size = array-size p m c.args.state.now c.args.count c.args.scene.types c.requires.scene.types c.in-Some.of c.words-size.result c.words-size.ensures in
-    array-apart p m c.args.state.now c.args.count c.in-Some.of c.words-size.result size c.in-Ok.block (g.B.Blocks.blocks c.loop-number.heap) c.loop-number.state c.loop-number.number c.loop-number.invariant c.loop-number-test.true
+    array-apart p m c.args.state.now c.args.count c.in-Some.of c.words-size.result size c.in-Ok.block (g.B.Blocks.blocks c.loop-number.heap) c.loop-number.state c.loop-number.number c.loop-number.invariant.gathering c.loop-number-test.true
     c.pop_item.new.state c.in-Some-pop_item.datum c.in-Some-pop_item.ensures.taken ((c.args.count - 1 - c.loop-number.number) * c.words-size.result) refl at.state at.line at.rooms at.told at.there at.act at.stands
 
 pub write_item-requires-clause-within : goal.write_item-requires-clause-within
@@ -58,7 +63,7 @@ write_item-requires-clause-within g c =
     let m = g.B.Blocks.blocks c.args.heap.now in
     let at = c.requires.at in
     let size = array-size p m c.args.state.now c.args.count c.args.scene.types c.requires.scene.types c.in-Some.of c.words-size.result c.words-size.ensures in
-    array-within p m c.args.state.now c.args.count c.in-Some.of c.words-size.result size c.in-Ok.block (g.B.Blocks.blocks c.loop-number.heap) c.loop-number.state c.loop-number.number c.loop-number.invariant c.loop-number-test.true
+    array-within p m c.args.state.now c.args.count c.in-Some.of c.words-size.result size c.in-Ok.block (g.B.Blocks.blocks c.loop-number.heap) c.loop-number.state c.loop-number.number c.loop-number.invariant.gathering c.loop-number-test.true
     c.pop_item.new.state c.in-Some-pop_item.datum c.in-Some-pop_item.ensures.taken ((c.args.count - 1 - c.loop-number.number) * c.words-size.result) refl at.state at.line at.rooms at.told at.there at.act at.stands
 
 pub let_go_datum-requires : goal.let_go_datum-requires
@@ -67,7 +72,7 @@ let_go_datum-requires g c =
     let m = g.B.Blocks.blocks c.args.heap.now in
     let at = c.requires.at in
     let size = array-size p m c.args.state.now c.args.count c.args.scene.types c.requires.scene.types c.in-Some.of c.words-size.result c.words-size.ensures in
-    subst (λ (live : Live). AreFree live (datum_blocks c.in-Some-pop_item.datum)) (sym c.write_item.ensures) (array-free p m c.args.state.now c.args.count c.in-Some.of c.words-size.result size c.in-Ok.block (g.B.Blocks.blocks c.loop-number.heap) c.loop-number.state c.loop-number.number c.loop-number.invariant c.loop-number-test.true
+    subst (λ (live : Live). AreFree live (datum_blocks c.in-Some-pop_item.datum)) (sym c.write_item.ensures.written) (array-free p m c.args.state.now c.args.count c.in-Some.of c.words-size.result size c.in-Ok.block (g.B.Blocks.blocks c.loop-number.heap) c.loop-number.state c.loop-number.number c.loop-number.invariant.gathering c.loop-number-test.true
     c.pop_item.new.state c.in-Some-pop_item.datum c.in-Some-pop_item.ensures.taken ((c.args.count - 1 - c.loop-number.number) * c.words-size.result) refl at.state at.line at.rooms at.told at.there at.act at.stands)
 
 pub loop-number-preserved : goal.loop-number-preserved
@@ -75,14 +80,17 @@ loop-number-preserved g c =
     let p = c.args.scene.program.now in
     let m = g.B.Blocks.blocks c.args.heap.now in
     let size = array-size p m c.args.state.now c.args.count c.args.scene.types c.requires.scene.types c.in-Some.of c.words-size.result c.words-size.ensures in
-    gathering-more p m c.args.state.now c.args.count c.in-Some.of c.words-size.result size c.in-Ok.block (g.B.Blocks.blocks c.loop-number.heap) c.loop-number.state c.loop-number.number c.loop-number.invariant c.loop-number-test.true
-    c.pop_item.new.state c.in-Some-pop_item.datum c.in-Some-pop_item.ensures.taken ((c.args.count - 1 - c.loop-number.number) * c.words-size.result) refl (g.B.Blocks.blocks c.let_go_datum.new.heap)
-    (c.let_go_datum.ensures ∙ ap (without (datum_blocks c.in-Some-pop_item.datum)) c.write_item.ensures) c.in-Some-pop_item.ensures.keeps
+    record {
+      gathering = gathering-more p m c.args.state.now c.args.count c.in-Some.of c.words-size.result size c.in-Ok.block (g.B.Blocks.blocks c.loop-number.heap) c.loop-number.state c.loop-number.number c.loop-number.invariant.gathering c.loop-number-test.true
+          c.pop_item.new.state c.in-Some-pop_item.datum c.in-Some-pop_item.ensures.taken ((c.args.count - 1 - c.loop-number.number) * c.words-size.result) refl (g.B.Blocks.blocks c.let_go_datum.new.heap)
+          (c.let_go_datum.ensures.given ∙ ap (without (datum_blocks c.in-Some-pop_item.datum)) c.write_item.ensures.written) c.in-Some-pop_item.ensures.keeps;
+      kept = c.let_go_datum.ensures.kept ∙ c.write_item.ensures.kept ∙ c.loop-number.invariant.kept;
+    }
 
 pub row_in-requires : goal.row_in-requires
 row_in-requires g c =
     let at = c.requires.at in
-    array-short c.args.count c.words-size.result (on-array c.args.scene.program.now at.state at.line c.args.count at.told at.there at.act).some c.in-Ok.ensures.2
+    array-short c.args.count c.words-size.result (on-array c.args.scene.program.now at.state at.line c.args.count at.told at.there at.act).some c.in-Ok.ensures.took.2
 
 pub returns-clause-does : goal.returns-clause-does
 returns-clause-does g c =
@@ -92,5 +100,5 @@ returns-clause-does g c =
     let all : c.args.count ≡ c.loop-number.number = omega (arith, c.loop-number-test.false, c.loop-number.auto.number-end) in
     array-made p m c.args.state.now c.args.count c.in-Some.of c.words-size.result size c.in-Ok.block
     (HasNoRoom g.B.Blocks.has_room c.args.heap.now) (HasNoMemory g.B.Blocks.allows (g.B.Blocks.kept c.args.heap.now) m) (g.B.Blocks.blocks c.loop-number.heap) c.loop-number.state c.go_on_with.new.self c.row_in.result
-    (subst (Gathering p m c.args.state.now c.args.count c.in-Some.of c.words-size.result c.in-Ok.block (g.B.Blocks.blocks c.loop-number.heap) c.loop-number.state) (sym all) c.loop-number.invariant)
+    (subst (Gathering p m c.args.state.now c.args.count c.in-Some.of c.words-size.result c.in-Ok.block (g.B.Blocks.blocks c.loop-number.heap) c.loop-number.state) (sym all) c.loop-number.invariant.gathering)
     c.row_in.ensures c.go_on_with.ensures

@@ -3,8 +3,8 @@ use Rattle.f3_live_blocks.specs.Blocks.{with_taken, words_of}
 use Rattle.f3_word_arrays.proofs.Words.{taken-long, least-is}
 use Rattle.f3_word_arrays.proofs.writing.take_room.Goals as goal
 
-pub returns-in-Ok : goal.returns-in-Ok
-returns-in-Ok g c =
+pub returns-in-Ok-clause-took : goal.returns-in-Ok-clause-took
+returns-in-Ok-clause-took g c =
     let m = g.B.Blocks.blocks c.args.heap.now in
     let asked : ℕ = c.saturating_mul.result in
     let long : length (words_of (g.B.Blocks.blocks c.take.new.self) c.in-Ok.block) ≡ asked = ap (λ l. length (words_of l c.in-Ok.block)) c.in-Ok.ensures.taken ∙ taken-long m c.in-Ok.block asked in

@@ -8,8 +8,8 @@ use Rattle.f3_word_arrays.specs.Items.{datum_words}
 use Rattle.f3_word_arrays.proofs.Words.{one-word}
 use Rattle.f3_word_arrays.proofs.writing.write_item.Goals as goal
 
-pub returns-in-Scalar : goal.returns-in-Scalar
-returns-in-Scalar g c =
+pub returns-in-Scalar-clause-written : goal.returns-in-Scalar-clause-written
+returns-in-Scalar-clause-written g c =
     let old = g.B.Blocks.blocks c.args.heap.now in
     let within : c.args.at + 1 ≤ length (words_of old c.args.block) = subst (λ (d : Datum). c.args.at + length (datum_words old d) ≤ length (words_of old c.args.block)) c.in-Scalar.is c.requires.within in
     let fits : FitsSigned w64 c.word_of.result = search rules in

@@ -5,7 +5,7 @@ use Rattle.f3_word_calls.proofs.Giving.{giving_first, giving_live, giving_more, 
 use Rattle.f3_word_calls.proofs.ends.give_blocks.Goals as goal
 
 pub loop-blocks-init : goal.loop-blocks-init
-loop-blocks-init g c = record { giving = giving_first (g.B.Blocks.blocks c.args.heap.now) c.args.blocks.now.items.items c.args.count; room = refl }
+loop-blocks-init g c = record { giving = giving_first (g.B.Blocks.blocks c.args.heap.now) c.args.blocks.now.items.items c.args.count; room = refl; kept = refl }
 
 pub give-given-requires : goal.give-given-requires
 give-given-requires g c =
@@ -35,6 +35,7 @@ loop-blocks-preserved-in-Some g c =
           c.loop-blocks.invariant.giving c.in-Some.ensures.items more (g.B.Blocks.blocks c.give-given.new.self)
           (where_ok c.give-given.result (g.B.Blocks.blocks c.give-given.new.self ≡ remove n c.in-Some.block) (c.give-given.ensures.unpinned.1 none) c.give-given.ensures.given);
       room = c.in-Some.ensures.room ∙ c.loop-blocks.invariant.room;
+      kept = c.give-given.ensures.kept ∙ c.loop-blocks.invariant.kept;
     }
 
 pub loop-blocks-preserved : goal.loop-blocks-preserved
@@ -60,3 +61,6 @@ returns-clause-blocks g c =
 
 pub returns-clause-room : goal.returns-clause-room
 returns-clause-room g c = c.loop-blocks.invariant.room
+
+pub returns-clause-kept : goal.returns-clause-kept
+returns-clause-kept g c = c.loop-blocks.invariant.kept

@@ -21,17 +21,17 @@ clear-requires g c =
 pub returns-in_default-pop-clause-does : goal.returns-in_default-pop-clause-does
 returns-in_default-pop-clause-does g c = λ p t l x told there is st.
     lost p (g.B.Blocks.blocks c.args.heap.now) c.args.state.now x t l told there is st c.in-Some._objects _ c.in-Some.ensures.taken
-    c.in-Some-pop_datum.value _ c.in-Some-pop_datum.ensures.taken _ _ c.clear.ensures c.in_default-pop.ensures.items.0
+    c.in-Some-pop_datum.value _ c.in-Some-pop_datum.ensures.taken _ _ c.clear.ensures.cleared c.in_default-pop.ensures.items.0
 
 pub end_levels-requires : goal.end_levels-requires
 end_levels-requires g c =
     let at = c.requires.at in
     let k = at.1 in
     levels_may at.0 (g.B.Blocks.blocks c.args.heap.now) c.args.state.now k.rooms k.state k.line k.told k.there k.act k.stands c.in-Some._objects _
-    c.in-Some.ensures.taken c.in-Some-pop_datum.value _ c.in-Some-pop_datum.ensures.taken _ _ c.clear.ensures c.in-Some-pop.caller _ c.in-Some-pop.ensures.items
+    c.in-Some.ensures.taken c.in-Some-pop_datum.value _ c.in-Some-pop_datum.ensures.taken _ _ c.clear.ensures.cleared c.in-Some-pop.caller _ c.in-Some-pop.ensures.items
 
 pub returns-clause-does : goal.returns-clause-does
 returns-clause-does g c = λ p t l x told there is st.
     return_do p (g.B.Blocks.blocks c.args.heap.now) c.args.state.now x t l told there is st c.in-Some._objects _
-    c.in-Some.ensures.taken c.in-Some-pop_datum.value _ c.in-Some-pop_datum.ensures.taken _ _ c.clear.ensures c.in-Some-pop.caller _ c.in-Some-pop.ensures.items
+    c.in-Some.ensures.taken c.in-Some-pop_datum.value _ c.in-Some-pop_datum.ensures.taken _ _ c.clear.ensures.cleared c.in-Some-pop.caller _ c.in-Some-pop.ensures.items
     _ _ c.end_levels.ensures.gone refl c.push.ensures.items refl refl c.cut.ensures.items refl refl c.end_levels.ensures.blocks c.end_levels.ensures.levels

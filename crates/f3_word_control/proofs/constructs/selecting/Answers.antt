@@ -29,7 +29,7 @@ returns-clause-does g c = λ p t l x told there is st.
     let at = selecting_at p m x t _ told st l (line_kinds p t l _ told there is) in
     let top = datum_taken p t m _ x _ c.in-Some.ensures.taken (amid_first p t m _ x _ t.stack st at.3 refl) in
     let gone = amid_without p t m _ _ x _ top.below t.world.store (datum_blocks d) [] top.amid in
-    subst (λ n. Becomes p l t (Ok tt) n c.go_on_with.new.self) (sym c.let_go_datum.ensures)
+    subst (λ n. Becomes p l t (Ok tt) n c.go_on_with.new.self) (sym c.let_go_datum.ensures.given)
     (selects p l t m (without (datum_blocks d) m) _ x st _ _ top.value top.below at.0 at.1 at.2 (goes p l t is (λ rest. selected_so p l t rest _ _ top.split))
     (c.selected_by-state.ensures p m top.value top.is) gone c.in-Some.ensures.taken.pc at.4 at.5
     (names_at_hand p m _ x t at.1 told st at.4 (clean_at p m x t _ told st l i.Selecting _ there is refl)) c.go_on_with.ensures)

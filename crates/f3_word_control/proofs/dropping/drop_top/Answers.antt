@@ -27,6 +27,6 @@ returns-clause-does g c = λ p t l x told there is st.
     let amid = amid_popped p t m old old _ x lead.0 lead.1.rest top.cell top.below t.world.store [] cell (amid_first p t m old x _ _ st lead.1.before top.split)
     c.in-Some.ensures flat in
     let gone = amid_without p t m old _ x lead.1.rest top.below t.world.store (cell_blocks cell) [] amid.2 in
-    subst (λ n. Becomes p l t (Ok tt) n c.advance.new.self) (sym c.let_go.ensures)
+    subst (λ n. Becomes p l t (Ok tt) n c.advance.new.self) (sym c.let_go.ensures.given)
     (advances p l t m (without (cell_blocks cell) m) old x st top.below (goes p l t is (λ rest. dropped p l t rest _ _ top.split)) gone c.in-Some.ensures.pc
     (after_at lead.1.next refl refl) c.advance.ensures)

@@ -17,3 +17,4 @@ invariant-loop g l = (l.state.pc ≡ l.initial.state.pc) × Keeps l.initial.stat
     × ((p : Program) (t : s.State) (line : Line) (x : Rooms) → IsTold p t → slice_get (code_of p).lines t.pc ≡ Some line → line.act ≡ i.Unwind l.count
     → Stands p (g.B.Blocks.blocks l.initial.heap) l.initial.state x t
     → Amid p t (g.B.Blocks.blocks l.heap) l.initial.state l.state x (drop l.counter (site_at p t.pc).cells) (drop l.counter t.stack) t.world.store [])
+    × (g.B.Blocks.kept l.heap ≡ g.B.Blocks.kept l.initial.heap)

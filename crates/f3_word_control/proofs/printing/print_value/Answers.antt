@@ -28,7 +28,7 @@ returns-in-Ok-clause-does g c = λ p t l x told there is st.
     let gone = amid_without p t m _ _ x _ top.below t.world.store (datum_blocks d) [] top.amid in
     let text = shown p m lead.0 d top.value lead.1 top.known top.is in (
       value_text top.value,
-      subst (λ n. Follows p l t (value_text top.value) n c.advance.new.self) (sym c.let_go_datum.ensures)
+      subst (λ n. Follows p l t (value_text top.value) n c.advance.new.self) (sym c.let_go_datum.ensures.given)
           (prints p l t m (without (datum_blocks d) m) _ x st top.below (value_text top.value)
           (goes_so p l t _ [] tt is (printed (value_text top.value)) (λ rest. value_printed p l t rest _ _ top.split)) gone
           c.in-Some.ensures.taken.pc (after_at lead.2.next refl refl) c.advance.ensures),

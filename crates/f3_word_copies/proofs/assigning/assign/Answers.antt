@@ -79,18 +79,18 @@ let_go_datum-requires g c =
     let which = assign-at p c.args.of m c.args.state.now c.requires.at in
     let at = which.2 in
     frees p m c.args.state.now c.pop_object.new.state c.pop_datum.new.state c.in-Some.object c.in-Some.ensures c.in-Some-pop_datum.datum c.in-Some-pop_datum.ensures c.args.scene.types c.requires.scene.types
-    c.in-Stands.area c.in-Stands.is (g.B.Blocks.blocks c.put.new.heap) (λ x r v can. c.put.ensures p x r v can) at.state at.line at.rooms c.args.of which.0 which.1 at.told at.there at.act at.stands
+    c.in-Stands.area c.in-Stands.is (g.B.Blocks.blocks c.put.new.heap) (λ x r v can. c.put.ensures.takes p x r v can) at.state at.line at.rooms c.args.of which.0 which.1 at.told at.there at.act at.stands
 
 pub returns-clause-take : goal.returns-clause-take
 returns-clause-take g c =
     let p = c.args.scene.program.now in
     let m = g.B.Blocks.blocks c.args.heap.now in
     assigns p m c.args.state.now c.pop_object.new.state c.pop_datum.new.state c.in-Some.object c.in-Some.ensures c.in-Some-pop_datum.datum c.in-Some-pop_datum.ensures c.args.scene.types c.requires.scene.types
-    c.in-Stands.area c.in-Stands.is (g.B.Blocks.blocks c.put.new.heap) (λ x r v can. c.put.ensures p x r v can) (g.B.Blocks.blocks c.let_go_datum.new.heap) c.advance.new.self c.args.of _ (inl refl) (λ k v can. c.if-not-fits.ensures p k v can) c.let_go_datum.ensures c.advance.ensures
+    c.in-Stands.area c.in-Stands.is (g.B.Blocks.blocks c.put.new.heap) (λ x r v can. c.put.ensures.takes p x r v can) (g.B.Blocks.blocks c.let_go_datum.new.heap) c.advance.new.self c.args.of _ (inl refl) (λ k v can. c.if-not-fits.ensures p k v can) c.let_go_datum.ensures.given c.advance.ensures
 
 pub returns-clause-fill : goal.returns-clause-fill
 returns-clause-fill g c =
     let p = c.args.scene.program.now in
     let m = g.B.Blocks.blocks c.args.heap.now in
     assigns p m c.args.state.now c.pop_object.new.state c.pop_datum.new.state c.in-Some.object c.in-Some.ensures c.in-Some-pop_datum.datum c.in-Some-pop_datum.ensures c.args.scene.types c.requires.scene.types
-    c.in-Stands.area c.in-Stands.is (g.B.Blocks.blocks c.put.new.heap) (λ x r v can. c.put.ensures p x r v can) (g.B.Blocks.blocks c.let_go_datum.new.heap) c.advance.new.self c.args.of _ (inr refl) (λ k v can. c.if-not-fits.ensures p k v can) c.let_go_datum.ensures c.advance.ensures
+    c.in-Stands.area c.in-Stands.is (g.B.Blocks.blocks c.put.new.heap) (λ x r v can. c.put.ensures.takes p x r v can) (g.B.Blocks.blocks c.let_go_datum.new.heap) c.advance.new.self c.args.of _ (inr refl) (λ k v can. c.if-not-fits.ensures p k v can) c.let_go_datum.ensures.given c.advance.ensures

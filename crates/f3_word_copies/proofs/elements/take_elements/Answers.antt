@@ -19,8 +19,8 @@ scatter-requires-clause-room g c =
     let within : length (places a) * c.args.words ≤ l = quotient-within l c.args.words (length (places a)) c.requires.some (omega arith) in
     omega arith
 
-pub returns-then-words : goal.returns-then-words
-returns-then-words g c =
+pub returns-then-words-clause-taken : goal.returns-then-words-clause-taken
+returns-then-words-clause-taken g c =
     let old = g.B.Blocks.blocks c.args.heap.now in
     let a = c.args.elements.now in
     let size : size_of a.dims.items ≡ c.fewer-count.result = ap size_of (sym c.deref-2.ensures.0) ∙ c.if-has_size.ensures refl in

@@ -18,8 +18,8 @@ take_source-requires-clause-within g c some =
     let same = ap (λ (ds : List Derived). shape_in (shapes_of ds) a.of) there.derived in
     subst (λ (s : Shape). LieWithin old a.elements (length (object_words s))) (sym same) (initial-within q.0 c.args.types old q.1 a q.2 there (q.3).can some)
 
-pub returns : goal.returns
-returns g c p x r is =
+pub returns-clause-takes : goal.returns-clause-takes
+returns-clause-takes g c p x r is =
     let old = g.B.Blocks.blocks c.args.heap.now in
     let a = c.args.area.now in
     let same = ap (λ (ds : List Derived). shape_in (shapes_of ds) a.of) is.there.derived in

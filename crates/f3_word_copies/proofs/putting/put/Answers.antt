@@ -58,8 +58,8 @@ take_array-requires-clause-apart g c some =
     let can = subst (λ (d : Datum). CanTake q.0 c.args.types old q.1 c.args.area.now q.2 d q.3) c.in-Block-2.is q.4 in
     from-apart q.0 c.args.types old q.1 c.args.area.now q.2 can.there c.in-Block-2.value q.3 can some
 
-pub returns-in-Scalar : goal.returns-in-Scalar
-returns-in-Scalar g c p x r v is =
+pub returns-in-Scalar-clause-takes : goal.returns-in-Scalar-clause-takes
+returns-in-Scalar-clause-takes g c p x r v is =
     let old = g.B.Blocks.blocks c.args.heap.now in
     let a = c.args.area.now in
     let can = subst (λ (d : Datum). CanTake p c.args.types old x a r d v) c.in-Scalar.is is in
@@ -69,15 +69,15 @@ returns-in-Scalar g c p x r v is =
     (λ some. c.take_source.ensures.some some
     ∙ ap (λ (z : ℤ). with_words old a.elements.block (spread_over (words_of old a.elements.block) (z ∷ []) (places a.elements))) word)
 
-pub returns-in-Block : goal.returns-in-Block
-returns-in-Block g c p x r v is =
+pub returns-in-Block-clause-takes : goal.returns-in-Block-clause-takes
+returns-in-Block-clause-takes g c p x r v is =
     let old = g.B.Blocks.blocks c.args.heap.now in
     let a = c.args.area.now in
     let can = subst (λ (d : Datum). CanTake p c.args.types old x a r d v) c.in-Block.is is in
     one-takes p c.args.types old x a r can.there c.in-Block.value v can (no-dims _ c.if-is_empty.ensures) _ c.take_source-in-Block.ensures.none c.take_source-in-Block.ensures.some
 
-pub returns-in-Block-2 : goal.returns-in-Block-2
-returns-in-Block-2 g c p x r v is =
+pub returns-in-Block-2-clause-takes : goal.returns-in-Block-2-clause-takes
+returns-in-Block-2-clause-takes g c p x r v is =
     let old = g.B.Blocks.blocks c.args.heap.now in
     let a = c.args.area.now in
     let can = subst (λ (d : Datum). CanTake p c.args.types old x a r d v) c.in-Block-2.is is in

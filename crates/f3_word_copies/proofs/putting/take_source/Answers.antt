@@ -26,5 +26,5 @@ returns-then-has_elements-clause-some g c some =
     let inside = (c.requires.within some).inside in
     let us : List ℤ = words_of old a.block in
     let ws : List ℤ = source_words old c.args.source.now in
-    c.spread.ensures (pos a.offset) (congruent-same a.offset) (subst (λ (ds : List Dim). AreInside (length us) (length ws) (places_from (pos a.offset) ds)) (sym c.deref-then-has_elements.ensures.0) inside)
+    c.spread.ensures.written (pos a.offset) (congruent-same a.offset) (subst (λ (ds : List Dim). AreInside (length us) (length ws) (places_from (pos a.offset) ds)) (sym c.deref-then-has_elements.ensures.0) inside)
     ∙ ap (λ (ds : List Dim). with_words old a.block (spread_over us ws (places_from (pos a.offset) ds))) c.deref-then-has_elements.ensures.0

@@ -27,4 +27,4 @@ returns-clause-does g c =
     let p = c.args.scene.program.now in
     let m = g.B.Blocks.blocks c.args.heap.now in
     sets p m c.args.state.now c.pop_object.new.state c.in-Some.object c.in-Some.ensures c.in-Stands.area c.in-Stands.is c.args.scene.types c.requires.scene.types (g.B.Blocks.blocks c.begin.new.heap)
-    (λ x r can. c.begin.ensures p x r can) c.go_on_with.new.self c.go_on_with.ensures
+    (λ x r can. c.begin.ensures.takes p x r can) c.go_on_with.new.self c.go_on_with.ensures

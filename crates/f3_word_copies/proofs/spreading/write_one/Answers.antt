@@ -11,8 +11,8 @@ use Rattle.f3_word_copies.specs.declared.spreading.Source.{Source}
 use Rattle.f3_word_copies.proofs.Spreads.{one-word}
 use Rattle.f3_word_copies.proofs.spreading.write_one.Goals as goal
 
-pub returns-in-Word : goal.returns-in-Word
-returns-in-Word g c =
+pub returns-in-Word-clause-written : goal.returns-in-Word-clause-written
+returns-in-Word-clause-written g c =
     let old = g.B.Blocks.blocks c.args.heap.now in
     let within : c.args.at + 1 ≤ length (words_of old c.args.block) = subst (λ (s : Source). c.args.at + length (source_words old s) ≤ length (words_of old c.args.block)) c.in-Word.is c.requires.within in
     let fits : FitsSigned w64 c.in-Word.word = search rules in

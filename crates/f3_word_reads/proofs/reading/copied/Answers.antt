@@ -14,18 +14,22 @@ use Rattle.f3_word_reads.proofs.Strides.{part-short}
 use Rattle.f3_word_reads.proofs.reading.copied.Goals as goal
 use Rattle.f3_word_reads.proofs.reading.copied.Goals.{then-packed-gt0, else-packed-gt0}
 
-pub returns-in-Err-Full : goal.returns-in-Err-Full
-returns-in-Err-Full g c p x r there =
-    let asked = asked-is _ _ _ c.args.area.now c.args.types c.pack-packed.ensures.words c.deref.ensures.0 c.words-size.ensures in (
+pub returns-in-Err-Full-clause-reads : goal.returns-in-Err-Full-clause-reads
+returns-in-Err-Full-clause-reads g c p x r there =
+    let old = g.B.Blocks.blocks c.args.heap.now in
+    let size = c.words-size.ensures ∙ words-same p c.args.types old x c.args.area.now r there in
+    let is = asked-is p c.args.types old x c.args.area.now r there _ _ _ c.pack-packed.ensures.words c.deref.ensures.0 size in (
       needs-storage p c.args.types _ x c.args.area.now r there c.requires.large,
-      subst (λ n. g.B.Blocks.has_room c.args.heap.now n ≡ false) asked (c.in-Err-Full.ensures.full.0 (ap Err c.in-Err-Full.field-0-is)),
+      subst (λ n. g.B.Blocks.has_room c.args.heap.now n ≡ false) is (c.in-Err-Full.ensures.full.0 (ap Err c.in-Err-Full.field-0-is)),
     )
 
-pub returns-in-Err-Memory : goal.returns-in-Err-Memory
-returns-in-Err-Memory g c p x r there =
-    let asked = asked-is _ _ _ c.args.area.now c.args.types c.pack-packed.ensures.words c.deref.ensures.0 c.words-size.ensures in
-    subst (λ n. g.B.Blocks.allows (g.B.Blocks.kept c.args.heap.now) (sizes (g.B.Blocks.blocks c.args.heap.now)) n Memory) asked
-    (subst (λ (f : TakeFault). g.B.Blocks.allows (g.B.Blocks.kept c.args.heap.now) (sizes (g.B.Blocks.blocks c.args.heap.now)) c.pack-packed.result.words (answer_of (Err f)))
+pub returns-in-Err-Memory-clause-reads : goal.returns-in-Err-Memory-clause-reads
+returns-in-Err-Memory-clause-reads g c p x r there =
+    let old = g.B.Blocks.blocks c.args.heap.now in
+    let size = c.words-size.ensures ∙ words-same p c.args.types old x c.args.area.now r there in
+    let is = asked-is p c.args.types old x c.args.area.now r there _ _ _ c.pack-packed.ensures.words c.deref.ensures.0 size in
+    subst (λ n. g.B.Blocks.allows (g.B.Blocks.kept c.args.heap.now) (sizes old) n Memory) is
+    (subst (λ (f : TakeFault). g.B.Blocks.allows (g.B.Blocks.kept c.args.heap.now) (sizes old) c.pack-packed.result.words (answer_of (Err f)))
     c.in-Err-Memory.field-0-is c.in-Err-Memory.ensures.allowed)
 
 pub gather-requires-clause-within : goal.gather-requires-clause-within
@@ -69,8 +73,8 @@ gather-requires-clause-room g c =
     subst (λ (w : ℕ). 0 + length (places c.args.area.now.elements) * w ≤ length (words_of (g.B.Blocks.blocks c.take.new.self) c.in-Ok.block)) (sym size)
     (gather-room q.0 c.args.types _ q.1 c.args.area.now q.2 q.3 c.in-Ok.block c.in-Ok.ensures.fresh c.pack-packed.result.words short total _ c.in-Ok.ensures.taken)
 
-pub returns : goal.returns
-returns g c p x r there =
+pub returns-clause-reads : goal.returns-clause-reads
+returns-clause-reads g c p x r there =
     let old = g.B.Blocks.blocks c.args.heap.now in
     let mid = g.B.Blocks.blocks c.take.new.self in
     let a = c.args.area.now in

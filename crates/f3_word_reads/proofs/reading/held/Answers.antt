@@ -1,17 +1,16 @@
 use Rattle.std.proofs.Common.{◌≡◌, ◌∙◌, sym, ap, subst, refl, false, inl, inr, rules, w64, FitsSigned}
 use Rattle.std.proofs.lemmas.Int.{to_z-of_z}
-use Rattle.f3_heap_laws.specs.Answers.{Memory, sizes}
 use Rattle.f3_word_reads.specs.Scalars.{scalar_of}
 use Rattle.f3_meaning_whole.specs.Shape.{shape_in}
 use Rattle.f3_rooms.specs.Places.{is_scalar_shape}
-use Rattle.f3_word_reads.specs.Reads.{asked_words, IsThere, Reads}
+use Rattle.f3_word_reads.specs.Reads.{IsThere}
 use Rattle.f3_word_reads.proofs.Copying.{types-same}
 use Rattle.f3_word_reads.proofs.Standing.{constant-held, tables-for, one-live, one-within, one-value, no-dims, some-dims}
 use Rattle.f3_word_reads.proofs.reading.held.Goals as goal
 use Rattle.f3_word_reads.proofs.reading.held.Goals.{else-is_empty-via-then-is_empty+else-is_scalar, else-is_empty-via-else-is_empty}
 
-pub returns-in-Held : goal.returns-in-Held
-returns-in-Held g c p x r there =
+pub returns-in-Held-clause-reads : goal.returns-in-Held-clause-reads
+returns-in-Held-clause-reads g c p x r there =
     let old = g.B.Blocks.blocks c.args.heap.now in
     record { value = constant-held p c.args.types old x c.in-Held.field-0 c.in-Held.constant r (subst (λ o. IsThere p c.args.types old x o r) c.in-Held.is there); gains = refl; typed = tt }
 
@@ -30,8 +29,8 @@ read-word-requires-clause-within g c =
     let scalar = sym (ap (λ ts. is_scalar_shape (shape_in ts c.in-Stands.area.of)) (types-same q.0 c.args.types there.derived)) ∙ sym c.if-is_scalar.ensures in
     one-within q.0 old q.1 there.sound c.in-Stands.area (no-dims _ c.if-is_empty.ensures) scalar (q.2).path (q.2).reach there.is.1
 
-pub returns-then-is_scalar : goal.returns-then-is_scalar
-returns-then-is_scalar g c p x r at =
+pub returns-then-is_scalar-clause-reads : goal.returns-then-is_scalar-clause-reads
+returns-then-is_scalar-clause-reads g c p x r at =
     let old = g.B.Blocks.blocks c.args.heap.now in
     let there = subst (λ o. IsThere p c.args.types old x o r) c.in-Stands.is at in
     let scalar = sym (ap (λ ts. is_scalar_shape (shape_in ts c.in-Stands.area.of)) (types-same p c.args.types there.derived)) ∙ sym c.if-is_scalar.ensures in
@@ -55,9 +54,10 @@ copied-requires-clause-there g c =
     let q = c.requires.there in
     (q.0, q.1, q.2, subst (λ o. IsThere q.0 c.args.types old q.1 o q.2) c.in-Stands.is q.3)
 
-pub returns : goal.returns
-returns g c p x r at =
+pub returns-clause-reads : goal.returns-clause-reads
+returns-clause-reads g c p x r at =
     let old = g.B.Blocks.blocks c.args.heap.now in
-    let read = c.copied.ensures p x r (subst (λ o. IsThere p c.args.types old x o r) c.in-Stands.is at) in
-    subst (λ w. Reads (g.B.Blocks.has_room c.args.heap.now (asked_words c.args.types w) ≡ false) (g.B.Blocks.allows (g.B.Blocks.kept c.args.heap.now) (sizes old) (asked_words c.args.types w) Memory) p old (g.B.Blocks.blocks c.copied.new.heap) x r c.copied.result)
-    (sym c.in-Stands.is) read
+    c.copied.ensures.reads p x r (subst (λ o. IsThere p c.args.types old x o r) c.in-Stands.is at)
+
+pub returns-clause-kept : goal.returns-clause-kept
+returns-clause-kept g c = inr c.copied.ensures.kept

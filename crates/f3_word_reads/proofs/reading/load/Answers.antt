@@ -1,10 +1,6 @@
-use Rattle.std.proofs.Common.{subst}
-use Rattle.std.specs.Prelude.{Err}
-use Rattle.f3_heap_laws.specs.Answers.{Memory, sizes}
 use Rattle.f3_word_cells.specs.Does.{HasNoMemory, HasNoRoom}
-use Rattle.f3_word_reads.specs.Reads.{asked_words, RefusesFor}
 use Rattle.f3_word_reads.proofs.Rooms.{keeps-same, keeps-then, keeps-took}
-use Rattle.f3_word_reads.proofs.Loading.{lost-load, there-load, does-load, fails-load, refuses, some-request, one-object}
+use Rattle.f3_word_reads.proofs.Loading.{lost-load, there-load, does-load, fails-load}
 use Rattle.f3_word_reads.proofs.reading.load.Goals as goal
 
 pub returns-in_default-clause-does : goal.returns-in_default-clause-does
@@ -22,7 +18,7 @@ held-requires-clause-there g c =
 pub returns-in-Ok-clause-does : goal.returns-in-Ok-clause-does
 returns-in-Ok-clause-does g c =
     does-load c.args.scene.program.now _ c.args.state.now _ c.in-Some.object c.in-Some.ensures c.args.scene.types c.requires.scene.types _ (HasNoRoom g.B.Blocks.has_room c.args.heap.now) (HasNoMemory g.B.Blocks.allows (g.B.Blocks.kept c.args.heap.now) (g.B.Blocks.blocks c.args.heap.now)) _ c.in-Ok.datum
-    (λ x r there. c.in-Ok.ensures c.args.scene.program.now x r there) c.go_on_with.ensures
+    (λ x r there. c.in-Ok.ensures.reads c.args.scene.program.now x r there) c.go_on_with.ensures
 
 pub returns-in-Ok-clause-keeps : goal.returns-in-Ok-clause-keeps
 returns-in-Ok-clause-keeps g c = keeps-then _ _ _ (keeps-took _ _ _ c.pop_object.ensures) (keeps-same _ _ c.go_on_with.ensures.same)
@@ -30,19 +26,7 @@ returns-in-Ok-clause-keeps g c = keeps-then _ _ _ (keeps-took _ _ _ c.pop_object
 pub returns-in-Err-clause-does : goal.returns-in-Err-clause-does
 returns-in-Err-clause-does g c =
     fails-load c.args.scene.program.now _ c.args.state.now _ c.in-Some.object c.in-Some.ensures c.args.scene.types c.requires.scene.types (g.B.Blocks.blocks c.held.new.heap) (HasNoRoom g.B.Blocks.has_room c.args.heap.now) (HasNoMemory g.B.Blocks.allows (g.B.Blocks.kept c.args.heap.now) (g.B.Blocks.blocks c.args.heap.now)) c.pop_object.new.state c.in-Err.stop
-    (λ x r there. some-request g.B.Blocks.has_room c.args.heap.now g.B.Blocks.allows (g.B.Blocks.kept c.args.heap.now) (asked_words c.args.scene.types c.in-Some.object) c.args.scene.program.now (g.B.Blocks.blocks c.args.heap.now) (g.B.Blocks.blocks c.held.new.heap) x r c.in-Err.stop
-    (c.in-Err.ensures c.args.scene.program.now x r there))
-
-pub returns-in-Err-clause-refuses : goal.returns-in-Err-clause-refuses
-returns-in-Err-clause-refuses g c w rest e =
-    let at = c.requires.at in
-    let p = c.args.scene.program.now in
-    let heap = c.args.heap.now in
-    let there = there-load p _ c.args.state.now _ c.in-Some.object c.in-Some.ensures c.args.scene.types c.requires.scene.types at.state at.line at.rooms at.told at.there at.act at.stands in
-    subst (λ o. RefusesFor (g.B.Blocks.has_room heap) (λ n. g.B.Blocks.allows (g.B.Blocks.kept heap) (sizes (g.B.Blocks.blocks heap)) n Memory) (asked_words c.args.scene.types o) (Err c.in-Err.stop))
-    (one-object _ _ w c.in-Some.object rest c.in-Some.ensures e)
-    (refuses (g.B.Blocks.has_room heap) (λ n. g.B.Blocks.allows (g.B.Blocks.kept heap) (sizes (g.B.Blocks.blocks heap)) n Memory) (asked_words c.args.scene.types c.in-Some.object) p (g.B.Blocks.blocks heap) (g.B.Blocks.blocks c.held.new.heap) at.rooms (there.0).top.reference c.in-Err.stop
-    (c.in-Err.ensures p at.rooms (there.0).top.reference there.1))
+    (λ x r there. c.in-Err.ensures.reads c.args.scene.program.now x r there)
 
 pub returns-in-Err-clause-keeps : goal.returns-in-Err-clause-keeps
 returns-in-Err-clause-keeps g c = keeps-took _ _ _ c.pop_object.ensures
