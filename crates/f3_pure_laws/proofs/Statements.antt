@@ -28,7 +28,7 @@ use Rattle.f3_pure_laws.specs.References.{Refers, RefersIn, CallRefers, StatRefe
 use Rattle.f3_pure_laws.specs.Pure.{definable_in, first_name, is_own, Owns, own_selectors, OwnsStat, MayEnd, CallsPure, OwnsRequest, EndsRequest}
 use Rattle.f3_pure_laws.specs.Laws.{AreNewFree}
 use Rattle.f3_pure_laws.proofs.Running.{Runs, Quiet, bind_runs, weaken, gives_runs, gives_quiet, fails_runs, beyond_runs, looks_quiet, if_runs, set_runs}
-use Rattle.f3_pure_laws.proofs.Parts.{converted_quiet, claim_quiet, claim_for_quiet, built_quiet, result_quiet, request_quiet}
+use Rattle.f3_pure_laws.proofs.Parts.{converted_quiet, claim_quiet, claim_for_quiet, result_quiet, request_quiet}
 use Rattle.f3_pure_laws.proofs.Roots.{IsMine, contents_runs, associated_mine}
 use Rattle.f3_pure_laws.proofs.Values.{CallsRun, ArePure, IsName, value_quiet, locate_runs, all_passed_run}
 use Rattle.f3_pure_laws.proofs.Destroying.{end_quiet, free_quiet, finish_quiet}
