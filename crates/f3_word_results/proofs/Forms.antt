@@ -19,7 +19,7 @@ use Rattle.f3_room_arrays.proofs.Flat.{Alike, behind, front, object_tell}
 use Rattle.f3_room_frames.proofs.Flat.{flat_laid_words, flat_words}
 use Rattle.f3_word_cells.specs.Areas.{spans_of}
 use Rattle.f3_word_areas.specs.Parts.{AreDimsOf}
-use Rattle.f3_word_areas.proofs.Laying.{size-count}
+use Rattle.f3_word_reads.proofs.Areas.{count-size}
 
 pub settled-words : (form : Form) (n : ℕ) → form_words (settled form) n ≡ form_words form n
 settled-words (Laid zero ss) n = refl
@@ -51,7 +51,7 @@ module _ (s : Shape) where
 
   pub dims-words : (form : Form) (ds : List Dim) → AreDimsOf w form ds → form_words form w ≡ size_of ds * w
   dims-words (Laid zero ss) ds are = let one : size_of ds ≡ 1 = ap size_of are.1 in (let e : w ≡ 1 * w = omega arith in e) ∙ ap (λ k. k * w) (sym one)
-  dims-words (Laid (suc rank) ss) ds are = ap (λ us. count us * w) (sym are.1) ∙ ap (λ k. k * w) (sym (size-count ds))
+  dims-words (Laid (suc rank) ss) ds are = ap (λ us. count us * w) (sym are.1) ∙ ap (λ k. k * w) (count-size ds)
   dims-words (Allocatable rank) ds are = absurd are
 
   -- so many words the machine over values asks for

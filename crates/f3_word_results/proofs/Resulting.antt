@@ -80,10 +80,10 @@ use Rattle.f3_word_results.proofs.Forms.{copy-formed, dims-words, formed-needs, 
 use Rattle.f3_word_results.proofs.Returned.{copy-goes, copy-refused, next, scalar-goes, value}
 
 -- elements that follow on one another
-dims-apart : {w : ℕ} (form : Form) (ds : List Dim) → AreDimsOf w form ds → AreApart w ds
-dims-apart {w} (Laid zero ss) ds are = inr (subst (IsContiguous (pos w)) (sym are.1) tt)
-dims-apart (Laid (suc rank) ss) ds are = are.2
-dims-apart (Allocatable rank) ds are = absurd are
+dims-apart : (w : ℕ) (form : Form) (ds : List Dim) → AreDimsOf w form ds → AreApart w ds
+dims-apart w (Laid zero ss) ds are = inr (subst (IsContiguous (pos w)) (sym are.1) tt)
+dims-apart w (Laid (suc rank) ss) ds are = are.2
+dims-apart w (Allocatable rank) ds are = absurd are
 
 same-some : {A : Type 0} (a b : A) → Some a ≡ Some b → a ≡ b
 same-some a b e = cc
@@ -337,7 +337,7 @@ module _ (x : Scene) (scene : IsScene x) (m : Live) (old : State) (rooms : Rooms
           offset = copy.offset;
           large = large-is large;
           contiguous = subst (λ (y : Shape). AreApart (words_for y) (b.elements).dims.items) (sym same-shape)
-              (subst (AreApart size) (sym dims-same) (dims-apart form dims dims-are));
+              (subst (AreApart size) (sym dims-same) (dims-apart size form dims dims-are));
           live = hand_live p t n' old old rooms at-result.rest t.stack (t.world).store new-block [] hand;
           words = long ∙ room-is ∙ dims-words shape form dims dims-are ∙ ap (λ (es : List Dim). size_of es * size) (sym dims-same)
               ∙ ap (λ (y : Shape). size_of (b.elements).dims.items * words_for y) (sym same-shape);

@@ -28,7 +28,7 @@ use Rattle.f3_word_copies.proofs.Typed.{type-can}
 use Rattle.f3_word_structures.specs.Fitting.{Checked, TestedFor}
 use Rattle.f3_word_structures.specs.Members.{AreWhole, Fills, component_words, given_in, structure_words}
 use Rattle.f3_word_structures.proofs.Components.{Takes, AllTake, each-takes, value-for, values-for}
-use Rattle.f3_word_structures.proofs.Finding.{AreHeld, Finds, found-none, found-some}
+use Rattle.f3_word_structures.proofs.Held.{AreHeld, Finds, found-none, found-some}
 use Rattle.f3_word_structures.proofs.Values.{taken}
 
 some-same : {A : Type 0} (a b : A) → Some a ≡ Some b → a ≡ b

@@ -1,5 +1,5 @@
 pub mod Given
-pub mod Finding
+pub mod Held
 pub mod Values
 pub mod Components
 pub mod Filling

@@ -64,7 +64,7 @@ use Rattle.f3_word_structures.specs.Fitting.{AreGiven, Checked, TestedAt, Tested
 use Rattle.f3_word_structures.specs.Members.{AreApart, AreWhole, IsObjectIn, given_in, structure_words}
 use Rattle.f3_word_structures.proofs.Built.{all-take, are-whole, can-begin, object-shows, tree, words-total}
 use Rattle.f3_word_structures.proofs.Components.{AllTake, First, Refuses, Takes, first-of, grants, grants-granted, some-grants, some-granted, values-for, whole, whole-fails, whole-goes, whole-refused}
-use Rattle.f3_word_structures.proofs.Finding.{Agree, AreHeld, found-alike, held-given, held-on-top, held-reverse, last-cells}
+use Rattle.f3_word_structures.proofs.Held.{Agree, AreHeld, found-alike, held-given, held-on-top, held-reverse, last-cells}
 use Rattle.f3_word_structures.proofs.Filling.{all-long}
 use Rattle.f3_word_structures.proofs.Given.{OnStructure, on-structure}
 use Rattle.f3_word_structures.proofs.Popping.{Went, some-left, went-all, went-free, went-more}

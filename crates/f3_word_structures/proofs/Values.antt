@@ -29,7 +29,7 @@ use Rattle.f3_word_arrays.specs.Items.{datum_words}
 use Rattle.f3_word_arrays.proofs.Elements.{HasWords, has-words}
 use Rattle.f3_word_arrays.proofs.Given.{shape-alike}
 use Rattle.f3_word_arrays.proofs.Words.{Shows, elements-tell, object-tells}
-use Rattle.f3_word_areas.proofs.Laying.{size-count}
+use Rattle.f3_word_reads.proofs.Areas.{count-size}
 use Rattle.f3_word_cells.specs.declared.cell.Area.{Area}
 use Rattle.f3_word_cells.specs.declared.cell.Datum.{Datum}
 use Rattle.f3_word_cells.specs.declared.cell.Datum.TheVariants as datum
@@ -248,7 +248,7 @@ module _ (p : Program) (m : Live) (e : Declared) (g : formed.Given) (d : Datum) 
     words-are = ap (datum_words m) array.1
 
     words-long : length ws ≡ count ss * w
-    words-long = ap length words-are ∙ array.2.words ∙ ap (λ (y : Shape). size_of dims * words_for y) area-shape ∙ ap (λ k. k * w) (size-count dims ∙ sym same-count)
+    words-long = ap length words-are ∙ array.2.words ∙ ap (λ (y : Shape). size_of dims * words_for y) area-shape ∙ ap (λ k. k * w) (sym (count-size dims) ∙ sym same-count)
 
     rank-is : (x : ℕ) × (e.kind.rank ≡ suc x)
     rank-is = by e.kind.rank (eqb-true g.kind.rank e.kind.rank ranks)
