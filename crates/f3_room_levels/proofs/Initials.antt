@@ -123,7 +123,7 @@ module _ (m : Live) (s : Shape) where
     sound_by true rank ss cs of enough b o are = first_zero rank b o are
     sound_by false rank ss cs of enough b o are = laid_sound rank ss cs of enough b o are
 
-    declared_begun : (d : Declared) → CanBegin s d → (b o : ℕ) → WordsAre m b o (declared_words d ws) → formed (form_of d) n f b o Empty ≡ initial_declared d v
+    pub declared_begun : (d : Declared) → CanBegin s d → (b o : ℕ) → WordsAre m b o (declared_words d ws) → formed (form_of d) n f b o Empty ≡ initial_declared d v
     declared_begun d can = formed_by d.kind.is_allocatable d.kind.rank (spans_declared d.dimensions.items) d.initial.items can.typed can.enough
 
     declared_sound : (d : Declared) → CanBegin s d → (b o : ℕ) → WordsAre m b o (declared_words d ws) → IsForm m (form_of d) n P b o Empty
@@ -132,12 +132,12 @@ module _ (m : Live) (s : Shape) where
 -- ---- objects of types
 
 mutual
-  object_begun : (m : Live) (s : Shape) → TypeCanBegin s → (b o : ℕ) → WordsAre m b o (object_words s) → object m s b o Empty ≡ initial_of s
+  pub object_begun : (m : Live) (s : Shape) → TypeCanBegin s → (b o : ℕ) → WordsAre m b o (object_words s) → object m s b o Empty ≡ initial_of s
   object_begun m Whole can b o are = ap Number are.0
   object_begun m Logical can b o are = ap (λ w. Truth (is_set w)) are.0
   object_begun m (Record t parts) can b o are = ap Composite (components_begun m parts can b o are)
 
-  object_sound : (m : Live) (s : Shape) → TypeCanBegin s → (b o : ℕ) → WordsAre m b o (object_words s) → IsObject m s b o Empty
+  pub object_sound : (m : Live) (s : Shape) → TypeCanBegin s → (b o : ℕ) → WordsAre m b o (object_words s) → IsObject m s b o Empty
   object_sound m Whole can b o are = refl
   object_sound m Logical can b o are = refl
   object_sound m (Record t parts) can b o are = (tt, components_sound m parts can b o are)

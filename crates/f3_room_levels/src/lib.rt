@@ -13,4 +13,5 @@ mod writing;
 pub use beginning::begin;
 pub use ending::{end, end_laid};
 pub use fitting::can_begin;
+pub use sizes::room_of;
 pub use writing::{write_declared, write_initial};

@@ -9,7 +9,7 @@ use f3_room_places::types::Types;
 use f3_type_words::words::words_of;
 
 /// How many words a variable or a component has.
-pub(crate) fn room_of(types: Types<'_>, declared: &Declared) -> usize
+pub fn room_of(types: Types<'_>, declared: &Declared) -> usize
     requires tables { HasTables types }
     requires small { room (shapes types) declared.now < 2 ^ 64 }
     ensures { result ≡ room (shapes types.entry) declared.now }

@@ -56,7 +56,7 @@ use Rattle.f3_word_arrays.proofs.Built.{all-amid, array-value, first-there, is-a
 
 -- ---- the machine over values
 
-takes-arguments : (ps xs : List m.Passed) (below : List s.Cell) (n : ℕ) (f : List m.Passed → List s.Cell → Next) → length ps ≡ n
+pub takes-arguments : (ps xs : List m.Passed) (below : List s.Cell) (n : ℕ) (f : List m.Passed → List s.Cell → Next) → length ps ≡ n
     → on_many argument_of n xs (map s.Argument ps ++ below) f ≡ f (reverse ps ++ xs) below
 takes-arguments [] xs below zero f e = refl
 takes-arguments [] xs below (suc n) f e = absurd (omega arith)

@@ -1,12 +1,12 @@
 -- How many words the values of an array constructor take.
-use Rattle.std.proofs.Common.{◌≡◌, ◌∙◌, ℕ, suc, ◌+◌, ◌*◌, true, List, [], ◌∷◌, ◌++◌, length, map, get_or, refl, sym, ap, subst, arith}
+use Rattle.std.proofs.Common.{◌≡◌, ◌∙◌, ℕ, ◌+◌, ◌*◌, true, List, [], ◌∷◌, ◌++◌, length, map, get_or, sym, ap, subst, arith}
 use Rattle.std.specs.Prelude.{ℤ, pos, take}
 use Rattle.std.proofs.Math.Seq.{take-append_seam}
 use Rattle.std.proofs.lemmas.List.{length-map}
 use Rattle.std.specs.FinMap.{empty}
 use Rattle.f3_program.specs.declared.declarations.Base.{Base}
 use Rattle.f3_program.specs.declared.program.Program.{Program}
-use Rattle.f3_live_blocks.specs.Blocks.{Live, with_words, words_of}
+use Rattle.f3_live_blocks.specs.Blocks.{Live, with_words}
 use Rattle.f3_live_blocks.proofs.Laws.{words-insert_same}
 use Rattle.f3_meaning_whole.specs.Act as m
 use Rattle.f3_meaning_whole.specs.Formed as formed
@@ -34,7 +34,7 @@ use Rattle.f3_word_cells.proofs.Amid.{amid_first}
 use Rattle.f3_word_cells.proofs.Flat.{flat_under}
 use Rattle.f3_word_cells.proofs.Moving.{Beneath}
 use Rattle.f3_word_cells.proofs.Wording.{flat_shape}
-use Rattle.f3_word_arrays.proofs.Elements.{HasWords, argument-cell, has-words}
+use Rattle.f3_word_arrays.proofs.Elements.{argument-cell, has-words}
 use Rattle.f3_word_arrays.proofs.Given.{AreItems, OnArray}
 use Rattle.f3_word_arrays.proofs.Words.{Shows}
 

@@ -3,4 +3,4 @@
 
 pub mod building;
 mod taking;
-mod writing;
+pub mod writing;

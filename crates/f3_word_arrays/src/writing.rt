@@ -59,7 +59,7 @@ fn copy_words<B: Blocks>(heap: &mut B, from: BlockId, to: BlockId, at: usize)
 }
 
 /// The words of a value are written from one of a block on.
-pub(crate) fn write_item<B: Blocks>(heap: &mut B, block: BlockId, at: usize, datum: &Datum)
+pub fn write_item<B: Blocks>(heap: &mut B, block: BlockId, at: usize, datum: &Datum)
     requires live { IsLive (B.blocks heap.old) block }
     requires apart { IsApart (B.blocks heap.old) block datum.now }
     requires within { at + length (datum_words (B.blocks heap.old) datum.now) ≤ length (words_of (B.blocks heap.old) block) }

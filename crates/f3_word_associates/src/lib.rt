@@ -1,8 +1,6 @@
-//! ASSOCIATE constructs that begin, and results of functions, over words.
+//! ASSOCIATE constructs that begin, over words.
 #![tactic(auto)]
 
 pub mod beginning;
 mod holding;
 mod naming;
-pub mod results;
-mod variables;

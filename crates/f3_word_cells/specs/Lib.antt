@@ -1,4 +1,3 @@
-pub mod Scalars
 pub mod Areas
 pub mod Cells
 pub mod States

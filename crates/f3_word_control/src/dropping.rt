@@ -1,6 +1,6 @@
 //! Cells that go.
 
-ghost use Rattle.std.specs.Prelude.{◌<◌, ◌^◌};
+ghost use Rattle.std.specs.Prelude.{◌≡◌, ◌<◌, ◌^◌};
 ghost use Rattle.f3_code.specs.declared.instruction.Instruction.TheVariants.{Drop, Unwind};
 ghost use Rattle.f3_word_cells.specs.Does.{Keeps};
 ghost use Rattle.f3_word_control.specs.Doing.{DoesWith, IsAtSome};

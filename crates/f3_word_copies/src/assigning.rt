@@ -1,6 +1,6 @@
 //! Variables take values.
 
-ghost use Rattle.std.specs.Prelude.{◌<◌, ◌⊎◌, ◌^◌};
+ghost use Rattle.std.specs.Prelude.{◌≡◌, ◌<◌, ◌⊎◌, ◌^◌};
 ghost use Rattle.f3_code.specs.declared.instruction.Instruction.TheVariants as i;
 ghost use Rattle.f3_word_cells.specs.Scenes.{IsScene};
 ghost use Rattle.f3_word_cells.specs.Does.{DoesIn, IsAt, Keeps};

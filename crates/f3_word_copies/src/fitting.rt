@@ -48,7 +48,7 @@ fn is_array_of_numbers(types: Types<'_>, area: &Area) -> bool
 }
 
 /// Whether each number of a value is one of a type.
-pub(crate) fn fits<B: Blocks>(heap: &B, types: Types<'_>, of: Base, datum: &Datum) -> bool
+pub fn fits<B: Blocks>(heap: &B, types: Types<'_>, of: Base, datum: &Datum) -> bool
     requires tables { HasTables types }
     requires can { (p : Program) × (k : Kind) × (v : Value) × CanFit p types (B.blocks heap.now) k datum.now v }
     ensures { (p : Program) (k : Kind) (v : Value) → CanFit p types.entry (B.blocks heap.now) k datum.now v → result ≡ value_fits of v }

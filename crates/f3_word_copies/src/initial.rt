@@ -7,8 +7,8 @@ ghost use Rattle.f3_room_places.specs.Places.{HasTables, shapes};
 ghost use Rattle.f3_room_levels.specs.Initial.{word_of, declared_each, object_words, variable_words, initial_words, CanBegin, TypeCanBegin, AllCanBegin};
 
 use f3_program::declarations::{Base, Component, Constant, Declared};
+use f3_room_levels::room_of;
 use f3_room_places::types::{Types, words};
-use f3_type_words::words::words_of;
 
 /// The word of a constant: 1 is `.TRUE.`, 0 `.FALSE.` (own rule).
 pub(crate) fn word_of(constant: Constant) -> i64
@@ -17,18 +17,6 @@ pub(crate) fn word_of(constant: Constant) -> i64
     match constant {
         Constant::Number(number) => number,
         Constant::Truth(truth) => truth as i64,
-    }
-}
-
-/// How many words a component has.
-fn room_of(types: Types<'_>, declared: &Declared) -> usize
-    requires tables { HasTables types }
-    requires small { room (shapes types) declared.now < 2 ^ 64 }
-    ensures { result ≡ room (shapes types.entry) declared.now }
-{
-    match words_of(types.tables, declared) {
-        Some(words) => words as usize,
-        None => 0,
     }
 }
 

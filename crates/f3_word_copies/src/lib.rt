@@ -5,7 +5,7 @@ pub mod assigning;
 pub mod clearing;
 pub mod counting;
 mod elements;
-mod fitting;
+pub mod fitting;
 mod initial;
 mod putting;
 pub mod setting;

@@ -33,6 +33,8 @@ use Rattle.f3_rooms.specs.Laws.{before_level}
 use Rattle.f3_gen_values.specs.Emission.{code_in, entries_in}
 use Rattle.f3_gen_values.specs.declared.emission.Emission.{Emission}
 use Rattle.f3_live_blocks.specs.Blocks.{Live}
+use Rattle.f3_rooms.specs.Forms.{total}
+use Rattle.f3_room_levels.specs.Initial.{AllCanBegin}
 use Rattle.f3_room_levels.specs.Levels.{Begins}
 use Rattle.f3_word_cells.specs.declared.state.Name.{Name}
 use Rattle.f3_word_cells.specs.declared.cell.Cell.{Cell}
@@ -42,6 +44,7 @@ use Rattle.f3_word_cells.specs.Areas.{types_of}
 use Rattle.f3_word_cells.specs.Cells.{AreCells}
 use Rattle.f3_word_cells.specs.Does.{Follows, GoesOn, IsTold, RefusedAt, StopsSo}
 use Rattle.f3_word_cells.specs.Scenes.{code_of}
+use Rattle.f3_word_cells.specs.Wants.{entry_words, wanted}
 use Rattle.f3_word_cells.specs.States.{AreCallers, AreKnown, Stands, beneath, cells_from, own}
 use Rattle.f3_word_cells.proofs.Lines.{answering}
 use Rattle.f3_word_cells.proofs.Moving.{Beneath}
@@ -52,6 +55,7 @@ use Rattle.f3_word_entries.proofs.Arguments.{AreArguments, Split, arguments_on_t
 use Rattle.f3_word_entries.proofs.Callee.{callee_stands}
 use Rattle.f3_word_entries.proofs.Counted.{IsFor, arguments_for}
 use Rattle.f3_word_entries.proofs.Going.{goes_there, refused_there, too_deep, with_levels}
+use Rattle.f3_word_entries.proofs.Wanting.{begun_take}
 
 -- ---- how many callers there are
 
@@ -195,6 +199,10 @@ module _ (p : Program) (t : s.State) (l : Line) (number count : ℕ) (q : Proced
 
       pub refused : RefusedAt p l t
       refused = refused_there p l t number count arguments.passed arguments.below act arguments.split many entry entry_there less
+
+      -- how many words the line asks for
+      pub asks : AllCanBegin (types_of p) (declared_in q) → wanted p l.act t ≡ total (types_of p) (declared_in q)
+      asks can = ap (λ (y : _). wanted p y t) act ∙ ap entry_words entry_there ∙ begun_take p number q told.plain there can
 
       goes : (place : Place) → unwrap_or l.place t.here.place ≡ place → GoesOn p l t (entered t arguments.below (meaning.at place t.here) entry arguments.passed (length t.world.store.levels)
           (answering (with_levels t.world.store (held arguments.passed) (variables (setting_of p) q)) (λ k. false))) []

@@ -9,3 +9,5 @@ pub mod Going
 pub mod Callee
 pub mod Sources
 pub mod Calling
+mod Wanting
+mod Asking

@@ -1,5 +1,5 @@
 -- The variables of a procedure begin, the result behind the others.
-use Rattle.std.proofs.Common.{◌≡◌, ◌∙◌, append_assoc, Option, ℕ, ◌+◌, ◌-◌, ◌≤◌, ℤ, List, [], ◌∷◌, ◌++◌, length, sym, ap, subst, arith}
+use Rattle.std.proofs.Common.{◌≡◌, ◌∙◌, append_assoc, Option, ℕ, ◌+◌, ◌-◌, ◌≤◌, List, [], ◌∷◌, ◌++◌, length, sym, ap, subst, arith}
 use Rattle.std.specs.Prelude.{None, Some}
 use Rattle.std.specs.FinMap.{get as find}
 use Rattle.std.proofs.lemmas.List.{append-nil}
@@ -8,14 +8,13 @@ use Rattle.f3_program.specs.declared.program.Procedure.{Procedure}
 use Rattle.f3_meaning_whole.specs.Exec.{declared_in, with_result}
 use Rattle.f3_meaning_whole.specs.Shape.{Shape, shape_in}
 use Rattle.f3_rooms.specs.Forms.{room, total}
-use Rattle.f3_rooms.specs.Places.{with_word}
-use Rattle.f3_live_blocks.specs.Blocks.{Live, IsLive, words_of, with_taken}
-use Rattle.f3_room_levels.specs.Initial.{AllCanBegin, CanBegin, initial_words, variable_words}
+use Rattle.f3_live_blocks.specs.Blocks.{Live, with_taken}
+use Rattle.f3_room_levels.specs.Initial.{AllCanBegin, CanBegin, TypeCanBegin, initial_words, variable_words}
 use Rattle.f3_room_levels.specs.Levels.{Begins}
 use Rattle.f3_room_levels.specs.Writing.{IsBlank, with_words_from}
 use Rattle.f3_room_levels.proofs.Begun.{begins, taken_blank}
-use Rattle.f3_room_levels.proofs.Widths.{initial_many, variable_many}
-use Rattle.f3_room_levels.proofs.Written.{written_from, written_long, written_on}
+use Rattle.f3_room_levels.proofs.Widths.{initial_many}
+use Rattle.f3_room_levels.proofs.Written.{blank_behind, written_on}
 
 module _ (ts : List Shape) where
   total_more : (ds : List Declared) (d : Declared) → total ts (ds ++ d ∷ []) ≡ total ts ds + room ts d
@@ -56,14 +55,12 @@ module _ (ts : List Shape) where
     can_all : AllCanBegin ts (q.locals.items ++ d ∷ [])
     can_all = subst (AllCanBegin ts) all_is can
 
-    -- the result has one word, the last one
-    pub last_word : (w : ℤ) → ((ss : List Shape) → CanBegin (shape_in ss d.kind.of) d → variable_words ss d ≡ w ∷ [])
-        → (variable_words ts d ≡ w ∷ []) × (total ts (declared_in q) ≡ total ts q.locals.items + 1)
-    last_word w first =
-        let last = can_behind q.locals.items (d ∷ []) can_all in
-        let one = first ts last.0 in
-        let many : 1 ≡ room ts d = ap length (sym one) ∙ variable_many ts d last.0 last.1 in
-        (one, ap (total ts) all_is ∙ total_more q.locals.items d ∙ omega (arith, many))
+    pub can_last : CanBegin (shape_in ts d.kind.of) d × TypeCanBegin (shape_in ts d.kind.of)
+    can_last = let last = can_behind q.locals.items (d ∷ []) can_all in (last.0, last.1)
+
+    -- the result has the last words
+    pub total_last : total ts (declared_in q) ≡ total ts q.locals.items + room ts d
+    total_last = ap (total ts) all_is ∙ total_more q.locals.items d
 
 module _ (ts : List Shape) (q : Procedure) (m mid k : Live) (words b : ℕ) (fresh : find m b ≡ None) (taken : mid ≡ with_taken m b words)
     (can : AllCanBegin ts (declared_in q)) (long : words ≡ total ts (declared_in q)) (written : k ≡ with_words_from mid b 0 (initial_words ts q.locals.items)) where
@@ -73,13 +70,6 @@ module _ (ts : List Shape) (q : Procedure) (m mid k : Live) (words b : ℕ) (fre
   all_blank : IsBlank mid b 0 words
   all_blank = taken_blank m mid words b taken words (omega arith)
 
-  pub others_live : IsLive k b
-  others_live = subst (λ (n : Live). IsLive n b) (sym written) ((written_from mid b 0 (initial_words ts q.locals.items)).live b all_blank.live)
-
-  pub others_long : words ≤ length (words_of k b)
-  others_long =
-      let e = written_long mid k b 0 (initial_words ts q.locals.items) written in let f = all_blank.within in omega (arith, e, f)
-
   -- no result
   pub begins_alone : q.result ≡ None → Begins ts m k (declared_in q) words b
   begins_alone none =
@@ -87,15 +77,23 @@ module _ (ts : List Shape) (q : Procedure) (m mid k : Live) (words b : ℕ) (fre
       begins ts m mid k (declared_in q) words b fresh taken can (omega (arith, long)) (written ∙ ap (λ ds. with_words_from mid b 0 (initial_words ts ds)) (sym all))
 
   -- a result behind the others
-  pub begins_behind : (d : Declared) → q.result ≡ Some d → (w : ℤ)
-      → ((ss : List Shape) → CanBegin (shape_in ss d.kind.of) d → variable_words ss d ≡ w ∷ [])
-      → (n : Live) → n ≡ with_word k b (words - 1) w → Begins ts m n (declared_in q) words b
-  begins_behind d is w first n put =
-      let last = last_word ts q can d is w first in
-      let at : words - 1 ≡ 0 + total ts q.locals.items = (let e = last.1 in omega (arith, e, long)) in
-      let many = initial_many ts q.locals.items (can_others ts q can) in
-      let all : initial_words ts (declared_in q) ≡ initial_words ts q.locals.items ++ w ∷ [] =
-      ap (λ ds. initial_words ts ds) (ap (with_result q.locals.items) is) ∙ words_more ts q.locals.items d ∙ ap (λ ws. initial_words ts q.locals.items ++ ws) last.0 in
-      begins ts m mid n (declared_in q) words b fresh taken can (omega (arith, long))
-      (put ∙ ap (λ i. with_words_from k b i (w ∷ [])) at ∙ written_on mid k b 0 (total ts q.locals.items) (initial_words ts q.locals.items) (w ∷ []) many written
-      ∙ ap (with_words_from mid b 0) (sym all))
+  module _ (d : Declared) (is : q.result ≡ Some d) where
+    there : words - room ts d ≡ 0 + total ts q.locals.items
+    there = let e = total_last ts q can d is in omega (arith, e, long)
+
+    many : length (initial_words ts q.locals.items) ≡ total ts q.locals.items
+    many = initial_many ts q.locals.items (can_others ts q can)
+
+    pub last_blank : IsBlank k b (words - room ts d) (room ts d)
+    last_blank =
+        subst (λ i. IsBlank k b i (room ts d)) (sym there)
+        (blank_behind mid k b 0 (total ts q.locals.items) (room ts d) (initial_words ts q.locals.items) (subst (IsBlank mid b 0) (long ∙ total_last ts q can d is) all_blank) many written)
+
+    pub begins_behind : (n : Live) → n ≡ with_words_from k b (words - room ts d) (variable_words ts d) → Begins ts m n (declared_in q) words b
+    begins_behind n put =
+        let all : initial_words ts (declared_in q) ≡ initial_words ts q.locals.items ++ variable_words ts d =
+        ap (initial_words ts) (ap (with_result q.locals.items) is) ∙ words_more ts q.locals.items d in
+        begins ts m mid n (declared_in q) words b fresh taken can (omega (arith, long))
+        (put ∙ ap (λ i. with_words_from k b i (variable_words ts d)) there
+        ∙ written_on mid k b 0 (total ts q.locals.items) (initial_words ts q.locals.items) (variable_words ts d) many written
+        ∙ ap (with_words_from mid b 0) (sym all))

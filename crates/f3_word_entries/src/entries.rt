@@ -3,7 +3,7 @@
 ghost use Rattle.std.specs.Prelude.{◌≡◌, ◌+◌, ◌<◌, ◌≤◌, ◌^◌, length};
 ghost use Rattle.f3_code.specs.declared.instruction.Instruction.TheVariants as i;
 ghost use Rattle.f3_word_cells.specs.Scenes.{IsScene};
-ghost use Rattle.f3_word_cells.specs.Does.{HasNoMemory, HasNoRoom, IsAt, KeepsRoom};
+ghost use Rattle.f3_word_cells.specs.Does.{HasNoMemory, HasNoRoom, IsAt, IsKept, KeepsRoom};
 ghost use Rattle.f3_word_entries.specs.Doing.{DoesOverAt};
 
 use crate::beginning::begin_variables;
@@ -18,8 +18,8 @@ use f3_word_cells::state::{State, Stop};
 ///
 /// # Errors
 ///
-/// `CallsTooDeep` where 1000 procedures are active (own rule), and then `HeapHasNoRoom` where the heap has no room for the variables of
-/// the procedure; `Memory` where the host refused memory for them, as the heap's rule allows.
+/// `CallsTooDeep` where 1000 procedures are active (own rule), and then `HeapHasNoRoom` where the heap has no room for the words of the variables
+/// of the procedure; `Memory` where the host refused memory for them, as the heap's rule allows.
 #[inline(never)]
 pub fn call<B: Blocks>(
     scene: Scene<'_>,

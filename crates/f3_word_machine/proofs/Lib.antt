@@ -4,3 +4,4 @@ pub mod Beginning
 mod Never
 pub mod Doing
 pub mod Roomy
+pub mod Keeping

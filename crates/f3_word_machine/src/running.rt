@@ -5,6 +5,7 @@ ghost use Rattle.f3_output.specs.Output.{state_of};
 ghost use Rattle.f3_word_cells.specs.Scenes.{IsScene};
 ghost use Rattle.f3_word_cells.specs.Plain.{IsPlain};
 ghost use Rattle.f3_word_cells.specs.Ranks.{AreRanked};
+ghost use Rattle.f3_word_start.specs.Kept.{IsKeptBehind};
 ghost use Rattle.f3_word_machine.specs.Room.{IsRoomy, room_of};
 ghost use Rattle.f3_word_machine.specs.Runs.{IsFull, IsSpent, RunsFrom};
 ghost use Rattle.f3_word_machine.specs.Steps.{IsReady};
@@ -31,8 +32,9 @@ pub fn run<B: Blocks, W: Write>(
     requires lawful { IsLawful scene.program.now }
     requires roomy { IsRoomy scene.program.now (room_of state.old) }
     requires ready { IsReady scene.program.now (B.blocks heap.old) state.old }
-    ensures { RunsFrom (IsFull B.blocks B.has_room scene.entry.program.now) (IsSpent B.blocks B.kept B.allows scene.entry.program.now)
+    ensures runs { RunsFrom (IsFull B.blocks B.kept B.spent B.has_room (B.kept heap.old)) (IsSpent B.blocks B.kept B.spent B.allows (B.kept heap.old))
         scene.entry.program.now steps (B.blocks heap.old) state.old (state_of W.contents output.old) (state_of W.contents output.new) result }
+    ensures kept { IsKeptBehind B.spent (B.kept heap.old) (B.kept heap.new) }
 {
     for _done in 0..steps {
         match step(scene, heap, state, output) {

@@ -4,7 +4,7 @@ ghost use Rattle.std.specs.Prelude.{◌≡◌, ◌≢◌, ◌<◌, Some, length,
 ghost use Rattle.f3_meaning_whole.specs.Permitted.{IsLawful};
 ghost use Rattle.f3_output.specs.Output.{state_of};
 ghost use Rattle.f3_word_cells.specs.Scenes.{IsScene};
-ghost use Rattle.f3_word_cells.specs.Does.{HasNoMemory, HasNoRoom, KeepsRoom};
+ghost use Rattle.f3_word_cells.specs.Does.{HasNoMemory, HasNoRoom, IsKept, KeepsRoom};
 ghost use Rattle.f3_word_cells.specs.Plain.{IsPlain};
 ghost use Rattle.f3_word_cells.specs.Ranks.{AreRanked};
 ghost use Rattle.f3_word_machine.specs.Room.{IsRoomy, room_of};
@@ -62,6 +62,7 @@ pub(crate) fn step<B: Blocks, W: Write>(
     ensures does { StepsFrom (HasNoRoom B.has_room heap.old) (HasNoMemory B.allows (B.kept heap.old) (B.blocks heap.old))
         scene.entry.program.now result (B.blocks heap.old) (B.blocks heap.new) state.old state.new
         (state_of W.contents output.old) (state_of W.contents output.new) }
+    ensures kept { IsKept B.spent (B.kept heap.old) (B.kept heap.new) }
 {
     let line = line_at(&scene.emission.lines, state.pc);
     heap.blocks_are_short();

@@ -2,7 +2,7 @@
 
 ghost use Rattle.std.specs.Prelude.{◌≡◌, ◌<◌, ◌≤◌, ◌^◌, length};
 ghost use Rattle.f3_output.specs.Output.{state_of};
-ghost use Rattle.f3_word_cells.specs.Does.{HasNoMemory, HasNoRoom, IsAt, KeepsRoom};
+ghost use Rattle.f3_word_cells.specs.Does.{HasNoMemory, HasNoRoom, IsAt, IsKept, KeepsRoom};
 ghost use Rattle.f3_word_cells.specs.Plain.{IsPlain};
 ghost use Rattle.f3_word_cells.specs.Ranks.{AreRanked, AreShort};
 ghost use Rattle.f3_word_cells.specs.Scenes.{IsScene};
@@ -14,7 +14,7 @@ use f3_heap::Blocks;
 use f3_output::output::Output;
 use f3_places::source::Place;
 use f3_word_arrays::building;
-use f3_word_associates::{beginning, results};
+use f3_word_associates::beginning;
 use f3_word_calls::{associates, returns};
 use f3_word_cells::scene::Scene;
 use f3_word_cells::state::{State, Stop};
@@ -23,7 +23,9 @@ use f3_word_copies::{assigning, counting, setting};
 use f3_word_entries::entries;
 use f3_word_objects::{locating, naming, selecting};
 use f3_word_reads::reading;
+use f3_word_results::results;
 use f3_word_steps::cells::do_cells;
+use f3_word_structures::building::structure;
 use f3_word_values::queries;
 use std::io::Write;
 
@@ -48,6 +50,7 @@ pub(crate) fn perform<B: Blocks, W: Write>(
     ensures does { PrintsAt (HasNoRoom B.has_room heap.old) (HasNoMemory B.allows (B.kept heap.old) (B.blocks heap.old))
         scene.entry.program.now place act result (B.blocks heap.old) (B.blocks heap.new) state.old state.new
         (state_of W.contents output.old) (state_of W.contents output.new) }
+    ensures kept { IsKept B.spent (B.kept heap.old) (B.kept heap.new) }
 {
     let total = scene.emission.lines.len();
     match act {
@@ -71,6 +74,7 @@ pub(crate) fn perform<B: Blocks, W: Write>(
         Instruction::CountUp(a0) => counting::count_up(scene, heap, state, a0),
         Instruction::Return => returns::return_to_caller(heap, state),
         Instruction::Array(a0) => building::array(scene, heap, state, a0),
+        Instruction::Structure(a0, a1) => structure(scene, heap, state, a0, a1),
         Instruction::Call(a0, a1) => entries::call(scene, heap, state, a0, a1, place),
         Instruction::ResultOf(a0) => results::result_of(scene, heap, state, a0),
         Instruction::Associate(a0) => beginning::associate(state, a0),

@@ -1,6 +1,6 @@
 //! Runs of programs.
 
-ghost use Rattle.std.specs.Prelude.{◌≡◌, ◌⊎◌};
+ghost use Rattle.std.specs.Prelude.{◌≡◌};
 ghost use Rattle.std.specs.FinMap.{empty};
 ghost use Rattle.f3_gen_values.specs.Emission.{code_in};
 ghost use Rattle.f3_meaning_whole.specs.Formed.{IsWellFormed};
@@ -11,6 +11,7 @@ ghost use Rattle.f3_word_cells.specs.Plain.{IsPlain};
 ghost use Rattle.f3_word_cells.specs.Scenes.{IsScene, code_of};
 ghost use Rattle.f3_word_cells.specs.Ranks.{AreRanked};
 ghost use Rattle.f3_word_start.specs.Begins.{LacksRoom};
+ghost use Rattle.f3_word_start.specs.Kept.{IsKeptBehind};
 ghost use Rattle.f3_word_machine.specs.Room.{IsRoomy};
 ghost use Rattle.f3_word_machine.specs.Runs.{IsFull, IsSpent};
 ghost use Rattle.f3_word_machine.specs.Whole.{RunsWhole};
@@ -44,9 +45,10 @@ pub fn run_program<B: Blocks, W: Write>(
     requires lawful { IsLawful scene.program.now }
     requires roomy { IsRoomy scene.program.now room }
     requires empty { B.blocks heap.old ≡ empty }
-    ensures { RunsWhole (IsFull B.blocks B.has_room scene.entry.program.now
-        ⊎ LacksRoom B.blocks B.has_room heap.old scene.entry.statics.now.words scene.entry.main.now.words)
-        (IsSpent B.blocks B.kept B.allows scene.entry.program.now) scene.entry.program.now steps (state_of W.contents output.old) (state_of W.contents output.new) result }
+    ensures runs { RunsWhole (LacksRoom B.blocks B.kept B.spent B.has_room heap.old scene.entry.statics.now.words scene.entry.main.now.words)
+        (IsFull B.blocks B.kept B.spent B.has_room (B.kept heap.old)) (IsSpent B.blocks B.kept B.spent B.allows (B.kept heap.old))
+        scene.entry.program.now steps (state_of W.contents output.old) (state_of W.contents output.new) result }
+    ensures kept { IsKeptBehind B.spent (B.kept heap.old) (B.kept heap.new) }
 {
     if steps == 0 {
         return Ended::StepLimit;

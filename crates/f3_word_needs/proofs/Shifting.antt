@@ -11,10 +11,10 @@ use Rattle.f3_meaning_whole.specs.declared.run_error.RunError.TheVariants.{NotAl
 use Rattle.f3_meaning_whole.specs.Ran.{Event, World, End, Gives, Fails, Stops, Beyond, Ran, ◌>>=◌, gives, looks}
 use Rattle.f3_meaning_whole.specs.Arithmetic.{apply, change_of}
 use Rattle.f3_meaning_whole.specs.Shape.{Whole}
-use Rattle.f3_meaning_whole.specs.Act.{Setting, Here, Passed, enter, leave, components_of, given, passed_at, Chosen}
-use Rattle.f3_meaning_whole.specs.Eval.{result}
+use Rattle.f3_meaning_whole.specs.Act.{Setting, Here, Passed, enter, leave, components_of, given, passed_at, structure, Chosen}
+use Rattle.f3_meaning_whole.specs.Eval.{result, built}
 use Rattle.f3_meaning_whole.specs.Exec.{Flow, Onward, Cycled, Left, Returned, vacant, held, held_by, status_number, Association}
-use Rattle.f3_code.specs.Exec.{is_held}
+use Rattle.f3_code.specs.Exec.{is_held, result_at}
 use Rattle.f3_code.specs.declared.instruction.Instruction.{Instruction}
 use Rattle.f3_code.specs.declared.instruction.Instruction.TheVariants as i
 use Rattle.f3_code.specs.declared.instruction.Way.{Way}
@@ -439,8 +439,8 @@ module _ (limit : ℕ) (g : Setting) (code : Code) (v : Value) (o : Option Place
   act_shifts (i.Array k) = at_many argument_of plain_argument k [] s.stack refl (λ ps st e. still _
       (built_still store (Array (record { lower = pos 1; extent = length (given ps) } ∷ []) (joined (given ps))) here) (λ z u n. there n e))
   act_shifts (i.Structure t k) = at_many argument_of plain_argument k [] s.stack refl (λ ps st e.
-      still _ (then_still store (structure_still store (components_of (slice_index_or g.shapes t Whole)) 0 ps here) (λ vs. built_still store (Composite vs) here))
-          (λ z u n. there n e))
+      still (structure (components_of (slice_index_or g.shapes t Whole)) 0 ps here >>= λ vs. built (Composite vs) here)
+      (then_still store (structure_still store (components_of (slice_index_or g.shapes t Whole)) 0 ps here) (λ vs. built_still store (Composite vs) here)) (λ z u n. there n e))
   act_shifts (i.Call f k) = call_shifts f k
   act_shifts i.Result = at_datum s.stack refl (λ y st e. still (result y here) (result_still store y here) (λ z u n. there n e))
   act_shifts i.IsAllocated = at_object s.stack refl (λ r st e. still _ (looks_still store _) (λ z u n. there n e))
@@ -530,7 +530,8 @@ module _ (limit : ℕ) (g : Setting) (code : Code) (v : Value) (o : Option Place
   act_shifts i.Set = at_object s.stack refl (λ r st e. sized _ (set_sized store r v here) (λ z u n. there n refl))
   act_shifts i.Discard = on refl
   act_shifts i.Dummies = on refl
-  act_shifts (i.ResultOf y) = still _ (then_still store (looks_still store _) (λ z. built_still store z here)) (λ z u n. there n refl)
+  act_shifts (i.ResultOf y) = still (looks (result_at y s.here.level) >>= λ z. built z here)
+      (then_still store (looks_still store (result_at y s.here.level)) (λ z. built_still store z here)) (λ z u n. there n refl)
   act_shifts i.Outward = outward_shifts
   act_shifts (i.NextArgument k d) = next_argument_shifts k d
   act_shifts i.Return = return_shifts

@@ -2,7 +2,7 @@ mod Lists
 mod Tops
 mod Passing
 mod Shaping
-mod Members
+pub mod Members
 mod Popping
 mod Choosing
 mod Picked
@@ -13,5 +13,5 @@ mod Each
 mod Around
 mod Reaching
 mod Beside
-mod Named
+pub mod Named
 mod Referring

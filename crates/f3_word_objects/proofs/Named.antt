@@ -45,7 +45,7 @@ both : (a b : Bool) → (a && b) ≡ true → (a ≡ true) × (b ≡ true)
 both true b e = (refl, e)
 both false b e = absurd cc
 
-at-each : {A : Type 0} (P : A → Type 0) (xs : List A) (i : ℕ) (x : A) → All P xs → slice_get xs i ≡ Some x → P x
+pub at-each : {A : Type 0} (P : A → Type 0) (xs : List A) (i : ℕ) (x : A) → All P xs → slice_get xs i ≡ Some x → P x
 at-each {A} P xs i x h e =
     let lt = slice_get_within xs i x e in
     let same : get_or xs i x ≡ x = (let r : Some (get_or xs i x) ≡ Some x = sym (slice_get-get_or xs i x lt) ∙ e in cc) in
@@ -121,7 +121,7 @@ module _ (x : Scene) (scene : IsScene x) (m : Live) (w : State) (rooms : Rooms) 
       get-behind (z ∷ xs) ys k b e = ap (slice_get (z ∷ (xs ++ ys))) (let f : suc (length xs) + k ≡ suc (length xs + k) = omega arith in f) ∙ get-behind xs ys k b e
 
   module _ (here : IsHere q rooms w.names.items.items w.here t.here) where
-    own-block : (b : ℕ) → IsBlockOf w w.here.level b → b ≡ here.room.block
+    pub own-block : (b : ℕ) → IsBlockOf w w.here.level b → b ≡ here.room.block
     own-block b h =
         let l = level-block 0 w.here.level rooms.levels here.room here.stands in
         let first : Some h.first ≡ Some (0 + l.0) = sym h.level_is ∙ ap (λ xs. slice_get xs w.here.level) st.levels ∙ l.1 in
@@ -139,7 +139,7 @@ module _ (x : Scene) (scene : IsScene x) (m : Live) (w : State) (rooms : Rooms) 
         }
 
     -- they are not allocatable, and have a dimension for each rank
-    plain-in : (f : Option ℕ) → ArePlain (variables_of q f)
+    pub plain-in : (f : Option ℕ) → ArePlain (variables_of q f)
     plain-in None = plain.main
     plain-in (Some f) = by (slice_get q.procedures.items f) refl
       where
@@ -156,7 +156,7 @@ module _ (x : Scene) (scene : IsScene x) (m : Live) (w : State) (rooms : Rooms) 
         let more = (both (all (λ (y : static.Static). is_declared (length q.types.items) y.declared) q.statics.items) _ rest).1 in
         (both (all (are_declared q) (q.main ∷ q.procedures.items)) _ more).0
 
-    ranked-in : (f : Option ℕ) (i : ℕ) (d : Declared) → slice_get (variables_of q f) i ≡ Some d → is_declared (length q.types.items) d ≡ true
+    pub ranked-in : (f : Option ℕ) (i : ℕ) (d : Declared) → slice_get (variables_of q f) i ≡ Some d → is_declared (length q.types.items) d ≡ true
     ranked-in None i d e = all-declared q.main (all-at (are_declared q) (q.main ∷ q.procedures.items) 0 q.main declared-each refl) i d e
     ranked-in (Some f) i d e = by (slice_get q.procedures.items f) refl e
       where

@@ -54,8 +54,14 @@ pub record IsLocalArea (x : Scene) (w : State) (i : ℕ) (a : Area) : Type 0 whe
   pub there : IsBlockOf w w.here.level block
   pub variable : IsVariable x (declared_in procedure) frame block i a
 
+abbrev pub IsLocalOf : Scene → State → ℕ → Declared → Area → Type 0
+IsLocalOf x w i d a = (l : IsLocalArea x w i a) × ((l.variable).declared ≡ d)
+
+abbrev pub IsNoLocal : Scene → State → ℕ → Type 0
+IsNoLocal x w i = (d : Declared) (b : ℕ) → slice_get (variables_of x.program.now w.here.procedure) i ≡ Some d → IsBlockOf w w.here.level b → ⊥
+
 abbrev pub IsLocal : Scene → State → ℕ → Option Object → Type 0
-IsLocal x w i None = (d : Declared) (b : ℕ) → slice_get (variables_of x.program.now w.here.procedure) i ≡ Some d → IsBlockOf w w.here.level b → ⊥
+IsLocal x w i None = IsNoLocal x w i
 IsLocal x w i (Some z) = (a : Area) × (z ≡ o.Stands a) × IsLocalArea x w i a
 
 -- a dummy or an associate name, or there is none

@@ -12,7 +12,7 @@ ghost use Rattle.f3_word_cells.specs.Scenes.{IsFrame, IsScene};
 ghost use Rattle.f3_word_cells.specs.States.{statics_of};
 ghost use Rattle.f3_word_cells.specs.Ranks.{AreRanked, HasRank};
 ghost use Rattle.f3_cells.specs.Cells.{variables_of};
-ghost use Rattle.f3_word_objects.specs.Variables.{IsLent, IsLocal, IsNamed, IsProcedure, IsStatic, IsVariable};
+ghost use Rattle.f3_word_objects.specs.Variables.{IsLent, IsLocal, IsLocalOf, IsNamed, IsNoLocal, IsProcedure, IsStatic, IsVariable};
 
 use f3_heap::BlockId;
 use f3_program::declarations::Declared;
@@ -100,11 +100,11 @@ fn static_object(scene: Scene<'_>, state: &State, number: usize) -> Option<Objec
     }
 }
 
-/// A variable of the activation.
-fn local_object(scene: Scene<'_>, state: &State, number: usize) -> Option<Object>
+/// A variable of the activation, by its number: where it stands, and how it is declared.
+pub fn local<'a>(scene: Scene<'a>, state: &State, number: usize) -> Option<(Area, &'a Declared)>
     requires scene { IsScene scene }
     requires ranks { AreRanked scene.program.now }
-    ensures { IsLocal scene.entry state.now number result }
+    ensures { MatchOption result (IsNoLocal scene.entry state.now number) (λ v. IsLocalOf scene.entry state.now number v.1.now v.0) }
 {
     let Some((procedure, frame)) = procedure_at(scene, state) else {
         return None;
@@ -116,7 +116,19 @@ fn local_object(scene: Scene<'_>, state: &State, number: usize) -> Option<Object
         return None;
     };
     match variable(scene, frame, declared, block, number) {
-        Some(area) => Some(Object::Stands(area)),
+        Some(area) => Some((area, declared)),
+        None => None,
+    }
+}
+
+/// A variable of the activation, as an object.
+fn local_object(scene: Scene<'_>, state: &State, number: usize) -> Option<Object>
+    requires scene { IsScene scene }
+    requires ranks { AreRanked scene.program.now }
+    ensures { IsLocal scene.entry state.now number result }
+{
+    match local(scene, state, number) {
+        Some((area, _)) => Some(Object::Stands(area)),
         None => None,
     }
 }

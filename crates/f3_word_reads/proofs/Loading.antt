@@ -27,7 +27,6 @@ use Rattle.f3_room_places.specs.declared.types.Types.{Types}
 use Rattle.f3_word_cells.specs.declared.cell.Datum.{Datum}
 use Rattle.f3_word_cells.specs.declared.cell.Datum.TheVariants as datum
 use Rattle.f3_word_cells.specs.declared.cell.Object.{Object}
-use Rattle.f3_word_cells.specs.declared.cell.Cell.{Cell}
 use Rattle.f3_word_cells.specs.declared.cell.Cell.TheVariants as c
 use Rattle.f3_word_cells.specs.declared.state.State.{State}
 use Rattle.f3_word_cells.specs.declared.state.Stop.{Stop}
@@ -35,7 +34,7 @@ use Rattle.f3_word_cells.specs.declared.state.Stop.TheVariants as stop
 use Rattle.f3_word_cells.specs.Areas.{types_of, shape_for, IsDatum}
 use Rattle.f3_word_cells.specs.Wants.{asked, read_words, wanted}
 use Rattle.f3_word_cells.specs.Scenes.{code_of}
-use Rattle.f3_word_cells.specs.States.{Stands, IsLaid, datum_blocks, own}
+use Rattle.f3_word_cells.specs.States.{Stands, IsLaid, datum_blocks}
 use Rattle.f3_word_cells.specs.Moves.{Popped, Pushed}
 use Rattle.f3_word_cells.specs.Does.{DoesOver, GoesOn, IsTold, RefusedAt, stream}
 use Rattle.f3_word_cells.proofs.Scalars.{Large, IsComposite, IsArray, large_block}
@@ -183,9 +182,10 @@ module _ (p : Program) (m : Live) (old mid : State) (o : Object) (popped : Poppe
     fails-load new (stop.Failed HeapHasNoRoom) reads t l x told at act st =
         let there = there-load t l x told at act st in
         let top = (there.0).top in
-        let no = reads x top.reference there.1 in
-        (refused p t l top.reference top.below act top.split (ap (λ store. needs_storage (held_at store top.reference.path top.reference.reach)) st.store ∙ no.0),
-          subst (λ k. Full (asked k)) (sym (wants-load t l x top.reference top.below act st top.split)) no.1)
+        let no = reads x top.reference there.1 in (
+          refused p t l top.reference top.below act top.split (ap (λ store. needs_storage (held_at store top.reference.path top.reference.reach)) st.store ∙ no.0),
+          subst (λ k. Full (asked k)) (sym (wants-load t l x top.reference top.below act st top.split)) no.1,
+        )
     fails-load new stop.Memory reads t l x told at act st =
         let there = there-load t l x told at act st in
         let top = (there.0).top in

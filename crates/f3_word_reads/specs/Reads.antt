@@ -20,7 +20,6 @@ use Rattle.f3_room_places.specs.declared.types.Types.{Types}
 use Rattle.f3_word_cells.specs.declared.cell.Datum.{Datum}
 use Rattle.f3_word_cells.specs.declared.cell.Datum.TheVariants as datum
 use Rattle.f3_word_cells.specs.declared.cell.Object.{Object}
-use Rattle.f3_word_cells.specs.declared.cell.Object.TheVariants as o
 use Rattle.f3_word_cells.specs.declared.state.Stop.{Stop}
 use Rattle.f3_word_cells.specs.declared.state.Stop.TheVariants as stop
 use Rattle.f3_word_cells.specs.Areas.{types_of, IsDatum, IsObject}

@@ -22,7 +22,7 @@ pub fn is_scalar(types: Types<'_>, of: Base) -> bool
 }
 
 /// The scalar of a type that a word is: of LOGICAL, 0 is `.FALSE.`, any other word `.TRUE.` (own rule).
-pub(crate) fn scalar_in(of: Base, word: i64) -> Constant
+pub fn scalar_in(of: Base, word: i64) -> Constant
     ensures { constant_value result ≡ scalar_of of word }
 {
     match of {

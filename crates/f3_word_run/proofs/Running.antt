@@ -2,7 +2,6 @@
 use Rattle.std.proofs.Common.{◌≡◌, inl, inr, ℕ, ◌+◌, ◌*◌, ◌≤◌, ◌^◌, ◌⊎◌, Bool, Ok, Err, subst, arith}
 use Rattle.f3_program.specs.declared.program.Program.{Program}
 use Rattle.f3_live_blocks.specs.Blocks.{Live}
-use Rattle.f3_heap_laws.specs.Answers.{Answer, Sizes}
 use Rattle.f3_sizes.specs.declared.answer.Needs.{Needs}
 use Rattle.f3_rooms.specs.Forms.{total}
 use Rattle.f3_output.specs.Output.{State}
@@ -16,7 +15,6 @@ use Rattle.f3_word_start.specs.Begins.{LacksRoom}
 use Rattle.f3_word_needs.specs.declared.needs.StackNeeds.{StackNeeds}
 use Rattle.f3_word_needs.specs.Needs.{AreTold, AreTooMany}
 use Rattle.f3_word_machine.specs.declared.ended.Ended.{Ended}
-use Rattle.f3_word_machine.specs.Runs.{IsFull, IsSpent}
 use Rattle.f3_word_machine.specs.Whole.{RunsWhole}
 use Rattle.f3_word_run.specs.declared.run.Beyond.{Beyond}
 use Rattle.f3_word_run.specs.Runs.{Answers, HasNoStart, IsBeyond}
@@ -24,23 +22,20 @@ use Rattle.f3_word_run.specs.Runs.{Answers, HasNoStart, IsBeyond}
 -- ---- answers
 
 -- nothing is written where a program is not run
-pub not_run : (Full Spent : Type 0) (p : Program) (steps : ℕ) (a : State) (why : Beyond) → IsBeyond p why → Answers Full Spent p steps a a (Err why)
-not_run Full Spent p steps a why h = (h, wrote_none)
+pub not_run : (First : Type 0) (Full Spent : Live → ℕ → Type 0) (p : Program) (steps : ℕ) (a : State) (why : Beyond) → IsBeyond p why → Answers First Full Spent p steps a a (Err why)
+not_run First Full Spent p steps a why h = (h, wrote_none)
 
 -- and else it answers what its run over words does
-pub ran : {H R : Type 0} (blocks : H → Live) (has_room : H → ℕ → Bool) (kept : H → R) (allows : R → Sizes → ℕ → Answer → Type 0) (h : H) (x : Scene)
+pub ran : {H R : Type 0} (blocks : H → Live) (kept : H → R) (spent : R → R) (has_room : H → ℕ → Bool) (h : H) (Full Spent : Live → ℕ → Type 0) (x : Scene)
     (p : Program) (steps : ℕ) (a b : State) (e : Ended) → x.program.now ≡ p → IsScene x → IsPlain p
-    → RunsWhole (IsFull blocks has_room x.program.now ⊎ LacksRoom blocks has_room h x.statics.now.words x.main.now.words)
-    (IsSpent blocks kept allows x.program.now) x.program.now steps a b e
-    → Answers (IsFull blocks has_room p ⊎ HasNoStart blocks has_room h p) (IsSpent blocks kept allows p) p steps a b (Ok e)
-ran blocks has_room kept allows h x p steps a b e same scene plain told =
+    → RunsWhole (LacksRoom blocks kept spent has_room h x.statics.now.words x.main.now.words) Full Spent x.program.now steps a b e
+    → Answers (HasNoStart blocks kept spent has_room h p) Full Spent p steps a b (Ok e)
+ran blocks kept spent has_room h Full Spent x p steps a b e same scene plain told =
     let q = x.program.now in
     let statics = total (types_of q) (statics_of q) in
-    let first = subst (λ (n : ℕ). RunsWhole (IsFull blocks has_room q ⊎ LacksRoom blocks has_room h n x.main.now.words) (IsSpent blocks kept allows q) q steps a b e)
-    scene.statics.words told in
-    let both = subst (λ (n : ℕ). RunsWhole (IsFull blocks has_room q ⊎ LacksRoom blocks has_room h statics n) (IsSpent blocks kept allows q) q steps a b e)
-    scene.main.words first in
-    (plain, subst (λ (r : Program). RunsWhole (IsFull blocks has_room r ⊎ HasNoStart blocks has_room h r) (IsSpent blocks kept allows r) r steps a b e) same both)
+    let first = subst (λ (n : ℕ). RunsWhole (LacksRoom blocks kept spent has_room h n x.main.now.words) Full Spent q steps a b e) scene.statics.words told in
+    let both = subst (λ (n : ℕ). RunsWhole (LacksRoom blocks kept spent has_room h statics n) Full Spent q steps a b e) scene.main.words first in
+    (plain, subst (λ (r : Program). RunsWhole (HasNoStart blocks kept spent has_room h r) Full Spent r steps a b e) same both)
 
 -- ---- too many
 

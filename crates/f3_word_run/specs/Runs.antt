@@ -21,8 +21,8 @@ use Rattle.f3_word_run.specs.declared.run.Beyond.{Beyond}
 use Rattle.f3_word_run.specs.declared.run.Beyond.TheVariants as beyond
 
 -- a heap that had no room for the variables with which a run begins, those of the whole run and those of the main program
-abbrev pub HasNoStart : {H : Type 0} → (H → Live) → (H → ℕ → Bool) → H → Program → Type 0
-HasNoStart blocks has_room h p = LacksRoom blocks has_room h (total (types_of p) (statics_of p)) (total (types_of p) (variables_of p None))
+abbrev pub HasNoStart : {H R : Type 0} → (H → Live) → (H → R) → (R → R) → (H → ℕ → Bool) → H → Program → Type 0
+HasNoStart blocks kept spent has_room h p = LacksRoom blocks kept spent has_room h (total (types_of p) (statics_of p)) (total (types_of p) (variables_of p None))
 
 -- why a program is not run over words
 abbrev pub IsBeyond : Program → Beyond → Type 0
@@ -32,6 +32,6 @@ IsBeyond p beyond.Memory = ⊤
 
 -- What the answer says of a program that may make so many instructions, and of the output before and now: nothing is written where it is not
 -- run.
-abbrev pub Answers : (Full Spent : Type 0) → Program → ℕ → State → State → Result Ended Beyond → Type 0
-Answers Full Spent p steps old new (Ok end) = IsPlain p × RunsWhole Full Spent p steps old new end
-Answers Full Spent p steps old new (Err beyond) = IsBeyond p beyond × Wrote old new []
+abbrev pub Answers : (First : Type 0) (Full Spent : Live → ℕ → Type 0) → Program → ℕ → State → State → Result Ended Beyond → Type 0
+Answers First Full Spent p steps old new (Ok end) = IsPlain p × RunsWhole First Full Spent p steps old new end
+Answers First Full Spent p steps old new (Err beyond) = IsBeyond p beyond × Wrote old new []

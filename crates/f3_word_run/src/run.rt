@@ -1,6 +1,6 @@
 //! Programs, run over words.
 
-ghost use Rattle.std.specs.Prelude.{◌≡◌, ◌⊎◌};
+ghost use Rattle.std.specs.Prelude.{◌≡◌};
 ghost use Rattle.std.specs.FinMap.{empty};
 ghost use Rattle.f3_gen_values.specs.Emission.{code_in};
 ghost use Rattle.f3_meaning_whole.specs.Formed.{IsWellFormed};
@@ -8,6 +8,7 @@ ghost use Rattle.f3_meaning_whole.specs.Permitted.{IsLawful};
 ghost use Rattle.f3_cell_kinds.specs.Sense.{MakesSense};
 ghost use Rattle.f3_output.specs.Output.{state_of};
 ghost use Rattle.f3_word_cells.specs.Scenes.{code_of};
+ghost use Rattle.f3_word_start.specs.Kept.{IsKeptBehind};
 ghost use Rattle.f3_word_machine.specs.Runs.{IsFull, IsSpent};
 ghost use Rattle.f3_word_run.specs.Runs.{Answers, HasNoStart};
 
@@ -29,8 +30,7 @@ use std::io::Write;
 /// Why a program is not run over words.
 #[derive(Clone, Copy, PartialEq, Eq, Debug)]
 pub enum Beyond {
-    /// It has allocatables, structure constructors, or functions of array or derived type; or an array of more than seven dimensions, which no
-    /// accepted program has (ISO/IEC 1539-1:2004, 5.1.2.5).
+    /// It has allocatables, or an array of more than seven dimensions, which no accepted program has (ISO/IEC 1539-1:2004, 5.1.2.5).
     NotPlain,
     /// Its variables, or what stands on its stacks, may be too many (own rule).
     TooLarge,
@@ -54,8 +54,9 @@ pub fn run<B: Blocks, W: Write>(
     requires sense { MakesSense program.now }
     requires lawful { IsLawful program.now }
     requires empty { B.blocks heap.old ≡ empty }
-    ensures { Answers (IsFull B.blocks B.has_room program.now ⊎ HasNoStart B.blocks B.has_room heap.old program.now)
-        (IsSpent B.blocks B.kept B.allows program.now) program.now steps (state_of W.contents output.old) (state_of W.contents output.new) result }
+    ensures runs { Answers (HasNoStart B.blocks B.kept B.spent B.has_room heap.old program.now) (IsFull B.blocks B.kept B.spent B.has_room (B.kept heap.old))
+        (IsSpent B.blocks B.kept B.spent B.allows (B.kept heap.old)) program.now steps (state_of W.contents output.old) (state_of W.contents output.new) result }
+    ensures kept { IsKeptBehind B.spent (B.kept heap.old) (B.kept heap.new) }
 {
     if !is_plain(program, emission) || !is_ranked(program) {
         return Err(Beyond::NotPlain);

@@ -75,6 +75,6 @@ pub record HasTaken (m n : Live) (words : ℕ) : Type 0 where
   pub used : used_by n ≡ used_by m + taken_for words
 
 -- A heap had no room for the first of two blocks of so many words; or, with that taken, for the second.
-abbrev pub LacksRoom : {H : Type 0} → (H → Live) → (H → ℕ → Bool) → H → ℕ → ℕ → Type 0
-LacksRoom {H} blocks has_room h first second = (has_room h first ≡ false)
-    ⊎ ((g : H) × HasTaken (blocks h) (blocks g) first × (has_room g second ≡ false))
+abbrev pub LacksRoom : {H R : Type 0} → (H → Live) → (H → R) → (R → R) → (H → ℕ → Bool) → H → ℕ → ℕ → Type 0
+LacksRoom {H} blocks kept spent has_room h first second = (has_room h first ≡ false)
+    ⊎ ((g : H) × HasTaken (blocks h) (blocks g) first × (kept g ≡ spent (kept h)) × (has_room g second ≡ false))

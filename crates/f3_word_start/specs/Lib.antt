@@ -1,3 +1,4 @@
 pub mod Frames
 pub mod Begins
+pub mod Kept
 pub mod Inner

@@ -1,9 +1,13 @@
-use Rattle.std.proofs.Common.{rules, sym, ap, subst, ◌≡◌, ◌∙◌, ◌<◌, ◌≤◌, length, arith}
+use Rattle.std.proofs.Common.{rules, refl, false, sym, ap, subst, ◌≡◌, ◌∙◌, ◌<◌, ◌≤◌, length, arith}
 use Rattle.std.specs.Prelude.{Err, Some, slice_get, slice_index_or}
+use Rattle.f3_heap_laws.specs.Answers.{Memory, sizes}
+use Rattle.f3_heap.specs.Answers.{answer_of}
+use Rattle.f3_heap.specs.declared.blocks.TakeFault.{TakeFault}
 use Rattle.f3_meaning_whole.specs.Exec.{declared_in}
 use Rattle.f3_cell_kinds.proofs.Asked.{some_same}
 use Rattle.f3_room_levels.specs.Levels.{Begins}
 use Rattle.f3_word_entries.specs.Entered.{Entered}
+use Rattle.f3_word_entries.proofs.Asking.{asks_words}
 use Rattle.f3_word_entries.proofs.Calling.{call_of, cells_enough, deep, dummies_many, follows, procedure_there, refused, starts}
 use Rattle.f3_word_entries.proofs.Counted.{get_below}
 use Rattle.f3_word_entries.proofs.Sources.{can, got, long, same_shapes}
@@ -43,15 +47,6 @@ bounds-scene-number g c =
     let many = c.requires.scene.count in
     omega (arith, less, many)
 
-pub begin_variables-requires-clause-plain : goal.begin_variables-requires-clause-plain
-begin_variables-requires-clause-plain g c =
-    let at = c.requires.at in
-    let p = c.args.scene.program.now in
-    let r = procedure_there p at.state at.line c.args.number c.args.count at.told at.there at.act in
-    let q = c.index-procedure.result.now in
-    let there = got p.procedures.items c.args.number q q (get_below p.procedures.items c.args.number r.0 r.1) c.index-procedure.ensures in
-    at.told.plain.results c.args.number q there
-
 pub begin_variables-requires-clause-fit : goal.begin_variables-requires-clause-fit
 begin_variables-requires-clause-fit g c =
     let at = c.requires.at in
@@ -78,13 +73,39 @@ pub returns-in-Err-Full-clause-does : goal.returns-in-Err-Full-clause-does
 returns-in-Err-Full-clause-does g c = λ t l rooms told line act placed st.
     let p = c.args.scene.program.now in
     let r = procedure_there p t l c.args.number c.args.count told line act in
+    let q = c.index-procedure.result.now in
+    let less : c.args.number < length p.procedures.items = get_below p.procedures.items c.args.number r.0 r.1 in
+    let there = got p.procedures.items c.args.number q q less c.index-procedure.ensures in
+    let call = call_of p t l c.args.number c.args.count q there told line act in
     let few : length c.args.state.now.callers.items.items < 1000 =
     (let e = c.args.state.now.callers.items.ok.0 in let f = c.len.ensures in let h = c.if-len-ge1000.false in omega (arith, e, f, h)) in
-    let s = starts p c.args.scene.emission.now c.args.number r.0 t r.1 told c.requires.scene.code in (
-      refused p t l c.args.number c.args.count r.0 r.1 told act (call_of p t l c.args.number c.args.count r.0 r.1 told line act) (g.B.Blocks.blocks c.args.heap.now)
+    let s = starts p c.args.scene.emission.now c.args.number q t there told c.requires.scene.code in
+    let many = c.requires.scene.count in
+    let whole = asks_words c.args.scene c.requires.scene t l c.args.number c.args.count q there told act call (g.B.Blocks.blocks c.args.heap.now) c.args.state.now rooms st few s.0 s.1
+    c.index-scene-number.result (omega (arith, less, many)) c.index-scene-number.is _ refl (search rules) in (
+      refused p t l c.args.number c.args.count q there told act call (g.B.Blocks.blocks c.args.heap.now)
           c.args.state.now rooms st few c.args.scene.emission.now c.requires.scene.code s.0 s.1,
-      (_, c.in-Err-Full.ensures.full (ap Err c.in-Err-Full.field-0-is)),
+      subst (λ k. g.B.Blocks.has_room c.args.heap.now k ≡ false) whole (c.in-Err-Full.ensures.full (ap Err c.in-Err-Full.field-0-is)),
     )
+
+pub returns-in-Err-Memory-clause-does : goal.returns-in-Err-Memory-clause-does
+returns-in-Err-Memory-clause-does g c = λ t l rooms told line act placed st.
+    let p = c.args.scene.program.now in
+    let r = procedure_there p t l c.args.number c.args.count told line act in
+    let q = c.index-procedure.result.now in
+    let less : c.args.number < length p.procedures.items = get_below p.procedures.items c.args.number r.0 r.1 in
+    let there = got p.procedures.items c.args.number q q less c.index-procedure.ensures in
+    let call = call_of p t l c.args.number c.args.count q there told line act in
+    let few : length c.args.state.now.callers.items.items < 1000 =
+    (let e = c.args.state.now.callers.items.ok.0 in let f = c.len.ensures in let h = c.if-len-ge1000.false in omega (arith, e, f, h)) in
+    let s = starts p c.args.scene.emission.now c.args.number q t there told c.requires.scene.code in
+    let many = c.requires.scene.count in
+    let whole = asks_words c.args.scene c.requires.scene t l c.args.number c.args.count q there told act call (g.B.Blocks.blocks c.args.heap.now) c.args.state.now rooms st few s.0 s.1
+    c.index-scene-number.result (omega (arith, less, many)) c.index-scene-number.is _ refl (search rules) in
+    let old = g.B.Blocks.blocks c.args.heap.now in
+    subst (λ k. g.B.Blocks.allows (g.B.Blocks.kept c.args.heap.now) (sizes old) k Memory) whole
+    (subst (λ (f : TakeFault). g.B.Blocks.allows (g.B.Blocks.kept c.args.heap.now) (sizes old) (slice_index_or c.args.scene.procedures.now c.args.number c.index-scene-number.result).words (answer_of (Err f)))
+    c.in-Err-Memory.field-0-is c.in-Err-Memory.ensures.allowed)
 
 pub index-requires : goal.index-requires
 index-requires g c =

@@ -112,6 +112,12 @@ returns-in-Array-clause-does g c = by_over (HasNoRoom g.B.Blocks.has_room c.args
 pub array-requires-clause-at : goal.array-requires-clause-at
 array-requires-clause-at g c = subst (λ x. IsAt c.args.scene.program.now x (g.B.Blocks.blocks c.args.heap.now) c.args.state.now) c.in-Array.is c.requires.at
 
+pub returns-in-Structure-clause-does : goal.returns-in-Structure-clause-does
+returns-in-Structure-clause-does g c = by_over (HasNoRoom g.B.Blocks.has_room c.args.heap.now) (HasNoMemory g.B.Blocks.allows (g.B.Blocks.kept c.args.heap.now) (g.B.Blocks.blocks c.args.heap.now)) c.args.scene.program.now c.args.act c.args.place c.args.state.now c.structure.new.state c.structure.result (g.B.Blocks.blocks c.args.heap.now) (g.B.Blocks.blocks c.structure.new.heap) (state_of g.W.Write.contents c.args.output.now) (i.Structure c.in-Structure.a0 c.in-Structure.a1) c.in-Structure.is c.structure.ensures.does
+
+pub structure-requires-clause-at : goal.structure-requires-clause-at
+structure-requires-clause-at g c = subst (λ x. IsAt c.args.scene.program.now x (g.B.Blocks.blocks c.args.heap.now) c.args.state.now) c.in-Structure.is c.requires.at
+
 pub returns-in-Call-clause-does : goal.returns-in-Call-clause-does
 returns-in-Call-clause-does g c = by_over_at (HasNoRoom g.B.Blocks.has_room c.args.heap.now) (HasNoMemory g.B.Blocks.allows (g.B.Blocks.kept c.args.heap.now) (g.B.Blocks.blocks c.args.heap.now)) c.args.scene.program.now c.args.act c.args.place c.args.state.now c.call.new.state c.call.result (g.B.Blocks.blocks c.args.heap.now) (g.B.Blocks.blocks c.call.new.heap) (state_of g.W.Write.contents c.args.output.now) (i.Call c.in-Call.a0 c.in-Call.a1) c.in-Call.is c.call.ensures.does
 
@@ -131,7 +137,7 @@ pub call-requires-clause-levels : goal.call-requires-clause-levels
 call-requires-clause-levels g c = c.requires.room.levels
 
 pub returns-in-ResultOf-clause-does : goal.returns-in-ResultOf-clause-does
-returns-in-ResultOf-clause-does g c = by_in (HasNoRoom g.B.Blocks.has_room c.args.heap.now) (HasNoMemory g.B.Blocks.allows (g.B.Blocks.kept c.args.heap.now) (g.B.Blocks.blocks c.args.heap.now)) c.args.scene.program.now c.args.act c.args.place c.args.state.now c.result_of.new.state c.result_of.result (g.B.Blocks.blocks c.args.heap.now) (g.B.Blocks.blocks c.args.heap.now) (state_of g.W.Write.contents c.args.output.now) (i.ResultOf c.in-ResultOf.a0) c.in-ResultOf.is c.result_of.ensures.does
+returns-in-ResultOf-clause-does g c = by_over (HasNoRoom g.B.Blocks.has_room c.args.heap.now) (HasNoMemory g.B.Blocks.allows (g.B.Blocks.kept c.args.heap.now) (g.B.Blocks.blocks c.args.heap.now)) c.args.scene.program.now c.args.act c.args.place c.args.state.now c.result_of.new.state c.result_of.result (g.B.Blocks.blocks c.args.heap.now) (g.B.Blocks.blocks c.result_of.new.heap) (state_of g.W.Write.contents c.args.output.now) (i.ResultOf c.in-ResultOf.a0) c.in-ResultOf.is c.result_of.ensures.does
 
 pub result_of-requires-clause-at : goal.result_of-requires-clause-at
 result_of-requires-clause-at g c = subst (λ x. IsAt c.args.scene.program.now x (g.B.Blocks.blocks c.args.heap.now) c.args.state.now) c.in-ResultOf.is c.requires.at
@@ -214,6 +220,9 @@ returns-in-Return-clause-rooms g c = c.return_to_caller.ensures.keeps
 pub returns-in-Array-clause-rooms : goal.returns-in-Array-clause-rooms
 returns-in-Array-clause-rooms g c = keeps_room c.array.ensures.keeps
 
+pub returns-in-Structure-clause-rooms : goal.returns-in-Structure-clause-rooms
+returns-in-Structure-clause-rooms g c = keeps_room c.structure.ensures.keeps
+
 pub returns-in-Call-clause-rooms : goal.returns-in-Call-clause-rooms
 returns-in-Call-clause-rooms g c = c.call.ensures.keeps
 
@@ -268,6 +277,9 @@ return_to_caller-requires-clause-room g c = let few = c.requires.room.cells in o
 pub array-requires-clause-room : goal.array-requires-clause-room
 array-requires-clause-room g c = let few = c.requires.room.cells in omega (arith, few)
 
+pub structure-requires-clause-room : goal.structure-requires-clause-room
+structure-requires-clause-room g c = let few = c.requires.room.cells in omega (arith, few)
+
 pub result_of-requires-clause-room : goal.result_of-requires-clause-room
 result_of-requires-clause-room g c = let few = c.requires.room.cells in omega (arith, few)
 
@@ -300,6 +312,7 @@ returns-in_default-clause-does g c =
       go (i.CountUp a0) e plain = absurd (c.in_default.not-CountUp a0 e)
       go i.Return e plain = absurd (c.in_default.not-Return e)
       go (i.Array a0) e plain = absurd (c.in_default.not-Array a0 e)
+      go (i.Structure a0 a1) e plain = absurd (c.in_default.not-Structure a0 a1 e)
       go (i.Call a0 a1) e plain = absurd (c.in_default.not-Call a0 a1 e)
       go (i.ResultOf a0) e plain = absurd (c.in_default.not-ResultOf a0 e)
       go (i.Associate a0) e plain = absurd (c.in_default.not-Associate a0 e)

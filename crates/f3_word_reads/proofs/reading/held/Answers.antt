@@ -1,4 +1,4 @@
-use Rattle.std.proofs.Common.{◌≡◌, ◌∙◌, sym, ap, subst, refl, false, inl, inr, rules, w64, FitsSigned}
+use Rattle.std.proofs.Common.{◌∙◌, sym, ap, subst, refl, inl, inr, rules, w64, FitsSigned}
 use Rattle.std.proofs.lemmas.Int.{to_z-of_z}
 use Rattle.f3_word_reads.specs.Scalars.{scalar_of}
 use Rattle.f3_meaning_whole.specs.Shape.{shape_in}

@@ -42,11 +42,21 @@ returns-in-Err-clause-full g c = λ e.
     inr (
       c.begin.new.heap,
       has_taken (shapes c.args.scene.types) _ _ c.args.statics.now c.args.scene.statics.now.words c.in_ok-first.first c.in_ok-first.ensures.begun c.in_ok-first.ensures.used,
+      c.begin.ensures.kept,
       c.in-Err.ensures.full.0 (ap Err full),
     )
 
 pub returns-in-Err-clause-refused : goal.returns-in-Err-clause-refused
 returns-in-Err-clause-refused g c =
-    c.give_back.ensures
+    c.give_back.ensures.given
     ∙ ap (λ (k : Live). remove k c.in_ok-first.first) c.in-Err.ensures.refused
     ∙ given_back (shapes c.args.scene.types) _ _ c.args.statics.now c.args.scene.statics.now.words c.in_ok-first.first c.in_ok-first.ensures.begun
+
+pub returns-in_err-first-clause-kept : goal.returns-in_err-first-clause-kept
+returns-in_err-first-clause-kept g c = (1, c.begin.ensures.kept)
+
+pub returns-in-Ok-clause-kept : goal.returns-in-Ok-clause-kept
+returns-in-Ok-clause-kept g c = (2, c.in-Ok.ensures.kept ∙ ap g.B.Blocks.spent c.begin.ensures.kept)
+
+pub returns-in-Err-clause-kept : goal.returns-in-Err-clause-kept
+returns-in-Err-clause-kept g c = (2, c.give_back.ensures.kept ∙ c.in-Err.ensures.kept ∙ ap g.B.Blocks.spent c.begin.ensures.kept)

@@ -1,0 +1,4 @@
+pub mod Forms
+pub mod Copied
+pub mod Returned
+pub mod Resulting

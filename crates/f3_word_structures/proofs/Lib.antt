@@ -1,0 +1,9 @@
+pub mod Given
+pub mod Held
+pub mod Values
+pub mod Components
+pub mod Filling
+pub mod Built
+pub mod Popping
+pub mod Emptying
+pub mod Structures
