@@ -582,7 +582,7 @@ module _ (g : Setting) (calls : Calls) (c : CallsKeep g calls) (shaped : AreShap
     called_keeps q ps here h m =
         bind_keeps g.program (claim_safe g.program here) (λ done z. bind_keeps g.program (looks_safe g.program _) (λ level z. bind_keeps g.program (enter_safe g.program (held ps)) (λ done z. bind_keeps g.program (enter_safe g.program (variables g q)) (λ done z.
         let names = names_of_dummies g.program (names_of q.dummies.items) 0 q.dummies.items ps level here.unit (agree_all q.dummies.items) h in
-        bind_keeps g.program (outs_keep q.dummies.items _ _ names) (λ done z. bind_keeps g.program (exec_keeps q.body (scope_of q) _ (record { in_unit = refl; variables = refl; names = names }) m) (λ flow z. bind_keeps g.program (left_safe flow q.end _) (λ place z. bind_keeps g.program (locals_keep q.locals.items 0 _) (λ done z. bind_keeps g.program (looks_safe g.program _) (λ v z. bind_keeps g.program (claim_for_safe g.program v _) (λ done z. bind_keeps g.program (leave_safe g.program level) (λ done z. gives_safe g.program _)))))))))))
+        bind_keeps g.program (outs_keep q.dummies.items _ _ names) (λ done z. bind_keeps g.program (exec_keeps q.body (scope_of q) _ (record { in_unit = refl; variables = refl; names = names }) m) (λ flow z. bind_keeps g.program (left_safe flow q.end _) (λ place z. bind_keeps g.program (locals_keep q.locals.items 0 _) (λ done z. bind_keeps g.program (looks_safe g.program _) (λ v z. bind_keeps g.program (claim_for_safe g.program v (at place here)) (λ done z. bind_keeps g.program (leave_safe g.program level) (λ done z. gives_safe g.program _)))))))))))
 
     procedure_keeps : (o : Option Procedure) (ps : List Passed) (here : Here) → Each (IsPassed g.program (names_of (dummies_in o))) ps → ((q : Procedure) → o ≡ Some q → MayRun g.program q) → Safe g.program (call_of g n calls o ps here)
     procedure_keeps None ps here h m = gives_safe g.program _

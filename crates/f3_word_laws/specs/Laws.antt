@@ -1,9 +1,13 @@
 -- The laws of a machine over words.
 use Rattle.std.specs.Prelude.{◌≡◌, ℕ, ◌+◌, Bool, List, [], ◌++◌, Some, slice_get}
+use Rattle.f3_places.specs.declared.source.Place.{Place}
 use Rattle.f3_program.specs.declared.program.Program.{Program}
 use Rattle.f3_live_blocks.specs.Blocks.{Live}
 use Rattle.f3_meaning_whole.specs.Formed.{IsWellFormed}
+use Rattle.f3_meaning_whole.specs.declared.run_error.RunError.TheVariants.{HeapHasNoRoom}
+use Rattle.f3_code.specs.Heap.{granted}
 use Rattle.f3_code.specs.Lower.{lowered_program}
+use Rattle.f3_code.specs.Run.{after}
 use Rattle.f3_code.specs.State as s
 use Rattle.f3_code.specs.State.{Line}
 use Rattle.f3_heights.specs.Room.{state_after}
@@ -41,3 +45,7 @@ abbrev pub RunsGoOn : Type 0
 RunsGoOn = ((p : Program) (t : s.State) → Comes p t t 0 [])
     × ((p : Program) (t u v : s.State) (l : Line) (k : ℕ) (bytes more : List ℕ) → Comes p t u k bytes → slice_get (code_of p).lines u.pc ≡ Some l
     → GoesOn p l u v more → Comes p t v (k + 1) (bytes ++ more))
+
+-- Where the heap grants all requests, no run of such a program ends for want of room.
+abbrev pub GrantedRunsHaveRoom : Type 0
+GrantedRunsHaveRoom = (p : Program) → IsPlain p → (k : ℕ) (place : Place) → (after 1000 (lowered_program p) (code_of p) granted k).halt ≡ s.Failed HeapHasNoRoom place → ⊥

@@ -1,7 +1,7 @@
 //! Laws of a machine over words.
 #![tactic(auto)]
 
-ghost use Rattle.f3_word_laws.specs.Laws.{ObjectsAreThere, RunsAreTold, RunsGoOn, StartIsTold};
+ghost use Rattle.f3_word_laws.specs.Laws.{GrantedRunsHaveRoom, ObjectsAreThere, RunsAreTold, RunsGoOn, StartIsTold};
 
 /// Where blocks and a state in memory stand for a state whose cells are of the kinds that are known at its line, the objects on its stack
 /// stand in the store as values of their kinds.
@@ -22,4 +22,9 @@ pub fn runs_are_told()
 /// What lines do one after another is what the machine with some answers of a heap does.
 pub fn runs_go_on()
     ensures { RunsGoOn }
+{}
+
+/// Error 6 is one of requests that are refused: where the heap grants all, no run of a program without allocatables ends so.
+pub fn granted_runs_have_room()
+    ensures { GrantedRunsHaveRoom }
 {}

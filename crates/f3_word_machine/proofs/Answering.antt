@@ -5,7 +5,7 @@ use Rattle.f3_code.specs.Heap.{granted}
 use Rattle.f3_word_cells.specs.Does.{AreGranted, stream}
 use Rattle.f3_word_machine.specs.Runs.{refusing}
 
-granted_at : (given : List Bool) → AreGranted given → (n : ℕ) → stream given granted n ≡ granted n
+pub granted_at : (given : List Bool) → AreGranted given → (n : ℕ) → stream given granted n ≡ granted n
 granted_at [] a n = refl
 granted_at (false ∷ bs) a zero = refl
 granted_at (false ∷ bs) a (suc n) = granted_at bs a n

@@ -41,32 +41,33 @@ use Rattle.f3_meaning_whole.specs.declared.run_error.RunError.TheVariants as err
 
 -- ---- one instruction before
 
-module _ (course behind : ℕ → Course) (vs : List Value) (next : (k : ℕ) → course (suc k) ≡ before (Entered vs ∷ []) (behind k)) (steps : ℕ) (a b : o.State) where
+module _ (course behind : ℕ → Course) (vs : List Value) (next : (k : ℕ) → course (suc k) ≡ before (Entered vs ∷ []) (behind k)) where
   halt_is : (k : ℕ) → (behind k).halt ≡ (course (suc k)).halt
   halt_is k = sym (ap (λ (x : Course). x.halt) (next k))
 
   output_is : (k : ℕ) → output (behind k).out ≡ output (course (suc k)).out
   output_is k = sym (ap (λ (x : Course). output x.out) (next k))
 
-  ends_later : (halt : Halt) → EndsSo behind steps a b halt → EndsSo course (suc steps) a b halt
-  ends_later halt e = record {
-    last = suc e.last;
-    within = omega (arith, e.within);
-    ends = sym (halt_is e.last) ∙ e.ends;
-    wrote = subst (Wrote a b) (output_is e.last) e.wrote;
-  }
+  module _ (steps : ℕ) (a b : o.State) where
+    ends_later : (halt : Halt) → EndsSo behind steps a b halt → EndsSo course (suc steps) a b halt
+    ends_later halt e = record {
+      last = suc e.last;
+      within = omega (arith, e.within);
+      ends = sym (halt_is e.last) ∙ e.ends;
+      wrote = subst (Wrote a b) (output_is e.last) e.wrote;
+    }
 
-  goes_later : (k : ℕ) → GoesOnAfter behind k a b → GoesOnAfter course (suc k) a b
-  goes_later k e = record { goes_on = sym (halt_is k) ∙ e.goes_on; wrote = subst (Wrote a b) (output_is k) e.wrote }
+    goes_later : (k : ℕ) → GoesOnAfter behind k a b → GoesOnAfter course (suc k) a b
+    goes_later k e = record { goes_on = sym (halt_is k) ∙ e.goes_on; wrote = subst (Wrote a b) (output_is k) e.wrote }
 
-  later : (e : machine.Ended) → AnswersFor behind steps a b e → AnswersFor course (suc steps) a b e
-  later ends.Done m = ends_later s.Done m
-  later (ends.Stopped number) m = ends_later (s.Stopped number) m
-  later (ends.Failed error place) m = ends_later (s.Failed error place) m
-  later ends.StepLimit m = goes_later steps m
-  later ends.WriteFault m = (suc m.0, omega (arith, m.1), subst (Faulted a b) (output_is m.0) m.2)
-  later ends.Memory m = (suc m.0, omega (arith, m.1), goes_later m.0 m.2)
-  later ends.Stuck m = (suc m.0, sym (halt_is m.0) ∙ m.1)
+    later : (e : machine.Ended) → AnswersFor behind steps a b e → AnswersFor course (suc steps) a b e
+    later ends.Done m = ends_later s.Done m
+    later (ends.Stopped number) m = ends_later (s.Stopped number) m
+    later (ends.Failed error place) m = ends_later (s.Failed error place) m
+    later ends.StepLimit m = goes_later steps m
+    later ends.WriteFault m = (suc m.0, omega (arith, m.1), subst (Faulted a b) (output_is m.0) m.2)
+    later ends.Memory m = (suc m.0, omega (arith, m.1), goes_later m.0 m.2)
+    later ends.Stuck m = (suc m.0, sym (halt_is m.0) ∙ m.1)
 
 -- ---- a run
 
@@ -137,8 +138,7 @@ module _ (p : Program) where
         }
 
         fails : (e : RunError) (place : Place) → AnswersSo Full Spent p (machine_from p first) less a b (end.Failed e place) → RunsWhole First More Less p steps a b (end.Failed e place)
-        fails error.HeapHasNoRoom place (inl m) = inr (inl (refused_so place m))
-        fails error.HeapHasNoRoom place (inr m) = inr (inr (all (ends.Failed error.HeapHasNoRoom place) m))
+        fails error.HeapHasNoRoom place m = inr (refused_so place m)
         fails e place m = all (ends.Failed e place) m
 
         pub whole : (e : Ended) → AnswersSo Full Spent p (machine_from p first) less a b e → RunsWhole First More Less p steps a b e

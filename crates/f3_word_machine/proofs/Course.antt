@@ -1,5 +1,5 @@
 -- The course of the machine, instruction by instruction.
-use Rattle.std.proofs.Common.{◌≡◌, ◌<◌, ◌≤◌, inl, inr, ℕ, true, ◌+◌, Bool, List, [], ◌∷◌, ◌++◌, length, sym, ap, ◌∙◌, subst, append-nil, arith}
+use Rattle.std.proofs.Common.{◌≡◌, ◌<◌, ◌≤◌, inl, inr, ℕ, suc, true, ◌+◌, Bool, List, [], ◌∷◌, ◌++◌, length, sym, ap, ◌∙◌, subst, append-nil, arith}
 use Rattle.std.specs.Prelude.{Ok, Err, Some, slice_get}
 use Rattle.f3_program.specs.declared.program.Program.{Program}
 use Rattle.f3_live_blocks.specs.Blocks.{Live}
@@ -167,8 +167,7 @@ module _ (p : Program) (t : s.State) where
         (n : Live) (new : State) (c : o.State) (steps : ℕ) (left : done < steps) where
       fails : (e : RunError) (place : Place) → Steps Full Spent p r.to (Err (end.Failed e place)) n new b c
           → AnswersSo More Less p (machine_from p t) steps a c (end.Failed e place)
-      fails error.HeapHasNoRoom place (inl e) = inl (refuses Full More f steps place c left e)
-      fails error.HeapHasNoRoom place (inr e) = inr (ends steps (s.Failed error.HeapHasNoRoom place) c left e)
+      fails error.HeapHasNoRoom place e = refuses Full More f steps place c left e
       fails e place h = ends steps (s.Failed e place) c left h
 
       pub stops : (e : Ended) → Steps Full Spent p r.to (Err e) n new b c → AnswersSo More Less p (machine_from p t) steps a c e

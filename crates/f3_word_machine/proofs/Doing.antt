@@ -1,5 +1,5 @@
 -- What an instruction does, by what its call says.
-use Rattle.std.proofs.Common.{◌≡◌, ◌≢◌, ◌<◌, ℕ, true, [], length, refl, sym, ◌∙◌, subst, ap, inl, inr, reverse, vec_len, arith}
+use Rattle.std.proofs.Common.{◌≡◌, ◌≢◌, ◌<◌, ℕ, true, List, [], length, refl, sym, ◌∙◌, subst, ap, inl, inr, reverse, vec_len, arith}
 use Rattle.std.specs.Prelude.{⊤, ◌⊎◌, Result, Ok, Err, Option, Some, None, slice_get, unwrap_or}
 use Rattle.std.proofs.lemmas.List.{length-map}
 use Rattle.std.specs.Option.{option_map}
@@ -15,6 +15,8 @@ use Rattle.f3_meaning_whole.specs.Run.{setting_of}
 use Rattle.f3_code.specs.declared.instruction.Instruction.{Instruction}
 use Rattle.f3_code.specs.State as s
 use Rattle.f3_code.specs.State.{Line, Code, Failed, placed}
+use Rattle.f3_code.specs.Heap.{granted, with_answers}
+use Rattle.f3_cells.specs.States.{setting}
 use Rattle.f3_gen_values.specs.Emitted.{line_in}
 use Rattle.f3_gen_values.specs.declared.line.Line as emitted
 use Rattle.f3_output.specs.Output as o
@@ -29,7 +31,7 @@ use Rattle.f3_word_cells.specs.Plain.{IsPlain, is_plain_act}
 use Rattle.f3_word_cells.specs.Scenes.{IsScene, code_of}
 use Rattle.f3_word_cells.specs.States.{Stands, AreCallers, beneath, own}
 use Rattle.f3_word_cells.specs.Wants.{asked, wanted}
-use Rattle.f3_word_cells.specs.Does.{Becomes, BecomesOver, DoesIn, DoesOver, IsAt, Keeps, KeepsRoom, RefusedAt, StopsSo}
+use Rattle.f3_word_cells.specs.Does.{Becomes, BecomesOver, DoesIn, DoesOver, IsAt, Keeps, KeepsRoom, StopsSo, stream}
 use Rattle.f3_word_cells.proofs.Within.{here_stands}
 use Rattle.f3_word_control.specs.Doing.{DoesWith, DoesPrint, Prints}
 use Rattle.f3_word_entries.specs.Doing.{DoesOverAt}
@@ -38,6 +40,9 @@ use Rattle.f3_word_needs.specs.Room.{IsOfRun}
 use Rattle.f3_word_machine.specs.declared.ended.Ended.{Ended}
 use Rattle.f3_word_machine.specs.declared.ended.Ended.TheVariants as end
 use Rattle.f3_word_machine.specs.Steps.{EndsBy, PrintsAt, PrintsOver, Steps}
+use Rattle.f3_word_laws.proofs.Fair.{IsFair}
+use Rattle.f3_word_laws.proofs.FairLines.{act_fair}
+use Rattle.f3_word_machine.proofs.Answering.{granted_at}
 use Rattle.f3_word_machine.proofs.Never.{never_nowhere, never_lost, never_forbidden}
 
 -- ---- stacks
@@ -51,6 +56,13 @@ keeps_room h = record {
   levels = ap (λ (w : _). w.room) h.levels;
 }
 
+-- ---- errors for want of room
+
+-- a line that stops so makes a request that is refused
+pub no_refusal : (p : Program) (l : Line) (t : s.State) (place : Place) (bytes : List ℕ) → is_plain_act l.act ≡ true → StopsSo p l t (Failed error.HeapHasNoRoom place) bytes → ⊥
+no_refusal p l t place bytes plain f = (subst IsFair (f.stops granted)
+    (act_fair 1000 (setting p) (code_of p) l.act l.value (placed l.place t.here) (with_answers (stream f.given granted) t) (granted_at f.given f.granted) plain)).so
+
 -- ---- instructions
 
 -- an error that is not for want of room
@@ -59,20 +71,20 @@ IsOther error.HeapHasNoRoom = ⊥
 IsOther e = ⊤
 
 module _ (Full Spent : ℕ → Type 0) (p : Program) (act : Instruction) (place : Place) (old new : State) (r : Result ⊤ Stop) (m n : Live) (a : o.State) where
-  printed_error : (b : o.State) (t : s.State) (l : Line) (e : RunError) → Prints p l t (Err (stop.Failed e)) n new a b
+  printed_error : (b : o.State) (t : s.State) (l : Line) → is_plain_act l.act ≡ true → (e : RunError) → Prints p l t (Err (stop.Failed e)) n new a b
       → PrintsOver Full Spent p l t (Err (stop.Failed e)) n new a b
-  printed_error b t l error.HeapHasNoRoom f = (inr f.0, f.1)
-  printed_error b t l e f = f
+  printed_error b t l plain error.HeapHasNoRoom f = absurd (no_refusal p l t _ [] plain f.0)
+  printed_error b t l plain e f = f
 
-  printed : (b : o.State) (t : s.State) (l : Line) (z : Result ⊤ Stop) → Prints p l t z n new a b → PrintsOver Full Spent p l t z n new a b
-  printed b t l (Ok done) f = f
-  printed b t l (Err stop.Done) f = f
-  printed b t l (Err (stop.Stopped number)) f = f
-  printed b t l (Err (stop.Failed e)) f = printed_error b t l e f
-  printed b t l (Err stop.Lost) f = f
-  printed b t l (Err stop.Forbidden) f = f
-  printed b t l (Err stop.Refused) f = f
-  printed b t l (Err stop.Memory) f = absurd f.0
+  printed : (b : o.State) (t : s.State) (l : Line) → is_plain_act l.act ≡ true → (z : Result ⊤ Stop) → Prints p l t z n new a b → PrintsOver Full Spent p l t z n new a b
+  printed b t l plain (Ok done) f = f
+  printed b t l plain (Err stop.Done) f = f
+  printed b t l plain (Err (stop.Stopped number)) f = f
+  printed b t l plain (Err (stop.Failed e)) f = printed_error b t l plain e f
+  printed b t l plain (Err stop.Lost) f = f
+  printed b t l plain (Err stop.Forbidden) f = f
+  printed b t l plain (Err stop.Refused) f = f
+  printed b t l plain (Err stop.Memory) f = absurd f.0
 
   silent : (t : s.State) (l : Line) (z : Result ⊤ Stop) → Becomes p l t z n new → Prints p l t z n new a a
   silent t l (Ok done) f = ([], f, wrote_none)
@@ -85,7 +97,7 @@ module _ (Full Spent : ℕ → Type 0) (p : Program) (act : Instruction) (place 
   silent t l (Err stop.Memory) f = absurd f
 
   over_error : (t : s.State) (l : Line) (e : RunError) → BecomesOver Full Spent p l t (Err (stop.Failed e)) n new → PrintsOver Full Spent p l t (Err (stop.Failed e)) n new a a
-  over_error t l error.HeapHasNoRoom f = (inl f, wrote_none)
+  over_error t l error.HeapHasNoRoom f = (f.0, f.1, wrote_none)
   over_error t l e f = (f, wrote_none)
 
   over : (t : s.State) (l : Line) (z : Result ⊤ Stop) → BecomesOver Full Spent p l t z n new → PrintsOver Full Spent p l t z n new a a
@@ -99,13 +111,13 @@ module _ (Full Spent : ℕ → Type 0) (p : Program) (act : Instruction) (place 
   over t l (Err stop.Memory) f = (f, wrote_none)
 
   pub by_in : (i : Instruction) → act ≡ i → DoesIn p i r m n old new → PrintsAt Full Spent p place act r m n old new a a
-  by_in i is d = λ t l x told there acts at stands. printed a t l r (silent t l r (d t l x told there (acts ∙ is) stands))
+  by_in i is d = λ t l x told there acts at stands. printed a t l (told.plain.lines t.pc l there) r (silent t l r (d t l x told there (acts ∙ is) stands))
 
   pub by_with : (i : Instruction) → act ≡ i → DoesWith i r m n old new → PrintsAt Full Spent p place act r m n old new a a
   by_with i is d = by_in i is (d p)
 
   pub by_prints : (b : o.State) (i : Instruction) → act ≡ i → DoesPrint i r m n old new a b → PrintsAt Full Spent p place act r m n old new a b
-  by_prints b i is d = λ t l x told there acts at stands. printed b t l r (d p t l x told there (acts ∙ is) stands)
+  by_prints b i is d = λ t l x told there acts at stands. printed b t l (told.plain.lines t.pc l there) r (d p t l x told there (acts ∙ is) stands)
 
   pub by_over : (i : Instruction) → act ≡ i → DoesOver Full Spent p i r m n old new → PrintsAt Full Spent p place act r m n old new a a
   by_over i is d = λ t l x told there acts at stands. over t l r (d t l x told there (acts ∙ is) stands)
@@ -117,7 +129,7 @@ module _ (Full Spent : ℕ → Type 0) (p : Program) (act : Instruction) (place 
 module _ (Full Spent : ℕ → Type 0) (p : Program) (act : Instruction) (place : Place) (old new : State) (r : Result ⊤ Stop) (m : Live) (a : o.State) where
   pub by_cells : (total : ℕ) → length (code_of p).lines ≡ total → DoesCells place total act r old new → PrintsAt Full Spent p place act r m m old new a a
   by_cells total lines d = λ t l x told there acts at stands.
-      printed Full Spent p act place old new r m m a a t l r (silent Full Spent p act place old new r m m a t l r (d p m lines t l x told there acts at stands))
+      printed Full Spent p act place old new r m m a a t l (told.plain.lines t.pc l there) r (silent Full Spent p act place old new r m m a t l r (d p m lines t l x told there acts at stands))
 
 -- an instruction at a line of such a program is one of such programs
 pub plain_at : (p : Program) (act : Instruction) (m : Live) (w : State) → IsPlain p → IsAt p act m w → is_plain_act act ≡ true
@@ -144,12 +156,7 @@ module _ (Full Spent : ℕ → Type 0) (p : Program) (t : s.State) (l : Line) (t
   stopped e f = subst (λ (z : Place). StopsSo p l t (Failed e z) []) (place_is l.place t.here ∙ at) f
 
   fails : (e : RunError) → PrintsOver Full Spent p l t (Err (stop.Failed e)) n new a b → Steps Full Spent p t (Err (end.Failed e place)) n new a b
-  fails error.HeapHasNoRoom f = refused f.0 f.1
-    where
-      refused : ((RefusedAt p l t × Full (asked (wanted p l.act t))) ⊎ StopsSo p l t (Failed error.HeapHasNoRoom (placed l.place t.here).place) []) → Wrote a b []
-          → Steps Full Spent p t (Err (end.Failed error.HeapHasNoRoom place)) n new a b
-      refused (inl g) wrote = inl (record { line = l; there = there; refused = g.0; full = g.1; at = place_is l.place t.here ∙ at; wrote = wrote })
-      refused (inr g) wrote = inr (record { line = l; there = there; bytes = []; stops = stopped error.HeapHasNoRoom g; wrote = wrote })
+  fails error.HeapHasNoRoom f = record { line = l; there = there; refused = f.0; full = f.1; at = place_is l.place t.here ∙ at; wrote = f.2 }
   fails e f = record { line = l; there = there; bytes = []; stops = stopped e f.0; wrote = f.1 }
 
   pub stops : (e : Stop) (z : Ended) → EndsBy e place z → PrintsOver Full Spent p l t (Err e) n new a b → Steps Full Spent p t (Err z) n new a b

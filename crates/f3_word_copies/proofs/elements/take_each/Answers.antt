@@ -45,6 +45,6 @@ loop-number-preserved g c =
     let few = c.if-prove-2.false in
     record {
       copied = each-more _ c.args.from c.args.words c.args.count a c.requires.within c.requires.live c.requires.apart c.requires.few c.requires.room (omega arith)
-    c.loop-number.number c.loop-number-test.true c.place_of.result near c.place_of.type_inv _ c.loop-number.invariant.copied _ _ refl refl c.new.ensures c.fill.ensures.written;
+          c.loop-number.number c.loop-number-test.true c.place_of.result near c.place_of.type_inv _ c.loop-number.invariant.copied _ _ refl refl c.new.ensures c.fill.ensures.written;
       kept = c.fill.ensures.kept ∙ c.loop-number.invariant.kept;
     }

@@ -1,4 +1,4 @@
-use Rattle.std.proofs.Common.{◌≡◌, true, subst, sym, refl, arith}
+use Rattle.std.proofs.Common.{◌≡◌, true, subst, sym, refl, arith, inl}
 use Rattle.std.proofs.lemmas.Bool.{true≢false}
 use Rattle.f3_code.specs.declared.instruction.Instruction.{Instruction}
 use Rattle.f3_code.specs.declared.instruction.Instruction.TheVariants as i
@@ -358,3 +358,78 @@ returns-in_default-clause-does g c =
       go (i.NextArgument a0 a1) e plain = refl
       go i.Finish e plain = refl
       go x e plain = absurd (true≢false (sym plain))
+
+pub returns-in-BoundsOfValue-clause-kept : goal.returns-in-BoundsOfValue-clause-kept
+returns-in-BoundsOfValue-clause-kept g c = inl c.bounds_of_value.ensures.kept
+
+pub returns-in-Load-clause-kept : goal.returns-in-Load-clause-kept
+returns-in-Load-clause-kept g c = c.load.ensures.kept
+
+pub returns-in-Refer-clause-kept : goal.returns-in-Refer-clause-kept
+returns-in-Refer-clause-kept g c = inl refl
+
+pub returns-in-Component-clause-kept : goal.returns-in-Component-clause-kept
+returns-in-Component-clause-kept g c = inl refl
+
+pub returns-in-Select-clause-kept : goal.returns-in-Select-clause-kept
+returns-in-Select-clause-kept g c = inl refl
+
+pub returns-in-ComponentOf-clause-kept : goal.returns-in-ComponentOf-clause-kept
+returns-in-ComponentOf-clause-kept g c = inl refl
+
+pub returns-in-SelectOf-clause-kept : goal.returns-in-SelectOf-clause-kept
+returns-in-SelectOf-clause-kept g c = inl refl
+
+pub returns-in-Selecting-clause-kept : goal.returns-in-Selecting-clause-kept
+returns-in-Selecting-clause-kept g c = inl c.selecting.ensures.kept
+
+pub returns-in-Set-clause-kept : goal.returns-in-Set-clause-kept
+returns-in-Set-clause-kept g c = inl c.set.ensures.kept
+
+pub returns-in-Take-clause-kept : goal.returns-in-Take-clause-kept
+returns-in-Take-clause-kept g c = inl c.take.ensures.kept
+
+pub returns-in-Fill-clause-kept : goal.returns-in-Fill-clause-kept
+returns-in-Fill-clause-kept g c = inl c.fill.ensures.kept
+
+pub returns-in-Drop-clause-kept : goal.returns-in-Drop-clause-kept
+returns-in-Drop-clause-kept g c = inl c.drop_top.ensures.kept
+
+pub returns-in-Unwind-clause-kept : goal.returns-in-Unwind-clause-kept
+returns-in-Unwind-clause-kept g c = inl c.unwind.ensures.kept
+
+pub returns-in-PrintValue-clause-kept : goal.returns-in-PrintValue-clause-kept
+returns-in-PrintValue-clause-kept g c = inl c.print_value.ensures.kept
+
+pub returns-in-PrintByte-clause-kept : goal.returns-in-PrintByte-clause-kept
+returns-in-PrintByte-clause-kept g c = inl refl
+
+pub returns-in-EndAssociate-clause-kept : goal.returns-in-EndAssociate-clause-kept
+returns-in-EndAssociate-clause-kept g c = inl c.end_associate.ensures.kept
+
+pub returns-in-CountBegin-clause-kept : goal.returns-in-CountBegin-clause-kept
+returns-in-CountBegin-clause-kept g c = inl c.count_begin.ensures.kept
+
+pub returns-in-CountUp-clause-kept : goal.returns-in-CountUp-clause-kept
+returns-in-CountUp-clause-kept g c = inl c.count_up.ensures.kept
+
+pub returns-in-Return-clause-kept : goal.returns-in-Return-clause-kept
+returns-in-Return-clause-kept g c = inl c.return_to_caller.ensures.kept
+
+pub returns-in-Array-clause-kept : goal.returns-in-Array-clause-kept
+returns-in-Array-clause-kept g c = c.array.ensures.kept
+
+pub returns-in-Structure-clause-kept : goal.returns-in-Structure-clause-kept
+returns-in-Structure-clause-kept g c = c.structure.ensures.kept
+
+pub returns-in-Call-clause-kept : goal.returns-in-Call-clause-kept
+returns-in-Call-clause-kept g c = c.call.ensures.kept
+
+pub returns-in-ResultOf-clause-kept : goal.returns-in-ResultOf-clause-kept
+returns-in-ResultOf-clause-kept g c = c.result_of.ensures.kept
+
+pub returns-in-Associate-clause-kept : goal.returns-in-Associate-clause-kept
+returns-in-Associate-clause-kept g c = inl refl
+
+pub returns-in_default-clause-kept : goal.returns-in_default-clause-kept
+returns-in_default-clause-kept g c = inl refl
