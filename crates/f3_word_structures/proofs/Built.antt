@@ -6,11 +6,11 @@ use Rattle.f3_program.specs.declared.declarations.Component.{Component}
 use Rattle.f3_program.specs.declared.declarations.Derived.{Derived}
 use Rattle.f3_program.specs.declared.program.Program.{Program}
 use Rattle.f3_live_blocks.specs.Blocks.{Live}
-use Rattle.f3_meaning_whole.specs.Act as m
+use Rattle.f3_meaning_whole.specs.Act as meaning
 use Rattle.f3_meaning_whole.specs.Act.{passed_at}
 use Rattle.f3_meaning_whole.specs.Formed.{IsWellFormed, takes}
 use Rattle.f3_meaning_whole.specs.Shape.{Shape, Record, and, initial_of, parts_in, shape_in, shapes_of}
-use Rattle.f3_meaning_whole.specs.Value.{Values, Composite, more}
+use Rattle.f3_meaning_whole.specs.Value.{Value, Values, Composite, more}
 use Rattle.f3_cell_kinds.specs.Sense.{MakesSense}
 use Rattle.f3_rooms.specs.Forms.{form_of, form_words, room, total, words_for, words_for_parts}
 use Rattle.f3_rooms.specs.Held.{Empty, end}
@@ -76,9 +76,9 @@ module _ (p : Program) (of : ℕ) (y : Derived) (there : slice_get p.types.items
 
   -- ---- values that are given, and initial values
 
-  module _ (m : Live) (zs : List Cell) (ps : List m.Passed) (held : AreHeld p m y zs ps) (sense : MakesSense p)
+  module _ (m : Live) (zs : List Cell) (ps : List meaning.Passed) (held : AreHeld p m y zs ps) (sense : MakesSense p)
       (checked : (k : ℕ) (c : Component) → slice_get cs k ≡ Some c → TestedFor c.declared (passed_at k ps) (Ok tt)) where
-    abbrev ValueFor : ℕ → Component → _
+    abbrev ValueFor : ℕ → Component → Value
     ValueFor k c = value-for ts ps c (passed_at k ps)
 
     -- the words of a component are as many as its own, and are just its value
@@ -130,7 +130,7 @@ module _ (p : Program) (of : ℕ) (y : Derived) (there : slice_get p.types.items
 
     -- ---- all of them
 
-    AllShown : ℕ → List Component → Type 0
+    abbrev AllShown : ℕ → List Component → Type 0
     AllShown k [] = ⊤
     AllShown k (c ∷ xs) = Shown k c × AllShown (suc k) xs
 

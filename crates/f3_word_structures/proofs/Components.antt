@@ -12,7 +12,7 @@ use Rattle.f3_meaning_whole.specs.Eval.{built}
 use Rattle.f3_meaning_whole.specs.Ran.{Ran, World, Gives, Fails, asks, fails, gives, ◌>>=◌}
 use Rattle.f3_meaning_whole.specs.Shape.{Shape, initial_declared, initial_of, parts_in, shape_in, spans_declared}
 use Rattle.f3_meaning_whole.specs.Store.{Store}
-use Rattle.f3_meaning_whole.specs.Value.{Value, Values, Composite, Unallocated, conforms, none, more}
+use Rattle.f3_meaning_whole.specs.Value.{Span, Value, Values, Composite, Unallocated, conforms, none, more}
 use Rattle.f3_meaning_whole.specs.declared.run_error.RunError.{RunError}
 use Rattle.f3_meaning_whole.specs.declared.run_error.RunError.TheVariants as error
 use Rattle.f3_meaning_whole.specs.declared.run_error.RunError.TheVariants.{HeapHasNoRoom}
@@ -111,14 +111,14 @@ module _ (ts : List Shape) (ps : List m.Passed) where
 
   pub first-of : (k n : ℕ) (cs : List Component) (c : Component) (e : RunError) → slice_get cs n ≡ Some c → Refuses c (passed_at (k + n) ps) e
       → ((j : ℕ) (x : Component) → j < n → slice_get cs j ≡ Some x → Takes x (passed_at (k + j) ps)) → First k n cs e
-  first-of k n [] c e at no before = absurd cc
-  first-of k zero (x ∷ cs) c e at no before =
+  first-of k n [] c e at bad before = absurd cc
+  first-of k zero (x ∷ cs) c e at bad before =
       let same : c ≡ x = cc in
-      at-first (λ z a. Refuses z a e) k x (subst (λ z. Refuses z (passed_at (k + 0) ps) e) same no)
-  first-of k (suc n) (x ∷ cs) c e at no before =
+      at-first (λ z a. Refuses z a e) k x (subst (λ z. Refuses z (passed_at (k + 0) ps) e) same bad)
+  first-of k (suc n) (x ∷ cs) c e at bad before =
       let f : k + suc n ≡ suc k + n = omega arith in (
         at-first Takes k x (before 0 x (omega arith) refl),
-        first-of (suc k) n cs c e at (subst (λ i. Refuses c (passed_at i ps) e) f no)
+        first-of (suc k) n cs c e at (subst (λ i. Refuses c (passed_at i ps) e) f bad)
             (λ j y lt there. let g : k + suc j ≡ suc k + j = omega arith in subst (λ i. Takes y (passed_at i ps)) g (before (suc j) y (omega arith) there)),
       )
 
@@ -179,7 +179,7 @@ module _ (here : Here) (store : Store) (rest : ℕ → Bool) where
 
   -- ---- a component
 
-  abbrev spans : Declared → List _
+  abbrev spans : Declared → List Span
   spans d = spans_declared d.dimensions.items
 
   takes-run : (d : Declared) (v : Value) (w : World) → d.kind.is_allocatable ≡ false → Tested d v (Ok tt) → Runs (fitted d v here) w (laid_out d.kind.rank (spans d) v) w
@@ -208,9 +208,9 @@ module _ (here : Here) (store : Store) (rest : ℕ → Bool) where
 
     argument-fails : (c : Component) (a : Option m.Passed) (w : World) (e : RunError) → Refuses ts ps c a e
         → FailsSo (fitted_argument c.declared (initial_declared c.declared (initial_of (shape_in ts c.declared.kind.of))) a here) w e here.place
-    argument-fails c None w e no = absurd no
-    argument-fails c (Some (m.Given k v)) w e no = tested-fails c.declared v w e no.0 no.1
-    argument-fails c (Some (m.Lent k r)) w e no = absurd no
+    argument-fails c None w e bad = absurd bad
+    argument-fails c (Some (m.Given k v)) w e bad = tested-fails c.declared v w e bad.0 bad.1
+    argument-fails c (Some (m.Lent k r)) w e bad = absurd bad
 
     -- ---- one after another
 
@@ -242,26 +242,27 @@ module _ (here : Here) (store : Store) (rest : ℕ → Bool) where
     Refused k cs = FailsSo (structure (parts_in ts cs) k ps here) (In (true ∷ [])) HeapHasNoRoom here.place
         ⊎ Runs (structure (parts_in ts cs) k ps here) (In (true ∷ [])) (values-for ts ps k cs) (In (true ∷ []))
 
+    module _ (k : ℕ) (c : Component) (cs : List Component) (all : AllTake ts ps k (c ∷ cs)) where
+      abbrev v : Value
+      v = value-for ts ps c (passed_at k ps)
+
+      abbrev w : World
+      w = In (true ∷ [])
+
+      refused-further : Runs (claim_for v here) w tt w → Refused (suc k) cs → Refused k (c ∷ cs)
+      refused-further claimed (inl bad) = inl (then-fails _ _ w w v HeapHasNoRoom here.place (argument-runs c (passed_at k ps) w all.0)
+          (then-fails _ _ w w tt HeapHasNoRoom here.place claimed (first-fails _ _ w HeapHasNoRoom here.place bad)))
+      refused-further claimed (inr runs) = inr (then-runs _ _ w w w v _ (argument-runs c (passed_at k ps) w all.0)
+          (then-runs _ _ w w w tt _ claimed (then-runs _ _ w w w (values-for ts ps (suc k) cs) _ runs (gives-runs _ w))))
+
+      refused-by : (b : Bool) → needs_storage v ≡ b → Refused (suc k) cs → Refused k (c ∷ cs)
+      refused-by true e onward = inl (then-fails _ _ w w v HeapHasNoRoom here.place (argument-runs c (passed_at k ps) w all.0)
+          (first-fails _ _ w HeapHasNoRoom here.place (claims-fail v [] e)))
+      refused-by false e onward = refused-further (ap (λ b. let r : Ran ⊤ = if b then claim here else gives tt in r.from w) e ∙ gives-runs tt w) onward
+
     components-refused : (k : ℕ) (cs : List Component) → AllTake ts ps k cs → Refused k cs
     components-refused k [] all = inr (gives-runs none (In (true ∷ [])))
-    components-refused k (c ∷ cs) all = by (needs_storage v) refl
-      where
-        abbrev v : Value
-        v = value-for ts ps c (passed_at k ps)
-
-        abbrev w : World
-        w = In (true ∷ [])
-
-        further : Runs (claim_for v here) w tt w → Refused (suc k) cs → Refused k (c ∷ cs)
-        further claimed (inl no) = inl (then-fails _ _ w w v HeapHasNoRoom here.place (argument-runs c (passed_at k ps) w all.0)
-            (then-fails _ _ w w tt HeapHasNoRoom here.place claimed (first-fails _ _ w HeapHasNoRoom here.place no)))
-        further claimed (inr runs) = inr (then-runs _ _ w w w v _ (argument-runs c (passed_at k ps) w all.0)
-            (then-runs _ _ w w w tt _ claimed (then-runs _ _ w w w (values-for ts ps (suc k) cs) _ runs (gives-runs _ w))))
-
-        by : (b : Bool) → needs_storage v ≡ b → Refused k (c ∷ cs)
-        by true e = inl (then-fails _ _ w w v HeapHasNoRoom here.place (argument-runs c (passed_at k ps) w all.0)
-            (first-fails _ _ w HeapHasNoRoom here.place (claims-fail v [] e)))
-        by false e = further (ap (λ b. let r : Ran ⊤ = if b then claim here else gives tt in r.from w) e ∙ gives-runs tt w) (components-refused (suc k) cs all.1)
+    components-refused k (c ∷ cs) all = refused-by k c cs all (needs_storage (value-for ts ps c (passed_at k ps))) refl (components-refused (suc k) cs all.1)
 
     -- ---- the whole
 
@@ -281,7 +282,7 @@ module _ (here : Here) (store : Store) (rest : ℕ → Bool) where
     whole-refused cs f all = performs-fails (whole cs) (In (true ∷ [])) HeapHasNoRoom here.place f (by (components-refused 0 cs all))
       where
         by : Refused 0 cs → FailsSo (whole cs) (In (true ∷ [])) HeapHasNoRoom here.place
-        by (inl no) = first-fails _ _ (In (true ∷ [])) HeapHasNoRoom here.place no
+        by (inl bad) = first-fails _ _ (In (true ∷ [])) HeapHasNoRoom here.place bad
         by (inr runs) = then-fails _ _ (In (true ∷ [])) (In (true ∷ [])) (values-for ts ps 0 cs) HeapHasNoRoom here.place runs
             (first-fails _ _ (In (true ∷ [])) HeapHasNoRoom here.place (claim-fails []))
 

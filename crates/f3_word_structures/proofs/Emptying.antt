@@ -19,7 +19,7 @@ use Rattle.f3_word_cells.specs.States.{Stands, cell_blocks}
 use Rattle.f3_word_structures.proofs.Given.{on-structure}
 use Rattle.f3_word_structures.proofs.Popping.{Went, some-left, went-free, went-more}
 
-keeps-same : (old mid now : State) → Keeps old mid → IsSame mid now → Keeps old now
+pub keeps-same : (old mid now : State) → Keeps old mid → IsSame mid now → Keeps old now
 keeps-same old mid now a b = record {
   cells = b.room ∙ a.cells;
   names = b.names ∙ a.names;

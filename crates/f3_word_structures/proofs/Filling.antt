@@ -14,7 +14,7 @@ use Rattle.f3_rooms.specs.Forms.{room, total}
 use Rattle.f3_rooms.specs.Places.{with_word}
 use Rattle.f3_room_levels.specs.Initial.{AllCanBegin, CanBegin, TypeCanBegin, declared_each, repeated, variable_words}
 use Rattle.f3_room_levels.specs.Writing.{IsBlank, with_words_from}
-use Rattle.f3_room_levels.proofs.Leaving.{Leaves, LeavesElements, element_here, element_next, elements_all, elements_none, leaves_all, leaves_front, leaves_next, leaves_none}
+use Rattle.f3_room_levels.proofs.Leaving.{Leaves, LeavesElements, element_here, element_next, element_within, elements_all, elements_none, leaves_all, leaves_front, leaves_next, leaves_none}
 use Rattle.f3_room_levels.proofs.Widths.{repeated_many, variable_many}
 use Rattle.f3_room_levels.proofs.Written.{from_others}
 use Rattle.f3_word_arrays.specs.Items.{IsApart, datum_words}
@@ -85,6 +85,9 @@ module _ (old now : Live) (block first place i many : ℕ) (d : Datum) (f : Fill
   pub filling-within : place + length (datum_words now d) ≤ length (words_of now block)
   filling-within = let w = here.within in let e = ap length same in omega (arith, w, e)
 
+  pub filling-long : place + length ws ≤ length (words_of old block)
+  filling-long = element_within ws (length ws) refl old now block first place i many f.leaves lt
+
   pub filling-more : (new : Live) (width : ℕ) → width ≡ length ws → new ≡ with_words now block (with_words_at (words_of now block) place (datum_words now d))
       → Filling old new block first (place + width) (i + 1) many d
   filling-more new width wide is =
@@ -144,11 +147,11 @@ writing-none ts old zs block cs can whole blank = record {
 -- the value of a number is apart
 pub given-apart : (m : Live) (block k : ℕ) (zs : List Cell) (d : Datum) → AreApart m block zs → given_in k zs ≡ Some d → IsApart m block d
 given-apart m block k [] d apart e = absurd cc
-given-apart m block k (c.Argument (passed.Given j x) ∷ zs) d apart e = by (nat_eq j k) e
+given-apart m block k (c.Argument (passed.Given j x) ∷ zs) d apart e = by (nat_eq j k) e (λ f. given-apart m block k zs d apart.1 f)
   where
-    by : (b : Bool) → (if b then Some x else given_in k zs) ≡ Some d → IsApart m block d
-    by true f = let same : x ≡ d = cc in subst (IsApart m block) same apart.0
-    by false f = given-apart m block k zs d apart.1 f
+    by : (b : Bool) → (if b then Some x else given_in k zs) ≡ Some d → (given_in k zs ≡ Some d → IsApart m block d) → IsApart m block d
+    by true f more = let same : x ≡ d = cc in subst (IsApart m block) same apart.0
+    by false f more = more f
 given-apart m block k (c.Argument (passed.Lent j x) ∷ zs) d apart e = given-apart m block k zs d apart e
 given-apart m block k (c.Datum x ∷ zs) d apart e = given-apart m block k zs d apart e
 given-apart m block k (c.Object x ∷ zs) d apart e = given-apart m block k zs d apart e
@@ -183,6 +186,9 @@ module _ (ts : List Shape) (old now : Live) (zs : List Cell) (block at number : 
   pub writing-here : IsBlank now block at (room ts c.declared)
   writing-here = leaves_front old now block 0 at (structure_words ts old zs number these) (structure_words ts old zs 0 all) mine (structure_words ts old zs (suc number) left) f.leaves
       (ap (structure_words ts old zs number) e) (room ts c.declared) long
+
+  pub writing-within : at + room ts c.declared ≤ length (words_of old block)
+  writing-within = let w = writing-here.within in let g = f.leaves.long in omega (arith, w, g)
 
   pub writing-fills : (d : Datum) → given_in number zs ≡ Some d → AreApart old block zs → length (given_words now (room ts c.declared) d) ≡ room ts c.declared
   writing-fills d is apart =

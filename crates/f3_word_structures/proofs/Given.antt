@@ -47,11 +47,11 @@ abbrev pub IsPlainType : Derived → Type 0
 IsPlainType y = (k : ℕ) (c : Component) → slice_get y.components.items k ≡ Some c → c.declared.kind.is_allocatable ≡ false
 
 fixed-takes : (k : Kind) (g : formed.Given) → k.is_allocatable ≡ false → component_takes k g ≡ true → takes k g.kind ≡ true
-fixed-takes k g fixed e = by k.is_allocatable fixed e
+fixed-takes k g fixed e = by _ k.is_allocatable fixed e
   where
-    by : {a : Bool} (b : Bool) → b ≡ false → (if b then a else takes k g.kind) ≡ true → takes k g.kind ≡ true
-    by true f e = absurd cc
-    by false f e = e
+    by : (a b : Bool) → b ≡ false → (if b then a else takes k g.kind) ≡ true → takes k g.kind ≡ true
+    by a true f e = absurd cc
+    by a false f e = e
 
 or-not : (a b c : Bool) → c ≡ false → (a || (b && c)) ≡ true → a ≡ true
 or-not true b c f e = refl

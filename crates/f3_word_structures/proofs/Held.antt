@@ -112,10 +112,14 @@ module _ (p : Program) (live : Live) (y : Derived) where
   found-alike k [] [] are = refl
   found-alike k [] (q ∷ ps) are = absurd are
   found-alike k (c.Argument (passed.Given j d) ∷ zs) [] are = absurd are
-  found-alike k (c.Argument (passed.Given j d) ∷ zs) (m.Given i v ∷ ps) are = by (nat_eq j k) refl
+  found-alike k (c.Argument (passed.Given j d) ∷ zs) (m.Given i v ∷ ps) are = by (nat_eq j k) refl (found-alike k zs ps are.2)
     where
-      by : (b : Bool) → nat_eq j k ≡ b → Agree k (given_in k (c.Argument (passed.Given j d) ∷ zs)) (m.Given i v ∷ ps)
-      by true e =
+      further : (o : Option Datum) → passed_at k (m.Given i v ∷ ps) ≡ passed_at k ps → Agree k o ps → Agree k o (m.Given i v ∷ ps)
+      further None there h = there ∙ h
+      further (Some x) there h = record { value = h.value; passed = there ∙ h.passed; held = h.held }
+
+      by : (b : Bool) → nat_eq j k ≡ b → Agree k (given_in k zs) ps → Agree k (given_in k (c.Argument (passed.Given j d) ∷ zs)) (m.Given i v ∷ ps)
+      by true e more =
           let here : given_in k (c.Argument (passed.Given j d) ∷ zs) ≡ Some d = ap (λ t. if t then Some d else given_in k zs) e in
           let same : nat_eq i k ≡ true = ap (λ n. nat_eq n k) are.0 ∙ e in
           let is : i ≡ k = are.0 ∙ eqb-true j k e in
@@ -124,14 +128,10 @@ module _ (p : Program) (live : Live) (y : Derived) where
             passed = ap (λ t. if t then Some (m.Given i v) else passed_at k ps) same ∙ ap (λ n. Some (m.Given n v)) is;
             held = subst (λ n. IsHeld n d v) is are.1;
           })
-      by false e =
+      by false e more =
           let here : given_in k (c.Argument (passed.Given j d) ∷ zs) ≡ given_in k zs = ap (λ t. if t then Some d else given_in k zs) e in
           let there : passed_at k (m.Given i v ∷ ps) ≡ passed_at k ps = ap (λ t. if t then Some (m.Given i v) else passed_at k ps) (ap (λ n. nat_eq n k) are.0 ∙ e) in
-          subst (λ o. Agree k o (m.Given i v ∷ ps)) (sym here) (further (given_in k zs) there (found-alike k zs ps are.2))
-
-      further : (o : Option Datum) → passed_at k (m.Given i v ∷ ps) ≡ passed_at k ps → Agree k o ps → Agree k o (m.Given i v ∷ ps)
-      further None there h = there ∙ h
-      further (Some x) there h = record { value = h.value; passed = there ∙ h.passed; held = h.held }
+          subst (λ o. Agree k o (m.Given i v ∷ ps)) (sym here) (further (given_in k zs) there more)
   found-alike k (c.Argument (passed.Given j d) ∷ zs) (m.Lent i r ∷ ps) are = absurd are
   found-alike k (z ∷ zs) ps are = absurd are
 

@@ -1,4 +1,6 @@
 pub mod Given
+pub mod Looking
+pub mod Checks
 pub mod Held
 pub mod Values
 pub mod Components
@@ -7,3 +9,4 @@ pub mod Built
 pub mod Popping
 pub mod Emptying
 pub mod Structures
+pub mod Seen

@@ -23,10 +23,10 @@ use Rattle.f3_word_cells.proofs.InHand.{amid_without, hand_free}
 use Rattle.f3_word_structures.proofs.Given.{AreMembers, OnStructure}
 
 -- what other blocks go is no matter for a block
-other-words : (m : Live) (b : ℕ) (bs : List ℕ) → times b bs ≡ 0 → words_of (without bs m) b ≡ words_of m b
-other-words m b [] none = refl
-other-words m b (q ∷ bs) none =
-    other-words _ b bs (let e = times_append b (q ∷ []) bs in omega (arith, none, e))
+other-words : (b : ℕ) (bs : List ℕ) (m : Live) → times b bs ≡ 0 → words_of (without bs m) b ≡ words_of m b
+other-words b [] m none = refl
+other-words b (q ∷ bs) m none =
+    other-words b bs _ (let e = times_append b (q ∷ []) bs in omega (arith, none, e))
     ∙ ap words_in (get-remove_other m q b (λ e. let f = times_append b (q ∷ []) bs in let g = one_here q [] in let h : times b (q ∷ []) ≡ times q (q ∷ []) = ap (λ i. times i (q ∷ [])) e in absurd (omega (arith, none, f, g, h))))
 
 module _ (p : Program) (t : s.State) (of n : ℕ) (h : OnStructure p t of n) (old : State) (x : Rooms) (block : ℕ) (ws : List ℤ) where
@@ -93,7 +93,7 @@ module _ (p : Program) (t : s.State) (of n : ℕ) (h : OnStructure p t of n) (ol
             are = gone.are;
             left = gone.left;
             amid = amid_without p t live old mid x _ _ (t.world).store (cell_blocks z) (block ∷ []) gone.amid;
-            words = other-words live block (cell_blocks z) none ∙ went.words;
+            words = other-words block (cell_blocks z) live none ∙ went.words;
           })
 
   pub went-all : (live : Live) (now : State) → Went live now n → Amid p t live old now x h.rest h.below (t.world).store (block ∷ [])

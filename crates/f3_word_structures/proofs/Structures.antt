@@ -84,11 +84,11 @@ words-move live mid b o (w ∷ ws) e are = (ap (λ (us : List ℤ). slice_index_
 
 -- what errors there are
 one-error : (d : _) (a : Option meaning.Passed) (e : RunError) → TestedFor d a (Err e) → (e ≡ error.ShapesDiffer) ⊎ (e ≡ error.Overflow)
-one-error d None e no = absurd no
-one-error d (Some (meaning.Lent k r)) e no = absurd no
-one-error d (Some (meaning.Given k v)) error.ShapesDiffer no = inl refl
-one-error d (Some (meaning.Given k v)) error.Overflow no = inr refl
-one-error d (Some (meaning.Given k v)) e no = absurd no
+one-error d None e bad = absurd bad
+one-error d (Some (meaning.Lent k r)) e bad = absurd bad
+one-error d (Some (meaning.Given k v)) error.ShapesDiffer bad = inl refl
+one-error d (Some (meaning.Given k v)) error.Overflow bad = inr refl
+one-error d (Some (meaning.Given k v)) e bad = absurd bad
 
 -- ---- the machine over values
 
@@ -96,45 +96,45 @@ module _ (p : Program) (t : s.State) (l : Line) (of n : ℕ) (told : IsTold p t)
   abbrev here : Here
   here = placed l.place t.here
 
-  abbrev pub ts : List Shape
-  ts = types_of p
+  abbrev pub shapes : List Shape
+  shapes = types_of p
 
-  abbrev pub cs : List Component
-  cs = (h.type).components.items
+  abbrev pub members : List Component
+  members = (h.type).components.items
 
-  abbrev pub ps : List meaning.Passed
-  ps = reverse h.items
+  abbrev pub items : List meaning.Passed
+  items = reverse h.items
 
   abbrev stack : List s.Cell
   stack = map s.Argument h.items ++ h.below
 
   abbrev pub value : Value
-  value = Composite (values-for ts ps 0 cs)
+  value = Composite (values-for shapes items 0 members)
 
   abbrev pub next : s.State
   next = moved_to t (t.pc + 1) (s.Datum value ∷ h.below) t.here t.world
 
   -- the run of the line, where the heap gives these answers
   builds-so : (given : List Bool) (rest : ℕ → Bool) → does_so p l t (i.Structure of n) stack given rest
-      ≡ performs (whole here (t.world).store rest ts ps cs) (answering (t.world).store (stream given rest)) (λ x. on (with_answers (stream given rest) (with_stack stack t)) (s.Datum x ∷ h.below))
+      ≡ performs (whole here (t.world).store rest shapes items members) (answering (t.world).store (stream given rest)) (λ x. on (with_answers (stream given rest) (with_stack stack t)) (s.Datum x ∷ h.below))
   builds-so given rest =
       let run : Parts → List meaning.Passed → _ = λ parts qs. performs (meaning.structure parts 0 qs here >>= λ vs. built (Composite vs) here) (answering (t.world).store (stream given rest))
       (λ x. on (with_answers (stream given rest) (with_stack stack t)) (s.Datum x ∷ h.below)) in
       takes-arguments h.items [] h.below n _ h.many
       ∙ ap (run (components_of (shape_for p (base.Derived of)))) (append-nil (reverse h.items))
-      ∙ ap (λ (y : Shape). run (components_of y) ps) (tree p of h.type h.there told.formed)
+      ∙ ap (λ (y : Shape). run (components_of y) items) (tree p of h.type h.there told.formed)
 
-  pub structure-goes : AllTake ts ps 0 cs → GoesOn p l t next []
-  structure-goes all = line_goes p l t (i.Structure of n) stack next (grants ts ps cs) (grants-granted ts ps cs) [] act h.split (λ rest.
-      builds-so (grants ts ps cs) rest ∙ whole-goes here (t.world).store rest ts ps cs _ all)
+  pub structure-goes : AllTake shapes items 0 members → GoesOn p l t next []
+  structure-goes all = line_goes p l t (i.Structure of n) stack next (grants shapes items members) (grants-granted shapes items members) [] act h.split (λ rest.
+      builds-so (grants shapes items members) rest ∙ whole-goes here (t.world).store rest shapes items members _ all)
 
-  pub structure-refused : AllTake ts ps 0 cs → RefusedAt p l t
+  pub structure-refused : AllTake shapes items 0 members → RefusedAt p l t
   structure-refused all = line_refused p l t (i.Structure of n) stack act h.split (λ rest.
-      builds-so (true ∷ []) rest ∙ whole-refused here (t.world).store rest ts ps cs _ all)
+      builds-so (true ∷ []) rest ∙ whole-refused here (t.world).store rest shapes items members _ all)
 
-  pub structure-stops : (number : ℕ) (e : RunError) → First ts ps 0 number cs e → StopsSo p l t (Failed e here.place) []
-  structure-stops number e first = line_stops p l t (i.Structure of n) stack (Failed e here.place) (some-grants ts ps 0 number cs) (some-granted ts ps 0 number cs) act h.split (λ rest.
-      builds-so (some-grants ts ps 0 number cs) rest ∙ whole-fails here (t.world).store rest ts ps number cs e _ first)
+  pub structure-stops : (number : ℕ) (e : RunError) → First shapes items 0 number members e → StopsSo p l t (Failed e here.place) []
+  structure-stops number e first = line_stops p l t (i.Structure of n) stack (Failed e here.place) (some-grants shapes items 0 number members) (some-granted shapes items 0 number members) act h.split (λ rest.
+      builds-so (some-grants shapes items 0 number members) rest ∙ whole-fails here (t.world).store rest shapes items number members e _ first)
 
 -- ---- at the line
 
@@ -181,15 +181,15 @@ module _ (p : Program) (m : Live) (old : State) (of n : ℕ) where
 
     refuses-at : (k : ℕ) (c : Component) (e : RunError) → slice_get (h.type).components.items k ≡ Some c → (a : Option meaning.Passed) → TestedFor c.declared a (Err e)
         → Refuses (types_of p) (reverse h.items) c a e
-    refuses-at k c e at None no = absurd no
-    refuses-at k c e at (Some (meaning.Given j v)) no = (h.plain k c at, no)
-    refuses-at k c e at (Some (meaning.Lent j r)) no = absurd no
+    refuses-at k c e at None bad = absurd bad
+    refuses-at k c e at (Some (meaning.Given j v)) bad = (h.plain k c at, bad)
+    refuses-at k c e at (Some (meaning.Lent j r)) bad = absurd bad
 
     pub check-fails : (Full Spent : ℕ → Type 0) (live : Live) (new : State) (len : ℕ) → len ≡ length old.cells.items.items → (e : RunError) → Checked (h.type).components.items (reverse h.items) (Err e)
         → BecomesOver Full Spent p l t (Err (stop.Failed e)) live new
-    check-fails Full Spent live new len all e no =
-        let number = no.0 in
-        let at = no.1 in
+    check-fails Full Spent live new len all e bad =
+        let number = bad.0 in
+        let at = bad.1 in
         let zero-on : 0 + number ≡ number = omega arith in
         let refuses = refuses-at number at.component e at.there (passed_at number (reverse h.items)) at.fails in
         let held = (on-top m [] first len all).1 in

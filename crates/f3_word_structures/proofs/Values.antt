@@ -1,9 +1,8 @@
 -- The words of a component are its value.
-use Rattle.std.proofs.Common.{◌≡◌, ◌≢◌, ◌∙◌, inl, inr, ℕ, zero, suc, ◌+◌, ◌*◌, ◌/◌, ◌<◌, ◌≤◌, Bool, true, false, List, [], ◌∷◌, ◌++◌, length, get_or, refl, sym, ap, subst, arith}
+use Rattle.std.proofs.Common.{◌≡◌, ◌≢◌, ◌∙◌, inl, inr, ℕ, zero, suc, ◌+◌, ◌*◌, ◌/◌, ◌<◌, ◌≤◌, Bool, true, false, List, [], ◌∷◌, ◌++◌, length, get_or, mul-div_cancel, refl, sym, ap, subst, arith}
 use Rattle.std.specs.Prelude.{⊤, ◌⊎◌, ◌&&◌, ◌||◌, ℤ, pos, if◌then◌else◌, nat_eq, nat_lt, not}
-use Rattle.std.proofs.lemmas.Bool.{eqb-true}
+use Rattle.std.proofs.lemmas.Bool.{eqb-true, lt-ltb}
 use Rattle.std.proofs.lemmas.List.{append-nil}
-use Rattle.std.proofs.lemmas.Nat.{mul-div_cancel}
 use Rattle.f3_program.specs.declared.declarations.Constant.TheVariants as constant
 use Rattle.f3_program.specs.declared.declarations.Declared.{Declared}
 use Rattle.f3_program.specs.declared.declarations.Kind.{Kind}
@@ -29,7 +28,6 @@ use Rattle.f3_word_arrays.specs.Items.{datum_words}
 use Rattle.f3_word_arrays.proofs.Elements.{HasWords, has-words}
 use Rattle.f3_word_arrays.proofs.Given.{shape-alike}
 use Rattle.f3_word_arrays.proofs.Words.{Shows, elements-tell, object-tells}
-use Rattle.f3_word_reads.proofs.Areas.{count-size}
 use Rattle.f3_word_cells.specs.declared.cell.Area.{Area}
 use Rattle.f3_word_cells.specs.declared.cell.Datum.{Datum}
 use Rattle.f3_word_cells.specs.declared.cell.Datum.TheVariants as datum
@@ -38,6 +36,10 @@ use Rattle.f3_word_cells.specs.States.{IsLaid}
 use Rattle.f3_word_cells.proofs.Scalars.{array_datum, scalar_held, scalar_rank}
 use Rattle.f3_word_copies.proofs.Taken.{listed-joined, repeat, repeat-composite, repeat-number, repeat-truth, spread-array}
 use Rattle.f3_word_structures.specs.Members.{conforms_to, fits_to, given_words}
+
+count-size : (ds : List Dim) → count (spans_of ds) ≡ size_of ds
+count-size [] = refl
+count-size (d ∷ ds) = ap (λ (k : ℕ). d.extent * k) (count-size ds)
 
 -- ---- words that are there
 
@@ -51,7 +53,7 @@ words-at n b o (w ∷ ws) are (suc j) lt =
 
 times-fill : (c w : ℕ) → (c * w / w) * w ≡ c * w
 times-fill c zero = omega arith
-times-fill c (suc w) = ap (λ k. k * suc w) (mul-div_cancel c (suc w) (omega arith))
+times-fill c (suc w) = let some : 0 < suc w = omega arith in ap (λ k. k * suc w) (mul-div_cancel c some)
 
 nothing : (n : Live) (b o c : ℕ) (ws : List ℤ) → ws ≡ [] → WordsAre n b o (repeated c ws)
 nothing n b o c ws e = subst (λ us. WordsAre n b o (repeated c us)) (sym e) (by c)
@@ -70,7 +72,7 @@ all-times n b o c ws are = by (length ws) refl
   where
     by : (w : ℕ) → length ws ≡ w → WordsAre n b o (repeated c ws)
     by zero e = nothing n b o c ws (no-words ws e)
-    by (suc w) e = subst (λ k. WordsAre n b o (repeated k ws)) (mul-div_cancel c (length ws) (omega arith)) are
+    by (suc w) e = let some : 0 < length ws = omega (arith, e) in subst (λ k. WordsAre n b o (repeated k ws)) (mul-div_cancel c some) are
 
 repeated-fill : (c : ℕ) (ws : List ℤ) → length (repeated (c * length ws / length ws) ws) ≡ c * length ws
 repeated-fill c ws = repeated_many (c * length ws / length ws) ws ∙ times-fill c (length ws)
@@ -84,11 +86,11 @@ count-same : (ss us : List Span) → same_extents ss us ≡ true → count ss �
 count-same [] [] e = refl
 count-same [] (u ∷ us) e = absurd cc
 count-same (s ∷ ss) [] e = absurd cc
-count-same (s ∷ ss) (u ∷ us) e = by (nat_eq s.extent u.extent) refl e
+count-same (s ∷ ss) (u ∷ us) e = by (nat_eq s.extent u.extent) refl e (λ g. count-same ss us g)
   where
-    by : (b : Bool) → nat_eq s.extent u.extent ≡ b → (if b then same_extents ss us else false) ≡ true → s.extent * count ss ≡ u.extent * count us
-    by true f g = ap (λ k. k * count ss) (eqb-true s.extent u.extent f) ∙ ap (λ k. u.extent * k) (count-same ss us g)
-    by false f g = absurd cc
+    by : (b : Bool) → nat_eq s.extent u.extent ≡ b → (if b then same_extents ss us else false) ≡ true → (same_extents ss us ≡ true → count ss ≡ count us) → s.extent * count ss ≡ u.extent * count us
+    by true f g more = ap (λ k. k * count ss) (eqb-true s.extent u.extent f) ∙ ap (λ k. u.extent * k) (more g)
+    by false f g more = absurd cc
 
 no-array : (ss : List Span) (m : Live) (s : Shape) (b o : ℕ) (h : Held) → conforms ss (object m s b o h) ≡ true
 no-array ss m Whole b o h = refl
@@ -122,7 +124,7 @@ either-one false b e = inr (refl, e)
 
 above-zero : (n : ℕ) → nat_eq n 0 ≡ false → nat_lt 0 n ≡ true
 above-zero zero e = absurd cc
-above-zero (suc n) e = refl
+above-zero (suc n) e = lt-ltb 0 (suc n) (omega arith)
 
 fixed-form : (d : Declared) → d.kind.is_allocatable ≡ false → form_of d ≡ Laid d.kind.rank (spans_declared d.dimensions.items)
 fixed-form d e = ap (λ b. if b then Allocatable d.kind.rank else Laid d.kind.rank (spans_declared d.dimensions.items)) e

@@ -12,7 +12,7 @@ use arrayvec::ArrayVec;
 use f3_desc::descriptor::Descriptor;
 use f3_heap::{BlockId, Blocks, TakeFault};
 use f3_meaning_whole::run_error::RunError;
-use f3_program::declarations::Base;
+use f3_program::declarations::{Base, Component};
 use f3_room_places::types::words;
 use f3_word_cells::cell::{Area, Cell, Datum};
 use f3_word_cells::giving::let_go;
@@ -56,9 +56,10 @@ pub fn structure<B: Blocks>(
     ensures keeps { Keeps state.old state.new }
     ensures kept { IsKept B.spent (B.kept heap.old) (B.kept heap.new) }
 {
-    let components = &scene.program.types[of].components;
-    let first = state.cells.items.len() - count;
-    match check(heap, scene.types, components, &state.cells.items[first..]) {
+    let components: &[Component] = &scene.program.types[of].components;
+    let cells: &[Cell] = &state.cells.items;
+    let first = cells.len() - count;
+    match check(heap, scene.types, components, &cells[first..]) {
         Ok(()) => {}
         Err(error) => return Err(Stop::Failed(error)),
     }
@@ -67,13 +68,7 @@ pub fn structure<B: Blocks>(
         Err(TakeFault::Full) => return Err(Stop::Failed(RunError::HeapHasNoRoom)),
         Err(TakeFault::Memory) => return Err(Stop::Memory),
     };
-    write_components(
-        heap,
-        scene.types,
-        components,
-        &state.cells.items[first..],
-        block,
-    );
+    write_components(heap, scene.types, components, &cells[first..], block);
     for _each in 0..count {
         let Some(cell) = state.pop() else {
             return Err(Stop::Lost);
