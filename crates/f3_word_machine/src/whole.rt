@@ -53,7 +53,7 @@ pub fn run_program<B: Blocks, W: Write>(
     if steps == 0 {
         return Ended::StepLimit;
     }
-    match begin(alloc, heap, scene, room, scene.main.words) {
+    match begin(alloc, heap, scene, room) {
         Ok(mut state) => {
             let end = run(scene, heap, &mut state, steps - 1, output);
             drop(state);

@@ -1,4 +1,4 @@
-use Rattle.std.proofs.Common.{◌≡◌, ap, ◌∙◌, inr, arith}
+use Rattle.std.proofs.Common.{◌≡◌, ap, ◌∙◌, inr}
 use Rattle.std.specs.Prelude.{Err}
 use Rattle.std.specs.FinMap.{remove}
 use Rattle.f3_live_blocks.specs.Blocks.{Live, pins_of}
@@ -29,9 +29,7 @@ begin-requires-2-clause-fit g c =
 pub begin-requires-2-clause-long : goal.begin-requires-2-clause-long
 begin-requires-2-clause-long g c =
     let p = c.args.scene.program.now in
-    let few = fits (types_of p) (shapes c.args.scene.types) (ap shapes_of c.requires.scene.types) (declared_in p.main) c.args.main.now c.requires.main c.args.scene.main.now c.requires.scene.main in
-    let long = c.requires.long in
-    omega (arith, few, long)
+    fits (types_of p) (shapes c.args.scene.types) (ap shapes_of c.requires.scene.types) (declared_in p.main) c.args.main.now c.requires.main c.args.scene.main.now c.requires.scene.main
 
 pub give_back-requires-clause-unpinned : goal.give_back-requires-clause-unpinned
 give_back-requires-clause-unpinned g c =
